@@ -1,0 +1,45 @@
+-- What a framer holds comes of some list of halves.
+use Rattle.std.proofs.Common.{◌≡◌, ◌≢◌, ℕ, List, [], ◌∷◌, ◌++◌, Option, Some, None, refl, sym, ap, ◌∙◌}
+use Rattle.dcc_wire.specs.declared.half.Half.{Half}
+use Rattle.dcc_wire.specs.declared.half.Half.TheVariants.{One, Zero, Bad}
+use Rattle.dcc_wire.specs.declared.fault.Seen.{Seen}
+use Rattle.dcc_wire.specs.declared.fault.Seen.TheVariants.{Nothing}
+use Rattle.dcc_wire.specs.Half.{class_of}
+use Rattle.dcc_wire.specs.Outcomes.{ones_left}
+use Rattle.dcc_wire.specs.Framing.{Rest, Hunting, StandsFor, rest, rest_at, hunting, starts_below, used_up, ones_at_end, ones_before}
+use Rattle.dcc_wire.specs.Steps.{rest_after, left_of, answer_of}
+use Rattle.dcc_wire.proofs.FramingLemmas.{rest-push}
+
+-- a half of each class, in microseconds
+abbrev microseconds : Half → ℕ
+microseconds One = 58
+microseconds Zero = 100
+microseconds Bad = 0
+
+class_of-microseconds : (half : Half) → class_of (microseconds half) ≡ half
+class_of-microseconds One = refl
+class_of-microseconds Zero = refl
+class_of-microseconds Bad = refl
+
+abbrev pub HasHistory : Rest → Type 0
+HasHistory framer = (durations : List ℕ) × StandsFor framer durations
+
+pub stands_for_nothing : StandsFor (Hunting 0) []
+unfolding StandsFor rest rest_at hunting starts_below used_up ones_at_end ones_before
+stands_for_nothing = refl
+
+-- one half more makes a longer history
+pub history_more : (before : Rest) (half : Half) → HasHistory before → HasHistory (rest_after before half)
+unfolding StandsFor
+history_more before half history = (
+  history.0 ++ microseconds half ∷ [],
+  ap (λ r. rest_after r half) history.1
+      ∙ ap (rest_after (rest history.0)) (sym (class_of-microseconds half))
+      ∙ sym (rest-push history.0 (microseconds half)),
+)
+
+-- a body that has come to an outcome leaves the ones of its end bit
+pub left_of-outcome : (halves : List Half) (outcome : Option (ℕ × Seen)) (seen : Seen) → seen ≡ answer_of outcome → seen ≢ Nothing → left_of halves outcome ≡ Hunting (ones_left seen)
+unfolding left_of answer_of
+left_of-outcome halves None seen e something = absurd (something e)
+left_of-outcome halves (Some p) seen e something = ap (λ s. Hunting (ones_left s)) (sym e)

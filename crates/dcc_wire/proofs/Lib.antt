@@ -1,0 +1,13 @@
+pub mod BitLemmas
+pub mod BitNumbers
+pub mod OutcomeLemmas
+pub mod FramingLemmas
+pub mod OpenBodies
+pub mod ByteLemmas
+pub mod SendingLemmas
+pub mod HalvesLemmas
+pub mod OutcomeTableLemmas
+pub mod HistoryLemmas
+pub mod FramerSteps
+pub mod ErrorByte
+pub mod SeenLemmas

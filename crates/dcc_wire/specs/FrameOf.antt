@@ -1,0 +1,13 @@
+-- The frame of bytes.
+use Rattle.std.specs.Prelude.{ℕ, List, length, nat_lt, ◌==◌, ◌||◌, if◌then◌else◌, Result, Ok, Err}
+use Rattle.dcc_wire.specs.declared.frame.FrameFault.{FrameFault}
+use Rattle.dcc_wire.specs.declared.frame.FrameFault.TheVariants.{Length, XorNotZero}
+use Rattle.dcc_wire.specs.declared.frame.Frame.{Frame}
+use Rattle.dcc_wire.specs.Frames.{xor_of}
+
+-- the frame of some bytes, or the first fault
+abbrev pub frame_of : List ℕ → Result Frame FrameFault
+frame_of bytes =
+    if nat_lt (length bytes) 3 || nat_lt 6 (length bytes) then Err Length
+    else if xor_of bytes == 0 then Ok bytes
+    else Err XorNotZero

@@ -1,0 +1,92 @@
+-- Packets in a list of halves, found by place.
+use Rattle.std.specs.Prelude.{◌≡◌, ℕ, suc, zero, ◌+◌, ◌-◌, min, nat_le, Bool, true, false, ◌&&◌, List, [], ◌∷◌, ◌++◌, map, reverse, length, take, drop, slice_index_or, if◌then◌else◌}
+use Rattle.std.specs.Option.{option_map_or}
+use Rattle.dcc_wire.specs.declared.half.Half.{Half}
+use Rattle.dcc_wire.specs.declared.half.Half.TheVariants.{One, Zero, Bad}
+use Rattle.dcc_wire.specs.declared.fault.Seen.{Seen}
+use Rattle.dcc_wire.specs.declared.fault.Seen.TheVariants.{Nothing, Packet, Refused}
+use Rattle.dcc_wire.specs.Half.{class_of}
+use Rattle.dcc_wire.specs.Outcomes.{outcome_of, ones_left}
+
+-- how many ones halves begin with, and end in
+unfoldable pub ones_before : List Half → ℕ
+ones_before (One ∷ halves) = suc (ones_before halves)
+ones_before _ = 0
+
+unfoldable pub ones_at_end : List Half → ℕ
+ones_at_end halves = ones_before (reverse halves)
+
+abbrev pub is_zero : Half → Bool
+is_zero One = false
+is_zero Zero = true
+is_zero Bad = false
+
+-- How many of these halves, the first of which stands at a start place, that start place uses:
+-- those of its outcome but for the end bit, or all of them where it is unfinished.
+unfoldable pub used : List Half → ℕ
+used halves = option_map_or (λ p. p.0 - ones_left p.1) (outcome_of halves) (length halves)
+
+-- the place behind the halves that start places use, of which the last one comes first
+unfoldable pub used_up : List Half → List ℕ → ℕ
+used_up halves [] = 0
+used_up halves (start ∷ earlier) = start + used (drop start halves)
+
+-- whether the place of a half is a start place: a zero behind 20 ones that no earlier one uses
+unfoldable pub is_start : List Half → List ℕ → ℕ → Bool
+is_start halves earlier place =
+    is_zero (slice_index_or halves place Bad)
+    && nat_le 20 (ones_at_end (drop (used_up halves earlier) (take place halves)))
+
+-- the start places below a place, the last one first
+unfoldable pub starts_below : List Half → ℕ → List ℕ
+starts_below halves zero = []
+starts_below halves (suc place) =
+    let earlier = starts_below halves place in
+    if is_start halves earlier place then place ∷ earlier else earlier
+
+abbrev pub starts : List Half → List ℕ
+starts halves = starts_below halves (length halves)
+
+-- the outcome of a start place, with the place of its last half
+unfoldable pub outcome_at : List Half → ℕ → List (ℕ × Seen)
+outcome_at halves start =
+    option_map_or (λ p. (start + p.0 - 1, p.1) ∷ []) (outcome_of (drop start halves)) []
+
+-- the outcomes of start places, of which the last one comes first, in order
+unfoldable pub outcomes_at : List Half → List ℕ → List (ℕ × Seen)
+outcomes_at halves [] = []
+outcomes_at halves (start ∷ earlier) = outcomes_at halves earlier ++ outcome_at halves start
+
+-- the outcomes in a list of durations, each with the place of its last half
+unfoldable pub seen : List ℕ → List (ℕ × Seen)
+seen durations = let halves = map class_of durations in outcomes_at halves (starts halves)
+
+-- what a list of halves leaves open: a number of ones, counted to 20, or an unfinished body
+pub data Rest : Type 0 where
+  Hunting : ℕ → Rest
+  InBody : List Half → Rest
+
+-- the ones at the end that no start place uses
+unfoldable pub hunting : List Half → List ℕ → Rest
+hunting halves places = Hunting (min 20 (ones_at_end (drop (used_up halves places) halves)))
+
+unfoldable pub rest_at : List Half → List ℕ → Rest
+rest_at halves [] = hunting halves []
+rest_at halves (start ∷ earlier) =
+    option_map_or
+    (λ _. hunting halves (start ∷ earlier))
+    (outcome_of (drop start halves))
+    (InBody (drop start halves))
+
+unfoldable pub rest : List ℕ → Rest
+rest durations = let halves = map class_of durations in rest_at halves (starts halves)
+
+-- what one answer adds to what was seen
+unfoldable pub reported : ℕ → Seen → List (ℕ × Seen)
+reported place Nothing = []
+reported place (Packet bytes) = (place, Packet bytes) ∷ []
+reported place (Refused fault) = (place, Refused fault) ∷ []
+
+-- a framer stands for these durations where it holds what they leave open
+unfoldable pub StandsFor : Rest → List ℕ → Type 0
+StandsFor framer durations = framer ≡ rest durations

@@ -1,0 +1,15 @@
+pub mod Half
+pub mod Frames
+pub mod FrameOf
+pub mod Padded
+pub mod Bodies
+pub mod Outcomes
+pub mod Framing
+pub mod SeenLaws
+pub mod Steps
+pub mod FramerState
+pub mod Timings
+pub mod Sending
+pub mod HalvesLeft
+pub mod OutcomeTable
+pub mod Rows

@@ -1,0 +1,112 @@
+//! Packets in halves that come one at a time.
+
+use crate::open_body::OpenBody;
+use crate::{Half, Seen};
+use std::marker::Model;
+
+/// Finds the packets in halves that come one at a time (NMRA S-9.2; RCN-211).
+///
+/// Between bodies it counts one-halves. Twenty of them or more, directly before a zero-half, make
+/// that zero-half the first half of a start bit, and from there on halves are taken in pairs. So the
+/// phase of the bits comes from the start bit, and not from the first half that was ever pushed.
+/// Whatever comes of a body, the framer hunts for the next preamble after it.
+#[derive(Drop)]
+pub struct Framer {
+    state: State,
+}
+
+/// Between bodies, a number of ones, counted to 20; else a body.
+#[derive(Drop)]
+pub enum State {
+    Hunting(u8),
+    InBody(OpenBody),
+}
+
+impl Model for Framer {
+    ghost use Rattle.std.specs.Prelude.{ℕ, List};
+    ghost use Rattle.dcc_wire.specs.Framing.{Rest, StandsFor};
+    ghost use Rattle.dcc_wire.specs.FramerState.{rest_of};
+
+    ghost Value = { Rest };
+
+    ghost view = { λ f. rest_of f.state };
+
+    // Some list of halves has led to what a framer holds.
+    ghost invariant = { λ f. (durations : List ℕ) × StandsFor (rest_of f.state) durations };
+}
+
+impl Framer {
+    ghost use Rattle.std.specs.Prelude.{◌≡◌, ◌≢◌, ℕ, List, ◌++◌, [], ◌∷◌, length};
+    ghost use Rattle.dcc_wire.specs.Outcomes.{ones_left};
+    ghost use Rattle.dcc_wire.specs.Framing.{Hunting, StandsFor, seen, reported};
+    ghost use Rattle.dcc_wire.specs.Steps.{rest_after, answer_to};
+
+    /// A framer that was given no halves.
+    #[tactic(auto, using(crate::proofs::FramerSteps::nothing_yet))]
+    pub fn new() -> Framer
+        ensures { StandsFor result [] }
+    {
+        Framer {
+            state: State::Hunting(0),
+        }
+    }
+
+    /// Takes a half of this many microseconds, and answers the outcome whose last half it is, or
+    /// [`Seen::Nothing`].
+    ///
+    /// After an outcome the framer hunts, and the two halves of an end bit count towards the next
+    /// preamble.
+    #[tactic(auto, unfolding(crate::specs::Framing::StandsFor), using(crate::proofs::FramerSteps::pushes))]
+    pub fn push(&mut self, us: u16) -> Seen
+        // For every list of halves that the framer stands for, of which there is at least one,
+        ensures history { (durations : List ℕ) × StandsFor self.old durations }
+        // it then stands for the list with this half behind it,
+        ensures stands { (durations : List ℕ) → StandsFor self.old durations → StandsFor self.new (durations ++ us ∷ []) }
+        // and the answer is what that longer list shows at its last place.
+        ensures sees { (durations : List ℕ) → StandsFor self.old durations →
+            seen (durations ++ us ∷ []) ≡ seen durations ++ reported (length durations) result }
+
+        ensures hunts { result ≢ Seen.Nothing → self.new ≡ Hunting (ones_left result) }
+    {
+        self.take_half(Half::of(us))
+    }
+
+    #[tactic(auto, unfolding(crate::specs::Steps::rest_after, crate::specs::Steps::answer_to, crate::specs::Steps::left_of, crate::specs::Steps::answer_of))]
+    fn take_half(&mut self, half: Half) -> Seen
+        ensures history { (durations : List ℕ) × StandsFor self.old durations }
+        ensures after { self.new ≡ rest_after self.old half }
+        ensures answer { result ≡ answer_to self.old half }
+        ensures hunts { result ≢ Seen.Nothing → self.new ≡ Hunting (ones_left result) }
+    {
+        match &mut self.state {
+            State::Hunting(ones) => {
+                self.state = hunt(*ones, half);
+                Seen::Nothing
+            }
+            State::InBody(body) => {
+                let seen = body.push(half);
+                if !seen.is_nothing() {
+                    self.state = State::Hunting(seen.ones_left());
+                }
+                seen
+            }
+        }
+    }
+}
+
+ghost use Rattle.std.specs.Prelude.{◌≡◌};
+ghost use Rattle.dcc_wire.specs.Framing.{Hunting};
+ghost use Rattle.dcc_wire.specs.FramerState.{rest_of};
+ghost use Rattle.dcc_wire.specs.Steps.{rest_after};
+
+/// Counts a half between bodies.
+#[tactic(auto, unfolding(crate::specs::Steps::rest_after))]
+fn hunt(ones: u8, half: Half) -> State
+    ensures { rest_of result ≡ rest_after (Hunting ones) half }
+{
+    match half {
+        Half::One => State::Hunting(ones.saturating_add(1).min(20)),
+        Half::Zero if ones >= 20 => State::InBody(OpenBody::new()),
+        Half::Zero | Half::Bad => State::Hunting(0),
+    }
+}
