@@ -1,6 +1,7 @@
 pub mod Half
 pub mod Frames
 pub mod FrameOf
+pub mod FaultNumbers
 pub mod Padded
 pub mod Bodies
 pub mod Outcomes

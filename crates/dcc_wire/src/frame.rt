@@ -1,4 +1,4 @@
-//! A valid packet.
+//! The bytes of a valid packet.
 
 ghost use Rattle.std.specs.Prelude.{◌≡◌};
 
@@ -6,7 +6,8 @@ use crate::bytes::PacketBytes;
 use std::marker::Model;
 use thiserror::Error;
 
-/// The bytes of a packet, the error byte last.
+/// The bytes of a valid packet: 3 to 6, the last of which, the error byte, is the exclusive or of
+/// the others (NMRA S-9.2; RCN-211).
 #[derive(Clone, Copy, Debug, PartialEq, Eq)]
 pub struct Frame {
     bytes: PacketBytes,
@@ -25,12 +26,29 @@ impl Model for Frame {
     ghost inverse = { λ xs. record { bytes = xs } };
 }
 
+/// Why bytes are no frame.
 #[derive(Clone, Copy, Debug, PartialEq, Eq, Error)]
 pub enum FrameFault {
-    #[error("a packet has 3 to 6 bytes")]
+    /// Fewer than 3 bytes, or more than 6.
+    #[error("L1: a packet has 3 to 6 bytes")]
     Length,
-    #[error("the error byte is not the XOR of the others")]
+    /// The exclusive or of the bytes is not zero.
+    #[error("L2: the error byte is not the exclusive or of the bytes before it")]
     XorNotZero,
+}
+
+impl FrameFault {
+    ghost use Rattle.dcc_wire.specs.FaultNumbers.{frame_fault_number};
+
+    /// The number by which the refusal is told, 1 for L1 and 2 for L2.
+    pub fn number(&self) -> u8
+        ensures { result ≡ frame_fault_number self.now }
+    {
+        match self {
+            FrameFault::Length => 1,
+            FrameFault::XorNotZero => 2,
+        }
+    }
 }
 
 impl Frame {
@@ -38,6 +56,8 @@ impl Frame {
     ghost use Rattle.dcc_wire.specs.Frames.{IsFrame, frame_fault};
     ghost use Rattle.dcc_wire.specs.FrameOf.{frame_of};
 
+    /// The frame of these bytes, the error byte last. The number of bytes is looked at first (L1),
+    /// then the error byte (L2).
     pub fn of(bytes: &[u8]) -> Result<Frame, FrameFault>
         ensures exact { result ≡ frame_of bytes.now }
         ensures valid { MatchResult result (λ frame. (IsFrame bytes.now) × (frame ≡ bytes.now)) (λ fault. frame_fault bytes.now fault) }
@@ -53,6 +73,7 @@ impl Frame {
         })
     }
 
+    /// The bytes, in the order in which they are sent.
     pub fn bytes(&self) -> &[u8]
         ensures value { result.now ≡ self.now }
         ensures valid { IsFrame self.now }
@@ -64,7 +85,7 @@ impl Frame {
 
 ghost use Rattle.dcc_wire.specs.Frames.{xor_of};
 
-/// All the bytes, joined by XOR.
+/// All the bytes, joined by exclusive or.
 pub(crate) fn xor(bytes: &[u8]) -> u8
     ensures { result ≡ xor_of bytes.now }
 {

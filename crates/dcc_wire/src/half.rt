@@ -2,10 +2,14 @@
 
 ghost use Rattle.std.specs.Prelude.{◌≡◌};
 
+/// The class of a half-bit, as a decoder takes it (NMRA S-9.1; RCN-210).
 #[derive(Clone, Copy, Debug, PartialEq, Eq)]
 pub enum Half {
+    /// Half of a one: 52 to 64 microseconds.
     One,
+    /// Half of a zero: 90 to 10000 microseconds.
     Zero,
+    /// Any other duration.
     Bad,
 }
 
@@ -24,7 +28,7 @@ impl Half {
     }
 
     /// The bit that it is half of.
-    pub fn bit(self) -> Option<bool>
+    pub(crate) fn bit(self) -> Option<bool>
         ensures { result ≡ bit_of self }
     {
         match self {

@@ -1,4 +1,7 @@
-//! Halves of bits, packets and their framing.
+//! Half-bits, the packets in them, and the half-bits of packets that are sent: the electrical and
+//! the packet layer of Digital Command Control (NMRA S-9.1, S-9.2; RCN-210, RCN-211).
+//!
+//! Nothing here takes memory.
 #![tactic(auto)]
 
 mod bytes;
