@@ -1,5 +1,5 @@
 -- The laws of one more half, as sets for tactics.
-use Rattle.dcc_wire.proofs.SendingLemmas.{seen-sent_all}
+use Rattle.dcc_wire.proofs.SendingLemmas.{length-sent, seen-sent_all}
 use Rattle.dcc_wire.proofs.SeenLemmas.{seen-grows}
 use Rattle.dcc_wire.proofs.FramingLemmas.{rest-push, seen-push}
 use Rattle.dcc_wire.proofs.HistoryLemmas.{stands_for_nothing}
@@ -11,3 +11,5 @@ pub ruleset pushes = (rest-push, seen-push)
 pub ruleset sending = (seen-sent_all)
 
 pub ruleset growing = (seen-grows)
+
+pub ruleset counting = (length-sent)

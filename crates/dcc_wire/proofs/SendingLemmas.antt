@@ -228,6 +228,13 @@ length-durations timing [] = refl
 length-durations timing (true ∷ bits) = omega (arith, length-durations timing bits)
 length-durations timing (false ∷ bits) = omega (arith, length-durations timing bits)
 
+-- two halves for each one of the preamble, each nine bits of a byte, and the end bit
+pub length-sent : (bytes : List ℕ) (timing : Timing) → length (sent bytes timing) ≡ 2 * (timing.preamble + 9 * length bytes + 1)
+unfolding sent sent_bits
+length-sent bytes timing =
+    let ones = replicate timing.preamble true in
+    omega (arith, length-durations timing (ones ++ body_bits bytes), length-append ones (body_bits bytes), length-replicate timing.preamble true, length-body_bits bytes)
+
 preamble_ones : (timing : Timing) (n : ℕ) → AllOnes (durations_of timing (replicate n true))
 unfolding AllOnes durations_of
 preamble_ones timing zero = tt
