@@ -12,6 +12,8 @@ mod half;
 mod halves;
 pub mod laws;
 mod open_body;
+#[cfg(test)]
+mod tests;
 mod timing;
 
 pub use fault::{Body, Fault, Seen};
