@@ -52,12 +52,12 @@ bits_in-behind _ = refl
 
 -- bytes in bits
 
-option_map-none : {A B : Type 0} (f : A → B) (o : Option A) → option_map f o ≡ None → o ≡ None
+pub option_map-none : {A B : Type 0} (f : A → B) (o : Option A) → option_map f o ≡ None → o ≡ None
 option_map-none f None e = refl
 option_map-none f (Some x) e = cc
 
 -- the case of a zero: eight bits and what follows them
-zero_some : (n : ℕ) (bits : List Bool) (p : List ℕ × Bool) → bytes_in (suc n) (false ∷ bits) ≡ Some p → 8 ≤ length bits
+pub zero_some : (n : ℕ) (bits : List Bool) (p : List ℕ × Bool) → bytes_in (suc n) (false ∷ bits) ≡ Some p → 8 ≤ length bits
 unfolding bytes_in
 zero_some n bits p e = elim (ltb (length bits) 8) as (λ b. ltb (length bits) 8 ≡ b → cond b None (option_map (λ q. (number_of (take 8 bits) ∷ q.0, q.1)) (bytes_in n (drop 8 bits))) ≡ Some p → 8 ≤ length bits) [ true ↦ λ t h. absurd (cc) | false ↦ λ t h. grind (arith, nat_tests) ] refl e
 
@@ -69,7 +69,7 @@ zero_short : (n : ℕ) (bits : List Bool) → length bits < 8 → bytes_in (suc 
 unfolding bytes_in
 zero_short n bits h = let e : ltb (length bits) 8 ≡ true = grind (arith, nat_tests) in rw e
 
-option_map_some : {A B : Type 0} (f : A → B) (o : Option A) (y : B) → option_map f o ≡ Some y → (x : A) × (o ≡ Some x) × (f x ≡ y)
+pub option_map_some : {A B : Type 0} (f : A → B) (o : Option A) (y : B) → option_map f o ≡ Some y → (x : A) × (o ≡ Some x) × (f x ≡ y)
 option_map_some f None y e = cc
 option_map_some f (Some x) y e = (x, refl, cc)
 

@@ -6,7 +6,10 @@ pub mod OpenBodies
 pub mod ByteLemmas
 pub mod SendingLemmas
 pub mod HalvesLemmas
+pub mod ByteBits
+pub mod OpenLists
 pub mod OutcomeTableLemmas
+pub mod OutcomeRows
 pub mod HistoryLemmas
 pub mod FramerSteps
 pub mod ErrorByte

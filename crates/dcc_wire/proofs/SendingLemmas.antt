@@ -76,7 +76,7 @@ unfolding body_bits
 length-body_bits [] = refl
 length-body_bits (byte ∷ bytes) = omega (arith, length-append (bits_of 8 byte) (body_bits bytes), length-bits_of 8 byte, length-body_bits bytes)
 
-closed-packet : (bytes : List ℕ) → IsFrame bytes → closed bytes ≡ Packet bytes
+pub closed-packet : (bytes : List ℕ) → IsFrame bytes → closed bytes ≡ Packet bytes
 unfolding closed
 closed-packet bytes packet =
     let long : ltb (length bytes) 3 ≡ false = grind (arith, nat_tests, packet.least) in

@@ -13,4 +13,5 @@ pub mod Timings
 pub mod Sending
 pub mod HalvesLeft
 pub mod OutcomeTable
+pub mod OutcomeLaws
 pub mod Rows

@@ -1,28 +1,62 @@
--- The outcomes of bodies as a table: what the halves from a start place on begin with, and how many of
--- them that is.
-use Rattle.std.specs.Prelude.{◌≡◌, ◌≢◌, ◌≤◌, ◌<◌, ◌⊎◌, ℕ, List, [], ◌∷◌, ◌++◌, length, take}
+-- The table of outcomes (NMRA S-9.2; RCN-211): what halves that begin with the first half of a start
+-- bit come to, from that half up to the last half of the outcome.
+use Rattle.std.specs.Prelude.{◌≡◌, ◌≢◌, ◌≤◌, ◌<◌, ◌%◌, ◌⊎◌, ℕ, List, [], ◌∷◌, ◌++◌, length}
 use Rattle.dcc_wire.specs.declared.half.Half.{Half}
 use Rattle.dcc_wire.specs.declared.half.Half.TheVariants.{One, Zero, Bad}
 use Rattle.dcc_wire.specs.declared.fault.Fault.TheVariants.{BadHalf, SplitBit, TooShort, TooLong, ErrorByte}
 use Rattle.dcc_wire.specs.declared.fault.Seen.{Seen}
 use Rattle.dcc_wire.specs.declared.fault.Seen.TheVariants.{Nothing, Packet, Refused}
 use Rattle.dcc_wire.specs.Frames.{xor_of, AllBytes, IsFrame}
-use Rattle.dcc_wire.specs.Bodies.{halves_of, body_bits, body}
+use Rattle.dcc_wire.specs.Bodies.{body}
 
--- the n halves at the front
-abbrev pub Begins : List Half → ℕ → List Half → Type 0
-Begins front n halves = (n ≡ length front) × (more : List Half) × (halves ≡ front ++ more)
+-- the halves begin with this front
+abbrev pub BeginsWith : List Half → List Half → Type 0
+BeginsWith halves front = (more : List Half) × (halves ≡ front ++ more)
 
--- whole bits of a body of six bytes, without its end bit
-abbrev pub IsOpen : List Half → Type 0
-IsOpen front = (bytes : List ℕ) × (count : ℕ) × AllBytes bytes × (length bytes ≡ 6) × (count < 55) × (front ≡ halves_of (take count (body_bits bytes)))
+-- an even number of halves, perhaps none, that the longer body of some six bytes begins with (NMRA S-9.2)
+pub record IsOpen (halves : List Half) : Type 0 where
+  pub bytes : List ℕ
+  pub each : AllBytes bytes
+  pub six : length bytes ≡ 6
+  pub begun : BeginsWith (body bytes) halves
+  pub even : length halves % 2 ≡ 0
+  pub shorter : length halves < length (body bytes)
 
+-- at most one half, which is not bad
+abbrev pub IsUnpaired : List Half → Type 0
+IsUnpaired [] = Unit {0}
+IsUnpaired (half ∷ []) = half ≢ Bad
+IsUnpaired _ = ⊥
+
+-- the halves are all those of this outcome
+abbrev pub Ends : List Half → Seen → Type 0
+-- a packet: the body of its bytes, 3 to 6, the last of which is the error byte (NMRA S-9.2; RCN-211)
+Ends halves (Packet bytes) = IsFrame bytes × (halves ≡ body bytes)
+-- the same with a wrong error byte (NMRA S-9.2)
+Ends halves (Refused (ErrorByte bytes)) =
+    AllBytes bytes × (3 ≤ length bytes) × (length bytes ≤ 6) × (xor_of bytes ≢ 0) × (halves ≡ body bytes)
+-- the body of 1 or 2 bytes, where a packet has 3 (RCN-211)
+Ends halves (Refused TooShort) =
+    (bytes : List ℕ) × AllBytes bytes × (1 ≤ length bytes) × (length bytes ≤ 2) × (halves ≡ body bytes)
+-- the body of 6 bytes with a zero for its end bit, where a packet has no more than 6 (RCN-211)
+Ends halves (Refused TooLong) =
+    (bytes : List ℕ) × (front : List Half) × AllBytes bytes × (length bytes ≡ 6)
+    × (body bytes ≡ front ++ One ∷ One ∷ []) × (halves ≡ front ++ Zero ∷ Zero ∷ [])
+-- a bit of a half of a zero and a half of a one (NMRA S-9.1)
+Ends halves (Refused SplitBit) =
+    (front : List Half) × IsOpen front
+    × ((halves ≡ front ++ Zero ∷ One ∷ []) ⊎ (halves ≡ front ++ One ∷ Zero ∷ []))
+-- a bad half, as the first half of a bit or as the second one (NMRA S-9.1)
+Ends halves (Refused BadHalf) =
+    (front : List Half) × (half : List Half) × IsOpen front × IsUnpaired half
+    × (halves ≡ front ++ half ++ Bad ∷ [])
+Ends halves Nothing = ⊥
+
+-- the first n halves are all those of this outcome
 abbrev pub Comes : List Half → ℕ → Seen → Type 0
-Comes halves n (Packet bytes) = IsFrame bytes × Begins (body bytes) n halves
-Comes halves n (Refused (ErrorByte bytes)) = AllBytes bytes × (3 ≤ length bytes) × (length bytes ≤ 6) × (xor_of bytes ≢ 0) × Begins (body bytes) n halves
-Comes halves n (Refused TooShort) = (bytes : List ℕ) × AllBytes bytes × (1 ≤ length bytes) × (length bytes ≤ 2) × Begins (body bytes) n halves
-Comes halves n (Refused TooLong) = (front : List Half) × IsOpen front × (length front ≡ 108) × Begins (front ++ Zero ∷ Zero ∷ []) n halves
-Comes halves n (Refused SplitBit) = (front : List Half) × IsOpen front × (Begins (front ++ Zero ∷ One ∷ []) n halves ⊎ Begins (front ++ One ∷ Zero ∷ []) n halves)
-Comes halves n (Refused BadHalf) = (front : List Half) × IsOpen front
-    × (Begins (front ++ Bad ∷ []) n halves ⊎ (Begins (front ++ One ∷ Bad ∷ []) n halves ⊎ Begins (front ++ Zero ∷ Bad ∷ []) n halves))
-Comes halves n Nothing = ⊥
+Comes halves n outcome = (front : List Half) × Ends front outcome × (n ≡ length front) × BeginsWith halves front
+
+-- the halves may still become a body: whole bits, and at most one half more (NMRA S-9.2)
+abbrev pub IsUnfinished : List Half → Type 0
+IsUnfinished halves =
+    (front : List Half) × (half : List Half) × IsOpen front × IsUnpaired half × (halves ≡ front ++ half)
