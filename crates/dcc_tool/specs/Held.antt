@@ -1,0 +1,25 @@
+-- What is held of the bytes that were to be written.
+use Rattle.std.specs.Prelude.{◌≡◌, ℕ, ◌++◌, ◌⊎◌, List, Option, Result, Ok, Err}
+use Rattle.std.specs.Io.KnownBytes.{Appends}
+use Rattle.dcc_tool.specs.declared.stream.Failed.{Failed}
+use Rattle.dcc_tool.specs.declared.fault.ToolFault.{ToolFault}
+use Rattle.dcc_tool.specs.declared.fault.ToolFault.TheVariants.{Write}
+use Rattle.dcc_tool.specs.Failures.{HasRisen}
+use Rattle.dcc_tool.specs.Written.{AppendsFront}
+
+-- these bytes were written, but for the last of them, which are held
+pub record Holds (before after : Option (List ℕ)) (bytes held : List ℕ) : Type 0 where
+  pub written : List ℕ
+  pub whole : bytes ≡ written ++ held
+  pub appended : Appends before after written
+
+-- each of these bytes was written or is held, or a write failed or took no byte
+abbrev pub HoldsOrFails : Option (List ℕ) → ℕ → List ℕ → Result (Unit {0}) Failed → List ℕ → Option (List ℕ) → ℕ → Type 0
+HoldsOrFails before failures bytes (Ok done) held after now = Holds before after bytes held × (now ≡ failures)
+HoldsOrFails before failures bytes (Err failed) held after now = AppendsFront before after bytes × HasRisen failures now
+
+-- all that was held is written and this is answered, or a write failed or took no byte
+abbrev pub WritesRest : Option (List ℕ) → ℕ → List ℕ → Result (Unit {0}) ToolFault → Result (Unit {0}) ToolFault → Option (List ℕ) → ℕ → Type 0
+WritesRest before failures held answer result after now =
+    ((result ≡ answer) × Appends before after held × (now ≡ failures))
+    ⊎ ((result ≡ Err Write) × AppendsFront before after held × HasRisen failures now)
