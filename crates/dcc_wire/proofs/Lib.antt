@@ -14,3 +14,4 @@ pub mod HistoryLemmas
 pub mod FramerSteps
 pub mod ErrorByte
 pub mod SeenLemmas
+pub mod Rows

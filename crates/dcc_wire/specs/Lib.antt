@@ -14,4 +14,3 @@ pub mod Sending
 pub mod HalvesLeft
 pub mod OutcomeTable
 pub mod OutcomeLaws
-pub mod Rows
