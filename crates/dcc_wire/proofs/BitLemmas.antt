@@ -65,7 +65,7 @@ pub zero_long : (n : ℕ) (bits : List Bool) → 8 ≤ length bits → bytes_in 
 unfolding bytes_in
 zero_long n bits h = let e : ltb (length bits) 8 ≡ false = grind (arith, nat_tests) in rw e
 
-zero_short : (n : ℕ) (bits : List Bool) → length bits < 8 → bytes_in (suc n) (false ∷ bits) ≡ None
+pub zero_short : (n : ℕ) (bits : List Bool) → length bits < 8 → bytes_in (suc n) (false ∷ bits) ≡ None
 unfolding bytes_in
 zero_short n bits h = let e : ltb (length bits) 8 ≡ true = grind (arith, nat_tests) in rw e
 
@@ -186,14 +186,14 @@ pub record Spelling (bits left : List Bool) (bytes : List ℕ) : Type 0 where
   pub whole : length left % 9 ≡ 0
   pub joined : bytes_in 6 (bits ++ true ∷ []) ≡ option_map (λ q. (bytes ++ q.0, q.1)) (bytes_in (6 - length bytes) (left ++ true ∷ []))
 
-option_map_same : (o : Option (List ℕ × Bool)) → option_map (λ q. ([] ++ q.0, q.1)) o ≡ o
+pub option_map_same : (o : Option (List ℕ × Bool)) → option_map (λ q. ([] ++ q.0, q.1)) o ≡ o
 option_map_same None = refl
 option_map_same (Some q) = refl
 
 pub Spelling-start : (bits : List Bool) → bytes_in 6 bits ≡ None → length bits % 9 ≡ 0 → Spelling bits bits []
 Spelling-start bits e whole = record { few = omega arith; unfinished = e; whole = whole; joined = sym (option_map_same (bytes_in 6 (bits ++ true ∷ []))) }
 
-option_map_push : (bytes : List ℕ) (byte : ℕ) (o : Option (List ℕ × Bool)) → option_map {U = List ℕ × Bool} (λ q. (bytes ++ q.0, q.1)) (option_map {U = List ℕ × Bool} (λ q. (byte ∷ q.0, q.1)) o) ≡ option_map {U = List ℕ × Bool} (λ q. ((bytes ++ byte ∷ []) ++ q.0, q.1)) o
+pub option_map_push : (bytes : List ℕ) (byte : ℕ) (o : Option (List ℕ × Bool)) → option_map {U = List ℕ × Bool} (λ q. (bytes ++ q.0, q.1)) (option_map {U = List ℕ × Bool} (λ q. (byte ∷ q.0, q.1)) o) ≡ option_map {U = List ℕ × Bool} (λ q. ((bytes ++ byte ∷ []) ++ q.0, q.1)) o
 option_map_push bytes byte None = refl
 option_map_push bytes byte (Some q) = ap (λ l. Some (l, q.1)) (sym (append_assoc bytes (byte ∷ []) q.0))
 

@@ -96,7 +96,7 @@ EarlierSettled halves [] = Unit {0}
 EarlierSettled halves (start ∷ earlier) = Settled halves earlier
 
 -- an unfinished body uses all halves
-used_up_open : (halves : List Half) (start : ℕ) (earlier : List ℕ) → start ≤ length halves → outcome_of (drop start halves) ≡ None → used_up halves (start ∷ earlier) ≡ length halves
+pub used_up_open : (halves : List Half) (start : ℕ) (earlier : List ℕ) → start ≤ length halves → outcome_of (drop start halves) ≡ None → used_up halves (start ∷ earlier) ≡ length halves
 unfolding used_up
 used_up_open halves start earlier within e = omega (arith, used_open (drop start halves) e, length-drop start halves)
 
@@ -225,11 +225,11 @@ rest_ended : (halves : List Half) (start : ℕ) (earlier : List ℕ) (p : ℕ ×
 unfolding rest_at
 rest_ended halves start earlier p e = ap (λ o. option_map_or (λ _. hunting halves (start ∷ earlier)) o (InBody (drop start halves))) e
 
-outcomes_open : (halves : List Half) (start : ℕ) (earlier : List ℕ) → outcome_of (drop start halves) ≡ None → outcomes_at halves (start ∷ earlier) ≡ outcomes_at halves earlier
+pub outcomes_open : (halves : List Half) (start : ℕ) (earlier : List ℕ) → outcome_of (drop start halves) ≡ None → outcomes_at halves (start ∷ earlier) ≡ outcomes_at halves earlier
 unfolding outcomes_at outcome_at
 outcomes_open halves start earlier e = ap (λ o. outcomes_at halves earlier ++ option_map_or (λ p. (start + p.0 - 1, p.1) ∷ []) o []) e ∙ append-nil (outcomes_at halves earlier)
 
-outcomes_ended : (halves : List Half) (start : ℕ) (earlier : List ℕ) (p : ℕ × Seen) → outcome_of (drop start halves) ≡ Some p → outcomes_at halves (start ∷ earlier) ≡ outcomes_at halves earlier ++ (start + p.0 - 1, p.1) ∷ []
+pub outcomes_ended : (halves : List Half) (start : ℕ) (earlier : List ℕ) (p : ℕ × Seen) → outcome_of (drop start halves) ≡ Some p → outcomes_at halves (start ∷ earlier) ≡ outcomes_at halves earlier ++ (start + p.0 - 1, p.1) ∷ []
 unfolding outcomes_at outcome_at
 outcomes_ended halves start earlier p e = ap (λ o. outcomes_at halves earlier ++ option_map_or (λ p. (start + p.0 - 1, p.1) ∷ []) o []) e
 

@@ -14,4 +14,6 @@ pub mod HistoryLemmas
 pub mod FramerSteps
 pub mod ErrorByte
 pub mod SeenLemmas
+pub mod PlainLemmas
+pub mod PlainFraming
 pub mod Rows

@@ -13,6 +13,8 @@ mod halves;
 pub mod laws;
 mod open_body;
 #[cfg(test)]
+mod plain;
+#[cfg(test)]
 mod tests;
 mod timing;
 
