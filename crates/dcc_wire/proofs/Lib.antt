@@ -14,6 +14,7 @@ pub mod HistoryLemmas
 pub mod FramerSteps
 pub mod ErrorByte
 pub mod SeenLemmas
-pub mod PlainLemmas
+pub mod PlainHalves
+pub mod PlainBytes
 pub mod PlainFraming
 pub mod Rows

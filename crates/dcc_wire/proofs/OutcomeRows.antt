@@ -10,7 +10,7 @@ use Rattle.dcc_wire.specs.declared.fault.Seen.TheVariants.{Refused}
 use Rattle.dcc_wire.specs.Frames.{xor_of, AllBytes, IsFrame}
 use Rattle.dcc_wire.specs.Bodies.{halves_of, body_bits, body}
 use Rattle.dcc_wire.specs.Outcomes.{bits_in, behind_bits, bytes_in, closed, by_bits, by_halves, outcome_of}
-use Rattle.dcc_wire.specs.OutcomeTable.{IsOpen, IsUnpaired, Ends, Comes, IsUnfinished}
+use Rattle.dcc_wire.specs.OutcomeTable.{IsOpen, IsUnpaired, IsRow, Comes, IsUnfinished}
 use Rattle.dcc_wire.specs.OutcomeLaws.{OutcomesAreRows, NoOutcomeIsUnfinished, SomeRowFits, OneRowFits, NoRowIsUnfinished}
 use Rattle.dcc_wire.proofs.BitLemmas.{halves_of-append, length-halves_of, halves_split, bits_in-behind, some_same}
 use Rattle.dcc_wire.proofs.SendingLemmas.{length-body_bits, closed-packet}
@@ -20,22 +20,22 @@ use Rattle.dcc_wire.proofs.OpenLists.{bits-open}
 use Rattle.dcc_wire.proofs.OutcomeTableLemmas.{closed-short, closed-wrong, comes-outcome, unfinished-outcome}
 
 -- what these halves are where this is their outcome
-abbrev Row : List Half → Option (ℕ × Seen) → Type 0
-Row halves None = IsUnfinished halves
-Row halves (Some p) = Comes halves p.0 p.1
+abbrev IsAnswer : List Half → Option (ℕ × Seen) → Type 0
+IsAnswer halves None = IsUnfinished halves
+IsAnswer halves (Some p) = Comes halves p.0 p.1
 
 -- Bytes with an end bit
 
-ends-closed : (bytes : List ℕ) → AllBytes bytes → 1 ≤ length bytes → length bytes ≤ 6 → Ends (body bytes) (closed bytes)
-ends-closed bytes each some few = elim (cases_lt (length bytes) 3) [
-  | inl short ↦ subst (Ends (body bytes)) (sym (closed-short bytes short)) (bytes, each, some, omega arith, refl)
+row-closed : (bytes : List ℕ) → AllBytes bytes → 1 ≤ length bytes → length bytes ≤ 6 → IsRow (body bytes) (closed bytes)
+row-closed bytes each some few = elim (cases_lt (length bytes) 3) [
+  | inl short ↦ subst (IsRow (body bytes)) (sym (closed-short bytes short)) (bytes, each, some, omega arith, refl)
   | inr long ↦ elim (cases_lt 0 (xor_of bytes)) [
     | inl more ↦
         let wrong : xor_of bytes ≢ 0 = λ e. omega arith in
-        subst (Ends (body bytes)) (sym (closed-wrong bytes long wrong)) (each, long, few, wrong, refl)
+        subst (IsRow (body bytes)) (sym (closed-wrong bytes long wrong)) (each, long, few, wrong, refl)
     | inr none ↦
         let packet : IsFrame bytes = record { least = long; most = few; error_byte = omega arith; each = AllBytes-index bytes each } in
-        subst (Ends (body bytes)) (sym (closed-packet bytes packet)) (packet, refl)
+        subst (IsRow (body bytes)) (sym (closed-packet bytes packet)) (packet, refl)
   ]
 ]
 
@@ -55,7 +55,7 @@ row_end : (bytes : List ℕ) (more : List Bool) (tail : List Half) → AllBytes 
 unfolding body
 row_end bytes more tail each some few = (
   body bytes,
-  ends-closed bytes each some few,
+  row-closed bytes each some few,
   omega (arith, length-halves_of (body_bits bytes), length-body_bits bytes),
   (halves_of more ++ tail, rw body_bits-end (behind_bit (byte_bits bytes) true more tail)),
 )
@@ -71,7 +71,7 @@ row_zero bytes more tail each six =
       (halves_of more ++ tail, behind_bit (byte_bits bytes) false more tail ∙ ap (λ l. l ++ (halves_of more ++ tail)) (halves_of-append (byte_bits bytes) (false ∷ []))),
     )
 
-row_read : (bits : List Bool) (tail rest : List Half) (bytes : List ℕ) (last : Bool) → Reads 6 bits bytes last → halves_of bits ++ tail ≡ Zero ∷ rest → Row (halves_of bits ++ tail) (Some (by_bits (bytes, last)))
+row_read : (bits : List Bool) (tail rest : List Half) (bytes : List ℕ) (last : Bool) → Reads 6 bits bytes last → halves_of bits ++ tail ≡ Zero ∷ rest → IsAnswer (halves_of bits ++ tail) (Some (by_bits (bytes, last)))
 unfolding by_bits
 row_read bits tail rest bytes true r e =
     let first : halves_of (byte_bits bytes ++ true ∷ r.more) ++ tail ≡ Zero ∷ rest = ap (λ l. halves_of l ++ tail) (sym r.is) ∙ e in
@@ -80,18 +80,18 @@ row_read bits tail rest bytes false r e = rw r.is (row_zero bytes r.more tail r.
 
 -- Halves that no bytes are read from
 
-row_behind : (bits : List Bool) (part more : List Half) (outcome : Seen) → Ends (halves_of bits ++ part) outcome → Comes (halves_of bits ++ (part ++ more)) (2 * length bits + length part) outcome
-row_behind bits part more outcome ends = (
+row_behind : (bits : List Bool) (part more : List Half) (outcome : Seen) → IsRow (halves_of bits ++ part) outcome → Comes (halves_of bits ++ (part ++ more)) (2 * length bits + length part) outcome
+row_behind bits part more outcome row = (
   halves_of bits ++ part,
-  ends,
+  row,
   omega (arith, length-append (halves_of bits) part, length-halves_of bits),
   (more, sym (append_assoc (halves_of bits) part more)),
 )
 
-row_bad : (bits : List Bool) (half : List Half) → IsOpen (halves_of bits) → IsUnpaired half → Ends (halves_of bits ++ (half ++ Bad ∷ [])) (Refused BadHalf)
+row_bad : (bits : List Bool) (half : List Half) → IsOpen (halves_of bits) → IsUnpaired half → IsRow (halves_of bits ++ (half ++ Bad ∷ [])) (Refused BadHalf)
 row_bad bits half is_open unpaired = (halves_of bits, half, is_open, unpaired, sym (append_assoc (halves_of bits) half (Bad ∷ [])))
 
-row_open : (bits : List Bool) (tail : List Half) → IsOpen (halves_of bits) → bits_in tail ≡ [] → Row (halves_of bits ++ tail) (by_halves (2 * length bits) tail)
+row_open : (bits : List Bool) (tail : List Half) → IsOpen (halves_of bits) → bits_in tail ≡ [] → IsAnswer (halves_of bits ++ tail) (by_halves (2 * length bits) tail)
 unfolding bits_in by_halves
 row_open bits [] is_open e = (halves_of bits, [], is_open, tt, refl)
 row_open bits (One ∷ []) is_open e = (halves_of bits, One ∷ [], is_open, λ q. cc, refl)
@@ -104,26 +104,26 @@ row_open bits (Zero ∷ One ∷ tail) is_open e = row_behind bits (Zero ∷ One 
 row_open bits (One ∷ One ∷ tail) is_open e = cc
 row_open bits (Zero ∷ Zero ∷ tail) is_open e = cc
 
-row_by : (bits : List Bool) (tail rest : List Half) (o : Option (List ℕ × Bool)) → bytes_in 6 bits ≡ o → bits_in tail ≡ [] → halves_of bits ++ tail ≡ Zero ∷ rest → Row (halves_of bits ++ tail) (option_or (option_map by_bits o) (by_halves (2 * length bits) tail))
+row_by : (bits : List Bool) (tail rest : List Half) (o : Option (List ℕ × Bool)) → bytes_in 6 bits ≡ o → bits_in tail ≡ [] → halves_of bits ++ tail ≡ Zero ∷ rest → IsAnswer (halves_of bits ++ tail) (option_or (option_map by_bits o) (by_halves (2 * length bits) tail))
 row_by bits tail rest None e q first = row_open bits tail (bits-open bits e) q
 row_by bits tail rest (Some (bytes, last)) e q first = row_read bits tail rest bytes last (bytes_in-reads 6 bits bytes last e) first
 
-row : (more : List Half) → Row (Zero ∷ more) (outcome_of (Zero ∷ more))
+row : (more : List Half) → IsAnswer (Zero ∷ more) (outcome_of (Zero ∷ more))
 unfolding outcome_of
 row more =
     let halves : List Half = Zero ∷ more in
     let whole : halves_of (bits_in halves) ++ behind_bits halves ≡ halves = halves_split halves in
-    subst (λ l. Row l (outcome_of halves)) whole (row_by (bits_in halves) (behind_bits halves) more (bytes_in 6 (bits_in halves)) refl (bits_in-behind halves) whole)
+    subst (λ l. IsAnswer l (outcome_of halves)) whole (row_by (bits_in halves) (behind_bits halves) more (bytes_in 6 (bits_in halves)) refl (bits_in-behind halves) whole)
 
 -- The laws
 
 pub outcomes-rows : OutcomesAreRows
-outcomes-rows more n outcome = (comes-outcome (Zero ∷ more) n outcome, λ e. subst (Row (Zero ∷ more)) e (row more))
+outcomes-rows more n outcome = (comes-outcome (Zero ∷ more) n outcome, λ e. subst (IsAnswer (Zero ∷ more)) e (row more))
 
 pub no_outcome-unfinished : NoOutcomeIsUnfinished
-no_outcome-unfinished more = (unfinished-outcome (Zero ∷ more), λ e. subst (Row (Zero ∷ more)) e (row more))
+no_outcome-unfinished more = (unfinished-outcome (Zero ∷ more), λ e. subst (IsAnswer (Zero ∷ more)) e (row more))
 
-some_row : (halves : List Half) (o : Option (ℕ × Seen)) → Row halves o → ((n : ℕ) × (outcome : Seen) × Comes halves n outcome) ⊎ IsUnfinished halves
+some_row : (halves : List Half) (o : Option (ℕ × Seen)) → IsAnswer halves o → ((n : ℕ) × (outcome : Seen) × Comes halves n outcome) ⊎ IsUnfinished halves
 some_row halves None r = inr r
 some_row halves (Some p) r = inl (p.0, p.1, r)
 

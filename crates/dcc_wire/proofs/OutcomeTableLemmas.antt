@@ -1,4 +1,4 @@
--- The table of outcomes and `outcome_of` agree.
+-- Each row of the table is an outcome.
 use Rattle.std.proofs.Common.{◌≡◌, ◌≢◌, ℕ, ◌+◌, ◌*◌, ◌<◌, ◌≤◌, inl, inr, Bool, true, false, eqb, ltb, List, [], ◌∷◌, ◌++◌, length, Option, Some, None, refl, sym, ap, ◌∙◌, arith, append_assoc, length-append}
 use Rattle.std.proofs.lemmas.Bool.Decides.{nat_tests}
 use Rattle.std.proofs.lemmas.List.{append-nil, append_cancel_right}
@@ -11,14 +11,12 @@ use Rattle.dcc_wire.specs.declared.fault.Seen.TheVariants.{Nothing, Packet, Refu
 use Rattle.dcc_wire.specs.Frames.{xor_of, AllBytes}
 use Rattle.dcc_wire.specs.Bodies.{halves_of, body_bits, body}
 use Rattle.dcc_wire.specs.Outcomes.{bytes_in, closed, by_bits, outcome_of}
-use Rattle.dcc_wire.specs.OutcomeTable.{IsUnpaired, Ends, Comes, IsUnfinished}
+use Rattle.dcc_wire.specs.OutcomeTable.{IsUnpaired, IsRow, Comes, IsUnfinished}
 use Rattle.dcc_wire.proofs.BitLemmas.{halves_of-append, length-halves_of, bytes_in-edge}
 use Rattle.dcc_wire.proofs.OutcomeLemmas.{outcome_of-more, outcome_of-bits, outcome_bits, outcome_bad_first, outcome_one_first, outcome_zero_first, outcome_one_bad, outcome_zero_bad, outcome_one_zero, outcome_zero_one}
 use Rattle.dcc_wire.proofs.SendingLemmas.{outcome_of-body, bytes_in-body, length-body_bits}
 use Rattle.dcc_wire.proofs.ByteBits.{byte_bits, body_bits-end, length-byte_bits}
 use Rattle.dcc_wire.proofs.OpenLists.{OpenBits, short_by, open-bits}
-
--- Each row is an outcome
 
 -- the body of some bytes is what they are with an end bit
 body_closed : (bytes : List ℕ) → AllBytes bytes → length bytes ≤ 6 → outcome_of (body bytes) ≡ Some (length (body bytes), closed bytes)
@@ -79,19 +77,19 @@ none_behind front (Zero ∷ []) b unpaired = behind_open front (Zero ∷ []) b N
 none_behind front (Bad ∷ []) b unpaired = absurd (unpaired refl)
 none_behind front (half ∷ other ∷ more) b unpaired = absurd unpaired
 
-ends-outcome : (halves : List Half) (outcome : Seen) → Ends halves outcome → outcome_of halves ≡ Some (length halves, outcome)
-ends-outcome halves (Packet bytes) (packet, same) = rw same (outcome_of-body bytes packet)
-ends-outcome halves (Refused (ErrorByte bytes)) (each, long, few, wrong, same) = rw same (body_closed bytes each few ∙ ap (λ (o : Seen). Some (length (body bytes), o)) (closed-wrong bytes long wrong))
-ends-outcome halves (Refused TooShort) (bytes, each, some, few, same) = rw same (body_closed bytes each (omega arith) ∙ ap (λ (o : Seen). Some (length (body bytes), o)) (closed-short bytes (omega arith)))
-ends-outcome halves (Refused TooLong) (bytes, front, each, six, whole, same) = rw (same, without_end bytes front whole) (zero_closes bytes each six)
-ends-outcome halves (Refused SplitBit) (front, is_open, inl same) = let b = open-bits front is_open in rw same (refused_behind front (Zero ∷ One ∷ []) b (Refused SplitBit) (outcome_zero_one b.bits b.none))
-ends-outcome halves (Refused SplitBit) (front, is_open, inr same) = let b = open-bits front is_open in rw same (refused_behind front (One ∷ Zero ∷ []) b (Refused SplitBit) (outcome_one_zero b.bits b.none))
-ends-outcome halves (Refused BadHalf) (front, half, is_open, unpaired, same) = rw same (bad_behind front half (open-bits front is_open) unpaired)
-ends-outcome halves Nothing h = absurd h
+row-outcome : (halves : List Half) (outcome : Seen) → IsRow halves outcome → outcome_of halves ≡ Some (length halves, outcome)
+row-outcome halves (Packet bytes) (packet, same) = rw same (outcome_of-body bytes packet)
+row-outcome halves (Refused (ErrorByte bytes)) (each, long, few, wrong, same) = rw same (body_closed bytes each few ∙ ap (λ (o : Seen). Some (length (body bytes), o)) (closed-wrong bytes long wrong))
+row-outcome halves (Refused TooShort) (bytes, each, some, few, same) = rw same (body_closed bytes each (omega arith) ∙ ap (λ (o : Seen). Some (length (body bytes), o)) (closed-short bytes (omega arith)))
+row-outcome halves (Refused TooLong) (bytes, front, each, six, whole, same) = rw (same, without_end bytes front whole) (zero_closes bytes each six)
+row-outcome halves (Refused SplitBit) (front, is_open, inl same) = let b = open-bits front is_open in rw same (refused_behind front (Zero ∷ One ∷ []) b (Refused SplitBit) (outcome_zero_one b.bits b.none))
+row-outcome halves (Refused SplitBit) (front, is_open, inr same) = let b = open-bits front is_open in rw same (refused_behind front (One ∷ Zero ∷ []) b (Refused SplitBit) (outcome_one_zero b.bits b.none))
+row-outcome halves (Refused BadHalf) (front, half, is_open, unpaired, same) = rw same (bad_behind front half (open-bits front is_open) unpaired)
+row-outcome halves Nothing h = absurd h
 
 pub comes-outcome : (halves : List Half) (n : ℕ) (outcome : Seen) → Comes halves n outcome → outcome_of halves ≡ Some (n, outcome)
-comes-outcome halves n outcome (front, ends, count, (more, same)) =
-    ap outcome_of same ∙ outcome_of-more front more (length front, outcome) (ends-outcome front outcome ends) ∙ ap (λ k. Some (k, outcome)) (sym count)
+comes-outcome halves n outcome (front, row, count, (more, same)) =
+    ap outcome_of same ∙ outcome_of-more front more (length front, outcome) (row-outcome front outcome row) ∙ ap (λ k. Some (k, outcome)) (sym count)
 
 pub unfinished-outcome : (halves : List Half) → IsUnfinished halves → outcome_of halves ≡ None
 unfinished-outcome halves (front, half, is_open, unpaired, same) = rw same (none_behind front half (open-bits front is_open) unpaired)

@@ -1,17 +1,34 @@
 -- The outcomes of the start places, place by place.
-use Rattle.std.proofs.Common.{◌≡◌, ℕ, suc, ◌+◌, ◌-◌, ◌*◌, ◌<◌, ◌≤◌, Bool, true, false, cond, List, [], ◌∷◌, ◌++◌, length, drop, Option, Some, None, refl, sym, ap, subst, ◌∙◌, arith}
-use Rattle.std.proofs.lemmas.List.{length-drop}
+use Rattle.std.proofs.Common.{◌≡◌, ℕ, suc, ◌+◌, ◌-◌, ◌*◌, ◌<◌, ◌≤◌, Bool, true, false, cond, List, [], ◌∷◌, ◌++◌, length, drop, Option, Some, None, refl, sym, ap, subst, ◌∙◌, arith, ◌⊎◌, inl, inr, leb, take, get_or}
+use Rattle.std.proofs.lemmas.List.{length-drop, get_or_default, drop-take}
 use Rattle.std.specs.Option.{option_map, option_or}
 use Rattle.dcc_wire.specs.declared.half.Half.{Half}
 use Rattle.dcc_wire.specs.declared.half.Half.TheVariants.{One, Zero, Bad}
 use Rattle.dcc_wire.specs.declared.fault.Seen.{Seen}
 use Rattle.dcc_wire.specs.Outcomes.{bits_in, behind_bits, bytes_in, by_bits, by_halves, outcome_of, ones_left}
-use Rattle.dcc_wire.specs.Framing.{used, used_up, is_start, starts_below, outcomes_at}
+use Rattle.dcc_wire.specs.Framing.{used, used_up, is_start, starts_below, outcomes_at, ones_at_end}
 use Rattle.dcc_wire.proofs.BitLemmas.{some_same}
 use Rattle.dcc_wire.proofs.OutcomeLemmas.{outcome_of-long, ones_left_le}
 use Rattle.dcc_wire.proofs.FramingLemmas.{used_ended, used_up_open, outcomes_open, outcomes_ended}
 
--- an outcome takes the end bit that it leaves to the next preamble
+-- Start places
+
+part_of : (halves : List Half) (start place : ℕ) → start ≤ place → drop start (take place halves) ≡ take (place - start) (drop start halves)
+part_of halves start place h =
+    let split : place ≡ start + (place - start) = omega arith in
+    ap (λ k. drop start (take k halves)) split ∙ drop-take start (place - start) halves
+
+pub zero_start : (halves : List Half) (earlier : List ℕ) (unused place : ℕ) → place < length halves → unused ≤ place → get_or halves place One ≡ Zero → unused ≡ used_up halves earlier
+    → is_start halves earlier place ≡ leb 20 (ones_at_end (take (place - unused) (drop unused halves)))
+unfolding is_start
+zero_start halves earlier unused place within some is same = rw (get_or_default halves place Bad One within, is, ← same, part_of halves unused place some) refl
+
+pub other_start : (halves : List Half) (earlier : List ℕ) (place : ℕ) → place < length halves → (get_or halves place One ≡ One) ⊎ (get_or halves place One ≡ Bad) → is_start halves earlier place ≡ false
+unfolding is_start
+other_start halves earlier place within (inl one) = rw (get_or_default halves place Bad One within, one) refl
+other_start halves earlier place within (inr bad) = rw (get_or_default halves place Bad One within, bad) refl
+
+-- An outcome takes the end bit that it leaves to the next preamble
 
 by_halves-left : (n : ℕ) (tail : List Half) (p : ℕ × Seen) → by_halves n tail ≡ Some p → ones_left p.1 ≤ p.0
 unfolding by_halves ones_left
@@ -37,7 +54,7 @@ pub outcome_of-left : (halves : List Half) (p : ℕ × Seen) → outcome_of halv
 unfolding outcome_of
 outcome_of-left halves p e = left_by (bytes_in 6 (bits_in halves)) (2 * length (bits_in halves)) (behind_bits halves) p e
 
--- what was found below a place
+-- What was found below a place
 
 pub record Found (halves : List Half) (place unused : ℕ) (outcomes : List (ℕ × Seen)) : Type 0 where
   pub within : unused ≤ length halves

@@ -14,12 +14,14 @@ OutcomesAreRows =
 
 -- they have none where they are unfinished
 abbrev pub NoOutcomeIsUnfinished : Type 0
-NoOutcomeIsUnfinished = (more : List Half) → IsUnfinished (Zero ∷ more) ↔ (outcome_of (Zero ∷ more) ≡ None)
+NoOutcomeIsUnfinished =
+    (more : List Half) → IsUnfinished (Zero ∷ more) ↔ (outcome_of (Zero ∷ more) ≡ None)
 
 -- a row fits them, or they are unfinished
 abbrev pub SomeRowFits : Type 0
 SomeRowFits =
-    (more : List Half) → ((n : ℕ) × (outcome : Seen) × Comes (Zero ∷ more) n outcome) ⊎ IsUnfinished (Zero ∷ more)
+    (more : List Half)
+    → ((n : ℕ) × (outcome : Seen) × Comes (Zero ∷ more) n outcome) ⊎ IsUnfinished (Zero ∷ more)
 
 -- no two rows fit, and no row fits in two ways
 abbrev pub OneRowFits : Type 0
@@ -29,4 +31,5 @@ OneRowFits =
 
 -- no row fits unfinished halves
 abbrev pub NoRowIsUnfinished : Type 0
-NoRowIsUnfinished = (halves : List Half) (n : ℕ) (outcome : Seen) → Comes halves n outcome → ¬ IsUnfinished halves
+NoRowIsUnfinished =
+    (halves : List Half) (n : ℕ) (outcome : Seen) → Comes halves n outcome → ¬ IsUnfinished halves

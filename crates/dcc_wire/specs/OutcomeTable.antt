@@ -13,7 +13,8 @@ use Rattle.dcc_wire.specs.Bodies.{body}
 abbrev pub BeginsWith : List Half → List Half → Type 0
 BeginsWith halves front = (more : List Half) × (halves ≡ front ++ more)
 
--- an even number of halves, perhaps none, that the longer body of some six bytes begins with (NMRA S-9.2)
+-- an even number of halves, perhaps none, that the body of some six bytes begins with, and not all
+-- of that body (NMRA S-9.2)
 pub record IsOpen (halves : List Half) : Type 0 where
   pub bytes : List ℕ
   pub each : AllBytes bytes
@@ -28,35 +29,39 @@ IsUnpaired [] = Unit {0}
 IsUnpaired (half ∷ []) = half ≢ Bad
 IsUnpaired _ = ⊥
 
--- the halves are all those of this outcome
-abbrev pub Ends : List Half → Seen → Type 0
+-- a row of the table: all the halves of an outcome, and the outcome
+abbrev pub IsRow : List Half → Seen → Type 0
 -- a packet: the body of its bytes, 3 to 6, the last of which is the error byte (NMRA S-9.2; RCN-211)
-Ends halves (Packet bytes) = IsFrame bytes × (halves ≡ body bytes)
+IsRow halves (Packet bytes) = IsFrame bytes × (halves ≡ body bytes)
 -- the same with a wrong error byte (NMRA S-9.2)
-Ends halves (Refused (ErrorByte bytes)) =
-    AllBytes bytes × (3 ≤ length bytes) × (length bytes ≤ 6) × (xor_of bytes ≢ 0) × (halves ≡ body bytes)
--- the body of 1 or 2 bytes, where a packet has 3 (RCN-211)
-Ends halves (Refused TooShort) =
-    (bytes : List ℕ) × AllBytes bytes × (1 ≤ length bytes) × (length bytes ≤ 2) × (halves ≡ body bytes)
--- the body of 6 bytes with a zero for its end bit, where a packet has no more than 6 (RCN-211)
-Ends halves (Refused TooLong) =
+IsRow halves (Refused (ErrorByte bytes)) =
+    AllBytes bytes × (3 ≤ length bytes) × (length bytes ≤ 6) × (xor_of bytes ≢ 0)
+    × (halves ≡ body bytes)
+-- the body of 1 or 2 bytes, where a packet has 3 at least (RCN-211)
+IsRow halves (Refused TooShort) =
+    (bytes : List ℕ) × AllBytes bytes × (1 ≤ length bytes) × (length bytes ≤ 2)
+    × (halves ≡ body bytes)
+-- the body of 6 bytes with a zero for its end bit, where a packet has 6 at most (RCN-211)
+IsRow halves (Refused TooLong) =
     (bytes : List ℕ) × (front : List Half) × AllBytes bytes × (length bytes ≡ 6)
     × (body bytes ≡ front ++ One ∷ One ∷ []) × (halves ≡ front ++ Zero ∷ Zero ∷ [])
--- a bit of a half of a zero and a half of a one (NMRA S-9.1)
-Ends halves (Refused SplitBit) =
+-- a bit of half a zero and half a one (NMRA S-9.1)
+IsRow halves (Refused SplitBit) =
     (front : List Half) × IsOpen front
     × ((halves ≡ front ++ Zero ∷ One ∷ []) ⊎ (halves ≡ front ++ One ∷ Zero ∷ []))
--- a bad half, as the first half of a bit or as the second one (NMRA S-9.1)
-Ends halves (Refused BadHalf) =
+-- a bad half, the first one of a bit or the second one (NMRA S-9.1)
+IsRow halves (Refused BadHalf) =
     (front : List Half) × (half : List Half) × IsOpen front × IsUnpaired half
     × (halves ≡ front ++ half ++ Bad ∷ [])
-Ends halves Nothing = ⊥
+IsRow halves Nothing = ⊥
 
--- the first n halves are all those of this outcome
+-- the first n of the halves are a row with this outcome
 abbrev pub Comes : List Half → ℕ → Seen → Type 0
-Comes halves n outcome = (front : List Half) × Ends front outcome × (n ≡ length front) × BeginsWith halves front
+Comes halves n outcome =
+    (front : List Half) × IsRow front outcome × (n ≡ length front) × BeginsWith halves front
 
 -- the halves may still become a body: whole bits, and at most one half more (NMRA S-9.2)
 abbrev pub IsUnfinished : List Half → Type 0
 IsUnfinished halves =
-    (front : List Half) × (half : List Half) × IsOpen front × IsUnpaired half × (halves ≡ front ++ half)
+    (front : List Half) × (half : List Half) × IsOpen front × IsUnpaired half
+    × (halves ≡ front ++ half)

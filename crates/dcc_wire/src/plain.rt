@@ -44,7 +44,8 @@ fn outcomes(alloc: Global, halves: &[Half]) -> Result<Vec<(usize, Seen)>, AllocE
 /// Whether a place is a zero behind twenty ones that no earlier start place uses.
 fn is_start(halves: &[Half], unused: usize, place: usize) -> bool
     requires { place < length halves.now }
-    ensures { (earlier : List ℕ) → unused ≡ used_up halves.now earlier → result ≡ is_start halves.now earlier place }
+    ensures { (earlier : List ℕ) → unused ≡ used_up halves.now earlier →
+        result ≡ is_start halves.now earlier place }
 {
     if place < unused {
         return false;
@@ -82,7 +83,9 @@ pub fn outcome(halves: &[Half]) -> Option<(usize, Seen)>
 
 /// The bit that halves begin with.
 fn first_bit(halves: &[Half]) -> Option<bool>
-    ensures bit { MatchOption result (bits_in halves.now ≡ []) (λ bit. bits_in halves.now ≡ bit ∷ bits_in (drop 2 halves.now)) }
+    ensures bit { MatchOption result
+        (bits_in halves.now ≡ [])
+        (λ bit. bits_in halves.now ≡ bit ∷ bits_in (drop 2 halves.now)) }
     ensures long { IsSome result → 2 ≤ length halves.now }
 {
     if halves.len() < 2 {
@@ -132,7 +135,9 @@ fn closing(halves: &[Half]) -> Option<(usize, Seen)>
 
 /// The byte that halves begin with.
 fn byte(halves: &[Half]) -> Option<u8>
-    ensures byte { MatchOption result (length (bits_in halves.now) < 8) (λ byte. byte ≡ number_of (take 8 (bits_in halves.now))) }
+    ensures byte { MatchOption result
+        (length (bits_in halves.now) < 8)
+        (λ byte. byte ≡ number_of (take 8 (bits_in halves.now))) }
     ensures after { IsSome result → drop 8 (bits_in halves.now) ≡ bits_in (drop 16 halves.now) }
     ensures long { IsSome result → 8 ≤ length (bits_in halves.now) }
     ensures halves { IsSome result → 16 ≤ length halves.now }

@@ -1,6 +1,6 @@
 use Rattle.std.proofs.Common.{arith, sym}
 use Rattle.std.proofs.lemmas.Bool.Decides.{nat_tests}
-use Rattle.dcc_wire.proofs.PlainLemmas.{none_behind, bad_first, one_behind, bad_second, split_second}
+use Rattle.dcc_wire.proofs.PlainHalves.{none_behind, bad_first, one_behind, bad_second, split_second}
 use Rattle.dcc_wire.proofs.plain.behind_bits.Goals as goal
 
 pub returns-then-is_empty : goal.returns-then-is_empty

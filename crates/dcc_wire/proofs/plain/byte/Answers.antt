@@ -1,6 +1,6 @@
 use Rattle.std.proofs.Common.{◌∙◌, refl, arith}
 use Rattle.dcc_wire.proofs.BitNumbers.{byte_of_bool}
-use Rattle.dcc_wire.proofs.PlainLemmas.{spells_none, spells_more, spells_short}
+use Rattle.dcc_wire.proofs.PlainBytes.{spells_none, spells_more, spells_short}
 use Rattle.dcc_wire.proofs.plain.byte.Goals as goal
 
 pub loop-init : goal.loop-init

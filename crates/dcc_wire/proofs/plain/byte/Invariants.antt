@@ -1,4 +1,4 @@
-use Rattle.dcc_wire.proofs.PlainLemmas.{Spells}
+use Rattle.dcc_wire.proofs.PlainBytes.{Spells}
 use Rattle.dcc_wire.proofs.plain.byte.Given as goal
 
 abbrev pub invariant-loop : goal.invariant-loop

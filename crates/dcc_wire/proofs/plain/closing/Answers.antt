@@ -1,7 +1,7 @@
 use Rattle.std.proofs.Common.{◌≡◌, ◌<◌, ◌∷◌, length, drop, true, false, sym, ap, ◌∙◌, refl, arith}
 use Rattle.std.proofs.lemmas.Bool.Decides.{nat_tests}
 use Rattle.dcc_wire.specs.Outcomes.{bits_in}
-use Rattle.dcc_wire.proofs.PlainLemmas.{rest_of, closes_none, closes_end, closes_one, closes_full, closes_short, closes_byte}
+use Rattle.dcc_wire.proofs.PlainBytes.{rest_of, closes_none, closes_end, closes_one, closes_full, closes_short, closes_byte}
 use Rattle.dcc_wire.proofs.plain.closing.Goals as goal
 
 pub loop-bit-init : goal.loop-bit-init

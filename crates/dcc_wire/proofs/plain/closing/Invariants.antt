@@ -1,5 +1,5 @@
 use Rattle.std.proofs.Common.{length}
-use Rattle.dcc_wire.proofs.PlainLemmas.{Closes}
+use Rattle.dcc_wire.proofs.PlainBytes.{Closes}
 use Rattle.dcc_wire.proofs.plain.closing.Given as goal
 
 abbrev pub invariant-loop-bit : goal.invariant-loop-bit

@@ -1,5 +1,5 @@
 use Rattle.std.proofs.Common.{arith, sym}
-use Rattle.dcc_wire.proofs.PlainLemmas.{no_bit, same_halves, other_halves}
+use Rattle.dcc_wire.proofs.PlainHalves.{no_bit, same_halves, other_halves}
 use Rattle.dcc_wire.proofs.plain.first_bit.Goals as goal
 
 pub returns-then-halves-lt2-clause-bit : goal.returns-then-halves-lt2-clause-bit

@@ -1,6 +1,6 @@
 use Rattle.std.proofs.Common.{sym, ap, ◌∙◌, leb, arith}
 use Rattle.dcc_wire.proofs.FramingLemmas.{not_start}
-use Rattle.dcc_wire.proofs.PlainLemmas.{zero_start, other_start}
+use Rattle.dcc_wire.proofs.PlainFraming.{zero_start, other_start}
 use Rattle.dcc_wire.proofs.plain.is_start.Goals as goal
 
 pub returns-then-place-unused : goal.returns-then-place-unused

@@ -1,5 +1,5 @@
 use Rattle.std.proofs.Common.{◌*◌, sym, ◌∙◌}
-use Rattle.dcc_wire.proofs.PlainLemmas.{rest_of, outcome_closed, outcome_behind}
+use Rattle.dcc_wire.proofs.PlainBytes.{rest_of, outcome_closed, outcome_behind}
 use Rattle.dcc_wire.proofs.plain.outcome.Goals as goal
 
 pub returns-in-Some : goal.returns-in-Some

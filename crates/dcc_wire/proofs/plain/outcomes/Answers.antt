@@ -5,7 +5,7 @@ use Rattle.dcc_wire.specs.declared.fault.Seen.{Seen}
 use Rattle.dcc_wire.specs.Outcomes.{outcome_of}
 use Rattle.dcc_wire.specs.Framing.{starts_below}
 use Rattle.dcc_wire.proofs.OutcomeLemmas.{outcome_of-long}
-use Rattle.dcc_wire.proofs.PlainLemmas.{rest_of}
+use Rattle.dcc_wire.proofs.PlainBytes.{rest_of}
 use Rattle.dcc_wire.proofs.PlainFraming.{outcome_of-left, found_nothing, found_no, found_open, found_ended}
 use Rattle.dcc_wire.proofs.plain.outcomes.Goals as goal
 use Rattle.dcc_wire.proofs.plain.outcomes.Goals.{then-is_start+in-None, then-is_start+in-Some+in_ok-push-in-Some, else-is_start}
