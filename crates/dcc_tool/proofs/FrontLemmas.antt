@@ -1,6 +1,7 @@
 -- A word at the front of the bytes at hand is the next word of the input.
-use Rattle.std.proofs.Common.{◌≡◌, ◌≢◌, ℕ, ◌+◌, ◌-◌, ◌<◌, ◌≤◌, List, [], ◌∷◌, ◌++◌, take, get_or, length, Bool, true, false, cond, eqb, nat_lt, nat_le, ◌||◌, ◌&&◌, min, Option, None, Some, Ok, IfSome, IsSomeAnd, refl, sym, ap, ◌∙◌, subst, arith, append_assoc, length-append, length-take}
+use Rattle.std.proofs.Common.{◌≡◌, ◌≢◌, ℕ, ◌+◌, ◌-◌, ◌*◌, ◌<◌, ◌≤◌, List, [], ◌∷◌, ◌++◌, take, get_or, length, Bool, true, false, cond, eqb, nat_lt, nat_le, ◌||◌, ◌&&◌, min, Option, None, Some, Ok, IfSome, IsSomeAnd, refl, sym, ap, ◌∙◌, subst, arith, append_assoc, length-append, length-take}
 use Rattle.std.proofs.lemmas.List.{append-nil, take_more}
+use Rattle.std.proofs.lemmas.List.Folds.{list_all_more}
 use Rattle.std.proofs.lemmas.Bool.{ne_eqb}
 use Rattle.std.proofs.lemmas.Bool.Decides.{nat_tests}
 use Rattle.std.specs.Io.KnownBytes.{Consumes}
@@ -10,7 +11,7 @@ use Rattle.std.specs.Str.Parse.{digits_value}
 use Rattle.dcc_tool.specs.declared.word.FrontWord.{FrontWord}
 use Rattle.dcc_tool.specs.Place.{Place, line_behind}
 use Rattle.dcc_tool.specs.Words.{Word, is_gap, comments, ended_words, duration_of, Passes}
-use Rattle.dcc_tool.specs.Front.{IsFrontWord}
+use Rattle.dcc_tool.specs.Front.{IsFrontWord, EndedWord}
 use Rattle.dcc_tool.specs.declared.fault.KeptFault.{KeptFault}
 use Rattle.dcc_tool.specs.Told.{Told}
 use Rattle.dcc_tool.specs.InputState.{InputState, closed_text, closing}
@@ -19,6 +20,7 @@ use Rattle.dcc_tool.specs.Capture.{AnswersHalf}
 use Rattle.dcc_tool.proofs.WordsLemmas.{behind, opened, opened-none, opened-word, opened-gap, ended}
 use Rattle.dcc_tool.proofs.HandLemmas.{outside}
 use Rattle.dcc_tool.proofs.CaptureLemmas.{Gave-word}
+use Rattle.dcc_tool.proofs.SpellsLemmas.{digit_value-digit, is_ascii_digit-digit, digits_value_after-push}
 
 digit_bounds : (byte : ℕ) → is_ascii_digit byte ≡ true → (48 ≤ byte) × (byte ≤ 57)
 digit_bounds byte digit = (grind (arith, nat_tests), grind (arith, nat_tests))
@@ -188,3 +190,41 @@ line_of_gap line gap ends_line is ends = rw (sym is ∙ ends) refl
 
 pub same_line_of_gap : (line gap : ℕ) (ends_line : Bool) → ends_line ≡ eqb gap 10 → ends_line ≡ false → line ≡ line_behind line gap
 same_line_of_gap line gap ends_line is ends = rw (sym is ∙ ends) refl
+
+-- digits that spell this number
+pub record SpellsNumber (number : ℕ) (word : List ℕ) : Type 0 where
+  pub digits : list_all is_ascii_digit word ≡ true
+  pub value : number ≡ digits_value 10 word
+  pub small : number < 100000
+
+pub SpellsNumber-none : SpellsNumber 0 []
+SpellsNumber-none = record { digits = refl; value = refl; small = omega arith }
+
+pub SpellsNumber-digit : (number : ℕ) (bytes : List ℕ) (len : ℕ) → len < length bytes → SpellsNumber number (take len bytes) → number < 10000
+    → 48 ≤ get_or bytes len 0 → get_or bytes len 0 ≤ 57 → SpellsNumber (number * 10 + (get_or bytes len 0 - 48)) (take (len + 1) bytes)
+SpellsNumber-digit number bytes len inside spells few low high = record {
+  digits = list_all_more is_ascii_digit bytes len 0 inside ∙ rw (spells.digits, is_ascii_digit-digit (get_or bytes len 0) low high) refl;
+  value = ap (λ n. n * 10 + (get_or bytes len 0 - 48)) spells.value
+      ∙ ap (λ n. digits_value 10 (take len bytes) * 10 + n) (sym (digit_value-digit (get_or bytes len 0) low high))
+      ∙ sym (digits_value_after-push 0 (take len bytes) (get_or bytes len 0))
+      ∙ ap (digits_value 10) (sym (take_more bytes len 0 inside));
+  small = omega arith;
+}
+
+pub front_of_digits : (number : ℕ) (bytes : List ℕ) (len : ℕ) (front : FrontWord) → len < length bytes → SpellsNumber number (take len bytes)
+    → EndedWord number len (get_or bytes len 0) front → IsFrontWord bytes front
+front_of_digits number bytes len front inside spells ended =
+    let count : length (take len bytes) ≡ len = simp length-take (omega arith) in
+    let duration : duration_of (take len bytes) ≡ Some (min number 65535) = spells_duration number (take len bytes) (omega (arith, ended.some, count)) (omega (arith, ended.few, count)) spells in
+    record {
+      inside = rw ended.same_len inside;
+      spells = rw (ended.same_len, ended.us) duration;
+      gap = rw ended.same_len ended.gap;
+      ends_line = rw ended.same_len ended.ends_line;
+    }
+  where
+    spells_duration : (number : ℕ) (word : List ℕ) → 0 < length word → length word ≤ 10 → SpellsNumber number word → duration_of word ≡ Some (min number 65535)
+    spells_duration number word some few spells =
+        let more : nat_lt 0 (length word) ≡ true = grind (arith, nat_tests) in
+        let within : nat_le (length word) 10 ≡ true = grind (arith, nat_tests) in
+        rw (more, within, spells.digits, ← spells.value) refl

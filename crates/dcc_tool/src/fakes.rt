@@ -212,8 +212,12 @@ impl<'a> Sink for Counting<'a> {
         if bytes.is_empty() {
             self.failures = self.failures.saturating_add(1);
         }
-        self.track.writes.set(self.track.writes.get().saturating_add(1));
-        self.track.written.set(self.track.written.get().saturating_add(bytes.len()));
+        self.track
+            .writes
+            .set(self.track.writes.get().saturating_add(1));
+        self.track
+            .written
+            .set(self.track.written.get().saturating_add(bytes.len()));
         Ok(bytes.len())
     }
 }
