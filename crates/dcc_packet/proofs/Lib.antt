@@ -1,0 +1,11 @@
+pub mod FrameParts
+pub mod Same
+pub mod OneSpelling
+pub mod FirstWord
+pub mod Digits
+pub mod UpTo
+pub mod HexFrame
+pub mod Decimal
+pub mod HexText
+pub mod RoundTrip
+pub mod SameFrames

@@ -1,0 +1,171 @@
+//! Packets as frames.
+ghost use Rattle.std.specs.Prelude.{◌≡◌, ◌≤◌, ◌+◌, ◌-◌, ◌*◌, ◌/◌, ◌%◌, ◌++◌, ◌∷◌, [], length};
+ghost use Rattle.arrayvec.specs.ArrayVec.{array_vec_len};
+ghost use Rattle.dcc_wire.specs.Frames.{with_error_byte, xor_of};
+ghost use Rattle.dcc_packet.specs.Rows.{bit, address_bytes, instruction_bytes, function_bytes, cv_bytes, accessory_bytes, signal_bytes};
+ghost use Rattle.dcc_packet.specs.Spelling.{spelling};
+
+use crate::{
+    Address, BitPlace, Board, CvNumber, Group, GroupBits, Output, Packet, SignalAddress, SpeedBits28,
+    SpeedBits128, What,
+};
+use arrayvec::ArrayVec;
+use dcc_wire::Frame;
+
+/// The bytes of a packet, from the first on.
+type Bytes = ArrayVec<u8, 6>;
+
+impl Packet {
+    /// The frame that spells the packet.
+    pub fn frame(&self) -> Frame
+        ensures { result ≡ spelling self.now }
+    {
+        match self {
+            Packet::Idle => with_error_byte(&[0xFF, 0x00]),
+            Packet::Loco { to, what } => {
+                let mut bytes = Bytes::new();
+                put_address(&mut bytes, to);
+                put_instruction(&mut bytes, what);
+                with_error_byte(&bytes)
+            }
+            Packet::Accessory { board, output, on } => {
+                with_error_byte(&accessory_bytes(board, output, *on))
+            }
+            Packet::Signal { address, aspect } => with_error_byte(&signal_bytes(address, *aspect)),
+            Packet::Other(other) => other.frame,
+        }
+    }
+}
+
+fn with_error_byte(bytes: &[u8]) -> Frame
+    requires long_enough { 2 ≤ length bytes.now }
+    requires fits { length bytes.now ≤ 5 }
+    ensures { result ≡ with_error_byte bytes.now }
+{
+    let mut all = Bytes::new();
+    put(&mut all, bytes);
+    all.push(bytes.iter().fold(0, |all, byte| all ^ byte));
+    match Frame::of(&all) {
+        Ok(frame) => frame,
+        Err(_) => unreachable!(),
+    }
+}
+
+fn put(bytes: &mut Bytes, more: &[u8])
+    requires { array_vec_len bytes.old + length more.now ≤ 6 }
+    ensures { bytes.new.items ≡ bytes.old.items ++ more.now }
+{
+    bytes.try_extend_from_slice(more).unwrap()
+}
+
+fn put_address(bytes: &mut Bytes, to: &Address)
+    requires { array_vec_len bytes.old ≤ 4 }
+    ensures { bytes.new.items ≡ bytes.old.items ++ address_bytes to.now }
+{
+    match to {
+        Address::Broadcast => put(bytes, &[0]),
+        Address::Short(address) => put(bytes, &[address.number]),
+        Address::Long(address) => {
+            let high = (address.number >> 8) as u8;
+            let low = (address.number & 0xFF) as u8;
+            put(bytes, &[0xC0 + high, low])
+        }
+    }
+}
+
+fn put_instruction(bytes: &mut Bytes, what: &What)
+    requires { array_vec_len bytes.old ≤ 3 }
+    ensures { bytes.new.items ≡ bytes.old.items ++ instruction_bytes what.now }
+{
+    match what {
+        What::Reset => put(bytes, &[0]),
+        What::Speed28 { forward, bits } => put(bytes, &[speed28_byte(*forward, bits)]),
+        What::Speed128 { forward, bits } => put(bytes, &[0x3F, bits.bits | bit(*forward) << 7]),
+        What::Functions(functions) => put_functions(bytes, functions),
+        What::CvWrite { cv, value } => put(bytes, &cv_bytes(0xEC, cv, *value)),
+        What::CvVerify { cv, value } => put(bytes, &cv_bytes(0xE4, cv, *value)),
+        What::CvBitWrite { cv, place, one } => {
+            put(bytes, &cv_bytes(0xE8, cv, bit_byte(place, *one) | 0xF0))
+        }
+        What::CvBitVerify { cv, place, one } => {
+            put(bytes, &cv_bytes(0xE8, cv, bit_byte(place, *one) | 0xE0))
+        }
+    }
+}
+
+fn bit(on: bool) -> u8
+    ensures value { result ≡ bit on }
+    ensures bound { result ≤ 1 }
+{
+    if on { 1 } else { 0 }
+}
+
+/// A baseline speed, 01DCSSSS.
+fn speed28_byte(forward: bool, speed: &SpeedBits28) -> u8
+    ensures { result ∷ [] ≡ instruction_bytes (What.Speed28 forward speed.now) }
+{
+    speed.bits >> 1 | (speed.bits & 1) << 4 | bit(forward) << 5 | 0x40
+}
+
+/// A bit of a CV, DBBB.
+fn bit_byte(place: &BitPlace, one: bool) -> u8
+    ensures value { result ≡ 8 * bit one + place.now.place }
+    ensures bound { result ≤ 15 }
+{
+    place.place | bit(one) << 3
+}
+
+/// An access to a CV, with the last byte of the instruction.
+fn cv_bytes(kind: u8, cv: &CvNumber, last: u8) -> [u8; 3]
+    requires { kind ≤ 0xEC }
+    ensures { result ≡ cv_bytes kind cv.now.number last }
+{
+    let from_zero = cv.number - 1;
+    [
+        kind + (from_zero >> 8) as u8,
+        (from_zero & 0xFF) as u8,
+        last,
+    ]
+}
+
+fn put_functions(bytes: &mut Bytes, functions: &GroupBits)
+    requires { array_vec_len bytes.old ≤ 3 }
+    ensures { bytes.new.items ≡ bytes.old.items ++ function_bytes functions.now.group functions.now.bits }
+{
+    let bits = functions.bits;
+    match functions.group {
+        Group::F0 => put(bytes, &[bits | 0x80]),
+        Group::F5 => put(bytes, &[bits | 0xB0]),
+        Group::F9 => put(bytes, &[bits | 0xA0]),
+        Group::F13 => put(bytes, &[0xDE, bits]),
+        Group::F21 => put(bytes, &[0xDF, bits]),
+        Group::F29 => put(bytes, &[0xD8, bits]),
+        Group::F37 => put(bytes, &[0xD9, bits]),
+        Group::F45 => put(bytes, &[0xDA, bits]),
+        Group::F53 => put(bytes, &[0xDB, bits]),
+        Group::F61 => put(bytes, &[0xDC, bits]),
+    }
+}
+
+/// An output of a board, 10AAAAAA 1NNNCDDD with the high bits of the board complemented.
+fn accessory_bytes(board: &Board, output: &Output, on: bool) -> [u8; 2]
+    ensures { result ≡ accessory_bytes board.now output.now on }
+{
+    let low = (board.number & 0x3F) as u8;
+    let high = (board.number >> 6) as u8;
+    [
+        0x80 | low,
+        output.number | bit(on) << 3 | (7 - high) << 4 | 0x80,
+    ]
+}
+
+/// An aspect of a signal, 10AAAAAA 0NNN0PP1 and the aspect.
+fn signal_bytes(signal: &SignalAddress, aspect: u8) -> [u8; 3]
+    ensures { result ≡ signal_bytes signal.now aspect }
+{
+    let board = signal.number >> 2;
+    let pair = (signal.number & 3) as u8;
+    let low = (board & 0x3F) as u8;
+    let high = (board >> 6) as u8;
+    [0x80 | low, pair << 1 | 1 | (7 - high) << 4, aspect]
+}
