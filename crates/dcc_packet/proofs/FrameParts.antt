@@ -1,5 +1,5 @@
 -- The error byte behind the bytes of a frame.
-use Rattle.std.proofs.Common.{◌≡◌, ℕ, ◌-◌, ◌+◌, ◌<◌, ◌≤◌, List, [], ◌∷◌, ◌++◌, length, take, drop, get_or, ap, sym, ◌∙◌, subst, arith, refl}
+use Rattle.std.proofs.Common.{◌≡◌, ℕ, ◌-◌, ◌+◌, List, [], ◌∷◌, ◌++◌, length, take, get_or, ap, sym, ◌∙◌, subst, arith, refl}
 use Rattle.std.proofs.lemmas.List.{take_at, take_all, take_more, length-append}
 use Rattle.dcc_packet.specs.Rows.{IsRow, HasRow}
 use Rattle.dcc_wire.specs.Frames.{IsFrame, xor_of, with_error_byte}

@@ -7,5 +7,8 @@ pub mod UpTo
 pub mod HexFrame
 pub mod Decimal
 pub mod HexText
+pub mod WrittenWords
+pub mod WordsBack
 pub mod RoundTrip
 pub mod SameFrames
+pub mod SameAddresses

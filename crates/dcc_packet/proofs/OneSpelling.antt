@@ -1,17 +1,15 @@
 -- No two packets have one spelling.
-use Rattle.std.proofs.Common.{◌≡◌, ℕ, ◌+◌, ◌-◌, ◌*◌, ◌/◌, ◌%◌, ◌<◌, ◌≤◌, Bool, true, false, List, [], ◌∷◌, ◌++◌, length, ap, refl, sym, ◌∙◌, arith, inl, inr, ◌⊎◌}
-use Rattle.dcc_wire.specs.Frames.{with_error_byte}
+use Rattle.std.proofs.Common.{◌≡◌, ℕ, ◌+◌, ◌-◌, ◌*◌, ◌/◌, ◌%◌, ◌<◌, ◌≤◌, Bool, List, [], ◌∷◌, length, ap, refl, sym, arith, inl, inr}
 use Rattle.dcc_packet.specs.declared.address.Address.{Address}
 use Rattle.dcc_packet.specs.declared.address.Address.TheVariants.{Broadcast, Short, Long}
 use Rattle.dcc_packet.specs.declared.cv.CvNumber.{CvNumber}
 use Rattle.dcc_packet.specs.declared.cv.BitPlace.{BitPlace}
 use Rattle.dcc_packet.specs.declared.functions.Group.{Group}
-use Rattle.dcc_packet.specs.declared.functions.Group.TheVariants.{F0, F5, F9, F13, F21, F29, F37, F45, F53, F61}
-use Rattle.dcc_packet.specs.declared.functions.GroupBits.{GroupBits}
+use Rattle.dcc_packet.specs.declared.functions.Group.TheVariants.{F0, F5, F9}
 use Rattle.dcc_packet.specs.declared.instruction.What.{What}
 use Rattle.dcc_packet.specs.declared.instruction.What.TheVariants.{Reset, Speed28, Speed128, Functions, CvWrite, CvVerify, CvBitWrite, CvBitVerify}
 use Rattle.dcc_packet.specs.Group.{group_max}
-use Rattle.dcc_packet.specs.Rows.{bit, address_bytes, function_bytes, cv_bytes, instruction_bytes, loco_bytes, idle_bytes, accessory_bytes, signal_bytes}
+use Rattle.dcc_packet.specs.Rows.{bit, function_bytes, cv_bytes, instruction_bytes, loco_bytes, idle_bytes, accessory_bytes, signal_bytes}
 use Rattle.dcc_packet.specs.declared.packet.Packet.{Packet}
 use Rattle.dcc_packet.specs.declared.packet.Packet.TheVariants.{Idle, Loco, Accessory, Signal, Other}
 use Rattle.dcc_packet.specs.Spelling.{spelling}

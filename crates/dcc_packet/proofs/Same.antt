@@ -1,5 +1,5 @@
 -- Two checked values with the same number are one value.
-use Rattle.std.proofs.Common.{◌≡◌, ℕ, ◌<◌, ◌≤◌, Bool, true, false, List, subst, arith, refl}
+use Rattle.std.proofs.Common.{◌≡◌, ℕ, ◌≤◌, Bool, true, false, List, subst, arith, refl}
 use Rattle.std.proofs.Props.{props}
 use Rattle.dcc_wire.specs.Frames.{IsFrame}
 use Rattle.dcc_packet.specs.declared.address.ShortAddress.{ShortAddress}

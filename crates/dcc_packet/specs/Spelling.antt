@@ -1,13 +1,36 @@
 -- The frame that spells a packet.
-use Rattle.std.specs.Prelude.{List, ℕ}
+use Rattle.std.specs.Prelude.{List, ℕ, ◌<◌}
+use Rattle.hex.specs.Hex.{IsBytes}
 use Rattle.dcc_wire.specs.Frames.{with_error_byte}
+use Rattle.dcc_packet.specs.declared.instruction.What.{What}
+use Rattle.dcc_packet.specs.declared.instruction.What.TheVariants.{Reset, Speed28, Speed128, Functions, CvWrite, CvVerify, CvBitWrite, CvBitVerify}
 use Rattle.dcc_packet.specs.declared.packet.Packet.{Packet}
 use Rattle.dcc_packet.specs.declared.packet.Packet.TheVariants.{Idle, Loco, Accessory, Signal, Other}
 use Rattle.dcc_packet.specs.Rows.{idle_bytes, loco_bytes, accessory_bytes, signal_bytes}
 
+-- the bytes of the packet's row and the error byte, or the frame that is in no row
 abbrev pub spelling : Packet → List ℕ
 spelling Idle = with_error_byte idle_bytes
 spelling (Loco to what) = with_error_byte (loco_bytes to what)
 spelling (Accessory board output on) = with_error_byte (accessory_bytes board output on)
-spelling (Signal signal aspect) = with_error_byte (signal_bytes signal aspect)
+spelling (Signal address aspect) = with_error_byte (signal_bytes address aspect)
 spelling (Other other) = other.frame
+
+-- a value that is written to a CV or compared with one is a byte
+abbrev pub ValueFits : What → Type 0
+ValueFits Reset = Unit {0}
+ValueFits (Speed28 forward bits) = Unit {0}
+ValueFits (Speed128 forward bits) = Unit {0}
+ValueFits (Functions bits) = Unit {0}
+ValueFits (CvWrite cv value) = value < 256
+ValueFits (CvVerify cv value) = value < 256
+ValueFits (CvBitWrite cv place one) = Unit {0}
+ValueFits (CvBitVerify cv place one) = Unit {0}
+
+-- the bytes that a packet holds as they are below 256: true of every packet of a program, since a u8 is
+abbrev pub BytesFit : Packet → Type 0
+BytesFit Idle = Unit {0}
+BytesFit (Loco to what) = ValueFits what
+BytesFit (Accessory board output on) = Unit {0}
+BytesFit (Signal address aspect) = aspect < 256
+BytesFit (Other other) = IsBytes other.frame

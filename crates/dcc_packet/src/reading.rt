@@ -11,8 +11,8 @@ ghost use Rattle.dcc_packet.specs.declared.packet.Packet.{Packet};
 ghost use Rattle.dcc_packet.specs.declared.instruction.What.{What};
 
 use crate::{
-    Address, BitPlace, Board, CvNumber, Group, GroupBits, LongAddress, OtherFrame, Output, Packet, ShortAddress,
-    SignalAddress, SpeedBits28, SpeedBits128, What,
+    Address, BitPlace, Board, CvNumber, Group, GroupBits, LongAddress, OtherFrame, Output, Packet,
+    ShortAddress, SignalAddress, SpeedBits28, SpeedBits128, What,
 };
 use dcc_wire::Frame;
 
@@ -220,9 +220,7 @@ fn loco_row(bytes: &[u8]) -> Option<Packet>
         [number @ 0x01..=0x7F, rest @ ..] => {
             addressed(Address::Short(ShortAddress { number: *number }), rest)
         }
-        [high @ 0xC0..=0xE7, low, rest @ ..] => {
-            addressed(long_address(*high, *low), rest)
-        }
+        [high @ 0xC0..=0xE7, low, rest @ ..] => { addressed(long_address(*high, *low), rest) }
         _ => None,
     }
 }

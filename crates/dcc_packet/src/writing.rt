@@ -6,8 +6,8 @@ ghost use Rattle.dcc_packet.specs.Rows.{bit, address_bytes, instruction_bytes, f
 ghost use Rattle.dcc_packet.specs.Spelling.{spelling};
 
 use crate::{
-    Address, BitPlace, Board, CvNumber, Group, GroupBits, Output, Packet, SignalAddress, SpeedBits28,
-    SpeedBits128, What,
+    Address, BitPlace, Board, CvNumber, Group, GroupBits, Output, Packet, SignalAddress,
+    SpeedBits28, SpeedBits128, What,
 };
 use arrayvec::ArrayVec;
 use dcc_wire::Frame;

@@ -1,8 +1,7 @@
-use Rattle.std.proofs.Common.{◌≡◌, List, ℕ, take, length, ◌-◌, ap, ◌∙◌, sym, subst, refl}
-use Rattle.dcc_wire.specs.Frames.{IsFrame, with_error_byte}
-use Rattle.dcc_packet.specs.Rows.{HasRow, IsRow}
+use Rattle.std.proofs.Common.{◌≡◌, take, length, ◌-◌, ◌∙◌, sym, refl}
+use Rattle.dcc_packet.specs.Rows.{IsRow}
 use Rattle.dcc_packet.specs.Spelling.{spelling}
-use Rattle.dcc_packet.proofs.FrameParts.{frame_parts, same_bytes, in_no_row}
+use Rattle.dcc_packet.proofs.FrameParts.{frame_parts, in_no_row}
 use Rattle.dcc_packet.proofs.OneSpelling.{one_packet}
 use Rattle.dcc_packet.proofs.packet.Packet.read.Goals as goal
 

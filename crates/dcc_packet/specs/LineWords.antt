@@ -1,0 +1,137 @@
+-- What single words of packet lines say.
+use Rattle.std.specs.Prelude.{ℕ, ◌&&◌, nat_le, Bool, true, false, List, length, codes, slice_index, drop, ◌==◌, if◌then◌else◌, Result, Ok, Err}
+use Rattle.std.specs.Char.{is_ascii_digit}
+use Rattle.std.specs.List.{list_all}
+use Rattle.std.specs.Str.Parse.{digits_value}
+use Rattle.dcc_packet.specs.declared.address.Address.{Address}
+use Rattle.dcc_packet.specs.declared.address.Address.TheVariants.{Broadcast}
+use Rattle.dcc_packet.specs.declared.accessory.Board.{Board}
+use Rattle.dcc_packet.specs.declared.accessory.Output.{Output}
+use Rattle.dcc_packet.specs.declared.accessory.SignalAddress.{SignalAddress}
+use Rattle.dcc_packet.specs.declared.cv.BitPlace.{BitPlace}
+use Rattle.dcc_packet.specs.declared.cv.CvNumber.{CvNumber}
+use Rattle.dcc_packet.specs.declared.functions.Group.{Group}
+use Rattle.dcc_packet.specs.declared.functions.Group.TheVariants.{F0, F5, F9, F13, F21, F29, F37, F45, F53, F61}
+use Rattle.dcc_packet.specs.declared.functions.GroupBits.{GroupBits}
+use Rattle.dcc_packet.specs.declared.speed.SpeedBits28.{SpeedBits28}
+use Rattle.dcc_packet.specs.declared.speed.SpeedBits128.{SpeedBits128}
+use Rattle.dcc_packet.specs.declared.fault.PacketFault.{PacketFault}
+use Rattle.dcc_packet.specs.declared.fault.PacketFault.TheVariants as faults
+use Rattle.dcc_wire.specs.declared.frame.Frame.{Frame}
+use Rattle.dcc_wire.specs.declared.frame.FrameFault.{FrameFault}
+use Rattle.dcc_wire.specs.FrameOf.{frame_of}
+use Rattle.hex.specs.declared.error.FromHexError.{FromHexError}
+use Rattle.hex.specs.Hex.{decode_of}
+use Rattle.dcc_packet.specs.Values.{short_of, long_of, speed28_of, speed128_of, functions_of, cv_of, place_of, board_of, output_of, signal_of}
+use Rattle.dcc_packet.specs.Words.{Word, is_word}
+
+-- the second step, where the first gave a value
+infixl 10 ◌>>=◌
+abbrev pub ◌>>=◌ : {A B : Type 0} → Result A PacketFault → (A → Result B PacketFault) → Result B PacketFault
+(Ok x) >>= f = f x
+(Err e) >>= f = Err e
+
+-- 1 to 5 decimal digits
+abbrev pub is_numeral : Word → Bool
+is_numeral word = nat_le 1 (length word) && nat_le (length word) 5 && list_all is_ascii_digit word
+
+-- a numeral, at most 65535
+abbrev pub number : Word → Result ℕ PacketFault
+number word =
+    if is_numeral word then (if nat_le (digits_value 10 word) 65535 then Ok (digits_value 10 word) else Err faults.Number)
+    else Err faults.Number
+
+-- such a number up to 255
+abbrev pub small_number : Word → Result ℕ PacketFault
+small_number word = do
+  n ← number word
+  if nat_le n 255 then Ok n else Err faults.Number
+
+-- TO: `all`, or `s` (115) or `l` (108) and a number
+abbrev pub address : Word → Result Address PacketFault
+address word =
+    if is_word word (codes "all") then Ok Broadcast
+    else if slice_index word 0 == 115 then small_number (drop 1 word) >>= short_of
+    else if slice_index word 0 == 108 then number (drop 1 word) >>= long_of
+    else Err faults.Word
+
+-- f for forward, r for reverse
+abbrev pub direction : Word → Result Bool PacketFault
+direction word =
+    if is_word word (codes "f") then Ok true
+    else if is_word word (codes "r") then Ok false
+    else Err faults.Word
+
+-- BITS of `speed28`
+abbrev pub speed28_bits : Word → Result SpeedBits28 PacketFault
+speed28_bits word = small_number word >>= speed28_of
+
+-- BITS of `speed128`
+abbrev pub speed128_bits : Word → Result SpeedBits128 PacketFault
+speed128_bits word = small_number word >>= speed128_of
+
+-- GROUP: its first function, as one of ten words
+abbrev pub group : Word → Result Group PacketFault
+group word =
+    if is_word word (codes "0") then Ok F0
+    else if is_word word (codes "5") then Ok F5
+    else if is_word word (codes "9") then Ok F9
+    else if is_word word (codes "13") then Ok F13
+    else if is_word word (codes "21") then Ok F21
+    else if is_word word (codes "29") then Ok F29
+    else if is_word word (codes "37") then Ok F37
+    else if is_word word (codes "45") then Ok F45
+    else if is_word word (codes "53") then Ok F53
+    else if is_word word (codes "61") then Ok F61
+    else Err faults.Word
+
+-- BITS of a group
+abbrev pub group_bits : Group → Word → Result GroupBits PacketFault
+group_bits g word = small_number word >>= functions_of g
+
+-- CV
+abbrev pub cv_number : Word → Result CvNumber PacketFault
+cv_number word = number word >>= cv_of
+
+-- PLACE
+abbrev pub bit_place : Word → Result BitPlace PacketFault
+bit_place word = small_number word >>= place_of
+
+-- the bit that is written or compared: 1 or 0
+abbrev pub bit_state : Word → Result Bool PacketFault
+bit_state word =
+    if is_word word (codes "1") then Ok true
+    else if is_word word (codes "0") then Ok false
+    else Err faults.Word
+
+-- BOARD
+abbrev pub board_number : Word → Result Board PacketFault
+board_number word = number word >>= board_of
+
+-- OUTPUT
+abbrev pub output_number : Word → Result Output PacketFault
+output_number word = small_number word >>= output_of
+
+-- on or off
+abbrev pub switch : Word → Result Bool PacketFault
+switch word =
+    if is_word word (codes "on") then Ok true
+    else if is_word word (codes "off") then Ok false
+    else Err faults.Word
+
+-- ADDRESS of a signal
+abbrev pub signal_number : Word → Result SignalAddress PacketFault
+signal_number word = number word >>= signal_of
+
+-- the frame of bytes, or the fault of a word that spells none
+abbrev pub framed : Result Frame FrameFault → Result (List ℕ) PacketFault
+framed (Ok frame) = Ok frame
+framed (Err fault) = Err faults.Frame
+
+abbrev pub framed_bytes : Result (List ℕ) FromHexError → Result (List ℕ) PacketFault
+framed_bytes (Ok bytes) = framed (frame_of bytes)
+framed_bytes (Err fault) = Err faults.Frame
+
+-- HEX: the bytes of a frame, two digits of either case a byte
+abbrev pub hex_frame : Word → Result (List ℕ) PacketFault
+hex_frame word = framed_bytes (decode_of word)

@@ -1,0 +1,147 @@
+//! What single words of packet lines say.
+ghost use Rattle.std.specs.Prelude.{◌≡◌};
+ghost use Rattle.dcc_wire.specs.FrameOf.{frame_of};
+ghost use Rattle.dcc_packet.specs.LineWords.{address, direction, speed28_bits, speed128_bits, group, group_bits, cv_number, bit_place, bit_state, board_number, output_number, switch, signal_number, framed, hex_frame};
+
+use crate::numeral::{number, small_number};
+use crate::{
+    Address, BitPlace, Board, CvNumber, Group, GroupBits, Output, PacketFault, SignalAddress,
+    SpeedBits28, SpeedBits128,
+};
+use dcc_wire::Frame;
+
+/// `all`, or `s` or `l` and a number.
+pub(crate) fn address(word: &[u8]) -> Result<Address, PacketFault>
+    ensures { result ≡ address word.now }
+{
+    match word {
+        b"all" => Ok(Address::Broadcast),
+        [b's', digits @ ..] => Address::short(small_number(digits)?),
+        [b'l', digits @ ..] => Address::long(number(digits)?),
+        _ => Err(PacketFault::Word),
+    }
+}
+
+/// `f` for forward, `r` for reverse.
+pub(crate) fn direction(word: &[u8]) -> Result<bool, PacketFault>
+    ensures { result ≡ direction word.now }
+{
+    match word {
+        b"f" => Ok(true),
+        b"r" => Ok(false),
+        _ => Err(PacketFault::Word),
+    }
+}
+
+pub(crate) fn speed28_bits(word: &[u8]) -> Result<SpeedBits28, PacketFault>
+    ensures { result ≡ speed28_bits word.now }
+{
+    SpeedBits28::new(small_number(word)?)
+}
+
+pub(crate) fn speed128_bits(word: &[u8]) -> Result<SpeedBits128, PacketFault>
+    ensures { result ≡ speed128_bits word.now }
+{
+    SpeedBits128::new(small_number(word)?)
+}
+
+/// A group by the number of its first function. `05` is none of them.
+pub(crate) fn group(word: &[u8]) -> Result<Group, PacketFault>
+    ensures { result ≡ group word.now }
+{
+    match word {
+        b"0" => Ok(Group::F0),
+        b"5" => Ok(Group::F5),
+        b"9" => Ok(Group::F9),
+        b"13" => Ok(Group::F13),
+        b"21" => Ok(Group::F21),
+        b"29" => Ok(Group::F29),
+        b"37" => Ok(Group::F37),
+        b"45" => Ok(Group::F45),
+        b"53" => Ok(Group::F53),
+        b"61" => Ok(Group::F61),
+        _ => Err(PacketFault::Word),
+    }
+}
+
+pub(crate) fn group_bits(group: Group, word: &[u8]) -> Result<GroupBits, PacketFault>
+    ensures { result ≡ group_bits group word.now }
+{
+    GroupBits::new(group, small_number(word)?)
+}
+
+pub(crate) fn cv_number(word: &[u8]) -> Result<CvNumber, PacketFault>
+    ensures { result ≡ cv_number word.now }
+{
+    CvNumber::new(number(word)?)
+}
+
+pub(crate) fn bit_place(word: &[u8]) -> Result<BitPlace, PacketFault>
+    ensures { result ≡ bit_place word.now }
+{
+    BitPlace::new(small_number(word)?)
+}
+
+/// `1` or `0`.
+pub(crate) fn bit_state(word: &[u8]) -> Result<bool, PacketFault>
+    ensures { result ≡ bit_state word.now }
+{
+    match word {
+        b"1" => Ok(true),
+        b"0" => Ok(false),
+        _ => Err(PacketFault::Word),
+    }
+}
+
+pub(crate) fn board_number(word: &[u8]) -> Result<Board, PacketFault>
+    ensures { result ≡ board_number word.now }
+{
+    Board::new(number(word)?)
+}
+
+pub(crate) fn output_number(word: &[u8]) -> Result<Output, PacketFault>
+    ensures { result ≡ output_number word.now }
+{
+    Output::new(small_number(word)?)
+}
+
+/// `on` or `off`.
+pub(crate) fn switch(word: &[u8]) -> Result<bool, PacketFault>
+    ensures { result ≡ switch word.now }
+{
+    match word {
+        b"on" => Ok(true),
+        b"off" => Ok(false),
+        _ => Err(PacketFault::Word),
+    }
+}
+
+pub(crate) fn signal_number(word: &[u8]) -> Result<SignalAddress, PacketFault>
+    ensures { result ≡ signal_number word.now }
+{
+    SignalAddress::new(number(word)?)
+}
+
+/// The frame whose bytes stand in hex, with digits of either case.
+pub(crate) fn hex_frame(word: &[u8]) -> Result<Frame, PacketFault>
+    ensures { result ≡ hex_frame word.now }
+{
+    let len = word.len() / 2;
+    if len > 6 {
+        return Err(PacketFault::Frame);
+    }
+    let mut bytes = [0; 6];
+    match hex::decode_to_slice(word, &mut bytes[..len]) {
+        Ok(()) => framed(&bytes[..len]),
+        Err(_) => Err(PacketFault::Frame),
+    }
+}
+
+fn framed(bytes: &[u8]) -> Result<Frame, PacketFault>
+    ensures { result ≡ framed (frame_of bytes.now) }
+{
+    match Frame::of(bytes) {
+        Ok(frame) => Ok(frame),
+        Err(_) => Err(PacketFault::Frame),
+    }
+}

@@ -1,0 +1,153 @@
+//! Packet lines to locomotives, behind the word `loco`.
+ghost use Rattle.std.specs.Prelude.{◌≡◌};
+ghost use Rattle.dcc_packet.specs.Line.{loco, instruction, reset, speed28, speed128, functions, cv_access, cv_write, cv_verify, cv_bit_write, cv_bit_verify, cv_value, cv_bit};
+
+use crate::line_word::{
+    address, bit_place, bit_state, cv_number, direction, group, group_bits, speed28_bits,
+    speed128_bits,
+};
+use crate::numeral::small_number;
+use crate::words::Words;
+use crate::{BitPlace, CvNumber, Packet, PacketFault, What};
+
+impl<'a> Words<'a> {
+    #[tactic(auto, unfolding(crate::specs::Line::loco))]
+    pub(crate) fn loco(&mut self) -> Result<Packet, PacketFault>
+        ensures { result ≡ loco self.old }
+    {
+        let to = address(self.word()?)?;
+        let what = self.instruction()?;
+        Ok(Packet::Loco { to, what })
+    }
+
+    #[tactic(auto, unfolding(crate::specs::Line::instruction))]
+    fn instruction(&mut self) -> Result<What, PacketFault>
+        ensures { result ≡ instruction self.old }
+    {
+        let word = self.word()?;
+        if word == b"reset".as_slice() {
+            self.reset()
+        } else if word == b"speed28".as_slice() {
+            self.speed28()
+        } else if word == b"speed128".as_slice() {
+            self.speed128()
+        } else if word == b"functions".as_slice() {
+            self.functions()
+        } else if word == b"cv".as_slice() {
+            self.cv_access()
+        } else {
+            Err(PacketFault::Word)
+        }
+    }
+
+    #[tactic(auto, unfolding(crate::specs::Line::reset))]
+    fn reset(&mut self) -> Result<What, PacketFault>
+        ensures { result ≡ reset self.old }
+    {
+        self.end()?;
+        Ok(What::Reset)
+    }
+
+    #[tactic(auto, unfolding(crate::specs::Line::speed28))]
+    fn speed28(&mut self) -> Result<What, PacketFault>
+        ensures { result ≡ speed28 self.old }
+    {
+        let forward = direction(self.word()?)?;
+        let bits = speed28_bits(self.word()?)?;
+        self.end()?;
+        Ok(What::Speed28 { forward, bits })
+    }
+
+    #[tactic(auto, unfolding(crate::specs::Line::speed128))]
+    fn speed128(&mut self) -> Result<What, PacketFault>
+        ensures { result ≡ speed128 self.old }
+    {
+        let forward = direction(self.word()?)?;
+        let bits = speed128_bits(self.word()?)?;
+        self.end()?;
+        Ok(What::Speed128 { forward, bits })
+    }
+
+    #[tactic(auto, unfolding(crate::specs::Line::functions))]
+    fn functions(&mut self) -> Result<What, PacketFault>
+        ensures { result ≡ functions self.old }
+    {
+        let group = group(self.word()?)?;
+        let bits = group_bits(group, self.word()?)?;
+        self.end()?;
+        Ok(What::Functions(bits))
+    }
+
+    #[tactic(auto, unfolding(crate::specs::Line::cv_access))]
+    fn cv_access(&mut self) -> Result<What, PacketFault>
+        ensures { result ≡ cv_access self.old }
+    {
+        let word = self.word()?;
+        if word == b"write".as_slice() {
+            self.cv_write()
+        } else if word == b"verify".as_slice() {
+            self.cv_verify()
+        } else if word == b"bitwrite".as_slice() {
+            self.cv_bit_write()
+        } else if word == b"bitverify".as_slice() {
+            self.cv_bit_verify()
+        } else {
+            Err(PacketFault::Word)
+        }
+    }
+
+    #[tactic(auto, unfolding(crate::specs::Line::cv_write))]
+    fn cv_write(&mut self) -> Result<What, PacketFault>
+        ensures { result ≡ cv_write self.old }
+    {
+        let (cv, value) = self.cv_value()?;
+        Ok(What::CvWrite { cv, value })
+    }
+
+    #[tactic(auto, unfolding(crate::specs::Line::cv_verify))]
+    fn cv_verify(&mut self) -> Result<What, PacketFault>
+        ensures { result ≡ cv_verify self.old }
+    {
+        let (cv, value) = self.cv_value()?;
+        Ok(What::CvVerify { cv, value })
+    }
+
+    #[tactic(auto, unfolding(crate::specs::Line::cv_bit_write))]
+    fn cv_bit_write(&mut self) -> Result<What, PacketFault>
+        ensures { result ≡ cv_bit_write self.old }
+    {
+        let (cv, place, one) = self.cv_bit()?;
+        Ok(What::CvBitWrite { cv, place, one })
+    }
+
+    #[tactic(auto, unfolding(crate::specs::Line::cv_bit_verify))]
+    fn cv_bit_verify(&mut self) -> Result<What, PacketFault>
+        ensures { result ≡ cv_bit_verify self.old }
+    {
+        let (cv, place, one) = self.cv_bit()?;
+        Ok(What::CvBitVerify { cv, place, one })
+    }
+
+    /// A CV and a value, and the end of the line.
+    #[tactic(auto, unfolding(crate::specs::Line::cv_value))]
+    fn cv_value(&mut self) -> Result<(CvNumber, u8), PacketFault>
+        ensures { result ≡ cv_value self.old }
+    {
+        let cv = cv_number(self.word()?)?;
+        let value = small_number(self.word()?)?;
+        self.end()?;
+        Ok((cv, value))
+    }
+
+    /// A CV, a bit place and a state, and the end of the line.
+    #[tactic(auto, unfolding(crate::specs::Line::cv_bit))]
+    fn cv_bit(&mut self) -> Result<(CvNumber, BitPlace, bool), PacketFault>
+        ensures { result ≡ cv_bit self.old }
+    {
+        let cv = cv_number(self.word()?)?;
+        let place = bit_place(self.word()?)?;
+        let one = bit_state(self.word()?)?;
+        self.end()?;
+        Ok((cv, place, one))
+    }
+}
