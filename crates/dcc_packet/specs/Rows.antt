@@ -1,5 +1,5 @@
--- The rows of the table of packets: their bytes without the error byte (NMRA S-9.2, S-9.2.1;
--- RCN-211 to RCN-214).
+-- The table of packets: the bytes of each row without the error byte (NMRA S-9.2.1; RCN-211 to RCN-214).
+-- A row's comment is its bit pattern, the highest bit first.
 use Rattle.std.specs.Prelude.{◌≡◌, ◌⊎◌, ℕ, ◌+◌, ◌-◌, ◌*◌, ◌/◌, ◌%◌, Bool, true, false, List, [], ◌∷◌, ◌++◌}
 use Rattle.dcc_wire.specs.Frames.{with_error_byte}
 use Rattle.dcc_packet.specs.declared.address.Address.{Address}
@@ -12,62 +12,88 @@ use Rattle.dcc_packet.specs.declared.functions.Group.TheVariants.{F0, F5, F9, F1
 use Rattle.dcc_packet.specs.declared.instruction.What.{What}
 use Rattle.dcc_packet.specs.declared.instruction.What.TheVariants.{Reset, Speed28, Speed128, Functions, CvWrite, CvVerify, CvBitWrite, CvBitVerify}
 
--- a bit in its place
+-- a bit as a number
 abbrev pub bit : Bool → ℕ
 bit true = 1
 bit false = 0
 
+-- ADDRESSES of multifunction decoders (S-9.2.1, address partitions; RCN-211)
 abbrev pub address_bytes : Address → List ℕ
+-- 00000000
 address_bytes Broadcast = 0 ∷ []
-address_bytes (Short n) = n.number ∷ []
-address_bytes (Long n) = (192 + n.number / 256) ∷ (n.number % 256) ∷ []
+-- 0AAAAAAA
+address_bytes (Short address) = address.number ∷ []
+-- 11AAAAAA AAAAAAAA
+address_bytes (Long address) = (192 + address.number / 256) ∷ (address.number % 256) ∷ []
 
--- 100DDDDD, 1011DDDD, 1010DDDD, or a byte that names the group and a byte of bits
+-- FUNCTIONS (S-9.2.1, function groups one and two, feature expansion; RCN-212). In the first row the bits
+-- from the lowest up are F1, F2, F3, F4 and F0; in all others the lowest bit is the group's first function
 abbrev pub function_bytes : Group → ℕ → List ℕ
+-- 100DDDDD
 function_bytes F0 bits = (0x80 + bits) ∷ []
+-- 1011DDDD
 function_bytes F5 bits = (0xB0 + bits) ∷ []
+-- 1010DDDD
 function_bytes F9 bits = (0xA0 + bits) ∷ []
+-- 11011110 DDDDDDDD
 function_bytes F13 bits = 0xDE ∷ bits ∷ []
+-- 11011111 DDDDDDDD
 function_bytes F21 bits = 0xDF ∷ bits ∷ []
+-- 11011000 DDDDDDDD
 function_bytes F29 bits = 0xD8 ∷ bits ∷ []
+-- 11011001 DDDDDDDD
 function_bytes F37 bits = 0xD9 ∷ bits ∷ []
+-- 11011010 DDDDDDDD
 function_bytes F45 bits = 0xDA ∷ bits ∷ []
+-- 11011011 DDDDDDDD
 function_bytes F53 bits = 0xDB ∷ bits ∷ []
+-- 11011100 DDDDDDDD
 function_bytes F61 bits = 0xDC ∷ bits ∷ []
 
--- two bytes: a kind of access and the two high bits of the CV's number less 1, the eight low bits, and a byte
+-- 1110KKVV VVVVVVVV and a last byte: V is the CV's number less 1, so CV1 is 0
 abbrev pub cv_bytes : ℕ → ℕ → ℕ → List ℕ
 cv_bytes kind cv last = (kind + (cv - 1) / 256) ∷ ((cv - 1) % 256) ∷ last ∷ []
 
+-- INSTRUCTIONS to multifunction decoders
 abbrev pub instruction_bytes : What → List ℕ
+-- reset (S-9.2.1, decoder control; RCN-211): 00000000
 instruction_bytes Reset = 0 ∷ []
--- 01DCSSSS
+-- speed and direction (S-9.2.1; RCN-212): 01DCSSSS, D is 1 for forward, C the lowest of the five speed bits
 instruction_bytes (Speed28 forward speed) = (0x40 + 32 * bit forward + 16 * (speed.bits % 2) + speed.bits / 2) ∷ []
--- 00111111 DSSSSSSS
+-- 128 speed steps (S-9.2.1, advanced operations; RCN-212): 00111111 DSSSSSSS, D is 1 for forward
 instruction_bytes (Speed128 forward speed) = 0x3F ∷ (128 * bit forward + speed.bits) ∷ []
+-- function groups: the table above
 instruction_bytes (Functions functions) = function_bytes functions.group functions.bits
--- 111011VV VVVVVVVV value, and 111001VV VVVVVVVV value
+-- CV access, long form (S-9.2.1; RCN-214), write byte: 111011VV VVVVVVVV DDDDDDDD
 instruction_bytes (CvWrite cv value) = cv_bytes 0xEC cv.number value
+-- verify byte: 111001VV VVVVVVVV DDDDDDDD
 instruction_bytes (CvVerify cv value) = cv_bytes 0xE4 cv.number value
--- 111010VV VVVVVVVV 1111DBBB, and 111010VV VVVVVVVV 1110DBBB
-instruction_bytes (CvBitWrite cv bits one) = cv_bytes 0xE8 cv.number (0xF0 + 8 * bit one + bits.place)
-instruction_bytes (CvBitVerify cv bits one) = cv_bytes 0xE8 cv.number (0xE0 + 8 * bit one + bits.place)
+-- bit manipulation, write: 111010VV VVVVVVVV 1111DBBB, D is the bit, BBB its place
+instruction_bytes (CvBitWrite cv place one) = cv_bytes 0xE8 cv.number (0xF0 + 8 * bit one + place.place)
+-- bit manipulation, verify: 111010VV VVVVVVVV 1110DBBB
+instruction_bytes (CvBitVerify cv place one) = cv_bytes 0xE8 cv.number (0xE0 + 8 * bit one + place.place)
 
+-- PACKETS
+-- idle (S-9.2; RCN-211): 11111111 00000000
 abbrev pub idle_bytes : List ℕ
 idle_bytes = 0xFF ∷ 0 ∷ []
 
+-- to multifunction decoders (S-9.2.1; RCN-211): an address and an instruction
 abbrev pub loco_bytes : Address → What → List ℕ
 loco_bytes to what = address_bytes to ++ instruction_bytes what
 
--- 10AAAAAA 1NNNCDDD
+-- basic accessory packet (S-9.2.1; RCN-213): 10AAAAAA 1NNNCDDD, A the six low bits of the board's number,
+-- N the complement of its three high bits, C is 1 for on, DDD the output
 abbrev pub accessory_bytes : Board → Output → Bool → List ℕ
-accessory_bytes board output on = (0x80 + board.number % 64) ∷ (0x80 + 16 * (7 - board.number / 64) + 8 * bit on + output.number) ∷ []
+accessory_bytes board output on =
+    (0x80 + board.number % 64) ∷ (0x80 + 16 * (7 - board.number / 64) + 8 * bit on + output.number) ∷ []
 
--- 10AAAAAA 0NNN0PP1 aspect
+-- extended accessory packet (S-9.2.1; RCN-213): 10AAAAAA 0NNN0PP1 XXXXXXXX, A and N of the board address / 4,
+-- PP the address modulo 4, X the aspect
 abbrev pub signal_bytes : SignalAddress → ℕ → List ℕ
-signal_bytes signal aspect =
-    let board : ℕ = signal.number / 4 in
-    (0x80 + board % 64) ∷ (16 * (7 - board / 64) + 2 * (signal.number % 4) + 1) ∷ aspect ∷ []
+signal_bytes address aspect =
+    let board : ℕ = address.number / 4 in
+    (0x80 + board % 64) ∷ (16 * (7 - board / 64) + 2 * (address.number % 4) + 1) ∷ aspect ∷ []
 
 -- the bytes of a row
 abbrev pub IsRow : List ℕ → Type 0
@@ -75,7 +101,7 @@ IsRow bytes =
     (bytes ≡ idle_bytes)
     ⊎ ((to : Address) × (what : What) × (bytes ≡ loco_bytes to what))
     ⊎ ((board : Board) × (output : Output) × (on : Bool) × (bytes ≡ accessory_bytes board output on))
-    ⊎ ((signal : SignalAddress) × (aspect : ℕ) × (bytes ≡ signal_bytes signal aspect))
+    ⊎ ((address : SignalAddress) × (aspect : ℕ) × (bytes ≡ signal_bytes address aspect))
 
 -- the frame is the bytes of a row and their error byte
 abbrev pub HasRow : List ℕ → Type 0

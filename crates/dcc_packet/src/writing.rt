@@ -9,6 +9,7 @@ use crate::{
     Address, BitPlace, Board, CvNumber, Group, GroupBits, Output, Packet, SignalAddress,
     SpeedBits28, SpeedBits128, What,
 };
+use crate::bits::bit;
 use arrayvec::ArrayVec;
 use dcc_wire::Frame;
 
@@ -16,7 +17,8 @@ use dcc_wire::Frame;
 type Bytes = ArrayVec<u8, 6>;
 
 impl Packet {
-    /// The frame that spells the packet.
+    /// The frame that spells the packet: the bytes of its row and the error byte (NMRA S-9.2.1; RCN-211 to
+    /// RCN-214). Reading it gives the packet again.
     pub fn frame(&self) -> Frame
         ensures { result ≡ spelling self.now }
     {
@@ -37,6 +39,7 @@ impl Packet {
     }
 }
 
+/// The frame of these bytes and their error byte.
 fn with_error_byte(bytes: &[u8]) -> Frame
     requires long_enough { 2 ≤ length bytes.now }
     requires fits { length bytes.now ≤ 5 }
@@ -51,6 +54,7 @@ fn with_error_byte(bytes: &[u8]) -> Frame
     }
 }
 
+/// More bytes.
 fn put(bytes: &mut Bytes, more: &[u8])
     requires { array_vec_len bytes.old + length more.now ≤ 6 }
     ensures { bytes.new.items ≡ bytes.old.items ++ more.now }
@@ -58,6 +62,7 @@ fn put(bytes: &mut Bytes, more: &[u8])
     bytes.try_extend_from_slice(more).unwrap()
 }
 
+/// The address bytes.
 fn put_address(bytes: &mut Bytes, to: &Address)
     requires { array_vec_len bytes.old ≤ 4 }
     ensures { bytes.new.items ≡ bytes.old.items ++ address_bytes to.now }
@@ -73,6 +78,7 @@ fn put_address(bytes: &mut Bytes, to: &Address)
     }
 }
 
+/// The instruction bytes.
 fn put_instruction(bytes: &mut Bytes, what: &What)
     requires { array_vec_len bytes.old ≤ 3 }
     ensures { bytes.new.items ≡ bytes.old.items ++ instruction_bytes what.now }
@@ -91,13 +97,6 @@ fn put_instruction(bytes: &mut Bytes, what: &What)
             put(bytes, &cv_bytes(0xE8, cv, bit_byte(place, *one) | 0xE0))
         }
     }
-}
-
-fn bit(on: bool) -> u8
-    ensures value { result ≡ bit on }
-    ensures bound { result ≤ 1 }
-{
-    if on { 1 } else { 0 }
 }
 
 /// A baseline speed, 01DCSSSS.
@@ -128,6 +127,7 @@ fn cv_bytes(kind: u8, cv: &CvNumber, last: u8) -> [u8; 3]
     ]
 }
 
+/// The bits of a function group, in one byte or behind a byte that names the group.
 fn put_functions(bytes: &mut Bytes, functions: &GroupBits)
     requires { array_vec_len bytes.old ≤ 3 }
     ensures { bytes.new.items ≡ bytes.old.items ++ function_bytes functions.now.group functions.now.bits }
