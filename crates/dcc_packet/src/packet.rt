@@ -1,3 +1,5 @@
+//! Packets (NMRA S-9.2.1; RCN-211 to RCN-214).
+
 ghost use Rattle.std.specs.Prelude.{◌≡◌};
 ghost use Rattle.dcc_wire.specs.Frames.{IsFrame};
 ghost use Rattle.dcc_packet.specs.Rows.{HasRow};
@@ -14,7 +16,7 @@ pub struct OtherFrame {
 }
 
 impl OtherFrame {
-    /// The bytes of the frame.
+    /// The bytes of the frame, the error byte last.
     pub fn bytes(&self) -> &[u8]
         ensures value { result.now ≡ self.now.frame }
         ensures valid { IsFrame result.now }
@@ -23,22 +25,34 @@ impl OtherFrame {
     }
 }
 
-/// A packet of the profile, or a frame of a kind that is left out.
+/// A packet: what the bytes of a frame say.
 #[derive(Clone, Copy, Debug, PartialEq, Eq)]
 pub enum Packet {
+    /// To nobody: keeps the track powered between packets (RCN-211).
     Idle,
+    /// An instruction to multifunction decoders (RCN-211, RCN-212, RCN-214).
     Loco {
+        /// Whom it is for.
         to: Address,
+        /// The instruction.
         what: What,
     },
+    /// An output of an accessory board, on or off (RCN-213).
     Accessory {
+        /// The board.
         board: Board,
+        /// Its output.
         output: Output,
+        /// Whether the output is switched on.
         on: bool,
     },
+    /// An aspect of a signal (RCN-213).
     Signal {
+        /// The signal.
         address: SignalAddress,
+        /// The aspect, a whole byte.
         aspect: u8,
     },
+    /// A frame that is in no row of the table of packets.
     Other(OtherFrame),
 }
