@@ -5,11 +5,11 @@ ghost use Rattle.dcc_wire.specs.Frames.{with_error_byte, xor_of};
 ghost use Rattle.dcc_packet.specs.Rows.{bit, address_bytes, instruction_bytes, function_bytes, cv_bytes, accessory_bytes, signal_bytes};
 ghost use Rattle.dcc_packet.specs.Spelling.{spelling};
 
+use crate::bits::bit;
 use crate::{
     Address, BitPlace, Board, CvNumber, Group, GroupBits, Output, Packet, SignalAddress,
     SpeedBits28, SpeedBits128, What,
 };
-use crate::bits::bit;
 use arrayvec::ArrayVec;
 use dcc_wire::Frame;
 
