@@ -40,7 +40,8 @@ pub fn one_reading()
 
 /// The words of a line say one packet or one fault.
 pub fn one_answer()
-    ensures { (line : List Word) (one other : Result Packet PacketFault) → Says line one → Says line other → one ≡ other }
+    ensures { (line : List Word) (one other : Result Packet PacketFault)
+        → Says line one → Says line other → one ≡ other }
 {}
 
 /// The written line of a packet says the packet.
