@@ -21,8 +21,12 @@ use Rattle.dcc_packet.specs.declared.instruction.What.TheVariants.{Reset, Speed2
 use Rattle.dcc_packet.specs.declared.functions.Group.{Group}
 use Rattle.dcc_packet.specs.declared.functions.Group.TheVariants.{F0, F5, F9, F13, F21, F29, F37, F45, F53, F61}
 use Rattle.dcc_packet.specs.Group.{group_max}
-use Rattle.dcc_packet.specs.Written.{spaced, address_word, direction_word, group_word, state_word, switch_word, instruction_words}
-use Rattle.dcc_packet.specs.Spelling.{ValueFits}
+use Rattle.dcc_packet.specs.Written.{spaced, written_line, written_words, address_word, direction_word, group_word, state_word, switch_word, instruction_words}
+use Rattle.dcc_packet.specs.declared.packet.Packet.{Packet}
+use Rattle.dcc_packet.specs.declared.packet.Packet.TheVariants.{Idle, Loco, Accessory, Signal, Other}
+use Rattle.dcc_packet.specs.declared.packet.OtherFrame.{OtherFrame}
+use Rattle.hex.proofs.HexLemmas.{length-encode_with}
+use Rattle.dcc_packet.specs.Spelling.{BytesFit, ValueFits}
 use Rattle.dcc_packet.proofs.FirstWord.{is_some_word, filter_some}
 
 -- some bytes, none of them a separator
@@ -130,3 +134,19 @@ hex_plain [] = All-nil (λ b. is_separator b ≡ false)
 hex_plain (b ∷ bs) =
     All-cons (λ b. is_separator b ≡ false) (get_or lower_digits (b / 16) 0) (get_or lower_digits (b % 16) 0 ∷ encode_lower bs) (digit_plain (b / 16))
     (All-cons (λ b. is_separator b ≡ false) (get_or lower_digits (b % 16) 0) (encode_lower bs) (digit_plain (b % 16)) (hex_plain bs))
+
+IsWord-hex : (o : OtherFrame) → IsWord (encode_lower o.frame)
+IsWord-hex o = record { some = omega (arith, length-encode_with lower_digits o.frame, o.valid.least); plain = hex_plain o.frame }
+
+-- the words of a written line are those that were written
+pub written_are_words : (p : Packet) → BytesFit p → words (written_line p) ≡ written_words p
+written_are_words Idle h = words_spaced (codes "idle") [] (literal (codes "idle") (omega arith) refl) tt
+written_are_words (Loco to what) h =
+    words_spaced (codes "loco") (address_word to ∷ instruction_words what) (literal (codes "loco") (omega arith) refl) (IsWord-address to, instruction_is_words what h)
+written_are_words (Accessory b o on) h =
+    words_spaced (codes "accessory") (decimal b.number ∷ decimal o.number ∷ switch_word on ∷ []) (literal (codes "accessory") (omega arith) refl)
+    (IsWord-decimal b.number (omega arith), (IsWord-decimal o.number (omega arith), (IsWord-switch on, tt)))
+written_are_words (Signal s a) h =
+    words_spaced (codes "signal") (decimal s.number ∷ decimal a ∷ []) (literal (codes "signal") (omega arith) refl)
+    (IsWord-decimal s.number (omega arith), (IsWord-decimal a (omega arith), tt))
+written_are_words (Other o) h = words_spaced (codes "frame") (encode_lower o.frame ∷ []) (literal (codes "frame") (omega arith) refl) (IsWord-hex o, tt)

@@ -85,7 +85,8 @@ fn accessory_row(first: u8, second: u8) -> Option<Packet>
     requires low { 0x80 ≤ first }
     requires high { first < 0xC0 }
     ensures found { IfSome result (λ packet. spelling packet ≡ with_error_byte (first ∷ second ∷ [])) }
-    ensures none { IfNone result ((board : Board) (output : Output) (on : Bool) → accessory_bytes board output on ≢ first ∷ second ∷ []) }
+    ensures none { IfNone result ((board : Board) (output : Output) (on : Bool)
+        → accessory_bytes board output on ≢ first ∷ second ∷ []) }
 {
     if !is_set(second, 7) {
         return None;
@@ -106,7 +107,8 @@ fn signal_row(first: u8, second: u8, aspect: u8) -> Option<Packet>
     requires low { 0x80 ≤ first }
     requires high { first < 0xC0 }
     ensures found { IfSome result (λ packet. spelling packet ≡ with_error_byte (first ∷ second ∷ aspect ∷ [])) }
-    ensures none { IfNone result ((signal : SignalAddress) (byte : ℕ) → signal_bytes signal byte ≢ first ∷ second ∷ aspect ∷ []) }
+    ensures none { IfNone result ((signal : SignalAddress) (byte : ℕ)
+        → signal_bytes signal byte ≢ first ∷ second ∷ aspect ∷ []) }
 {
     if is_set(second, 7) || is_set(second, 3) || !is_set(second, 0) {
         return None;

@@ -130,7 +130,8 @@ fn cv_bytes(kind: u8, cv: &CvNumber, last: u8) -> [u8; 3]
 /// The bits of a function group, in one byte or behind a byte that names the group.
 fn put_functions(bytes: &mut Bytes, functions: &GroupBits)
     requires { array_vec_len bytes.old ≤ 3 }
-    ensures { bytes.new.items ≡ bytes.old.items ++ function_bytes functions.now.group functions.now.bits }
+    ensures { bytes.new.items
+        ≡ bytes.old.items ++ function_bytes functions.now.group functions.now.bits }
 {
     let bits = functions.bits;
     match functions.group {
