@@ -75,7 +75,7 @@ fn loco_row(bytes: &[u8]) -> Option<Packet>
         [number @ 0x01..=0x7F, rest @ ..] => {
             addressed(Address::Short(ShortAddress { number: *number }), rest)
         }
-        [high @ 0xC0..=0xE7, low, rest @ ..] => { addressed(long_address(*high, *low), rest) }
+        [high @ 0xC0..=0xE7, low, rest @ ..] => addressed(long_address(*high, *low), rest),
         _ => None,
     }
 }
