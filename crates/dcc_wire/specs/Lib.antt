@@ -10,6 +10,7 @@ pub mod SeenLaws
 pub mod Steps
 pub mod FramerState
 pub mod Timings
+pub mod NominalTimings
 pub mod Sending
 pub mod HalvesLeft
 pub mod OutcomeTable
