@@ -158,6 +158,7 @@ OpensLine-ends old now new line byte n opens takes is_end is_number = record {
 pub OpensLine-none : (old now : InputState) (line : List ℕ) → OpensLine old line now → IsAtEnd now.text → EndsText old now
 OpensLine-none old now line opens at_end = record {
   text = go old.text now.text opens.text at_end;
+  at_end = at_end;
   bytes = omega (arith, opens.bytes);
   place = opens.place;
   halves = opens.halves;

@@ -35,6 +35,7 @@ pub record EndsLine (old : InputState) (number : ℕ) (line : List ℕ) (new : I
 -- there is no line more, none within a line either
 pub record EndsText (old new : InputState) : Type 0 where
   pub text : IfSome old.text (λ text. IsSomeAnd new.text (λ rest. (text ≡ []) × (rest ≡ [])))
+  pub at_end : IsAtEnd new.text
   pub bytes : new.bytes ≤ old.bytes
   pub place : new.place ≡ old.place
   pub halves : new.halves ≡ old.halves
