@@ -87,6 +87,17 @@ module _ {A : Type 0} (reading : Reading A) where
       go (Some text) None gives none = absurd gives
       go (Some text) (Some rest) gives none = gives.in_whole ∙ ap (preceded []) none
 
+  -- all that is said, told from further back
+  pub all_behind : (start now : InputState) → Gave reading start [] now → IfSome now.text (λ text. reading.in_text now text ≡ only_fault None)
+      → IfSome start.text (λ text. reading.in_text start text ≡ only_fault None)
+  all_behind start now gave none = go start.text now.text gave.text none
+    where
+      go : (whole rest : Option (List ℕ)) → IfSome whole (λ text. IsSomeAnd rest (λ more. Gives reading start [] now text more)) → IfSome rest (λ text. reading.in_text now text ≡ only_fault None)
+          → IfSome whole (λ text. reading.in_text start text ≡ only_fault None)
+      go None rest gives none = tt
+      go (Some text) None gives none = absurd gives
+      go (Some text) (Some rest) gives none = gives.in_whole ∙ ap (preceded []) none
+
   -- the state at a fault may be told from further back, where nothing was said in between
   pub StopsAt-behind : (start now new : InputState) (fault : KeptFault) → Gave reading start [] now → StopsAt reading now fault new → StopsAt reading start fault new
   StopsAt-behind start now new (Number line) gave stops = (stops.0 ∙ gave.failures, through start now (Number line) gave stops.1)

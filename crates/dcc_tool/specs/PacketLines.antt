@@ -2,7 +2,8 @@
 use Rattle.std.specs.Prelude.{ℕ, ◌-◌, ◌∷◌, ◌==◌, ◌||◌, nat_le, List, [], Bool, false, not, length, take, Option, None, Some, Result, Ok, Err, if◌then◌else◌}
 use Rattle.dcc_packet.specs.declared.fault.PacketFault.{PacketFault}
 use Rattle.dcc_packet.specs.declared.fault.PacketFault.TheVariants as faults
-use Rattle.dcc_packet.specs.Words.{words}
+use Rattle.std.specs.List.{list_all}
+use Rattle.dcc_packet.specs.Words.{is_separator, words}
 use Rattle.dcc_packet.specs.Line.{said}
 use Rattle.dcc_tool.specs.declared.fault.KeptFault.{KeptFault}
 use Rattle.dcc_tool.specs.declared.fault.KeptFault.TheVariants as kept
@@ -15,9 +16,9 @@ abbrev pub is_comment_line : List ℕ → Bool
 is_comment_line [] = false
 is_comment_line (byte ∷ line) = byte == 35
 
--- a line that says nothing: a blank one, or a comment
+-- a line that says nothing: a comment, or a blank one, which has nothing but spaces, tabs and CR
 abbrev pub is_skipped : List ℕ → Bool
-is_skipped line = is_comment_line line || (length (words line) == 0)
+is_skipped line = is_comment_line line || list_all is_separator line
 
 -- what a line's words say, and what comes behind the line
 abbrev pub behind_words : ℕ → Result (List ℕ) PacketFault → Items (List ℕ) → Items (List ℕ)

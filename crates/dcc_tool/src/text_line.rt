@@ -1,7 +1,10 @@
 //! A line of a text.
 ghost use Rattle.std.specs.Prelude.{◌≡◌, ◌<◌, ◌&&◌, ◌∷◌, ◌++◌, [], nat_lt, true};
 ghost use Rattle.std.specs.Char.{is_ascii};
+ghost use Rattle.std.specs.List.{list_all};
+ghost use Rattle.dcc_packet.specs.Words.{is_separator};
 ghost use Rattle.arrayvec.specs.ArrayString.{array_string_len};
+ghost use Rattle.dcc_tool.specs.PacketLines.{is_comment_line, is_skipped};
 
 use arrayvec::ArrayString;
 
@@ -39,4 +42,24 @@ impl TextLine {
     {
         self.text.push(char::from(byte));
     }
+
+    /// Whether the line says nothing: a blank one, or one that begins with `#`.
+    pub fn is_skipped(&self) -> bool
+        ensures { result ≡ is_skipped self.now.text.bytes }
+    {
+        let bytes = self.text.as_bytes();
+        is_comment(bytes) || is_blank(bytes)
+    }
+}
+
+fn is_comment(bytes: &[u8]) -> bool
+    ensures { result ≡ is_comment_line bytes.now }
+{
+    matches!(bytes, [b'#', ..])
+}
+
+fn is_blank(bytes: &[u8]) -> bool
+    ensures { result ≡ list_all is_separator bytes.now }
+{
+    bytes.iter().all(|byte| *byte == b' ' || *byte == b'\t' || *byte == b'\r')
 }
