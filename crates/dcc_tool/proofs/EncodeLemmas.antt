@@ -86,8 +86,7 @@ stops_at_write how start now new before after then writes count later packet so_
 pub encodes_all : (how : Encode) (start now new : InputState) (before after : Option (List ℕ)) (writes count : ℕ) → Encoding how start now before after writes count
     → AnswersPacket now (Ok None) new → EncodesText how start before writes (Ok tt) new after count
 encodes_all how start now new before after writes count so_far answer =
-    let last = answer.0 in
-    (
+    let last = answer.0 in (
       (up_to_fault packet_lines start now so_far.frames None (Encodes how before after) so_far.gave answer.2 so_far.written, last.failures ∙ so_far.gave.failures),
       answer.1,
       last.fault,

@@ -61,6 +61,7 @@ bad-more line more bad = go (and_false (nat_le (length line) 512) (list_all is_a
         at : ((leb (length line) 512 ≡ true) × (length line ≤ 512)) ⊎ ((leb (length line) 512 ≡ false) × (512 < length line)) → 512 < length line
         at (inl within) = let clash : true ≡ false = sym within.0 ∙ h in cc
         at (inr past) = past.1
+
     go : (nat_le (length line) 512 ≡ false) ⊎ (list_all is_ascii line ≡ false) → is_good (line ++ more) ≡ false
     go (inl h) =
         let bound = long h in
@@ -136,6 +137,7 @@ OpensLine-byte old now new line byte opens takes no_end fits =
         go : ((leb (suc (length line)) 512 ≡ true) × (suc (length line) ≤ 512)) ⊎ ((leb (suc (length line)) 512 ≡ false) × (512 < suc (length line))) → length line < 512
         go (inl within) = within.1
         go (inr past) = let clash : true ≡ false = sym h ∙ past.0 in cc
+
     not_end : byte ≡ 10 → ⊥
     not_end is_end = let clash : true ≡ false = sym (rw is_end refl) ∙ no_end in cc
 
@@ -188,14 +190,18 @@ OpensLine-bad old now mid new line byte number opens takes no_end fails is_numbe
         at : ((leb (suc (length line)) 512 ≡ true) × (suc (length line) ≤ 512)) ⊎ ((leb (suc (length line)) 512 ≡ false) × (512 < suc (length line))) → 512 ≤ length line
         at (inl within) = let clash : true ≡ false = sym within.0 ∙ h in cc
         at (inr past) = let more = past.1 in omega arith
+
     why : (nat_lt (length line) 512 ≡ false) ⊎ (is_ascii byte ≡ false) → (512 ≤ length line) ⊎ (is_ascii byte ≡ false)
     why (inl h) = inl (full h)
     why (inr h) = inr h
+
     not_end : byte ≡ 10 → ⊥
     not_end is_end = let clash : true ≡ false = sym (rw is_end refl) ∙ no_end in cc
+
     some_left : (left : ℕ) (rest : List ℕ) → (rest ≡ [] → byte ≡ 10) → (left ≡ 0 → rest ≡ []) → 0 < left
     some_left zero rest last room = absurd (not_end (last (room refl)))
     some_left (suc left) rest last room = omega arith
+
     go : (whole rest after : Option (List ℕ)) → IfSome whole (λ text. IsSomeAnd rest (λ more. (text ≡ line ++ more) × (more ≡ [] → line ≡ []))) → BeginsWith rest byte after
         → IfSome after (λ left. left ≡ [] → byte ≡ 10) → (mid.bytes ≡ 0 → IsAtEnd after) → IfSome whole (IsBadAt old)
     go None rest after before taken last room = tt

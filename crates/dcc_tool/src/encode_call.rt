@@ -1,11 +1,9 @@
 //! The halves of the packets that lines say.
-ghost use Rattle.std.specs.Prelude.{◌≡◌, ◌+◌, ◌*◌, ◌≤◌, ◌++◌, ◌∷◌, ℕ, [], None, IfSome, length, codes};
-ghost use Rattle.arrayvec.specs.ArrayVec.{array_vec_len};
-ghost use Rattle.dcc_wire.specs.Sending.{sent};
+ghost use Rattle.std.specs.Prelude.{◌≡◌, None, IfSome};
 ghost use Rattle.dcc_tool.specs.Faults.{as_tool_fault};
 ghost use Rattle.dcc_tool.specs.InputState.{HasCause};
 ghost use Rattle.dcc_tool.specs.Written.{Writes};
-ghost use Rattle.dcc_tool.specs.Encoded.{EncodesText, frame_line, timing_of};
+ghost use Rattle.dcc_tool.specs.Encoded.{EncodesText, frame_line};
 
 use crate::encoded_line::frame_line;
 use crate::encoding::Encode;
@@ -21,7 +19,11 @@ use dcc_wire::Frame;
 /// Blank lines and lines that begin with `#` are skipped. A line, a skipped one too, is refused (U3,
 /// P10) at its 513th byte or its first byte past ASCII, and else at its end, by the first fault of
 /// its words.
-pub fn encode<R: Source, W: Sink>(input: &mut Input<R>, writer: &mut W, how: Encode) -> Result<(), ToolFault>
+pub fn encode<R: Source, W: Sink>(
+    input: &mut Input<R>,
+    writer: &mut W,
+    how: Encode,
+) -> Result<(), ToolFault>
     // A fault that the input keeps is answered again, and nothing is read or written.
     ensures kept { IfSome input.old.fault (λ fault. (result ≡ Err (as_tool_fault fault)) × (input.new ≡ input.old) × (writer.new ≡ writer.old)) }
     ensures cause { HasCause input.old.fault input.old.failures }
@@ -49,8 +51,5 @@ pub fn encode<R: Source, W: Sink>(input: &mut Input<R>, writer: &mut W, how: Enc
 fn write_frame<W: Sink>(writer: &mut W, frame: &Frame, how: Encode) -> Result<(), Failed>
     ensures { Writes (W.contents writer.old) (W.failures writer.old) (frame_line how frame.now) result (W.contents writer.new) (W.failures writer.new) }
 {
-    write_all(
-        writer,
-        frame_line(frame, how).as_slice(),
-    )
+    write_all(writer, frame_line(frame, how).as_slice())
 }

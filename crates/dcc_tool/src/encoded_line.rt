@@ -32,7 +32,11 @@ fn timing_of(how: Encode) -> Timing
     ensures timing { result ≡ timing_of how }
     ensures short { result.preamble ≤ 20 }
 {
-    if how.service { Timing::service() } else { Timing::main() }
+    if how.service {
+        Timing::service()
+    } else {
+        Timing::main()
+    }
 }
 
 /// Adds the halves that are sent for a frame.

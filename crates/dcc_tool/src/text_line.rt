@@ -61,5 +61,7 @@ fn is_comment(bytes: &[u8]) -> bool
 fn is_blank(bytes: &[u8]) -> bool
     ensures { result ≡ list_all is_separator bytes.now }
 {
-    bytes.iter().all(|byte| *byte == b' ' || *byte == b'\t' || *byte == b'\r')
+    bytes
+        .iter()
+        .all(|byte| *byte == b' ' || *byte == b'\t' || *byte == b'\r')
 }
