@@ -1,5 +1,5 @@
 -- How an encoding grows.
-use Rattle.std.proofs.Common.{◌≡◌, ℕ, List, [], ◌∷◌, ◌++◌, Option, None, Some, Result, Ok, Err, refl, sym, ap, ◌∙◌, subst, arith, append_assoc, IfSome, IsSomeAnd}
+use Rattle.std.proofs.Common.{◌≡◌, ℕ, List, [], ◌∷◌, ◌++◌, Option, None, Some, Ok, Err, refl, sym, ap, ◌∙◌, subst, append_assoc, IfSome, IsSomeAnd}
 use Rattle.std.proofs.lemmas.List.{append-nil}
 use Rattle.std.proofs.lemmas.List.Concat.{flat_map-append}
 use Rattle.std.specs.Io.KnownBytes.{Appends}
@@ -13,7 +13,7 @@ use Rattle.dcc_tool.specs.Failures.{HasRisen}
 use Rattle.dcc_tool.specs.Faults.{as_tool_fault}
 use Rattle.dcc_tool.specs.InputState.{InputState}
 use Rattle.dcc_tool.specs.Written.{AppendsFront}
-use Rattle.dcc_tool.specs.Items.{Items, Gives, Gave, StopsAt}
+use Rattle.dcc_tool.specs.Items.{Items, Gives, Gave}
 use Rattle.dcc_tool.specs.PacketLines.{packet_lines, frames_in}
 use Rattle.dcc_tool.specs.PacketRead.{AnswersPacket}
 use Rattle.dcc_tool.specs.Encoded.{frame_line, encoding, Encodes, EncodesText}

@@ -1,20 +1,19 @@
 -- What lines say of packets.
-use Rattle.std.proofs.Common.{zero, suc, ◌≡◌, ℕ, ◌+◌, ◌-◌, ◌<◌, ◌≤◌, List, [], ◌∷◌, ◌++◌, length, take, Bool, true, false, cond, eqb, nat_le, Option, None, Some, Result, Ok, Err, refl, sym, ap, ◌∙◌, subst, arith, append_assoc, length-append, ◌||◌, ◌⊎◌, IfSome, IsSomeAnd}
+use Rattle.std.proofs.Common.{◌≡◌, ℕ, ◌+◌, ◌-◌, ◌<◌, List, [], ◌∷◌, ◌++◌, length, take, Bool, true, false, eqb, nat_le, Option, None, Some, Ok, Err, refl, sym, ap, ◌∙◌, arith, append_assoc, length-append, ◌||◌, IfSome, IsSomeAnd}
 use Rattle.std.proofs.Math.Seq.{take-append-add}
 use Rattle.dcc_packet.specs.declared.fault.PacketFault.{PacketFault}
 use Rattle.dcc_packet.specs.declared.fault.PacketFault.TheVariants as faults
 use Rattle.dcc_packet.specs.Words.{words}
 use Rattle.dcc_packet.specs.Line.{said}
 use Rattle.dcc_tool.specs.declared.fault.KeptFault.{KeptFault}
-use Rattle.dcc_tool.specs.declared.fault.KeptFault.TheVariants.{Number, Line, Read, TooMuch}
-use Rattle.dcc_tool.specs.Failures.{one_more}
+use Rattle.dcc_tool.specs.declared.fault.KeptFault.TheVariants.{Line, Read, TooMuch}
 use Rattle.dcc_tool.specs.Place.{Place}
 use Rattle.dcc_tool.specs.Told.{IsAtEnd}
 use Rattle.dcc_tool.specs.InputState.{InputState}
 use Rattle.dcc_tool.specs.Lines.{NumberedLine, lines_from, onto_first_line, is_good}
 use Rattle.dcc_tool.specs.LineRead.{has_line_feed, IsOneLine, EndsLine, EndsText, IsBadAt, MeetsBadLine, FailsWithin, FailsInLine, OverflowsInLine}
 use Rattle.dcc_tool.specs.Items.{Items, preceded, only_fault, Gives, Gave, StopsAt}
-use Rattle.dcc_tool.specs.PacketLines.{is_skipped, behind_words, behind_line, frames_of, frames_in, frames_before_failure, packet_lines}
+use Rattle.dcc_tool.specs.PacketLines.{is_skipped, behind_line, frames_of, frames_in, frames_before_failure, packet_lines}
 use Rattle.dcc_tool.proofs.CaptureLemmas.{count_more, above_limit, not_within, zero_fits, same_test}
 use Rattle.dcc_tool.proofs.LineLemmas.{bad-more}
 

@@ -1,5 +1,5 @@
 -- Packets of lines, read one after the other.
-use Rattle.std.proofs.Common.{◌≡◌, ℕ, ◌<◌, List, [], ◌∷◌, ◌++◌, true, false, Option, None, Some, Result, Ok, Err, sym, ap, ◌∙◌, subst, arith, IfSome}
+use Rattle.std.proofs.Common.{◌≡◌, [], ◌∷◌, true, false, Option, None, Some, Result, Ok, Err, sym, subst, arith}
 use Rattle.dcc_packet.specs.declared.packet.Packet.{Packet}
 use Rattle.dcc_packet.specs.declared.fault.PacketFault.{PacketFault}
 use Rattle.dcc_packet.specs.declared.fault.PacketFault.TheVariants as faults
@@ -9,8 +9,8 @@ use Rattle.dcc_tool.specs.declared.fault.KeptFault.{KeptFault}
 use Rattle.dcc_tool.specs.declared.fault.KeptFault.TheVariants.{Number, Line, Read, TooMuch}
 use Rattle.dcc_tool.specs.InputState.{InputState}
 use Rattle.dcc_tool.specs.LineRead.{EndsLine, EndsText, AnswersLine}
-use Rattle.dcc_tool.specs.Items.{Gave, StopsAt, preceded, only_fault}
-use Rattle.dcc_tool.specs.PacketLines.{packet_lines, is_skipped, frames_in}
+use Rattle.dcc_tool.specs.Items.{Gave, StopsAt}
+use Rattle.dcc_tool.specs.PacketLines.{packet_lines, is_skipped}
 use Rattle.dcc_tool.specs.PacketRead.{AnswersPacket, ReadsPacket}
 use Rattle.dcc_tool.proofs.ItemsLemmas.{Gave-append, StopsAt-behind, all_behind}
 use Rattle.dcc_tool.proofs.PacketLineLemmas.{Gave-skipped, Gave-frame, Gave-end, stops_at_words, stops_at_bad_line, stops_in_line, overflows_line}

@@ -1,7 +1,6 @@
 -- What was read of an input's lines.
 use Rattle.std.specs.Prelude.{◌≡◌, ℕ, ◌+◌, ◌-◌, ◌<◌, ◌≤◌, ◌∷◌, ◌++◌, ◌==◌, List, [], Bool, true, false, Option, None, Some, Result, Ok, Err, length, take, IfSome, IsSomeAnd}
 use Rattle.std.specs.List.{list_any}
-use Rattle.dcc_packet.specs.declared.fault.PacketFault.{PacketFault}
 use Rattle.dcc_packet.specs.declared.fault.PacketFault.TheVariants as faults
 use Rattle.dcc_tool.specs.declared.text_line.TextLine.{TextLine}
 use Rattle.dcc_tool.specs.declared.fault.KeptFault.{KeptFault}

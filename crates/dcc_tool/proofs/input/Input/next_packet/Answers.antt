@@ -1,5 +1,5 @@
 use Rattle.std.proofs.Common.{sym, ◌∙◌}
-use Rattle.dcc_tool.proofs.PacketReadLemmas.{Gave-passed, answers_packet, answers_none, answers_fault}
+use Rattle.dcc_tool.proofs.PacketReadLemmas.{Gave-passed, answers_packet, answers_fault}
 use Rattle.dcc_tool.proofs.input.Input.next_packet.Goals as goal
 
 pub returns-then-not-is_skipped : goal.returns-then-not-is_skipped
