@@ -1,4 +1,4 @@
--- The halves that a station sends.
+-- The halves that a station sends (NMRA S-9.1, S-9.2; RCN-210, RCN-211).
 use Rattle.std.specs.Prelude.{ℕ, ◌+◌, ◌-◌, Bool, true, false, List, [], ◌∷◌, ◌++◌, length, replicate}
 use Rattle.dcc_wire.specs.declared.timing.Timing.{Timing}
 use Rattle.dcc_wire.specs.declared.fault.Seen.{Seen}
@@ -37,7 +37,7 @@ at_last_halves place (packet ∷ packets) =
     let next = place + length (sent packet.bytes packet.timing) in
     (next - 1, Packet packet.bytes) ∷ at_last_halves next packets
 
--- each packet is one
+-- each of them is a frame
 unfoldable pub AllFrames : List Sent → Type 0
 AllFrames [] = Unit {0}
 AllFrames (packet ∷ packets) = IsFrame packet.bytes × AllFrames packets
