@@ -1,6 +1,7 @@
 -- What is held of the bytes that were to be written.
-use Rattle.std.specs.Prelude.{◌≡◌, ℕ, ◌++◌, ◌⊎◌, List, Option, Result, Ok, Err}
+use Rattle.std.specs.Prelude.{◌≡◌, ℕ, ◌++◌, ◌⊎◌, Bool, List, Option, Result, Ok, Err}
 use Rattle.std.specs.Io.KnownBytes.{Appends}
+use Rattle.dcc_wire.specs.declared.fault.Seen.{Seen}
 use Rattle.dcc_tool.specs.declared.stream.Failed.{Failed}
 use Rattle.dcc_tool.specs.declared.fault.ToolFault.{ToolFault}
 use Rattle.dcc_tool.specs.declared.fault.ToolFault.TheVariants.{Write}
@@ -8,6 +9,7 @@ use Rattle.dcc_tool.specs.declared.fault.KeptFault.{KeptFault}
 use Rattle.dcc_tool.specs.Failures.{HasRisen}
 use Rattle.dcc_tool.specs.InputState.{InputState}
 use Rattle.dcc_tool.specs.Capture.{AnswersHalf}
+use Rattle.dcc_tool.specs.Listing.{IsListing}
 use Rattle.dcc_tool.specs.Written.{AppendsFront}
 
 -- these bytes were written, but for the last of them, which are held
@@ -20,6 +22,12 @@ pub record Holds (before after : Option (List ℕ)) (bytes held : List ℕ) : Ty
 abbrev pub HoldsOrFails : Option (List ℕ) → ℕ → List ℕ → Result (Unit {0}) Failed → List ℕ → Option (List ℕ) → ℕ → Type 0
 HoldsOrFails before failures bytes (Ok done) held after now = Holds before after bytes held × (now ≡ failures)
 HoldsOrFails before failures bytes (Err failed) held after now = AppendsFront before after bytes × HasRisen failures now
+
+-- each of the bytes that were held and of a listing of these outcomes was written or is held, or a
+-- write failed or took no byte
+abbrev pub HoldsListing : Bool → List (ℕ × Seen) → Option (List ℕ) → ℕ → List ℕ → Result (Unit {0}) Failed → List ℕ → Option (List ℕ) → ℕ → Type 0
+HoldsListing words outcomes before failures held result left after now =
+    (text : List ℕ) × IsListing words outcomes text × HoldsOrFails before failures (held ++ text) result left after now
 
 -- all that was held is written and this is answered, or a write failed or took no byte
 abbrev pub WritesRest : Option (List ℕ) → ℕ → List ℕ → Result (Unit {0}) ToolFault → Result (Unit {0}) ToolFault → Option (List ℕ) → ℕ → Type 0

@@ -19,7 +19,7 @@ fn expect(
 ) {
     let mut input = Input::new(Counted::new(bytes), Limits::full());
     let mut writer = Counted::new(Vec::new(alloc));
-    assert_eq!(rt; show(&mut input, &mut writer), answer, "{row}");
+    assert_eq!(rt; show(&mut input, &mut writer, false), answer, "{row}");
     assert_eq!(rt; writer.inner.as_slice(), listing, "{row}");
 }
 
@@ -85,6 +85,39 @@ fn packets_are_listed_at_their_last_half(rt: HostRuntime) -> Result<(), Fail> {
 }
 
 #[test]
+fn packets_are_listed_in_words(rt: HostRuntime) -> Result<(), Fail> {
+    let alloc = rt.alloc();
+    let rows: [(&[u8], &[u8], &str); 6] = [
+        (&[0x03, 0x62, 0x61], b"84 loco s3 speed28 f 4\n", "a speed"),
+        (&[0xFF, 0x00, 0xFF], b"84 idle\n", "an idle packet"),
+        (
+            &[0x7C, 0x00, 0x0A, 0x76],
+            b"102 frame 7c000a76\n",
+            "a packet in no row",
+        ),
+        (
+            &[0x01, 0x02, 0x03, 0x04, 0x05, 0x01],
+            b"138 frame 010203040501\n",
+            "six bytes in no row",
+        ),
+        (
+            &[0x03, 0x62, 0x60],
+            b"84 refused H5 036260\n",
+            "a wrong error byte",
+        ),
+        (&[0x03, 0x03], b"66 refused H3\n", "two bytes"),
+    ];
+    for (bytes, listing, row) in rows {
+        let text = packet(alloc, b" ", 28, bytes)?;
+        let mut input = Input::new(Counted::new(text.bytes.as_slice()), Limits::full());
+        let mut writer = Counted::new(Vec::new(alloc));
+        assert_eq!(rt; show(&mut input, &mut writer, true), Ok(()), "{row}");
+        assert_eq!(rt; writer.inner.as_slice(), listing, "{row}");
+    }
+    Ok(())
+}
+
+#[test]
 fn gaps_and_comments_make_no_difference(rt: HostRuntime) -> Result<(), Fail> {
     let alloc = rt.alloc();
     let gaps: [&[u8]; 7] = [
@@ -103,7 +136,7 @@ fn gaps_and_comments_make_no_difference(rt: HostRuntime) -> Result<(), Fail> {
             Limits::full(),
         );
         let mut writer = Counted::new(Vec::new(alloc));
-        assert_eq!(rt; show(&mut input, &mut writer), Ok(()));
+        assert_eq!(rt; show(&mut input, &mut writer, false), Ok(()));
         assert_eq!(rt; writer.inner.as_slice(), b"84 036261\n".as_slice());
         expect(
             &rt,
@@ -286,7 +319,7 @@ fn limits_are_kept(rt: HostRuntime) -> Result<(), Fail> {
     for (text, halves, bytes, answer, row) in rows {
         let mut input = Input::new(Counted::new(text), Limits { halves, bytes });
         let mut writer = Counted::new(Vec::new(rt.alloc()));
-        assert_eq!(rt; show(&mut input, &mut writer), answer, "{row}");
+        assert_eq!(rt; show(&mut input, &mut writer, false), answer, "{row}");
     }
     Ok(())
 }
@@ -305,12 +338,12 @@ fn an_endless_reader_is_too_much(rt: HostRuntime) -> Result<(), Fail> {
         );
         let mut writer = Taking::new(rt.alloc(), 9, 9);
         assert_eq!(rt;
-            show(&mut input, &mut writer),
+            show(&mut input, &mut writer, false),
             Err(ToolFault::TooMuch),
             "{row}"
         );
         assert_eq!(rt;
-            show(&mut input, &mut writer),
+            show(&mut input, &mut writer, false),
             Err(ToolFault::TooMuch),
             "{row}, again"
         );
@@ -337,13 +370,13 @@ fn what_came_before_a_failed_read_is_listed(rt: HostRuntime) -> Result<(), Fail>
         );
         let mut writer = Counted::new(Vec::new(alloc));
         assert_eq!(rt;
-            show(&mut input, &mut writer),
+            show(&mut input, &mut writer, false),
             Err(ToolFault::Read),
             "{row}"
         );
         assert_eq!(rt; writer.inner.as_slice(), listing, "{row}");
         assert_eq!(rt;
-            show(&mut input, &mut writer),
+            show(&mut input, &mut writer, false),
             Err(ToolFault::Read),
             "{row}, again"
         );
@@ -379,11 +412,11 @@ fn a_failed_write_leaves_a_front(rt: HostRuntime) -> Result<(), Fail> {
     for (each, calls, answer, taken, row) in rows {
         let mut input = Input::new(Counted::new(text.bytes.as_slice()), Limits::full());
         let mut writer = Taking::new(alloc, each, calls);
-        assert_eq!(rt; show(&mut input, &mut writer), answer, "{row}");
+        assert_eq!(rt; show(&mut input, &mut writer, false), answer, "{row}");
         assert_eq!(rt; writer.taken.as_slice(), taken, "{row}");
         let mut later = Counted::new(Vec::new(alloc));
         assert_eq!(rt;
-            show(&mut input, &mut later),
+            show(&mut input, &mut later, false),
             Err(ToolFault::Number { line: 1 }),
             "{row}: the bad word is kept"
         );
@@ -418,7 +451,7 @@ fn each_line_is_out_before_the_next_read(rt: HostRuntime) -> Result<(), Fail> {
         track: &track,
         failures: 0,
     };
-    assert_eq!(rt; show(&mut input, &mut writer), Ok(()));
+    assert_eq!(rt; show(&mut input, &mut writer, false), Ok(()));
     assert!(rt;
         !track.late.get(),
         "a line was held while the reader was asked for more"
@@ -441,7 +474,7 @@ fn lines_of_one_read_go_out_together(rt: HostRuntime) -> Result<(), Fail> {
         track: &track,
         failures: 0,
     };
-    assert_eq!(rt; show(&mut input, &mut writer), Ok(()));
+    assert_eq!(rt; show(&mut input, &mut writer, false), Ok(()));
     assert_eq!(rt; track.written.get(), 3 * 14 + 27 * 15, "30 lines");
     assert!(rt;
         track.writes.get() <= 7,

@@ -1,0 +1,30 @@
+//! The command line.
+
+use clap::{Arg, ArgAction, Command};
+use std::alloc::{AllocError, Global};
+
+/// A flag of a subcommand.
+fn flag<'a>(alloc: Global, name: &'a str, help: &'a str) -> Arg<'a> {
+    Arg::new(alloc, name)
+        .long(name)
+        .action(ArgAction::SetTrue)
+        .help(help)
+}
+
+/// The program with its subcommands.
+pub fn command<'a>(alloc: Global) -> Result<Command<'a>, AllocError> {
+    let show = Command::new(alloc, "show")
+        .about("Lists the packets and refusals of a capture")
+        .arg(flag(alloc, "words", "Packets as lines, in place of their bytes"))?;
+    let encode = Command::new(alloc, "encode")
+        .about("Writes the halves that a station sends for packet lines")
+        .arg(flag(alloc, "hex", "The bytes of each packet, in place of its halves"))?
+        .arg(flag(alloc, "service", "The timing of service mode"))?;
+    Command::new(alloc, "dcc")
+        .about("Digital Command Control: captures, packets and halves")
+        .version("0.1.0")
+        .subcommand_required(true)
+        .disable_help_subcommand(true)
+        .subcommand(show)?
+        .subcommand(encode)
+}

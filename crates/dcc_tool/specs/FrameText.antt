@@ -1,0 +1,11 @@
+-- The text that stands for a frame.
+use Rattle.std.specs.Prelude.{◌≡◌, ℕ, Bool, true, false, List}
+use Rattle.hex.specs.Hex.{encode_lower}
+use Rattle.dcc_packet.specs.declared.packet.Packet.{Packet}
+use Rattle.dcc_packet.specs.Spelling.{spelling}
+use Rattle.dcc_packet.specs.Written.{written_line}
+
+-- the bytes of the frame in hex, or with words the line of the packet that it spells
+abbrev pub IsFrameText : Bool → List ℕ → List ℕ → Type 0
+IsFrameText false frame text = text ≡ encode_lower frame
+IsFrameText true frame text = (packet : Packet) × (spelling packet ≡ frame) × (text ≡ written_line packet)
