@@ -18,7 +18,11 @@ pub fn command<'a>(alloc: Global) -> Result<Command<'a>, AllocError> {
         .arg(flag(alloc, "words", "Packets as lines, in place of their bytes"))?;
     let encode = Command::new(alloc, "encode")
         .about("Writes the halves that a station sends for packet lines")
-        .arg(flag(alloc, "hex", "The bytes of each packet, in place of its halves"))?
+        .arg(flag(
+            alloc,
+            "hex",
+            "The bytes of each packet, in place of its halves",
+        ))?
         .arg(flag(alloc, "service", "The timing of service mode"))?;
     Command::new(alloc, "dcc")
         .about("Digital Command Control: captures, packets and halves")
