@@ -1,6 +1,5 @@
 -- Bytes that are held behind those that were written.
 use Rattle.std.proofs.Common.{ℕ, List, [], ◌++◌, Option, refl, sym, ap, ◌∙◌, subst, append_assoc}
-use Rattle.std.proofs.lemmas.List.{append-nil}
 use Rattle.std.specs.Io.KnownBytes.{Appends}
 use Rattle.dcc_tool.specs.Written.{AppendsFront}
 use Rattle.dcc_tool.specs.Held.{Holds}
@@ -9,13 +8,6 @@ use Rattle.dcc_tool.proofs.WrittenLemmas.{Appends-none, Appends-append}
 -- nothing was written yet
 pub Holds-same : (before : Option (List ℕ)) (bytes : List ℕ) → Holds before before bytes bytes
 Holds-same before bytes = record { written = []; whole = refl; appended = Appends-none before }
-
--- what was held was written, and more is held
-pub Holds-written : (before after : Option (List ℕ)) (bytes held : List ℕ) → Appends before after bytes → Holds before after (bytes ++ held) held
-Holds-written before after bytes held wrote = record { written = bytes; whole = refl; appended = wrote }
-
-pub Holds-none : (before after : Option (List ℕ)) (bytes : List ℕ) → Appends before after bytes → Holds before after bytes []
-Holds-none before after bytes wrote = record { written = bytes; whole = sym (append-nil bytes); appended = wrote }
 
 pub Holds-append : (before mid after : Option (List ℕ)) (bytes held more later : List ℕ) → Holds before mid bytes held → Holds mid after (held ++ more) later → Holds before after (bytes ++ more) later
 Holds-append before mid after bytes held more later first second = record {
