@@ -11,7 +11,7 @@ use Rattle.std.specs.Str.Parse.{digits_value}
 use Rattle.dcc_tool.specs.declared.word.FrontWord.{FrontWord}
 use Rattle.dcc_tool.specs.Place.{Place, line_behind}
 use Rattle.dcc_tool.specs.Words.{Word, is_gap, comments, ended_words, duration_of, Passes}
-use Rattle.dcc_tool.specs.Front.{IsFrontWord, EndedWord}
+use Rattle.dcc_tool.specs.Front.{IsFrontWord}
 use Rattle.dcc_tool.specs.declared.fault.KeptFault.{KeptFault}
 use Rattle.dcc_tool.specs.Told.{Told}
 use Rattle.dcc_tool.specs.InputState.{InputState, closed_text, closing}
@@ -197,9 +197,6 @@ pub record SpellsNumber (number : ℕ) (word : List ℕ) : Type 0 where
   pub value : number ≡ digits_value 10 word
   pub small : number < 100000
 
-pub SpellsNumber-none : SpellsNumber 0 []
-SpellsNumber-none = record { digits = refl; value = refl; small = omega arith }
-
 pub SpellsNumber-digit : (number : ℕ) (bytes : List ℕ) (len : ℕ) → len < length bytes → SpellsNumber number (take len bytes) → number < 10000
     → 48 ≤ get_or bytes len 0 → get_or bytes len 0 ≤ 57 → SpellsNumber (number * 10 + (get_or bytes len 0 - 48)) (take (len + 1) bytes)
 SpellsNumber-digit number bytes len inside spells few low high = record {
@@ -210,21 +207,3 @@ SpellsNumber-digit number bytes len inside spells few low high = record {
       ∙ ap (digits_value 10) (sym (take_more bytes len 0 inside));
   small = omega arith;
 }
-
-pub front_of_digits : (number : ℕ) (bytes : List ℕ) (len : ℕ) (front : FrontWord) → len < length bytes → SpellsNumber number (take len bytes)
-    → EndedWord number len (get_or bytes len 0) front → IsFrontWord bytes front
-front_of_digits number bytes len front inside spells ended =
-    let count : length (take len bytes) ≡ len = simp length-take (omega arith) in
-    let duration : duration_of (take len bytes) ≡ Some (min number 65535) = spells_duration number (take len bytes) (omega (arith, ended.some, count)) (omega (arith, ended.few, count)) spells in
-    record {
-      inside = rw ended.same_len inside;
-      spells = rw (ended.same_len, ended.us) duration;
-      gap = rw ended.same_len ended.gap;
-      ends_line = rw ended.same_len ended.ends_line;
-    }
-  where
-    spells_duration : (number : ℕ) (word : List ℕ) → 0 < length word → length word ≤ 10 → SpellsNumber number word → duration_of word ≡ Some (min number 65535)
-    spells_duration number word some few spells =
-        let more : nat_lt 0 (length word) ≡ true = grind (arith, nat_tests) in
-        let within : nat_le (length word) 10 ≡ true = grind (arith, nat_tests) in
-        rw (more, within, spells.digits, ← spells.value) refl
