@@ -1,6 +1,6 @@
 //! Worked examples: what the standard's rules give, with the halves written out.
 
-use crate::{Fault, Frame, FrameFault, Framer, Half, Halves, Seen, Timing, TimingFault};
+use crate::{Fault, Frame, FrameFault, Framer, Half, Halves, Seen, Timing, TimingFault, plain};
 use std::alloc::{AllocError, Global};
 use std::process::Abort;
 use std::test::Fail;
@@ -93,6 +93,22 @@ fn shows(
         }
     }
     assert!(rt; left.is_empty());
+    plain_program_agrees(rt, alloc, halves.as_slice(), want)
+}
+
+/// Asserts that the plain program, which looks at the whole list, sees the same.
+fn plain_program_agrees(
+    rt: &impl Abort,
+    alloc: Global,
+    halves: &[u16],
+    want: &[(usize, Seen)],
+) -> Result<(), Fail> {
+    let plain = plain::seen(alloc, halves)?;
+    assert_eq!(rt; plain.len(), want.len());
+    for (found, wanted) in plain.iter().zip(want) {
+        assert_eq!(rt; found.0.checked_add(1), Some(wanted.0));
+        assert_eq!(rt; found.1, wanted.1);
+    }
     Ok(())
 }
 
