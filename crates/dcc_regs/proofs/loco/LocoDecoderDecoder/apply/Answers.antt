@@ -1,0 +1,42 @@
+use Rattle.std.proofs.Common.{◌≡◌, true, false, slice_index_or, subst, sym, ◌∙◌}
+use Rattle.std.specs.Prelude.{Option}
+use Rattle.dcc_packet.specs.declared.address.Address.{Address}
+use Rattle.dcc_regs.specs.declared.register.Who.TheVariants.{Loco as LocoWho}
+use Rattle.dcc_regs.specs.Heard.{hears}
+use Rattle.dcc_regs.proofs.Stepping.{kept-after}
+use Rattle.dcc_regs.specs.Loco.{loco_registers, LocoContent, cv_in, is_pending_for}
+use Rattle.dcc_regs.specs.LocoDecoder.{content}
+use Rattle.dcc_regs.proofs.OneStep.{step-heard, pending-heard}
+use Rattle.dcc_regs.proofs.loco.LocoDecoderDecoder.apply.Goals as goal
+
+pub returns-then-hears-clause-step : goal.returns-then-hears-clause-step
+returns-then-hears-clause-step c =
+    let heard : hears (LocoWho c.args.self.now.address) c.args.packet.now ≡ true = rw (← c.who.ensures.who) (sym c.hears.ensures ∙ c.if-hears.true) in
+    let is : LocoContent = record {
+        speed = c.obey.new.self.speed;
+        forward = c.obey.new.self.forward;
+        functions = λ n. slice_index_or c.obey.new.self.functions n false;
+        cvs = cv_in c.obey.new.self.cvs.bytes;
+        pending = c.own_write-self.result
+    } in
+    step-heard (LocoWho c.args.self.now.address) c.args.packet.now c.mode-mode.result (content c.args.self.now) is heard
+    (record {
+        reads = c.mode-mode.ensures;
+        speed = c.obey.ensures.speed;
+        forward = c.obey.ensures.forward;
+        functions = c.obey.ensures.functions;
+        cvs = rw c.obey.ensures.cvs c.hear.ensures;
+        pending = c.own_write-self.ensures.pending
+    })
+
+pub invariant_of-self-then-hears-clause-is_pending : goal.invariant_of-self-then-hears-clause-is_pending
+invariant_of-self-then-hears-clause-is_pending c =
+    let heard : hears (LocoWho c.args.self.now.address) c.args.packet.now ≡ true = rw (← c.who.ensures.who) (sym c.hears.ensures ∙ c.if-hears.true) in
+    subst
+    (λ (active : Option Address). is_pending_for active c.own_write-self.result ≡ true)
+    (sym c.obey.ensures.address)
+    (pending-heard c.args.self.now.address c.args.packet.now c.own_write-self.result heard c.own_write-self.ensures.byte c.own_write-self.ensures.pending)
+
+pub returns-then-hears-clause-kept : goal.returns-then-hears-clause-kept
+returns-then-hears-clause-kept c =
+    kept-after (LocoWho c.args.self.now.address) (loco_registers (content c.args.self.now)) _ c.args.packet.now (returns-then-hears-clause-step c)

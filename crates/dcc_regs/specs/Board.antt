@@ -1,0 +1,32 @@
+-- The registers of an accessory decoder and their start values.
+use Rattle.std.specs.Prelude.{ℕ, Bool, false, nat_le, None, Some, if◌then◌else◌}
+use Rattle.dcc_regs.specs.declared.register.Register.TheVariants.{Speed as SpeedRegister, Direction, Function, CvBit, Pending as PendingRegister, Out, Position, Aspect}
+use Rattle.dcc_regs.specs.declared.register.Value.TheVariants.{Flag, Number}
+use Rattle.dcc_regs.specs.Sets.{side}
+use Rattle.dcc_regs.specs.Result.{RegisterMap}
+
+-- what an accessory decoder holds: its outputs, the sides of its pairs of outputs (true is side 1) and its aspects, by number
+pub record BoardContent : Type 0 where
+  pub outs : ℕ → Bool
+  pub positions : ℕ → Bool
+  pub aspects : ℕ → ℕ
+
+-- the registers of an accessory decoder
+abbrev pub board_registers : BoardContent → RegisterMap
+board_registers d (Out n) = if nat_le n 7 then Some (Flag (d.outs n)) else None
+board_registers d (Position n) = if nat_le n 3 then Some (side (d.positions n)) else None
+board_registers d (Aspect n) = if nat_le n 3 then Some (Number (d.aspects n)) else None
+board_registers d SpeedRegister = None
+board_registers d Direction = None
+board_registers d (Function n) = None
+board_registers d (CvBit cv place) = None
+board_registers d PendingRegister = None
+
+-- an accessory decoder just made: all outputs off, all pairs at side 0, all aspects 0
+abbrev pub made : BoardContent
+made = record { outs = λ n. false; positions = λ n. false; aspects = λ n. 0 }
+
+-- the registers after power-up: all outputs off, all others kept
+abbrev pub board_powered_up : RegisterMap → RegisterMap
+board_powered_up m (Out n) = board_registers made (Out n)
+board_powered_up m r = m r

@@ -1,0 +1,11 @@
+-- What the plain accessory decoder holds.
+use Rattle.std.specs.Prelude.{false, slice_index, slice_index_or}
+use Rattle.dcc_regs.specs.declared.board.BoardDecoder.{BoardDecoder}
+use Rattle.dcc_regs.specs.Board.{BoardContent}
+
+abbrev pub content : BoardDecoder → BoardContent
+content d = record {
+    outs = λ n. slice_index_or d.outs n false;
+    positions = λ n. slice_index_or d.positions n false;
+    aspects = λ n. slice_index d.aspects n
+}

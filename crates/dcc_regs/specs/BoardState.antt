@@ -1,0 +1,9 @@
+-- An accessory decoder's state as plain data.
+use Rattle.std.specs.Prelude.{false, slice_index, slice_index_or}
+use Rattle.dcc_regs.specs.declared.board_state.BoardState.{BoardState}
+use Rattle.dcc_regs.specs.Bits.{is_one}
+use Rattle.dcc_regs.specs.Board.{BoardContent}
+
+-- what a decoder in this state holds
+abbrev pub content : BoardState → BoardContent
+content s = record { outs = is_one s.outs; positions = λ n. slice_index_or s.positions n false; aspects = λ n. slice_index s.aspects n }

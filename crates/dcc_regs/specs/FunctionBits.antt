@@ -1,0 +1,71 @@
+-- The functions that a packet turns on and off (RCN-212, NMRA S-9.2.1).
+use Rattle.std.specs.Prelude.{ℕ, Bool, false, ◌&&◌, ◌==◌, nat_lt, nat_le, ◌+◌, ◌-◌, ◌%◌, Option, None, Some, option_map, if◌then◌else◌}
+use Rattle.dcc_packet.specs.declared.address.Address.TheVariants.{Broadcast}
+use Rattle.dcc_packet.specs.declared.functions.GroupBits.{GroupBits}
+use Rattle.dcc_packet.specs.declared.functions.Group.{Group}
+use Rattle.dcc_packet.specs.declared.functions.Group.TheVariants.{F0, F5, F9, F13, F21, F29, F37, F45, F53, F61}
+use Rattle.dcc_packet.specs.declared.instruction.What.TheVariants.{Reset, Speed28, Speed128, Functions, CvWrite, CvVerify, CvBitWrite, CvBitVerify}
+use Rattle.dcc_packet.specs.declared.packet.Packet.{Packet}
+use Rattle.dcc_packet.specs.declared.packet.Packet.TheVariants.{Idle, Loco as ToLoco, Accessory, Signal, Other}
+use Rattle.dcc_regs.specs.declared.register.SpeedMode.{SpeedMode}
+use Rattle.dcc_regs.specs.declared.register.SpeedMode.TheVariants.{Steps14, Steps28}
+use Rattle.dcc_regs.specs.Bits.{is_one}
+
+-- the function of a group's lowest bit
+abbrev pub first_function : Group → ℕ
+first_function F0 = 1
+first_function F5 = 5
+first_function F9 = 9
+first_function F13 = 13
+first_function F21 = 21
+first_function F29 = 29
+first_function F37 = 37
+first_function F45 = 45
+first_function F53 = 53
+first_function F61 = 61
+
+-- how many functions a group has from that one on, one to a bit. F0, the fifth bit of group 0, stands aside
+abbrev pub count_of : Group → ℕ
+count_of F0 = 4
+count_of F5 = 4
+count_of F9 = 4
+count_of F13 = 8
+count_of F21 = 8
+count_of F29 = 8
+count_of F37 = 8
+count_of F45 = 8
+count_of F53 = 8
+count_of F61 = 8
+
+-- the bit of a group that is for F0: there is one in group 0 where the speed instruction has none for it
+abbrev pub place_of_f0 : SpeedMode → Group → Option ℕ
+place_of_f0 Steps28 F0 = Some 4
+place_of_f0 mode group = None
+
+-- the bit of a group that is for function n
+abbrev pub place_of : SpeedMode → Group → ℕ → Option ℕ
+place_of mode group n =
+    if n == 0 then place_of_f0 mode group
+    else if nat_le (first_function group) n && nat_lt n (first_function group + count_of group) then Some (n - first_function group)
+    else None
+
+-- what a group's bits say of function n
+abbrev pub group_bit : SpeedMode → GroupBits → ℕ → Option Bool
+group_bit mode bits n = option_map (is_one bits.bits) (place_of mode bits.group n)
+
+-- whether a packet turns function n on or off: the lowest bit of the baseline speed instruction is F0 where it is read for 14 steps
+abbrev pub function_set : SpeedMode → Packet → ℕ → Option Bool
+function_set mode (ToLoco to Reset) n = if nat_le n 68 then Some false else None
+function_set mode (ToLoco Broadcast (Speed28 forward bits)) n = None
+function_set Steps14 (ToLoco to (Speed28 forward bits)) n = if n == 0 then Some (bits.bits % 2 == 1) else None
+function_set Steps28 (ToLoco to (Speed28 forward bits)) n = None
+function_set mode (ToLoco to (Speed128 forward bits)) n = None
+function_set mode (ToLoco to (Functions bits)) n = group_bit mode bits n
+function_set mode (ToLoco to (CvWrite cv value)) n = None
+function_set mode (ToLoco to (CvVerify cv value)) n = None
+function_set mode (ToLoco to (CvBitWrite cv place one)) n = None
+function_set mode (ToLoco to (CvBitVerify cv place one)) n = None
+function_set mode Idle n = None
+function_set mode (Accessory board output on) n = None
+function_set mode (Signal address aspect) n = None
+function_set mode (Other frame) n = None

@@ -1,0 +1,98 @@
+-- The registers of a locomotive decoder and their start values.
+use Rattle.std.specs.Prelude.{ℕ, Bool, true, false, ◌&&◌, nat_le, ◌-◌, Option, None, Some, List, slice_index, if◌then◌else◌}
+use Rattle.dcc_packet.specs.declared.address.Address.{Address}
+use Rattle.dcc_packet.specs.declared.instruction.What.{What}
+use Rattle.dcc_packet.specs.declared.instruction.What.TheVariants.{Reset, Speed28, Speed128, Functions, CvWrite, CvVerify, CvBitWrite, CvBitVerify}
+use Rattle.dcc_packet.specs.declared.packet.Packet.{Packet}
+use Rattle.dcc_packet.specs.declared.packet.Packet.TheVariants.{Idle, Loco as ToLoco, Accessory, Signal, Other}
+use Rattle.dcc_regs.specs.declared.register.Who.TheVariants.{Loco as LocoWho}
+use Rattle.dcc_regs.specs.declared.register.Speed.{Speed}
+use Rattle.dcc_regs.specs.declared.register.Speed.TheVariants.{Stop, Emergency, Step14, Step28, Step126}
+use Rattle.dcc_regs.specs.declared.register.Register.TheVariants.{Speed as SpeedRegister, Direction, Function, CvBit, Pending as PendingRegister, Out, Position, Aspect}
+use Rattle.dcc_regs.specs.declared.register.Value.{Value}
+use Rattle.dcc_regs.specs.declared.register.Value.TheVariants.{Speed as SpeedValue, Forward, Flag, Pending as PendingValue}
+use Rattle.dcc_regs.specs.Bits.{is_one, byte_of}
+use Rattle.dcc_regs.specs.Heard.{hears}
+use Rattle.dcc_regs.specs.Writes.{is_own_write}
+use Rattle.dcc_regs.specs.Result.{RegisterMap}
+
+-- what a locomotive decoder holds: its functions by number, its CVs by number
+pub record LocoContent : Type 0 where
+  pub speed : Speed
+  pub forward : Bool
+  pub functions : ℕ → Bool
+  pub cvs : ℕ → ℕ
+  pub pending : Option Packet
+
+-- F0 to F68
+abbrev pub is_function : ℕ → Bool
+is_function n = nat_le n 68
+
+-- the bits 0 to 7 of CV1 to CV1024
+abbrev pub is_cv_bit : ℕ → ℕ → Bool
+is_cv_bit cv place = nat_le 1 cv && nat_le cv 1024 && nat_le place 7
+
+-- the registers of a locomotive decoder
+abbrev pub loco_registers : LocoContent → RegisterMap
+loco_registers d SpeedRegister = Some (SpeedValue d.speed)
+loco_registers d Direction = Some (Forward d.forward)
+loco_registers d (Function n) = if is_function n then Some (Flag (d.functions n)) else None
+loco_registers d (CvBit cv place) = if is_cv_bit cv place then Some (Flag (is_one (d.cvs cv) place)) else None
+loco_registers d PendingRegister = Some (PendingValue d.pending)
+loco_registers d (Out n) = None
+loco_registers d (Position n) = None
+loco_registers d (Aspect n) = None
+
+-- the CV of a number in the list of all CVs, which begins at CV1
+abbrev pub cv_in : List ℕ → ℕ → ℕ
+cv_in cvs cv = slice_index cvs (cv - 1)
+
+-- a locomotive decoder just made or powered up: stopped, forward, all functions off, nothing pending
+abbrev pub started : (ℕ → ℕ) → LocoContent
+started cvs = record { speed = Stop; forward = true; functions = λ n. false; cvs = cvs; pending = None }
+
+-- the steps of each speed mode
+abbrev pub is_speed : Speed → Bool
+is_speed Stop = true
+is_speed Emergency = true
+is_speed (Step14 n) = nat_le 1 n && nat_le n 14
+is_speed (Step28 n) = nat_le 1 n && nat_le n 28
+is_speed (Step126 n) = nat_le 1 n && nat_le n 126
+
+-- the value that an instruction writes to a CV is a byte
+abbrev pub writes_byte : What → Bool
+writes_byte Reset = true
+writes_byte (Speed28 forward bits) = true
+writes_byte (Speed128 forward bits) = true
+writes_byte (Functions bits) = true
+writes_byte (CvWrite cv value) = nat_le value 255
+writes_byte (CvVerify cv value) = true
+writes_byte (CvBitWrite cv place one) = true
+writes_byte (CvBitVerify cv place one) = true
+
+-- the same of a packet
+abbrev pub is_byte_write : Packet → Bool
+is_byte_write (ToLoco to what) = writes_byte what
+is_byte_write (Accessory board output on) = true
+is_byte_write (Signal address aspect) = true
+is_byte_write (Other frame) = true
+is_byte_write Idle = true
+
+-- only a CV write to the own address is ever pending
+abbrev pub is_pending_for : Option Address → Option Packet → Bool
+is_pending_for active None = true
+is_pending_for active (Some p) = is_own_write p && is_byte_write p && hears (LocoWho active) p
+
+-- the register holds a one
+abbrev pub holds_one : Option Value → Bool
+holds_one (Some (Flag true)) = true
+holds_one held = false
+
+-- the value of a CV among the registers
+abbrev pub cv_of : RegisterMap → ℕ → ℕ
+cv_of m cv = byte_of (λ place. holds_one (m (CvBit cv place)))
+
+-- the registers after power-up: those of a decoder just made with the CVs as they are
+abbrev pub powered_up : RegisterMap → RegisterMap
+powered_up m (CvBit cv place) = m (CvBit cv place)
+powered_up m r = loco_registers (started (cv_of m)) r

@@ -1,0 +1,13 @@
+-- What the plain locomotive decoder holds.
+use Rattle.std.specs.Prelude.{false, slice_index_or}
+use Rattle.dcc_regs.specs.declared.loco.LocoDecoder.{LocoDecoder}
+use Rattle.dcc_regs.specs.Loco.{LocoContent, cv_in}
+
+abbrev pub content : LocoDecoder → LocoContent
+content d = record {
+    speed = d.speed;
+    forward = d.forward;
+    functions = λ n. slice_index_or d.functions n false;
+    cvs = cv_in d.cvs.bytes;
+    pending = d.pending
+}

@@ -1,0 +1,30 @@
+-- What one heard packet sets, read from the registers as they stand before it.
+use Rattle.std.specs.Prelude.{Option, None, Some, unwrap_or}
+use Rattle.dcc_packet.specs.declared.packet.Packet.{Packet}
+use Rattle.dcc_regs.specs.declared.register.SpeedMode.{SpeedMode}
+use Rattle.dcc_regs.specs.declared.register.Register.{Register}
+use Rattle.dcc_regs.specs.declared.register.Register.TheVariants.{Speed as SpeedRegister, Direction, Function, CvBit, Pending as PendingRegister, Out, Position, Aspect}
+use Rattle.dcc_regs.specs.declared.register.Value.{Value}
+use Rattle.dcc_regs.specs.declared.register.Value.TheVariants.{Pending as PendingValue}
+use Rattle.dcc_regs.specs.Sets.{sets}
+use Rattle.dcc_regs.specs.Result.{RegisterMap, left_pending, effective_set, mode_of}
+
+-- how a decoder with these registers reads speed instructions
+abbrev pub mode_in : RegisterMap → SpeedMode
+mode_in m = mode_of (m (CvBit 29 1))
+
+-- the constant that a heard packet sets a register to
+abbrev pub set_from : RegisterMap → Packet → Register → Option Value
+set_from m p PendingRegister = Some (PendingValue (left_pending p))
+set_from m p (CvBit cv place) = effective_set (m PendingRegister) p cv place
+set_from m p SpeedRegister = sets (mode_in m) p SpeedRegister
+set_from m p Direction = sets (mode_in m) p Direction
+set_from m p (Function n) = sets (mode_in m) p (Function n)
+set_from m p (Out n) = sets (mode_in m) p (Out n)
+set_from m p (Position n) = sets (mode_in m) p (Position n)
+set_from m p (Aspect n) = sets (mode_in m) p (Aspect n)
+
+-- a register after a value was put over it, if one was. One that a decoder does not have stays none
+abbrev pub overwritten : Option Value → Option Value → Option Value
+overwritten None set = None
+overwritten (Some start) set = Some (unwrap_or set start)

@@ -1,0 +1,59 @@
+-- The speed and the direction that a packet sets (RCN-212, NMRA S-9.2.1).
+use Rattle.std.specs.Prelude.{ℕ, Bool, true, ◌||◌, ◌==◌, nat_lt, ◌-◌, ◌/◌, Option, None, Some, if◌then◌else◌}
+use Rattle.dcc_packet.specs.declared.address.Address.TheVariants.{Broadcast}
+use Rattle.dcc_packet.specs.declared.instruction.What.TheVariants.{Reset, Speed28, Speed128, Functions, CvWrite, CvVerify, CvBitWrite, CvBitVerify}
+use Rattle.dcc_packet.specs.declared.packet.Packet.{Packet}
+use Rattle.dcc_packet.specs.declared.packet.Packet.TheVariants.{Idle, Loco as ToLoco, Accessory, Signal, Other}
+use Rattle.dcc_regs.specs.declared.register.SpeedMode.{SpeedMode}
+use Rattle.dcc_regs.specs.declared.register.SpeedMode.TheVariants.{Steps14, Steps28}
+use Rattle.dcc_regs.specs.declared.register.Speed.{Speed}
+use Rattle.dcc_regs.specs.declared.register.Speed.TheVariants.{Stop, Emergency, Step14, Step28, Step126}
+
+-- the baseline instruction, read for 28 steps
+abbrev pub speed_of_28 : ℕ → Speed
+speed_of_28 bits = if nat_lt bits 2 then Stop else if nat_lt bits 4 then Emergency else Step28 (bits - 3)
+
+-- the baseline instruction, read for 14 steps: the lowest bit is F0
+abbrev pub speed_of_14 : ℕ → Speed
+speed_of_14 bits = if bits / 2 == 0 then Stop else if bits / 2 == 1 then Emergency else Step14 (bits / 2 - 1)
+
+-- the instruction of 128 steps, two of which are stops
+abbrev pub speed_of_126 : ℕ → Speed
+speed_of_126 bits = if bits == 0 then Stop else if bits == 1 then Emergency else Step126 (bits - 1)
+
+-- the baseline instruction to the broadcast address: a step is no stop, and sets nothing
+abbrev pub stop_of : ℕ → Option Speed
+stop_of bits = if nat_lt bits 2 then Some Stop else if nat_lt bits 4 then Some Emergency else None
+
+-- the speed that a packet sets
+abbrev pub speed_set : SpeedMode → Packet → Option Speed
+speed_set mode (ToLoco to Reset) = Some Stop
+speed_set mode (ToLoco Broadcast (Speed28 forward bits)) = stop_of bits.bits
+speed_set Steps28 (ToLoco to (Speed28 forward bits)) = Some (speed_of_28 bits.bits)
+speed_set Steps14 (ToLoco to (Speed28 forward bits)) = Some (speed_of_14 bits.bits)
+speed_set mode (ToLoco to (Speed128 forward bits)) = Some (speed_of_126 bits.bits)
+speed_set mode (ToLoco to (Functions bits)) = None
+speed_set mode (ToLoco to (CvWrite cv value)) = None
+speed_set mode (ToLoco to (CvVerify cv value)) = None
+speed_set mode (ToLoco to (CvBitWrite cv place one)) = None
+speed_set mode (ToLoco to (CvBitVerify cv place one)) = None
+speed_set mode Idle = None
+speed_set mode (Accessory board output on) = None
+speed_set mode (Signal address aspect) = None
+speed_set mode (Other frame) = None
+
+-- the direction that a packet sets: a broadcast stop sets it only where bit C is zero, which are the bits 0 and 2
+abbrev pub direction_set : Packet → Option Bool
+direction_set (ToLoco to Reset) = Some true
+direction_set (ToLoco Broadcast (Speed28 forward bits)) = if bits.bits == 0 || bits.bits == 2 then Some forward else None
+direction_set (ToLoco to (Speed28 forward bits)) = Some forward
+direction_set (ToLoco to (Speed128 forward bits)) = Some forward
+direction_set (ToLoco to (Functions bits)) = None
+direction_set (ToLoco to (CvWrite cv value)) = None
+direction_set (ToLoco to (CvVerify cv value)) = None
+direction_set (ToLoco to (CvBitWrite cv place one)) = None
+direction_set (ToLoco to (CvBitVerify cv place one)) = None
+direction_set Idle = None
+direction_set (Accessory board output on) = None
+direction_set (Signal address aspect) = None
+direction_set (Other frame) = None

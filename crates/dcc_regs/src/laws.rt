@@ -1,0 +1,14 @@
+//! Laws of the definitions, for those who build on decoders.
+
+ghost use Rattle.dcc_regs.specs.Laws.{ResultInParts, StepSets};
+
+/// What a list of packets leaves is what its second part leaves, from what its first part left.
+pub fn result_in_parts()
+    ensures { ResultInParts }
+{}
+
+/// One packet puts the constants that it sets over what stood there, in a decoder that hears it,
+/// and leaves all else.
+pub fn step_sets()
+    ensures { StepSets }
+{}

@@ -1,0 +1,32 @@
+//! Registers of decoders, and what a packet does to them (NMRA S-9.2.1; RCN-212 to RCN-214). Nothing here takes
+//! memory.
+#![tactic(auto)]
+
+mod board;
+mod board_state;
+mod cvs;
+mod decoder;
+mod function_bits;
+mod heard;
+pub mod laws;
+mod last_note;
+mod loco;
+mod loco_state;
+mod notify;
+mod outputs;
+mod register;
+mod same;
+mod speeds;
+mod writes;
+
+pub use board::BoardDecoder;
+pub use board_state::BoardState;
+pub use decoder::Decoder;
+pub use heard::hears;
+pub use last_note::LastNote;
+pub use loco::LocoDecoder;
+pub use loco_state::LocoState;
+pub use notify::{announce, Notify};
+pub use register::{Register, Speed, SpeedMode, Value, Who};
+pub use same::same_registers;
+pub use writes::is_own_write;

@@ -1,0 +1,148 @@
+//! The plain locomotive decoder.
+ghost use Rattle.std.specs.Prelude.{◌≡◌, ℕ, ◌<◌, ◌≤◌, IsTrue, Some, unwrap_or, slice_index_or, true, false, ◌↔◌, IsOk, IfOk, IfErr};
+ghost use Rattle.dcc_regs.specs.Addresses.{is_active};
+ghost use Rattle.dcc_regs.specs.FunctionBits.{function_set as function_set_of};
+ghost use Rattle.dcc_regs.specs.Loco.{is_speed, is_pending_for};
+ghost use Rattle.dcc_regs.specs.Speeds as table;
+
+use dcc_packet::{Address, CvNumber, Packet, PacketFault};
+
+use crate::cvs::Cvs;
+use crate::decoder::Decoder;
+use crate::heard::hears;
+use crate::register::{Register, Speed, SpeedMode, Value, Who};
+use crate::function_bits::function_set;
+use crate::loco_state::{functions_of, LocoState};
+use crate::speeds::{direction_set, speed_set};
+use crate::writes::own_write;
+
+/// A locomotive decoder: its functions as truth values, its CVs as bytes.
+#[derive(Drop)]
+pub struct LocoDecoder {
+    address: Option<Address>,
+    speed: Speed,
+    forward: bool,
+    functions: [bool; 69],
+    cvs: Cvs,
+    pending: Option<Packet>,
+    ghost is_active: { is_active address ≡ true },
+    ghost is_speed: { is_speed speed ≡ true },
+    ghost is_pending: { is_pending_for address pending ≡ true },
+}
+
+impl LocoDecoder {
+    ghost use Rattle.dcc_regs.specs.Addresses.{active_address};
+    ghost use Rattle.dcc_regs.specs.Loco.{cv_in, cv_of, loco_registers, powered_up, started};
+    ghost use Rattle.dcc_regs.specs.LocoState.{is_state, content as content_of};
+    ghost use Rattle.dcc_regs.specs.declared.register.Who.TheVariants.{Loco as LocoWho};
+
+    /// A decoder powered up with these CVs.
+    pub fn new(cvs: &[u8; 1024]) -> LocoDecoder
+        ensures who { ⟦<LocoDecoder as Decoder>⟧.who result ≡ LocoWho (active_address (cv_in cvs.now)) }
+        ensures registers { ⟦<LocoDecoder as Decoder>⟧.registers result ≡ loco_registers (started (cv_in cvs.now)) }
+        ensures bytes { (n : ℕ) → cv_in cvs.now n < 256 }
+    {
+        let cvs = Cvs { bytes: *cvs };
+        LocoDecoder {
+            address: cvs.active_address(),
+            speed: Speed::Stop,
+            forward: true,
+            functions: [false; 69],
+            cvs,
+            pending: None,
+        }
+    }
+
+    /// A decoder in this state.
+    pub fn restore(state: &LocoState) -> Result<LocoDecoder, PacketFault>
+        ensures valid { IsOk result ↔ (is_state state.now ≡ true) }
+        ensures fault { IfErr result (λ fault. fault ≡ PacketFault.State) }
+        ensures who { IfOk result (λ d. ⟦<LocoDecoder as Decoder>⟧.who d ≡ LocoWho state.now.address) }
+        ensures registers { IfOk result (λ d. ⟦<LocoDecoder as Decoder>⟧.registers d ≡ loco_registers (content_of state.now)) }
+    {
+        if state.is_possible() {
+            Ok(LocoDecoder {
+                address: state.address,
+                speed: state.speed,
+                forward: state.forward,
+                functions: functions_of(state.functions),
+                cvs: Cvs { bytes: state.cvs },
+                pending: state.pending,
+            })
+        } else {
+            Err(PacketFault::State)
+        }
+    }
+
+    /// Powers the decoder up: it is as `new` makes one of its present CVs.
+    pub fn power_up(&mut self)
+        ensures who { ⟦<LocoDecoder as Decoder>⟧.who self.new ≡ LocoWho (active_address (cv_of (⟦<LocoDecoder as Decoder>⟧.registers self.old))) }
+        ensures registers { ⟦<LocoDecoder as Decoder>⟧.registers self.new ≡ powered_up (⟦<LocoDecoder as Decoder>⟧.registers self.old) }
+    {
+        *self = LocoDecoder::new(&self.cvs.bytes);
+    }
+
+    /// The value of a CV.
+    pub fn cv(&self, cv: CvNumber) -> u8
+        ensures { result ≡ cv_of (⟦<LocoDecoder as Decoder>⟧.registers self.now) cv.number }
+    {
+        self.cvs.value(cv)
+    }
+
+    /// Does what a heard packet says, but for CV writes.
+    fn obey(&mut self, mode: SpeedMode, packet: &Packet)
+        ensures speed { self.new.speed ≡ unwrap_or (table.speed_set mode packet.now) self.old.speed }
+        ensures forward { self.new.forward ≡ unwrap_or (table.direction_set packet.now) self.old.forward }
+        ensures functions { (n : ℕ) → n ≤ 68 → slice_index_or self.new.functions n false ≡ unwrap_or (function_set_of mode packet.now n) (slice_index_or self.old.functions n false) }
+        ensures address { self.new.address ≡ self.old.address }
+        ensures cvs { self.new.cvs ≡ self.old.cvs }
+        ensures pending { self.new.pending ≡ self.old.pending }
+    {
+        self.speed = speed_set(mode, packet).unwrap_or(self.speed);
+        self.forward = direction_set(packet).unwrap_or(self.forward);
+        set_functions(&mut self.functions, mode, packet);
+    }
+}
+
+fn set_functions(functions: &mut [bool; 69], mode: SpeedMode, packet: &Packet)
+    ensures { (n : ℕ) → n ≤ 68 → slice_index_or functions.new n false ≡ unwrap_or (function_set_of mode packet.now n) (slice_index_or functions.old n false) }
+{
+    for n in 0..69u8 {
+        let at = n as usize;
+        functions[at] = function_set(mode, packet, n).unwrap_or(functions[at]);
+    }
+}
+
+impl Decoder for LocoDecoder {
+    ghost use Rattle.dcc_regs.specs.LocoDecoder.{content};
+    ghost use Rattle.dcc_regs.specs.Loco.{loco_registers};
+    ghost use Rattle.dcc_regs.specs.declared.register.Who.TheVariants.{Loco as LocoWho};
+
+    ghost who = { λ d. LocoWho d.address };
+
+    ghost registers = { λ d. loco_registers (content d) };
+
+    fn who(&self) -> Who {
+        Who::Loco(self.address)
+    }
+
+    fn apply(&mut self, packet: &Packet) {
+        if hears(self.who(), packet) {
+            let mode = self.cvs.mode();
+            self.cvs.hear(&self.pending, packet);
+            self.obey(mode, packet);
+            self.pending = own_write(packet);
+        }
+    }
+
+    fn get(&self, register: Register) -> Option<Value> {
+        match register {
+            Register::Speed => Some(Value::Speed(self.speed)),
+            Register::Direction => Some(Value::Forward(self.forward)),
+            Register::Function(n) if n <= 68 => Some(Value::Flag(self.functions[n as usize])),
+            Register::CvBit(cv, place) => self.cvs.bit(cv, place).map(Value::Flag),
+            Register::Pending => Some(Value::Pending(self.pending)),
+            _ => None,
+        }
+    }
+}

@@ -1,0 +1,80 @@
+//! A locomotive decoder's state as plain data.
+
+ghost use Rattle.std.specs.Prelude.{◌≡◌, ℕ, ◌<◌, ◌≤◌, slice_index_or, false};
+ghost use Rattle.dcc_regs.specs.Addresses.{is_active as is_active_address};
+ghost use Rattle.dcc_regs.specs.Bits.{is_one};
+ghost use Rattle.dcc_regs.specs.Loco.{is_pending_for as is_pending_packet_for, is_speed as is_speed_in_range};
+
+use dcc_packet::{Address, Packet};
+
+use crate::heard::hears;
+use crate::register::{Speed, Who};
+use crate::writes::is_own_write;
+
+/// What a locomotive decoder holds.
+#[derive(Clone, Copy)]
+pub struct LocoState {
+    /// The active address, if it has one.
+    pub address: Option<Address>,
+    /// The speed.
+    pub speed: Speed,
+    /// Whether the direction is forward.
+    pub forward: bool,
+    /// Bit n is function n, 0 to 68.
+    pub functions: u128,
+    /// The CV write to the active address that was heard last, where nothing else was heard since.
+    pub pending: Option<Packet>,
+    /// CV1 to CV1024.
+    pub cvs: [u8; 1024],
+}
+
+impl LocoState {
+    ghost use Rattle.dcc_regs.specs.LocoState.{is_state};
+
+    /// Whether a decoder can be in this state.
+    pub fn is_possible(&self) -> bool
+        ensures { result ≡ is_state self.now }
+    {
+        is_active(&self.address)
+            && is_speed(self.speed)
+            && self.functions >> 69 == 0
+            && is_pending_for(&self.address, &self.pending)
+    }
+}
+
+fn is_active(active: &Option<Address>) -> bool
+    ensures { result ≡ is_active_address active.now }
+{
+    !matches!(active, Some(Address::Broadcast))
+}
+
+fn is_speed(speed: Speed) -> bool
+    ensures { result ≡ is_speed_in_range speed }
+{
+    match speed {
+        Speed::Stop | Speed::Emergency => true,
+        Speed::Step14(step) => 1 <= step && step <= 14,
+        Speed::Step28(step) => 1 <= step && step <= 28,
+        Speed::Step126(step) => 1 <= step && step <= 126,
+    }
+}
+
+fn is_pending_for(active: &Option<Address>, pending: &Option<Packet>) -> bool
+    ensures { result ≡ is_pending_packet_for active.now pending.now }
+{
+    match pending {
+        None => true,
+        Some(packet) => is_own_write(packet) && hears(Who::Loco(*active), packet),
+    }
+}
+
+/// The functions that the bits of a number turn on.
+pub fn functions_of(bits: u128) -> [bool; 69]
+    ensures { (n : ℕ) → n ≤ 68 → slice_index_or result n false ≡ is_one bits n }
+{
+    let mut functions = [false; 69];
+    for n in 0..69 {
+        functions[n] = bits >> n & 1 == 1;
+    }
+    functions
+}

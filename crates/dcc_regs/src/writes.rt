@@ -1,0 +1,59 @@
+//! CV writes to a decoder's own address (RCN-214).
+
+ghost use Rattle.std.specs.Prelude.{◌≡◌, nat_le, Some, true};
+ghost use Rattle.dcc_regs.specs.Loco.{is_byte_write, writes_byte};
+ghost use Rattle.dcc_regs.specs.Result.{is_effective, left_pending};
+ghost use Rattle.dcc_regs.specs.Writes.{is_cv_write, is_own_write as is_own_write_of};
+ghost use Rattle.dcc_regs.specs.declared.register.Value.TheVariants.{Pending as PendingValue};
+
+use dcc_packet::{Address, Packet, What};
+
+/// A law: the value of a byte is at most 255.
+fn byte_is_small(value: u8)
+    ensures { nat_le value 255 ≡ true }
+{
+}
+
+/// Whether an instruction writes a CV or a bit of one.
+fn is_write(what: &What) -> bool
+    ensures write { result ≡ is_cv_write what.now }
+    ensures byte { writes_byte what.now ≡ true }
+{
+    match what {
+        What::CvWrite { value, .. } => {
+            byte_is_small(*value);
+            true
+        }
+        What::CvBitWrite { .. } => true,
+        _ => false,
+    }
+}
+
+/// Whether a packet is a CV write that is not to the broadcast address: heard, it is to the decoder's own address.
+pub fn is_own_write(packet: &Packet) -> bool
+    ensures own { result ≡ is_own_write_of packet.now }
+    ensures byte { is_byte_write packet.now ≡ true }
+{
+    match packet {
+        Packet::Loco { to, what } => is_write(what) && !matches!(to, Address::Broadcast),
+        _ => false,
+    }
+}
+
+/// What a heard packet leaves pending.
+pub fn own_write(packet: &Packet) -> Option<Packet>
+    ensures pending { result ≡ left_pending packet.now }
+    ensures byte { is_byte_write packet.now ≡ true }
+{
+    if is_own_write(packet) { Some(*packet) } else { None }
+}
+
+/// Whether a heard packet is a CV write that takes effect: the second copy of the pending one.
+pub fn is_repeated_write(pending: &Option<Packet>, packet: &Packet) -> bool
+    ensures { result ≡ is_effective (Some (PendingValue pending.now)) packet.now }
+{
+    match pending {
+        Some(before) => is_own_write(packet) && before.is(packet),
+        None => false,
+    }
+}
