@@ -102,8 +102,8 @@ active_address-same f g a b c d = rw (a, b, c, d) refl
 pub active_address-loco : (d : LocoContent) → d.cvs 1 < 256 → d.cvs 17 < 256 → d.cvs 18 < 256 → d.cvs 29 < 256 → active_address d.cvs ≡ active_address (cv_of (loco_registers d))
 active_address-loco d a b c e =
     sym (active_address-same (cv_of (loco_registers d)) d.cvs
-        (cv_of-loco d 1 (omega arith) (omega arith) a) (cv_of-loco d 17 (omega arith) (omega arith) b)
-        (cv_of-loco d 18 (omega arith) (omega arith) c) (cv_of-loco d 29 (omega arith) (omega arith) e))
+    (cv_of-loco d 1 (omega arith) (omega arith) a) (cv_of-loco d 17 (omega arith) (omega arith) b)
+    (cv_of-loco d 18 (omega arith) (omega arith) c) (cv_of-loco d 29 (omega arith) (omega arith) e))
 
 -- the number 0 has no function on
 is_one-zero : (k : ℕ) → is_one 0 k ≡ false

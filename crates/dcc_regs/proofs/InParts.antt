@@ -111,6 +111,6 @@ heard_nothing who m = record { same_who = refl; registers = sym (result-nothing 
 -- one list set_in_turn the other is heard
 pub heard_more : {who who' who'' : Who} {m m' m'' : RegisterMap} {l k : List Packet} → HasHeard l who m who' m' → HasHeard k who' m' who'' m'' → HasHeard (l ++ k) who m who'' m''
 heard_more {who} {who'} {who''} {m} {m'} {m''} {l} {k} before now = record {
-    same_who = now.same_who ∙ before.same_who;
-    registers = now.registers ∙ ap (λ w. result w m' k) before.same_who ∙ ap (λ n. result who n k) before.registers ∙ sym (result-append who m l k)
+  same_who = now.same_who ∙ before.same_who;
+  registers = now.registers ∙ ap (λ w. result w m' k) before.same_who ∙ ap (λ n. result who n k) before.registers ∙ sym (result-append who m l k);
 }

@@ -1,6 +1,8 @@
 pub mod InParts
 pub mod Bits
+pub mod Rows
 pub mod Walk
+pub mod NoteLemmas
 pub mod OneStep
 pub mod Stepping
 pub mod BoardStep

@@ -33,7 +33,7 @@ pub record Obeys (p : Packet) (mode : SpeedMode) (d d' : LocoContent) : Type 0 w
   pub forward : d'.forward ≡ unwrap_or (direction_set p) d.forward
   pub functions : (n : ℕ) → n ≤ 68 → d'.functions n ≡ unwrap_or (function_set mode p n) (d.functions n)
   pub cvs : (cv place : ℕ) → 1 ≤ cv → place ≤ 7
-    → is_one (d'.cvs cv) place ≡ (if is_effective (Some (PendingValue d.pending)) p then unwrap_or (bit_set p cv place) (is_one (d.cvs cv) place) else is_one (d.cvs cv) place)
+      → is_one (d'.cvs cv) place ≡ (if is_effective (Some (PendingValue d.pending)) p then unwrap_or (bit_set p cv place) (is_one (d.cvs cv) place) else is_one (d.cvs cv) place)
   pub pending : d'.pending ≡ left_pending p
 
 -- a register that a packet may set
@@ -69,8 +69,8 @@ at_register p mode d d' o (Function n) =
 at_register p mode d d' o (CvBit cv place) =
     where_there (is_cv_bit cv place) (Flag (is_one (d'.cvs cv) place)) (Flag (is_one (d.cvs cv) place)) (cons_option (effective_set (Some (PendingValue d.pending)) p cv place) [])
     (λ t.
-        ap (λ b. Some (Flag b)) (o.cvs cv place (cv_there cv place t) (place_there cv place t))
-        ∙ set_where Flag (is_effective (Some (PendingValue d.pending)) p) (bit_set p cv place) (is_one (d.cvs cv) place))
+    ap (λ b. Some (Flag b)) (o.cvs cv place (cv_there cv place t) (place_there cv place t))
+    ∙ set_where Flag (is_effective (Some (PendingValue d.pending)) p) (bit_set p cv place) (is_one (d.cvs cv) place))
 at_register p mode d d' o PendingRegister = rw o.pending refl
 at_register p mode d d' o (Out n) = refl
 at_register p mode d d' o (Position n) = refl

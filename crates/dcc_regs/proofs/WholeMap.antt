@@ -129,25 +129,27 @@ board_at a b m n p q s PendingRegister = none_both (board_lacks_pending a (m Pen
 
 -- two locomotive decoders
 pub whole_loco : (a b : Option Address) (m n : RegisterMap) → IsPossible (LocoWho a) m → IsPossible (LocoWho b) n → SameLoco m n ↔ (m ≡ n)
-whole_loco a b m n p q =
-    (λ s. fun_ext (loco_at a b m n p q s),
-        λ e. record {
-            speed = ap (λ f. f SpeedRegister) e;
-            direction = ap (λ f. f Direction) e;
-            pending = ap (λ f. f PendingRegister) e;
-            functions = λ k h. ap (λ f. f (Function k)) e;
-            cv_bits = λ cv place i j h. ap (λ f. f (CvBit cv place)) e
-        })
+whole_loco a b m n p q = (
+  λ s. fun_ext (loco_at a b m n p q s),
+  λ e. record {
+    speed = ap (λ f. f SpeedRegister) e;
+    direction = ap (λ f. f Direction) e;
+    pending = ap (λ f. f PendingRegister) e;
+    functions = λ k h. ap (λ f. f (Function k)) e;
+    cv_bits = λ cv place i j h. ap (λ f. f (CvBit cv place)) e;
+  },
+)
 
 -- two accessory decoders
 pub whole_board : (a b : OwnBoard) (m n : RegisterMap) → IsPossible (BoardWho a) m → IsPossible (BoardWho b) n → SameBoard m n ↔ (m ≡ n)
-whole_board a b m n p q =
-    (λ s. fun_ext (board_at a b m n p q s),
-        λ e. record {
-            outs = λ k h. ap (λ f. f (Out k)) e;
-            positions = λ k h. ap (λ f. f (Position k)) e;
-            aspects = λ k h. ap (λ f. f (Aspect k)) e
-        })
+whole_board a b m n p q = (
+  λ s. fun_ext (board_at a b m n p q s),
+  λ e. record {
+    outs = λ k h. ap (λ f. f (Out k)) e;
+    positions = λ k h. ap (λ f. f (Position k)) e;
+    aspects = λ k h. ap (λ f. f (Aspect k)) e;
+  },
+)
 
 -- a locomotive decoder has a speed
 loco_has_speed : (a : Option Address) (o : Option Value) → may_hold (LocoWho a) SpeedRegister o ≡ true → o ≡ None → ⊥

@@ -5,7 +5,7 @@ use Rattle.dcc_regs.specs.Board.{BoardContent}
 
 abbrev pub content : BoardDecoder → BoardContent
 content d = record {
-    outs = λ n. slice_index_or d.outs n false;
-    positions = λ n. slice_index_or d.positions n false;
-    aspects = λ n. slice_index d.aspects n
+  outs = λ n. slice_index_or d.outs n false;
+  positions = λ n. slice_index_or d.positions n false;
+  aspects = λ n. slice_index d.aspects n;
 }

@@ -5,6 +5,7 @@ use Rattle.dcc_regs.specs.declared.register.Who.{Who}
 use Rattle.dcc_regs.specs.declared.register.Register.{Register}
 use Rattle.dcc_regs.specs.Heard.{hears}
 use Rattle.dcc_regs.specs.Result.{RegisterMap, result, step}
+use Rattle.dcc_regs.specs.Notes.{note_of, packet_told}
 use Rattle.dcc_regs.specs.Setting.{set_from, overwritten}
 
 -- what a list of packets leaves is what its second part leaves, from what its first part left
@@ -14,3 +15,7 @@ ResultInParts = (who : Who) (start : RegisterMap) (first second : List Packet) �
 -- one packet puts the constants that it sets over what stood there, in a decoder that hears it, and leaves all else
 abbrev pub StepSets : Type 0
 StepSets = (who : Who) (start : RegisterMap) (p : Packet) (r : Register) → step who start p r ≡ (if hears who p then overwritten (start r) (set_from start p r) else start r)
+
+-- the one call of a packet tells that packet
+abbrev pub NotesTellPackets : Type 0
+NotesTellPackets = (p : Packet) → packet_told (note_of p) ≡ p

@@ -15,5 +15,6 @@ pub mod Board
 pub mod BoardDecoder
 pub mod BoardState
 pub mod Possible
+pub mod Notes
 pub mod Laws
 pub mod Same

@@ -5,9 +5,9 @@ use Rattle.dcc_regs.specs.Loco.{LocoContent, cv_in}
 
 abbrev pub content : LocoDecoder → LocoContent
 content d = record {
-    speed = d.speed;
-    forward = d.forward;
-    functions = λ n. slice_index_or d.functions n false;
-    cvs = cv_in d.cvs.bytes;
-    pending = d.pending
+  speed = d.speed;
+  forward = d.forward;
+  functions = λ n. slice_index_or d.functions n false;
+  cvs = cv_in d.cvs.bytes;
+  pending = d.pending;
 }

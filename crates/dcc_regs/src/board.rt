@@ -2,13 +2,12 @@
 ghost use Rattle.std.specs.Prelude.{◌≡◌, ℕ, ◌<◌, ◌≤◌, ◌↔◌, unwrap_or, slice_index, slice_index_or, false, true, nat_le, IsOk, IfOk, IfErr, ◌≢◌};
 ghost use Rattle.dcc_regs.specs.Outputs as table;
 
-use dcc_packet::{Board, Packet, PacketFault};
-
+use crate::board_state::{BoardState, outs_of};
 use crate::decoder::Decoder;
 use crate::heard::hears;
-use crate::register::{Register, Value, Who};
-use crate::board_state::{outs_of, BoardState};
 use crate::outputs::{aspect_set, out_set, position_set};
+use crate::register::{Register, Value, Who};
+use dcc_packet::{Board, Packet, PacketFault};
 
 /// An accessory decoder.
 #[derive(Drop)]
@@ -102,8 +101,7 @@ fn set_aspects(aspects: &mut [u8; 4], packet: &Packet)
 /// A law: aspects are bytes.
 fn are_bytes(aspects: &[u8])
     ensures { (n : ℕ) → slice_index aspects.now n < 256 }
-{
-}
+{}
 
 impl Decoder for BoardDecoder {
     ghost use Rattle.dcc_regs.specs.BoardDecoder.{content};
@@ -130,7 +128,9 @@ impl Decoder for BoardDecoder {
     fn get(&self, register: Register) -> Option<Value> {
         match register {
             Register::Out(n) if n <= 7 => Some(Value::Flag(self.outs[n as usize])),
-            Register::Position(n) if n <= 3 => Some(Value::Number(self.positions[n as usize] as u8)),
+            Register::Position(n) if n <= 3 => Some(Value::Number(
+                self.positions[n as usize] as u8,
+            )),
             Register::Aspect(n) if n <= 3 => Some(Value::Number(self.aspects[n as usize])),
             _ => None,
         }

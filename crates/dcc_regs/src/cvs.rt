@@ -7,10 +7,9 @@ ghost use Rattle.dcc_regs.specs.Result.{is_effective, mode_of};
 ghost use Rattle.dcc_regs.specs.Writes.{bit_set, is_read_only};
 ghost use Rattle.dcc_regs.specs.declared.register.Value.TheVariants.{Flag, Pending as PendingValue};
 
-use dcc_packet::{Address, BitPlace, CvNumber, Packet, What};
-
 use crate::register::SpeedMode;
 use crate::writes::is_repeated_write;
+use dcc_packet::{Address, BitPlace, CvNumber, Packet, What};
 
 /// CV1 to CV1024.
 #[derive(Clone, Copy)]
@@ -66,8 +65,14 @@ impl Cvs {
         ensures { (cv place : ℕ) → 1 ≤ cv → place ≤ 7 → is_one (cv_in self.new.bytes cv) place ≡ unwrap_or (bit_set packet.now cv place) (is_one (cv_in self.old.bytes cv) place) }
     {
         match packet {
-            Packet::Loco { what: What::CvWrite { cv, value }, .. } => self.put(*cv, *value),
-            Packet::Loco { what: What::CvBitWrite { cv, place, one }, .. } => {
+            Packet::Loco {
+                what: What::CvWrite { cv, value },
+                ..
+            } => self.put(*cv, *value),
+            Packet::Loco {
+                what: What::CvBitWrite { cv, place, one },
+                ..
+            } => {
                 let value = with_bit(self.value(*cv), *place, *one);
                 self.put(*cv, value);
             }
@@ -79,7 +84,11 @@ impl Cvs {
     pub fn mode(&self) -> SpeedMode
         ensures { result ≡ mode_of (Some (Flag (is_one (cv_in self.now.bytes 29) 1))) }
     {
-        if self.bytes[28] >> 1 & 1 == 1 { SpeedMode::Steps28 } else { SpeedMode::Steps14 }
+        if self.bytes[28] >> 1 & 1 == 1 {
+            SpeedMode::Steps28
+        } else {
+            SpeedMode::Steps14
+        }
     }
 
     /// Gives a CV a value. CV7 and CV8 stay as they are.

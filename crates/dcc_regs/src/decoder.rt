@@ -9,9 +9,8 @@ ghost use Rattle.dcc_regs.specs.declared.register.Register.{Register};
 ghost use Rattle.dcc_regs.specs.declared.register.Value.{Value};
 ghost use Rattle.dcc_regs.specs.declared.register.Who.{Who};
 
-use dcc_packet::Packet;
-
 use crate::register::{Register, Value, Who};
+use dcc_packet::Packet;
 
 /// A decoder. Its meaning is a map from registers to values, and who it is.
 pub trait Decoder: Drop {

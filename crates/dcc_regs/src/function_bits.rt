@@ -3,9 +3,8 @@
 ghost use Rattle.std.specs.Prelude.{◌≡◌, ◌≤◌, IfSome};
 ghost use Rattle.dcc_regs.specs.FunctionBits as table;
 
-use dcc_packet::{Address, Group, GroupBits, Packet, What};
-
 use crate::register::SpeedMode;
+use dcc_packet::{Address, Group, GroupBits, Packet, What};
 
 /// The lowest function of a group, F0 aside.
 fn first_function(group: Group) -> u8
@@ -58,7 +57,11 @@ fn place_of(mode: SpeedMode, group: Group, n: u8) -> Option<u8>
     }
     let first = first_function(group);
     let end = first + count_of(group);
-    if first <= n && n < end { Some(n - first) } else { None }
+    if first <= n && n < end {
+        Some(n - first)
+    } else {
+        None
+    }
 }
 
 fn group_bit(mode: SpeedMode, bits: GroupBits, n: u8) -> Option<bool>
@@ -71,12 +74,18 @@ fn group_bit(mode: SpeedMode, bits: GroupBits, n: u8) -> Option<bool>
 pub fn function_set(mode: SpeedMode, packet: &Packet, n: u8) -> Option<bool>
     ensures { result ≡ table.function_set mode packet.now n }
 {
-    let Packet::Loco { to, what } = packet else { return None };
+    let Packet::Loco { to, what } = packet else {
+        return None
+    };
     match (what, to, mode) {
         (What::Reset, _, _) => if n <= 68 { Some(false) } else { None },
         (What::Speed28 { .. }, Address::Broadcast, _) => None,
         (What::Speed28 { bits, .. }, _, SpeedMode::Steps14) => {
-            if n == 0 { Some(bits.bits() % 2 == 1) } else { None }
+            if n == 0 {
+                Some(bits.bits() % 2 == 1)
+            } else {
+                None
+            }
         }
         (What::Functions(bits), _, _) => group_bit(mode, *bits, n),
         _ => None,

@@ -2,11 +2,9 @@
 
 ghost use Rattle.std.specs.Prelude.{◌≡◌, Some, None};
 
-use std::marker::Model;
-
-use dcc_packet::{Address, Board, GroupBits, OtherFrame, Output, Packet, SignalAddress, What};
-
 use crate::notify::Notify;
+use dcc_packet::{Address, Board, GroupBits, OtherFrame, Output, Packet, SignalAddress, What};
+use std::marker::Model;
 
 /// Keeps the packet that it was told last.
 #[derive(Drop)]
@@ -40,14 +38,19 @@ impl LastNote {
 }
 
 impl Notify for LastNote {
-    ghost told = { λ _ packet now. now ≡ Some packet };
+    ghost use Rattle.dcc_regs.specs.Notes.{packet_told};
+
+    ghost told = { λ _ note now. now ≡ Some (packet_told note) };
 
     fn idle(&mut self) {
         self.last = Some(Packet::Idle);
     }
 
     fn reset(&mut self, to: Address) {
-        self.last = Some(Packet::Loco { to, what: What::Reset });
+        self.last = Some(Packet::Loco {
+            to,
+            what: What::Reset,
+        });
     }
 
     fn speed(&mut self, to: Address, what: What) {
@@ -55,7 +58,10 @@ impl Notify for LastNote {
     }
 
     fn functions(&mut self, to: Address, bits: GroupBits) {
-        self.last = Some(Packet::Loco { to, what: What::Functions(bits) });
+        self.last = Some(Packet::Loco {
+            to,
+            what: What::Functions(bits),
+        });
     }
 
     fn cv_access(&mut self, to: Address, what: What) {

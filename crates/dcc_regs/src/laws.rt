@@ -1,6 +1,6 @@
 //! Laws of the definitions, for those who build on decoders.
 
-ghost use Rattle.dcc_regs.specs.Laws.{ResultInParts, StepSets};
+ghost use Rattle.dcc_regs.specs.Laws.{NotesTellPackets, ResultInParts, StepSets};
 
 /// What a list of packets leaves is what its second part leaves, from what its first part left.
 pub fn result_in_parts()
@@ -11,4 +11,9 @@ pub fn result_in_parts()
 /// and leaves all else.
 pub fn step_sets()
     ensures { StepSets }
+{}
+
+/// The one call of a packet tells that packet.
+pub fn notes_tell_packets()
+    ensures { NotesTellPackets }
 {}

@@ -8,8 +8,8 @@ mod cvs;
 mod decoder;
 mod function_bits;
 mod heard;
-pub mod laws;
 mod last_note;
+pub mod laws;
 mod loco;
 mod loco_state;
 mod notify;
@@ -26,7 +26,10 @@ pub use heard::hears;
 pub use last_note::LastNote;
 pub use loco::LocoDecoder;
 pub use loco_state::LocoState;
-pub use notify::{announce, Notify};
+pub use notify::{Notify, announce};
 pub use register::{Register, Speed, SpeedMode, Value, Who};
 pub use same::same_registers;
 pub use writes::is_own_write;
+
+#[cfg(test)]
+mod tests;

@@ -5,16 +5,15 @@ ghost use Rattle.dcc_regs.specs.FunctionBits.{function_set as function_set_of};
 ghost use Rattle.dcc_regs.specs.Loco.{is_speed, is_pending_for};
 ghost use Rattle.dcc_regs.specs.Speeds as table;
 
-use dcc_packet::{Address, CvNumber, Packet, PacketFault};
-
 use crate::cvs::Cvs;
 use crate::decoder::Decoder;
-use crate::heard::hears;
-use crate::register::{Register, Speed, SpeedMode, Value, Who};
 use crate::function_bits::function_set;
-use crate::loco_state::{functions_of, LocoState};
+use crate::heard::hears;
+use crate::loco_state::{LocoState, functions_of};
+use crate::register::{Register, Speed, SpeedMode, Value, Who};
 use crate::speeds::{direction_set, speed_set};
 use crate::writes::own_write;
+use dcc_packet::{Address, CvNumber, Packet, PacketFault};
 
 /// A locomotive decoder: its functions as truth values, its CVs as bytes.
 #[derive(Drop)]

@@ -5,11 +5,10 @@ ghost use Rattle.dcc_regs.specs.Addresses.{is_active as is_active_address};
 ghost use Rattle.dcc_regs.specs.Bits.{is_one};
 ghost use Rattle.dcc_regs.specs.Loco.{is_pending_for as is_pending_packet_for, is_speed as is_speed_in_range};
 
-use dcc_packet::{Address, Packet};
-
 use crate::heard::hears;
 use crate::register::{Speed, Who};
 use crate::writes::is_own_write;
+use dcc_packet::{Address, Packet};
 
 /// What a locomotive decoder holds.
 #[derive(Clone, Copy)]

@@ -10,8 +10,15 @@ pub fn out_set(packet: &Packet, n: u8) -> Option<bool>
     ensures { result ≡ table.out_set packet.now n }
 {
     match packet {
-        Packet::Loco { to: Address::Broadcast, what: What::Reset } => if n <= 7 { Some(false) } else { None },
-        Packet::Accessory { output, on, .. } => if n == output.number() { Some(*on) } else { None },
+        Packet::Loco {
+            to: Address::Broadcast,
+            what: What::Reset,
+        } => if n <= 7 { Some(false) } else { None },
+        Packet::Accessory { output, on, .. } => if n == output.number() {
+            Some(*on)
+        } else {
+            None
+        },
         _ => None,
     }
 }
@@ -21,9 +28,17 @@ pub fn position_set(packet: &Packet, n: u8) -> Option<bool>
     ensures { result ≡ table.position_set packet.now n }
 {
     match packet {
-        Packet::Accessory { output, on: true, .. } => {
+        Packet::Accessory {
+            output,
+            on: true,
+            ..
+        } => {
             let output = output.number();
-            if n == output / 2 { Some(output % 2 == 1) } else { None }
+            if n == output / 2 {
+                Some(output % 2 == 1)
+            } else {
+                None
+            }
         }
         _ => None,
     }
@@ -37,7 +52,11 @@ pub fn aspect_set(packet: &Packet, n: u8) -> Option<u8>
         Packet::Signal { address, aspect } => {
             let address = address.number();
             let to_all = address == 2047 && n <= 3;
-            if to_all || n as u16 == address % 4 { Some(*aspect) } else { None }
+            if to_all || n as u16 == address % 4 {
+                Some(*aspect)
+            } else {
+                None
+            }
         }
         _ => None,
     }

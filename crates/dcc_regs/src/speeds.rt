@@ -4,9 +4,8 @@ ghost use Rattle.std.specs.Prelude.{◌≡◌, ◌≤◌, IfSome, true};
 ghost use Rattle.dcc_regs.specs.Loco.{is_speed};
 ghost use Rattle.dcc_regs.specs.Speeds as table;
 
-use dcc_packet::{Address, Packet, What};
-
 use crate::register::{Speed, SpeedMode};
+use dcc_packet::{Address, Packet, What};
 
 fn speed_of_28(bits: u8) -> Speed
     requires { bits ≤ 31 }
@@ -60,7 +59,9 @@ pub fn speed_set(mode: SpeedMode, packet: &Packet) -> Option<Speed>
     ensures speed { result ≡ table.speed_set mode packet.now }
     ensures step { IfSome result (λ speed. is_speed speed ≡ true) }
 {
-    let Packet::Loco { to, what } = packet else { return None };
+    let Packet::Loco { to, what } = packet else {
+        return None
+    };
     match (what, to, mode) {
         (What::Reset, _, _) => Some(Speed::Stop),
         (What::Speed28 { bits, .. }, Address::Broadcast, _) => stop_of(bits.bits()),
@@ -75,11 +76,17 @@ pub fn speed_set(mode: SpeedMode, packet: &Packet) -> Option<Speed>
 pub fn direction_set(packet: &Packet) -> Option<bool>
     ensures { result ≡ table.direction_set packet.now }
 {
-    let Packet::Loco { to, what } = packet else { return None };
+    let Packet::Loco { to, what } = packet else {
+        return None
+    };
     match (what, to) {
         (What::Reset, _) => Some(true),
         (What::Speed28 { forward, bits }, Address::Broadcast) => {
-            if matches!(bits.bits(), 0 | 2) { Some(*forward) } else { None }
+            if matches!(bits.bits(), 0 | 2) {
+                Some(*forward)
+            } else {
+                None
+            }
         }
         (What::Speed28 { forward, .. } | What::Speed128 { forward, .. }, _) => Some(*forward),
         _ => None,

@@ -11,8 +11,7 @@ use dcc_packet::{Address, Packet, What};
 /// A law: the value of a byte is at most 255.
 fn byte_is_small(value: u8)
     ensures { nat_le value 255 ≡ true }
-{
-}
+{}
 
 /// Whether an instruction writes a CV or a bit of one.
 fn is_write(what: &What) -> bool
@@ -45,7 +44,11 @@ pub fn own_write(packet: &Packet) -> Option<Packet>
     ensures pending { result ≡ left_pending packet.now }
     ensures byte { is_byte_write packet.now ≡ true }
 {
-    if is_own_write(packet) { Some(*packet) } else { None }
+    if is_own_write(packet) {
+        Some(*packet)
+    } else {
+        None
+    }
 }
 
 /// Whether a heard packet is a CV write that takes effect: the second copy of the pending one.

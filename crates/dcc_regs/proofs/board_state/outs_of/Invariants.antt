@@ -4,6 +4,6 @@ use Rattle.dcc_regs.proofs.board_state.outs_of.Given as goal
 
 abbrev pub invariant-loop-n : goal.invariant-loop-n
 invariant-loop-n l = record {
-    long : length l.outs ≡ 8;
-    done : (k : ℕ) → k < l.n → slice_index_or l.outs k false ≡ is_one l.bits k
+  long : length l.outs ≡ 8;
+  done : (k : ℕ) → k < l.n → slice_index_or l.outs k false ≡ is_one l.bits k;
 }

@@ -13,20 +13,20 @@ pub returns-then-hears-clause-step : goal.returns-then-hears-clause-step
 returns-then-hears-clause-step c =
     let heard : hears (LocoWho c.args.self.now.address) c.args.packet.now ≡ true = rw (← c.who.ensures.who) (sym c.hears.ensures ∙ c.if-hears.true) in
     let is : LocoContent = record {
-        speed = c.obey.new.self.speed;
-        forward = c.obey.new.self.forward;
-        functions = λ n. slice_index_or c.obey.new.self.functions n false;
-        cvs = cv_in c.obey.new.self.cvs.bytes;
-        pending = c.own_write-self.result
+      speed = c.obey.new.self.speed;
+      forward = c.obey.new.self.forward;
+      functions = λ n. slice_index_or c.obey.new.self.functions n false;
+      cvs = cv_in c.obey.new.self.cvs.bytes;
+      pending = c.own_write-self.result;
     } in
     step-heard (LocoWho c.args.self.now.address) c.args.packet.now c.mode-mode.result (content c.args.self.now) is heard
     (record {
-        reads = c.mode-mode.ensures;
-        speed = c.obey.ensures.speed;
-        forward = c.obey.ensures.forward;
-        functions = c.obey.ensures.functions;
-        cvs = rw c.obey.ensures.cvs c.hear.ensures;
-        pending = c.own_write-self.ensures.pending
+      reads = c.mode-mode.ensures;
+      speed = c.obey.ensures.speed;
+      forward = c.obey.ensures.forward;
+      functions = c.obey.ensures.functions;
+      cvs = rw c.obey.ensures.cvs c.hear.ensures;
+      pending = c.own_write-self.ensures.pending;
     })
 
 pub invariant_of-self-then-hears-clause-is_pending : goal.invariant_of-self-then-hears-clause-is_pending

@@ -1,0 +1,53 @@
+-- What a listener is told of a packet: one call for each kind of packet.
+use Rattle.std.specs.Prelude.{ℕ, Bool}
+use Rattle.dcc_packet.specs.declared.accessory.Board.{Board}
+use Rattle.dcc_packet.specs.declared.accessory.Output.{Output}
+use Rattle.dcc_packet.specs.declared.accessory.SignalAddress.{SignalAddress}
+use Rattle.dcc_packet.specs.declared.address.Address.{Address}
+use Rattle.dcc_packet.specs.declared.functions.GroupBits.{GroupBits}
+use Rattle.dcc_packet.specs.declared.instruction.What.{What}
+use Rattle.dcc_packet.specs.declared.instruction.What.TheVariants.{Reset, Speed28, Speed128, Functions, CvWrite, CvVerify, CvBitWrite, CvBitVerify}
+use Rattle.dcc_packet.specs.declared.packet.Packet.{Packet}
+use Rattle.dcc_packet.specs.declared.packet.Packet.TheVariants.{Idle, Loco as ToLoco, Accessory, Signal, Other}
+use Rattle.dcc_packet.specs.declared.packet.OtherFrame.{OtherFrame}
+
+-- a call, with what it is given
+pub data Note : Type 0 where
+  IdleCall : Note
+  ResetCall : Address → Note
+  SpeedCall : Address → What → Note
+  FunctionsCall : Address → GroupBits → Note
+  CvAccessCall : Address → What → Note
+  TurnoutCall : Board → Output → Bool → Note
+  SignalCall : SignalAddress → ℕ → Note
+  OtherCall : OtherFrame → Note
+
+-- the one call of an instruction
+abbrev pub loco_note : Address → What → Note
+loco_note to Reset = ResetCall to
+loco_note to (Speed28 forward bits) = SpeedCall to (Speed28 forward bits)
+loco_note to (Speed128 forward bits) = SpeedCall to (Speed128 forward bits)
+loco_note to (Functions bits) = FunctionsCall to bits
+loco_note to (CvWrite cv value) = CvAccessCall to (CvWrite cv value)
+loco_note to (CvVerify cv value) = CvAccessCall to (CvVerify cv value)
+loco_note to (CvBitWrite cv place one) = CvAccessCall to (CvBitWrite cv place one)
+loco_note to (CvBitVerify cv place one) = CvAccessCall to (CvBitVerify cv place one)
+
+-- the one call of a packet
+abbrev pub note_of : Packet → Note
+note_of Idle = IdleCall
+note_of (ToLoco to what) = loco_note to what
+note_of (Accessory board output on) = TurnoutCall board output on
+note_of (Signal address aspect) = SignalCall address aspect
+note_of (Other frame) = OtherCall frame
+
+-- the packet that a call tells
+abbrev pub packet_told : Note → Packet
+packet_told IdleCall = Idle
+packet_told (ResetCall to) = ToLoco to Reset
+packet_told (SpeedCall to what) = ToLoco to what
+packet_told (FunctionsCall to bits) = ToLoco to (Functions bits)
+packet_told (CvAccessCall to what) = ToLoco to what
+packet_told (TurnoutCall board output on) = Accessory board output on
+packet_told (SignalCall address aspect) = Signal address aspect
+packet_told (OtherCall frame) = Other frame
