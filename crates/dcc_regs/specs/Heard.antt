@@ -1,5 +1,9 @@
 -- Who hears which packet (RCN-211, RCN-213; NMRA S-9.2.1).
 use Rattle.std.specs.Prelude.{ℕ, Bool, true, false, ◌&&◌, ◌||◌, ◌==◌, nat_lt, nat_le, ◌+◌, ◌-◌, ◌*◌, ◌/◌, Option, None, Some, List, slice_index, filter, if◌then◌else◌}
+use Rattle.std.specs.Option.{option_map_or}
+use Rattle.std.specs.Result.{result_ok}
+use Rattle.dcc_packet.specs.Address.{same_address}
+use Rattle.dcc_packet.specs.Values.{long_of, short_of}
 use Rattle.dcc_packet.specs.declared.address.Address.{Address}
 use Rattle.dcc_packet.specs.declared.address.Address.TheVariants.{Broadcast, Short, Long}
 use Rattle.dcc_packet.specs.declared.instruction.What.{What}
@@ -9,34 +13,30 @@ use Rattle.dcc_packet.specs.declared.packet.Packet.TheVariants.{Idle, Loco as To
 use Rattle.dcc_regs.specs.declared.register.Who.{Who}
 use Rattle.dcc_regs.specs.declared.register.Who.TheVariants.{Loco, Board}
 
--- the active address is this short one
-abbrev pub is_short : Option Address → ℕ → Bool
-is_short None n = false
-is_short (Some Broadcast) n = false
-is_short (Some (Short own)) n = own.number == n
-is_short (Some (Long own)) n = false
-
--- the active address is this long one
-abbrev pub is_long : Option Address → ℕ → Bool
-is_long None n = false
-is_long (Some Broadcast) n = false
-is_long (Some (Short own)) n = false
-is_long (Some (Long own)) n = own.number == n
-
 -- a locomotive decoder with this active address takes what is sent to that one
 abbrev pub is_for : Option Address → Address → Bool
 is_for active Broadcast = true
-is_for active (Short to) = is_short active to.number
-is_for active (Long to) = is_long active to.number
+is_for None (Short to) = false
+is_for None (Long to) = false
+is_for (Some own) (Short to) = same_address own (Short to)
+is_for (Some own) (Long to) = same_address own (Long to)
 
--- a frame of no row is heard by the address that its first bytes name, where that is one of locomotive decoders
-abbrev pub is_other_heard : Option Address → List ℕ → Bool
-is_other_heard active bytes =
+-- the address of locomotive decoders that the first bytes of a frame name, if they name one
+abbrev pub frame_address : List ℕ → Option Address
+frame_address bytes =
     let first : ℕ = slice_index bytes 0 in
-    if first == 0 then true
-    else if nat_le first 127 then is_short active first
-    else if nat_le 192 first && nat_le first 231 then is_long active ((first - 192) * 256 + slice_index bytes 1)
-    else false
+    if first == 0 then Some Broadcast
+    else if nat_le first 127 then result_ok (short_of first)
+    else if nat_le 192 first && nat_le first 231 then result_ok (long_of ((first - 192) * 256 + slice_index bytes 1))
+    else None
+
+-- the address of locomotive decoders that a packet is sent to, if it is sent to one
+abbrev pub address_of : Packet → Option Address
+address_of Idle = None
+address_of (ToLoco to what) = Some to
+address_of (Accessory board output on) = None
+address_of (Signal address aspect) = None
+address_of (Other frame) = frame_address frame.frame
 
 -- the reset of all decoders, the one instruction to locomotives that boards hear: a reset to the broadcast address
 abbrev pub is_full_reset : Address → What → Bool
@@ -51,13 +51,9 @@ is_full_reset Broadcast (CvBitVerify cv place one) = false
 is_full_reset (Short to) what = false
 is_full_reset (Long to) what = false
 
--- which decoder hears which packet: board 511 is every board, signal 2047 every signal, and signals 2044 to 2046 are nobody's
+-- which decoder hears which packet. A frame of no row is heard by the locomotives whose address it names; board 511 is every board, signal 2047 every signal, and signals 2044 to 2046 are nobody's
 abbrev pub hears : Who → Packet → Bool
-hears (Loco active) Idle = false
-hears (Loco active) (ToLoco to what) = is_for active to
-hears (Loco active) (Accessory board output on) = false
-hears (Loco active) (Signal address aspect) = false
-hears (Loco active) (Other frame) = is_other_heard active frame.frame
+hears (Loco active) p = option_map_or (is_for active) (address_of p) false
 hears (Board own) Idle = false
 hears (Board own) (ToLoco to what) = is_full_reset to what
 hears (Board own) (Accessory board output on) = own.number == board.number || board.number == 511

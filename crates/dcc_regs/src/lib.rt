@@ -22,7 +22,7 @@ mod writes;
 pub use board::BoardDecoder;
 pub use board_state::BoardState;
 pub use decoder::Decoder;
-pub use heard::hears;
+pub use heard::{address_of, hears};
 pub use last_note::LastNote;
 pub use loco::LocoDecoder;
 pub use loco_state::LocoState;

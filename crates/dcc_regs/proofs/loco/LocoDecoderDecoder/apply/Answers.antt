@@ -1,4 +1,5 @@
-use Rattle.std.proofs.Common.{◌≡◌, true, false, slice_index_or, subst, sym, ◌∙◌}
+use Rattle.dcc_regs.specs.declared.register.Who.{Who}
+use Rattle.std.proofs.Common.{ap, ◌≡◌, true, false, slice_index_or, subst, sym, ◌∙◌}
 use Rattle.std.specs.Prelude.{Option}
 use Rattle.dcc_packet.specs.declared.address.Address.{Address}
 use Rattle.dcc_regs.specs.declared.register.Who.TheVariants.{Loco as LocoWho}
@@ -11,7 +12,7 @@ use Rattle.dcc_regs.proofs.loco.LocoDecoderDecoder.apply.Goals as goal
 
 pub returns-then-hears-clause-step : goal.returns-then-hears-clause-step
 returns-then-hears-clause-step c =
-    let heard : hears (LocoWho c.args.self.now.address) c.args.packet.now ≡ true = rw (← c.who.ensures.who) (sym c.hears.ensures ∙ c.if-hears.true) in
+    let heard : hears (LocoWho c.args.self.now.address) c.args.packet.now ≡ true = ap (λ (who : Who). hears who c.args.packet.now) (sym c.who.ensures.who) ∙ (sym c.hears.ensures ∙ c.if-hears.true) in
     let is : LocoContent = record {
       speed = c.obey.new.self.speed;
       forward = c.obey.new.self.forward;
@@ -31,7 +32,7 @@ returns-then-hears-clause-step c =
 
 pub invariant_of-self-then-hears-clause-is_pending : goal.invariant_of-self-then-hears-clause-is_pending
 invariant_of-self-then-hears-clause-is_pending c =
-    let heard : hears (LocoWho c.args.self.now.address) c.args.packet.now ≡ true = rw (← c.who.ensures.who) (sym c.hears.ensures ∙ c.if-hears.true) in
+    let heard : hears (LocoWho c.args.self.now.address) c.args.packet.now ≡ true = ap (λ (who : Who). hears who c.args.packet.now) (sym c.who.ensures.who) ∙ (sym c.hears.ensures ∙ c.if-hears.true) in
     subst
     (λ (active : Option Address). is_pending_for active c.own_write-self.result ≡ true)
     (sym c.obey.ensures.address)
