@@ -6,5 +6,9 @@ pub mod NoteLemmas
 pub mod OneStep
 pub mod Stepping
 pub mod BoardStep
+pub mod DifferLemmas
+pub mod ByKind
+pub mod MeetLemmas
+pub mod ConflictLemmas
 pub mod CvLemmas
 pub mod WholeMap

@@ -15,6 +15,8 @@ pub mod Board
 pub mod BoardDecoder
 pub mod BoardState
 pub mod Possible
+pub mod Conflict
+pub mod ConflictParts
 pub mod Notes
 pub mod Laws
 pub mod Same

@@ -7,7 +7,7 @@ use crate::register::SpeedMode;
 use dcc_packet::{Address, Group, GroupBits, Packet, What};
 
 /// The lowest function of a group, F0 aside.
-fn first_function(group: Group) -> u8
+pub fn first_function(group: Group) -> u8
     ensures first { result ≡ table.first_function group }
     ensures small { result ≤ 61 }
 {
@@ -26,7 +26,7 @@ fn first_function(group: Group) -> u8
 }
 
 /// How many functions a group has, F0 aside.
-fn count_of(group: Group) -> u8
+pub fn count_of(group: Group) -> u8
     ensures count { result ≡ table.count_of group }
     ensures small { result ≤ 8 }
 {

@@ -4,10 +4,13 @@
 
 mod board;
 mod board_state;
+mod conflicts;
 mod cvs;
 mod decoder;
+mod differences;
 mod function_bits;
 mod heard;
+mod hearers;
 mod last_note;
 pub mod laws;
 mod loco;
@@ -21,6 +24,7 @@ mod writes;
 
 pub use board::BoardDecoder;
 pub use board_state::BoardState;
+pub use conflicts::conflict;
 pub use decoder::Decoder;
 pub use heard::{address_of, hears};
 pub use last_note::LastNote;

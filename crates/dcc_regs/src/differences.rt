@@ -1,0 +1,146 @@
+//! The registers that two packets set to two values.
+
+ghost use Rattle.std.specs.Prelude.{◌≡◌, ◌↔◌, ℕ, ◌%◌, ◌+◌, ◌<◌, ◌≤◌, IsTrue};
+ghost use Rattle.dcc_regs.specs.ConflictParts.{Differ, DifferAtOutput, DifferInAspects, DifferInLoco, DifferInOutputs, group_of as group_of_packet, output_of as output_of_packet, signal_of as signal_of_packet};
+ghost use Rattle.dcc_regs.specs.Sets as table;
+ghost use Rattle.dcc_regs.specs.declared.register.Register.TheVariants.{Aspect, Function};
+ghost use Rattle.dcc_regs.specs.declared.register.SpeedMode.TheVariants.{Steps28};
+
+use dcc_packet::{Group, Packet, What};
+
+use crate::function_bits::{count_of, first_function, function_set};
+use crate::outputs::{aspect_set, out_set, position_set};
+use crate::register::{Register, SpeedMode, Value};
+use crate::same::same_value;
+use crate::speeds::{direction_set, speed_set};
+
+/// The constant that a packet sets a plain register to.
+fn sets(mode: SpeedMode, packet: &Packet, register: Register) -> Option<Value>
+    ensures { result ≡ table.sets mode packet.now register }
+{
+    match register {
+        Register::Speed => speed_set(mode, packet).map(Value::Speed),
+        Register::Direction => direction_set(packet).map(Value::Forward),
+        Register::Function(n) => function_set(mode, packet, n).map(Value::Flag),
+        Register::Out(n) => out_set(packet, n).map(Value::Flag),
+        Register::Position(n) => position_set(packet, n).map(|side| Value::Number(side as u8)),
+        Register::Aspect(n) => aspect_set(packet, n).map(Value::Number),
+        Register::CvBit(..) | Register::Pending => None,
+    }
+}
+
+fn differ(a: Option<Value>, b: Option<Value>) -> bool
+    ensures { IsTrue result ↔ Differ a b }
+{
+    match (a, b) {
+        (Some(a), Some(b)) => !same_value(a, b),
+        _ => false,
+    }
+}
+
+fn differ_at(mode: SpeedMode, p: &Packet, q: &Packet, register: Register) -> bool
+    ensures { IsTrue result ↔ Differ (table.sets mode p.now register) (table.sets mode q.now register) }
+{
+    differ(sets(mode, p, register), sets(mode, q, register))
+}
+
+/// Whether both packets set one of the `count` functions from `first` on, and not to one state.
+fn run_differs(mode: SpeedMode, p: &Packet, q: &Packet, first: u8, count: u8) -> bool
+    requires { first + count ≤ 69 }
+    ensures { IsTrue result ↔ ((n : ℕ) × (first ≤ n) × (n < first + count) × Differ (table.sets mode p.now (Function n)) (table.sets mode q.now (Function n))) }
+{
+    for n in first..first + count {
+        if differ_at(mode, p, q, Register::Function(n)) {
+            return true;
+        }
+    }
+    false
+}
+
+/// The group of functions that a packet is for.
+fn group_of(packet: &Packet) -> Option<Group>
+    ensures { result ≡ group_of_packet packet.now }
+{
+    match packet {
+        Packet::Loco { what: What::Functions(bits), .. } => Some(bits.group()),
+        _ => None,
+    }
+}
+
+/// Whether both packets set some function, and not to one state. A packet for no group turns no
+/// function but F0 on, so the functions of one group are enough to look at.
+fn functions_differ(mode: SpeedMode, p: &Packet, q: &Packet) -> bool
+    ensures { IsTrue result ↔ ((n : ℕ) × Differ (table.sets mode p.now (Function n)) (table.sets mode q.now (Function n))) }
+{
+    if differ_at(mode, p, q, Register::Function(0)) {
+        return true;
+    }
+    match group_of(p).or(group_of(q)) {
+        Some(group) => run_differs(mode, p, q, first_function(group), count_of(group)),
+        None => false,
+    }
+}
+
+/// Whether both packets set a register of locomotive decoders, and not to one value.
+pub fn locos_differ_in(mode: SpeedMode, p: &Packet, q: &Packet) -> bool
+    ensures { IsTrue result ↔ DifferInLoco mode p.now q.now }
+{
+    differ_at(mode, p, q, Register::Speed)
+        || differ_at(mode, p, q, Register::Direction)
+        || functions_differ(mode, p, q)
+}
+
+/// Whether both packets set output `n` or its pair, and not to one value.
+fn output_differs(p: &Packet, q: &Packet, n: u8) -> bool
+    ensures { IsTrue result ↔ DifferAtOutput p.now q.now n }
+{
+    let mode = SpeedMode::Steps28;
+    differ_at(mode, p, q, Register::Out(n)) || differ_at(mode, p, q, Register::Position(n / 2))
+}
+
+/// The output that a packet is for.
+fn output_of(packet: &Packet) -> Option<u8>
+    ensures { result ≡ output_of_packet packet.now }
+{
+    match packet {
+        Packet::Accessory { output, .. } => Some(output.number()),
+        _ => None,
+    }
+}
+
+/// Whether both packets set some output or pair of outputs, and not to one value. A packet for no
+/// output turns none on, so the output of one packet is enough to look at.
+pub fn outputs_differ(p: &Packet, q: &Packet) -> bool
+    ensures { IsTrue result ↔ DifferInOutputs p.now q.now }
+{
+    match output_of(p).or(output_of(q)) {
+        Some(output) => output_differs(p, q, output),
+        None => false,
+    }
+}
+
+/// The signal that a packet is for.
+fn signal_of(packet: &Packet) -> Option<u16>
+    ensures { result ≡ signal_of_packet packet.now }
+{
+    match packet {
+        Packet::Signal { address, .. } => Some(address.number()),
+        _ => None,
+    }
+}
+
+/// Whether both packets set the aspect of signal `address`, and not to one value.
+fn aspect_differs(p: &Packet, q: &Packet, address: u16) -> bool
+    ensures { IsTrue result ↔ Differ (table.sets Steps28 p.now (Aspect (address % 4))) (table.sets Steps28 q.now (Aspect (address % 4))) }
+{
+    differ_at(SpeedMode::Steps28, p, q, Register::Aspect((address % 4) as u8))
+}
+
+/// Whether both packets set some aspect, and not to one value.
+pub fn aspects_differ(p: &Packet, q: &Packet) -> bool
+    ensures { IsTrue result ↔ DifferInAspects p.now q.now }
+{
+    let Some(a) = signal_of(p) else { return false };
+    let Some(b) = signal_of(q) else { return false };
+    aspect_differs(p, q, a) || aspect_differs(p, q, b)
+}
