@@ -10,5 +10,7 @@ pub mod DifferLemmas
 pub mod ByKind
 pub mod MeetLemmas
 pub mod ConflictLemmas
+pub mod Values
+pub mod LawLemmas
 pub mod CvLemmas
 pub mod WholeMap

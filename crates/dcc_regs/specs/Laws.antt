@@ -1,12 +1,21 @@
 -- Laws over the definitions.
-use Rattle.std.specs.Prelude.{◌≡◌, List, ◌++◌, if◌then◌else◌}
+use Rattle.std.specs.Prelude.{◌≡◌, ◌≢◌, ◌⊎◌, true, false, None, List, ◌++◌, if◌then◌else◌}
+use Rattle.dcc_packet.specs.declared.address.Address.{Address}
+use Rattle.dcc_packet.specs.declared.address.Address.TheVariants.{Broadcast}
+use Rattle.dcc_packet.specs.declared.instruction.What.{What}
 use Rattle.dcc_packet.specs.declared.packet.Packet.{Packet}
+use Rattle.dcc_packet.specs.declared.packet.Packet.TheVariants.{Idle, Loco as ToLoco}
 use Rattle.dcc_regs.specs.declared.register.Who.{Who}
 use Rattle.dcc_regs.specs.declared.register.Register.{Register}
+use Rattle.dcc_regs.specs.declared.register.SpeedMode.{SpeedMode}
+use Rattle.dcc_regs.specs.declared.register.Value.{Value}
 use Rattle.dcc_regs.specs.Heard.{hears}
+use Rattle.dcc_regs.specs.Conflict.{Conflict}
+use Rattle.dcc_regs.specs.Sets.{sets}
+use Rattle.dcc_regs.specs.Writes.{is_own_write, writes_cv29}
 use Rattle.dcc_regs.specs.Result.{RegisterMap, result, step}
 use Rattle.dcc_regs.specs.Notes.{note_of, packet_told}
-use Rattle.dcc_regs.specs.Setting.{set_from, overwritten}
+use Rattle.dcc_regs.specs.Setting.{mode_in, set_from, overwritten}
 
 -- what a list of packets leaves is what its second part leaves, from what its first part left
 abbrev pub ResultInParts : Type 0
@@ -19,3 +28,35 @@ StepSets = (who : Who) (start : RegisterMap) (p : Packet) (r : Register) → ste
 -- the one call of a packet tells that packet
 abbrev pub NotesTellPackets : Type 0
 NotesTellPackets = (p : Packet) → packet_told (note_of p) ≡ p
+
+-- nobody hears Idle
+abbrev pub IdleIsUnheard : Type 0
+IdleIsUnheard = (who : Who) → hears who Idle ≡ false
+
+-- of the packets to short and long addresses a decoder hears those to one address alone
+abbrev pub OneAddress : Type 0
+OneAddress = (who : Who) (a b : Address) (x y : What) → a ≢ Broadcast → b ≢ Broadcast → hears who (ToLoco a x) ≡ true → hears who (ToLoco b y) ≡ true → a ≡ b
+
+-- a packet that does not write CV29 leaves the speed mode
+abbrev pub ModeStays : Type 0
+ModeStays = (who : Who) (start : RegisterMap) (p : Packet) → writes_cv29 p ≡ false → mode_in (step who start p) ≡ mode_in start
+
+-- a CV write to a short or long address sets no plain register
+abbrev pub WritesSetNoPlain : Type 0
+WritesSetNoPlain = (mode : SpeedMode) (p : Packet) (r : Register) → is_own_write p ≡ true → sets mode p r ≡ None
+
+-- a packet conflicts with another where that one conflicts with it
+abbrev pub ConflictIsMutual : Type 0
+ConflictIsMutual = (p q : Packet) → Conflict p q → Conflict q p
+
+-- no packet conflicts with itself
+abbrev pub NoConflictWithItself : Type 0
+NoConflictWithItself = (p : Packet) → Conflict p p → ⊥
+
+-- two packets are one or not
+abbrev pub PacketsAreDecided : Type 0
+PacketsAreDecided = (p q : Packet) → (p ≡ q) ⊎ (p ≢ q)
+
+-- two values of registers are one or not
+abbrev pub ValuesAreDecided : Type 0
+ValuesAreDecided = (v w : Value) → (v ≡ w) ⊎ (v ≢ w)

@@ -50,3 +50,22 @@ bit_set (Accessory board output on) n k = None
 bit_set (Signal address aspect) n k = None
 bit_set (Other frame) n k = None
 bit_set Idle n k = None
+
+-- an instruction that writes CV29 or a bit of it
+abbrev pub writes_mode : What → Bool
+writes_mode (CvWrite cv value) = cv.number == 29
+writes_mode (CvBitWrite cv place one) = cv.number == 29
+writes_mode Reset = false
+writes_mode (Speed28 forward bits) = false
+writes_mode (Speed128 forward bits) = false
+writes_mode (Functions bits) = false
+writes_mode (CvVerify cv value) = false
+writes_mode (CvBitVerify cv place one) = false
+
+-- the same of a packet
+abbrev pub writes_cv29 : Packet → Bool
+writes_cv29 (ToLoco to what) = writes_mode what
+writes_cv29 (Accessory board output on) = false
+writes_cv29 (Signal address aspect) = false
+writes_cv29 (Other frame) = false
+writes_cv29 Idle = false

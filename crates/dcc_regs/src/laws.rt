@@ -1,6 +1,6 @@
 //! Laws of the definitions, for those who build on decoders.
 
-ghost use Rattle.dcc_regs.specs.Laws.{NotesTellPackets, ResultInParts, StepSets};
+ghost use Rattle.dcc_regs.specs.Laws.{ConflictIsMutual, IdleIsUnheard, ModeStays, NoConflictWithItself, NotesTellPackets, OneAddress, PacketsAreDecided, ResultInParts, StepSets, ValuesAreDecided, WritesSetNoPlain};
 
 /// What a list of packets leaves is what its second part leaves, from what its first part left.
 pub fn result_in_parts()
@@ -16,4 +16,44 @@ pub fn step_sets()
 /// The one call of a packet tells that packet.
 pub fn notes_tell_packets()
     ensures { NotesTellPackets }
+{}
+
+/// Nobody hears Idle.
+pub fn idle_is_unheard()
+    ensures { IdleIsUnheard }
+{}
+
+/// Of the packets to short and long addresses a decoder hears those to one address alone.
+pub fn one_address()
+    ensures { OneAddress }
+{}
+
+/// A packet that does not write CV29 leaves the speed mode.
+pub fn mode_stays()
+    ensures { ModeStays }
+{}
+
+/// A CV write to a short or long address sets no plain register.
+pub fn writes_set_no_plain_register()
+    ensures { WritesSetNoPlain }
+{}
+
+/// A packet conflicts with another where that one conflicts with it.
+pub fn conflict_is_mutual()
+    ensures { ConflictIsMutual }
+{}
+
+/// No packet conflicts with itself.
+pub fn no_conflict_with_itself()
+    ensures { NoConflictWithItself }
+{}
+
+/// Two packets are one or not.
+pub fn packets_are_decided()
+    ensures { PacketsAreDecided }
+{}
+
+/// Two values of registers are one or not.
+pub fn values_are_decided()
+    ensures { ValuesAreDecided }
 {}
