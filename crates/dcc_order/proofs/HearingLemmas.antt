@@ -1,0 +1,60 @@
+-- One half more.
+use Rattle.std.proofs.Common.{◌≡◌, ℕ, List, [], ◌∷◌, ◌++◌, map, refl, sym, ◌∙◌, ap, append_assoc}
+use Rattle.std.proofs.lemmas.List.{map-append}
+use Rattle.dcc_wire.specs.declared.fault.Seen.{Seen}
+use Rattle.dcc_wire.specs.declared.fault.Seen.TheVariants.{Nothing, Packet as PacketSeen, Refused}
+use Rattle.dcc_wire.specs.Framing.{seen, reported}
+use Rattle.dcc_wire.proofs.SeenLemmas.{seen-none}
+use Rattle.dcc_packet.specs.declared.packet.Packet.{Packet}
+use Rattle.dcc_packet.specs.Spelling.{spelling}
+use Rattle.dcc_packet.proofs.OneSpelling as one
+use Rattle.dcc_regs.specs.declared.register.Who.{Who}
+use Rattle.dcc_regs.specs.Result.{RegisterMap, HasHeard}
+use Rattle.dcc_regs.proofs.InParts.{heard_nothing, heard_more}
+use Rattle.dcc_order.specs.Hearing.{frames_of, frames_in, AreSpelled, ArePackets, HasHeardHalves}
+use Rattle.dcc_order.specs.HearingLaws.{NoHalvesHeard, OneListOfPackets}
+
+frames_in-append : (a b : List (ℕ × Seen)) → frames_in (a ++ b) ≡ frames_in a ++ frames_in b
+frames_in-append [] b = refl
+frames_in-append (at ∷ later) b = ap (λ frames. frames_of at.1 ++ frames) (frames_in-append later b) ∙ sym (append_assoc (frames_of at.1) (frames_in later) (frames_in b))
+
+frames_in-reported : (place : ℕ) (answer : Seen) → frames_in (reported place answer) ≡ frames_of answer
+unfolding reported
+frames_in-reported place Nothing = refl
+frames_in-reported place (PacketSeen frame) = refl
+frames_in-reported place (Refused fault) = refl
+
+-- a half more adds the packets that it shows
+pub packets_more : (halves more : List ℕ) (answer : Seen) (place : ℕ) (packets shown : List Packet) → seen more ≡ seen halves ++ reported place answer
+    → ArePackets packets halves → AreSpelled shown (frames_of answer) → ArePackets (packets ++ shown) more
+packets_more halves more answer place packets shown e before now =
+    map-append spelling packets shown
+    ∙ ap (λ frames. frames ++ map spelling shown) before
+    ∙ ap (λ frames. frames_in (seen halves) ++ frames) (now ∙ sym (frames_in-reported place answer))
+    ∙ sym (frames_in-append (seen halves) (reported place answer))
+    ∙ ap frames_in (sym e)
+
+pub heard_half : {who who' who'' : Who} {m m' m'' : RegisterMap} (halves more : List ℕ) (answer : Seen) (place : ℕ) (shown : List Packet) → seen more ≡ seen halves ++ reported place answer
+    → AreSpelled shown (frames_of answer) → HasHeardHalves halves who m who' m' → HasHeard shown who' m' who'' m'' → HasHeardHalves more who m who'' m''
+heard_half halves more answer place shown e spelled before now = record {
+  packets = before.packets ++ shown;
+  seen = packets_more halves more answer place before.packets shown e before.seen spelled;
+  heard = heard_more before.heard now;
+}
+
+same_packets : (ps qs : List Packet) → map spelling ps ≡ map spelling qs → ps ≡ qs
+same_packets [] [] e = refl
+same_packets [] (q ∷ qs) e = absurd (cc)
+same_packets (p ∷ ps) [] e = absurd (cc)
+same_packets (p ∷ ps) (q ∷ qs) e =
+    let first : spelling p ≡ spelling q = cc in
+    let rest : map spelling ps ≡ map spelling qs = cc in
+    let head : p ≡ q = one.one_packet p q first in
+    let tail : ps ≡ qs = same_packets ps qs rest in
+    rw (head, tail) refl
+
+pub one_list_of_packets : OneListOfPackets
+one_list_of_packets halves ps qs e f = same_packets ps qs (e ∙ sym f)
+
+pub no_halves_heard : NoHalvesHeard
+no_halves_heard who start = record { packets = []; seen = ap frames_in (sym seen-none); heard = heard_nothing who start }

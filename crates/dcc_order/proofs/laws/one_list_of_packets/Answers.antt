@@ -1,0 +1,5 @@
+use Rattle.dcc_order.proofs.HearingLemmas.{one_list_of_packets}
+use Rattle.dcc_order.proofs.laws.one_list_of_packets.Goals as goal
+
+pub returns : goal.returns
+returns c = one_list_of_packets

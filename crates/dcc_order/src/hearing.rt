@@ -1,0 +1,51 @@
+//! A fleet that hears a track.
+
+ghost use Rattle.std.specs.List.{AllZip};
+ghost use Rattle.std.specs.Prelude.{◌≡◌, ◌++◌, ◌∷◌, [], ℕ, List, length};
+ghost use Rattle.dcc_wire.specs.Framing.{StandsFor, reported, seen as seen_in};
+ghost use Rattle.dcc_packet.specs.declared.packet.Packet.{Packet};
+ghost use Rattle.dcc_regs.specs.Result.{HasHeard, RegisterMap};
+ghost use Rattle.dcc_regs.specs.declared.register.Who.{Who};
+ghost use Rattle.dcc_order.specs.Hearing.{AreSpelled, HasHeardHalves, frames_of};
+
+use dcc_packet::Packet;
+use dcc_regs::Decoder;
+use dcc_wire::{Framer, Seen};
+
+use crate::fleet::hear_packet;
+
+/// Each member hears the packet that was seen, if one was.
+fn hear_seen(decoders: &mut [Box<dyn Decoder>], seen: &Seen)
+    ensures hears { (packets : List Packet) → AreSpelled packets (frames_of seen.now) →
+        AllZip (λ old now. HasHeard packets (who old) (registers old) (who now) (registers now)) decoders.old decoders.new }
+    ensures spelled { (packets : List Packet) × AreSpelled packets (frames_of seen.now) }
+{
+    match seen {
+        Seen::Packet(frame) => hear_packet(decoders, &Packet::read(frame)),
+        Seen::Nothing => (),
+        Seen::Refused(_) => (),
+    }
+}
+
+/// A fleet hears a half of this many microseconds. Where a packet ends with it, each member hears
+/// that packet, and otherwise each stays as it is. The answer is that of the framer.
+pub fn hear(decoders: &mut [Box<dyn Decoder>], framer: &mut Framer, us: u16) -> Seen
+    ensures stands { (halves : List ℕ) → StandsFor framer.old halves → StandsFor framer.new (halves ++ us ∷ []) }
+    ensures sees { (halves : List ℕ) → StandsFor framer.old halves →
+        seen_in (halves ++ us ∷ []) ≡ seen_in halves ++ reported (length halves) result }
+
+    // What the half showed is some list of packets, one or none,
+    ensures spelled { (packets : List Packet) × AreSpelled packets (frames_of result) }
+    // and each member has heard just that.
+    ensures hears { (packets : List Packet) → AreSpelled packets (frames_of result) →
+        AllZip (λ old now. HasHeard packets (who old) (registers old) (who now) (registers now)) decoders.old decoders.new }
+
+    // So members that have heard a list of halves have then heard the list with this half behind it.
+    ensures since { (halves : List ℕ) → StandsFor framer.old halves → (starts : List (Who × RegisterMap)) →
+        AllZip (λ start now. HasHeardHalves halves start.0 start.1 (who now) (registers now)) starts decoders.old →
+        AllZip (λ start now. HasHeardHalves (halves ++ us ∷ []) start.0 start.1 (who now) (registers now)) starts decoders.new }
+{
+    let seen = framer.push(us);
+    hear_seen(decoders, &seen);
+    seen
+}
