@@ -8,11 +8,10 @@ ghost use Rattle.dcc_regs.specs.Result.{HasHeard, RegisterMap};
 ghost use Rattle.dcc_regs.specs.declared.register.Who.{Who};
 ghost use Rattle.dcc_order.specs.Hearing.{AreSpelled, HasHeardHalves, frames_of};
 
+use crate::fleet::hear_packet;
 use dcc_packet::Packet;
 use dcc_regs::Decoder;
 use dcc_wire::{Framer, Seen};
-
-use crate::fleet::hear_packet;
 
 /// Each member hears the packet that was seen, if one was.
 fn hear_seen(decoders: &mut [Box<dyn Decoder>], seen: &Seen)

@@ -7,3 +7,5 @@ pub mod laws;
 
 pub use hearing::hear;
 
+#[cfg(test)]
+mod tests;
