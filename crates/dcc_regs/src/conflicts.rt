@@ -6,11 +6,10 @@ ghost use Rattle.dcc_regs.specs.ConflictParts.{DifferIn, DifferInAspects, Differ
 ghost use Rattle.dcc_regs.specs.declared.register.SpeedMode.{SpeedMode};
 ghost use Rattle.dcc_regs.specs.declared.register.SpeedMode.TheVariants.{Steps14, Steps28};
 
-use dcc_packet::Packet;
-
 use crate::differences::{aspects_differ, locos_differ_in, outputs_differ};
 use crate::hearers::heard_together;
 use crate::register::SpeedMode;
+use dcc_packet::Packet;
 
 /// Whether both packets set a register of locomotive decoders, and in one speed mode not to one value.
 fn locos_differ(p: &Packet, q: &Packet) -> bool

@@ -6,13 +6,12 @@ ghost use Rattle.dcc_regs.specs.Sets as table;
 ghost use Rattle.dcc_regs.specs.declared.register.Register.TheVariants.{Aspect, Function};
 ghost use Rattle.dcc_regs.specs.declared.register.SpeedMode.TheVariants.{Steps28};
 
-use dcc_packet::{Group, Packet, What};
-
 use crate::function_bits::{count_of, first_function, function_set};
 use crate::outputs::{aspect_set, out_set, position_set};
 use crate::register::{Register, SpeedMode, Value};
 use crate::same::same_value;
 use crate::speeds::{direction_set, speed_set};
+use dcc_packet::{Group, Packet, What};
 
 /// The constant that a packet sets a plain register to.
 fn sets(mode: SpeedMode, packet: &Packet, register: Register) -> Option<Value>
@@ -62,7 +61,10 @@ fn group_of(packet: &Packet) -> Option<Group>
     ensures { result ≡ group_of_packet packet.now }
 {
     match packet {
-        Packet::Loco { what: What::Functions(bits), .. } => Some(bits.group()),
+        Packet::Loco {
+            what: What::Functions(bits),
+            ..
+        } => Some(bits.group()),
         _ => None,
     }
 }
@@ -133,7 +135,12 @@ fn signal_of(packet: &Packet) -> Option<u16>
 fn aspect_differs(p: &Packet, q: &Packet, address: u16) -> bool
     ensures { IsTrue result ↔ Differ (table.sets Steps28 p.now (Aspect (address % 4))) (table.sets Steps28 q.now (Aspect (address % 4))) }
 {
-    differ_at(SpeedMode::Steps28, p, q, Register::Aspect((address % 4) as u8))
+    differ_at(
+        SpeedMode::Steps28,
+        p,
+        q,
+        Register::Aspect((address % 4) as u8),
+    )
 }
 
 /// Whether both packets set some aspect, and not to one value.

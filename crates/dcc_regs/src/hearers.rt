@@ -3,9 +3,8 @@
 ghost use Rattle.std.specs.Prelude.{◌≡◌, ◌↔◌, IsTrue};
 ghost use Rattle.dcc_regs.specs.ConflictParts.{HeardTogether, board_number as board_number_of, meets, some_board, some_loco};
 
-use dcc_packet::{Address, Packet};
-
 use crate::heard::{address_of, is_for_active, is_full_reset};
+use dcc_packet::{Address, Packet};
 
 /// Whether some locomotive decoder takes what is sent to either address.
 fn addresses_meet(a: &Address, b: &Address) -> bool
@@ -29,11 +28,19 @@ fn board_number(packet: &Packet) -> Option<u16>
     ensures { result ≡ board_number_of packet.now }
 {
     match packet {
-        Packet::Loco { to, what } => if is_full_reset(to, what) { Some(511) } else { None },
+        Packet::Loco { to, what } => if is_full_reset(to, what) {
+            Some(511)
+        } else {
+            None
+        },
         Packet::Accessory { board, .. } => Some(board.number()),
         Packet::Signal { address, .. } => {
             let address = address.number();
-            if address == 2047 || address < 2044 { Some(address / 4) } else { None }
+            if address == 2047 || address < 2044 {
+                Some(address / 4)
+            } else {
+                None
+            }
         }
         _ => None,
     }

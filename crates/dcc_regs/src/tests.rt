@@ -586,3 +586,55 @@ fn notes(rt: HostRuntime) -> Result<(), Fail> {
     }
     Ok(())
 }
+
+#[test]
+fn conflicts(rt: HostRuntime) -> Result<(), Fail> {
+    let slow = "loco s3 speed28 f 4";
+    let fast = "loco s3 speed28 f 31";
+    let on = "accessory 12 5 on";
+    let all = "signal 2047 5";
+    let rows = [
+        (slow, fast, true),
+        (slow, slow, false),
+        (slow, "loco l3 speed28 f 31", false),
+        (slow, "loco all speed28 f 0", true),
+        // a step to the broadcast address sets nothing
+        (slow, "loco all speed28 r 9", false),
+        (slow, "loco s3 cv write 29 6", false),
+        // in 14 steps F0 is off in the one and on in the other
+        ("loco all reset", "loco s3 speed28 f 0", false),
+        ("loco all reset", "loco s3 speed28 f 1", true),
+        // F0 is set by the one in 28 steps and by the other in 14
+        ("loco s3 functions 0 16", "loco s3 speed28 f 4", false),
+        ("loco s3 functions 0 1", "loco s3 functions 0 3", true),
+        ("loco s3 functions 0 1", "loco s3 functions 5 3", false),
+        ("loco s3 functions 61 128", "loco s3 reset", true),
+        ("loco all reset", on, true),
+        ("loco s3 reset", on, false),
+        ("loco all reset", "accessory 12 5 off", false),
+        (on, "accessory 511 5 off", true),
+        (on, "accessory 12 4 on", true),
+        (on, "accessory 12 4 off", false),
+        (on, "accessory 13 5 off", false),
+        (all, "signal 1022 3", true),
+        (all, "signal 2045 3", false),
+        (all, "signal 1022 5", false),
+        (on, "signal 48 3", false),
+        ("signal 48 1", "signal 49 2", false),
+    ];
+    for (one, other, expected) in rows {
+        let one_packet = Packet::from_line(one)?;
+        let other_packet = Packet::from_line(other)?;
+        assert_eq!(rt;
+            conflict(&one_packet, &other_packet),
+            expected,
+            "{one} {other}"
+        );
+        assert_eq!(rt;
+            conflict(&other_packet, &one_packet),
+            expected,
+            "{other} {one}"
+        );
+    }
+    Ok(())
+}
