@@ -1,3 +1,12 @@
 pub mod Stepped
 pub mod SpelledLemmas
 pub mod HearingLemmas
+pub mod Clash
+pub mod AlikeBlocks
+pub mod AlikeCuts
+pub mod BlockTests
+pub mod CutTests
+pub mod TurnLaws
+pub mod MemberLaws
+pub mod NumberLaws
+pub mod OrderLaws

@@ -1,11 +1,25 @@
-//! Decoders that hear a track, and lists of packets that are alike for a decoder.
+//! Decoders that hear a track, lists of packets that are alike for a decoder, and the first difference of two
+//! lists.
 #![tactic(auto)]
 
+mod blocks;
+mod comparing;
 mod fleet;
 mod hearing;
 pub mod laws;
+mod lists;
+mod members;
+mod no_memory;
+mod order;
+mod turns;
+mod verdict;
 
+pub use comparing::compare;
 pub use hearing::hear;
+pub use no_memory::NoMemory;
+pub use verdict::Verdict;
 
+#[cfg(test)]
+mod hearing_tests;
 #[cfg(test)]
 mod tests;

@@ -14,3 +14,6 @@ pub mod Values
 pub mod LawLemmas
 pub mod CvLemmas
 pub mod WholeMap
+pub mod Runs
+pub mod SameValues
+pub mod OwnWrites

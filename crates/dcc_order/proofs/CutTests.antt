@@ -1,0 +1,137 @@
+-- How a cut list begins, and what that says of the verdict.
+use Rattle.std.proofs.Common.{◌≡◌, ◌∙◌, refl, sym, ap, subst, Bool, true, false, cond, List, [], ◌∷◌, ℕ, ◌+◌, ◌-◌, ◌≤◌, add-one, length-drop, take, drop, suc, Option, Some, None, length, get_or, ◌<◌, arith, inl, inr}
+use Rattle.std.proofs.Math.Numerals.{one-add}
+use Rattle.std.proofs.lemmas.List.{take_all}
+use Rattle.std.specs.Prelude.{not, ◌≢◌, ◌&&◌, filter}
+use Rattle.std.specs.List.{position_or_len}
+use Rattle.dcc_packet.specs.declared.packet.Packet.{Packet}
+use Rattle.dcc_regs.specs.Writes.{is_own_write}
+use Rattle.dcc_order.specs.declared.verdict.Verdict.{Verdict}
+use Rattle.dcc_order.specs.declared.verdict.Verdict.TheVariants.{Alike, Writes, Members, Order}
+use Rattle.dcc_order.specs.AlikeLists.{Cut, LastBlock, Block, in_first_block, cut, cut_by, SameMembers, SameOrder, AlikeCuts, capped, begins_with_two}
+use Rattle.dcc_order.specs.Verdicts.{IsVerdictFrom}
+
+-- a list with no own write is one block
+pub cut-one_block : (l : List Packet) → position_or_len is_own_write l ≡ length l → cut l ≡ LastBlock l
+cut-one_block [] e = refl
+cut-one_block (p ∷ l) e = by_case (is_own_write p) e (cut-one_block l)
+  where
+    by_case : (t : Bool) → cond (not t) (1 + position_or_len is_own_write l) 0 ≡ suc (length l) → (position_or_len is_own_write l ≡ length l → cut l ≡ LastBlock l) →
+        cond t (Block [] p (cut l)) (in_first_block p (cut l)) ≡ LastBlock (p ∷ l)
+    by_case true e rest = absurd (omega arith)
+    by_case false e rest = ap (in_first_block p) (rest (omega arith))
+
+-- a list is cut at its first own write
+pub cut-at : (l : List Packet) (d : Packet) → position_or_len is_own_write l < length l →
+    cut l ≡ Block (take (position_or_len is_own_write l) l) (get_or l (position_or_len is_own_write l) d) (cut (drop (suc (position_or_len is_own_write l)) l))
+cut-at [] d h = absurd (omega arith)
+cut-at (p ∷ l) d h = by_case (is_own_write p) h (cut-at l d)
+  where
+    by_case : (t : Bool) → cond (not t) (1 + position_or_len is_own_write l) 0 < suc (length l) →
+        (position_or_len is_own_write l < length l → cut l ≡ Block (take (position_or_len is_own_write l) l) (get_or l (position_or_len is_own_write l) d) (cut (drop (suc (position_or_len is_own_write l)) l))) →
+        cond t (Block [] p (cut l)) (in_first_block p (cut l))
+        ≡ Block (take (cond (not t) (1 + position_or_len is_own_write l) 0) (p ∷ l)) (get_or (p ∷ l) (cond (not t) (1 + position_or_len is_own_write l) 0) d) (cut (drop (suc (cond (not t) (1 + position_or_len is_own_write l) 0)) (p ∷ l)))
+    by_case true h rest = refl
+    by_case false h rest = rw one-add (ap (in_first_block p) (rest (omega arith)))
+
+-- a list is taken whole where it is no longer than what is taken
+pub take-past_end : {A : Type 0} (l : List A) (n : ℕ) → length l ≤ n → take n l ≡ l
+take-past_end l n h = take_all n l h
+
+-- the same, as the code takes the parts
+pub cut-at_len : (l : List Packet) (n : ℕ) (d : Packet) → n ≡ position_or_len is_own_write l → n < length l →
+    cut l ≡ Block (take n l) (get_or l n d) (cut (take (length l - (n + 1)) (drop (n + 1) l)))
+cut-at_len l n d place inside =
+    cut-at l d (omega arith)
+    ∙ ap (λ m. Block (take m l) (get_or l m d) (cut (drop (suc m) l))) (sym place)
+    ∙ ap (λ m. Block (take n l) (get_or l n d) (cut (drop m l))) (sym (add-one n))
+    ∙ ap (λ rest. Block (take n l) (get_or l n d) (cut rest)) (sym (take-past_end (drop (n + 1) l) (length l - (n + 1)) (simp length-drop (omega arith))))
+
+pub at_first : (k : ℕ) (x y u w : Cut) (v : Verdict) → x ≡ u → y ≡ w → IsVerdictFrom k u w v → IsVerdictFrom k x y v
+at_first k x y u w v e h is = subst (λ c. IsVerdictFrom k c y v) (sym e) (subst (λ c. IsVerdictFrom k u c v) (sym h) is)
+
+module _ (k : ℕ) (left right : List Packet) (lefts rights : List Packet) where
+  pub members_differ : (v w : Option Packet) → ¬ SameMembers left right → IsVerdictFrom k (cut_by left v lefts) (cut_by right w rights) (Members k)
+  members_differ None None h = inl (h, refl)
+  members_differ None (Some w) h = inl (h, refl)
+  members_differ (Some v) None h = inl (h, refl)
+  members_differ (Some v) (Some w) h = inl (h, refl)
+
+  pub order_differs : (v w : Option Packet) → SameMembers left right → ¬ SameOrder left right → IsVerdictFrom k (cut_by left v lefts) (cut_by right w rights) (Order k)
+  order_differs None None m h = inr (inl (m, h, refl))
+  order_differs None (Some w) m h = inr (inl (m, h, refl))
+  order_differs (Some v) None m h = inr (inl (m, h, refl))
+  order_differs (Some v) (Some w) m h = inr (inl (m, h, refl))
+
+  pub both_end : SameMembers left right → SameOrder left right → IsVerdictFrom k (cut_by left None lefts) (cut_by right None rights) Alike
+  both_end m o = inr (inr (m, o, refl))
+
+  pub left_ends : (w : Packet) → SameMembers left right → SameOrder left right → IsVerdictFrom k (cut_by left None lefts) (cut_by right (Some w) rights) Writes
+  left_ends w m o = inr (inr (m, o, refl))
+
+  pub right_ends : (v : Packet) → SameMembers left right → SameOrder left right → IsVerdictFrom k (cut_by left (Some v) lefts) (cut_by right None rights) Writes
+  right_ends v m o = inr (inr (m, o, refl))
+
+  pub writes_differ : (v w : Packet) → SameMembers left right → SameOrder left right → v ≢ w → IsVerdictFrom k (cut_by left (Some v) lefts) (cut_by right (Some w) rights) Writes
+  writes_differ v w m o h = inr (inr (m, o, inl (h, refl)))
+
+  pub goes_on : (v w : Packet) → SameMembers left right → SameOrder left right → v ≡ w → (verdict : Verdict) → IsVerdictFrom (k + 1) (cut lefts) (cut rights) verdict →
+      IsVerdictFrom k (cut_by left (Some v) lefts) (cut_by right (Some w) rights) verdict
+  goes_on v w m o h verdict rest = inr (inr (m, o, inr (h, rest)))
+
+-- where the verdict is that cut lists are alike, they are
+pub alike_from_verdict : (k : ℕ) (x y : Cut) → IsVerdictFrom k x y Alike → AlikeCuts x y
+alike_from_verdict k (LastBlock left) (LastBlock right) v = elim v [
+  | inl bad ↦ (let e : Alike ≡ Members k = bad.1 in cc)
+  | inr (inl bad) ↦ (let e : Alike ≡ Order k = bad.2 in cc)
+  | inr (inr good) ↦ record { members = good.0; order = good.1 }
+]
+alike_from_verdict k (LastBlock left) (Block right w y) v = elim v [
+  | inl bad ↦ (let e : Alike ≡ Members k = bad.1 in cc)
+  | inr (inl bad) ↦ (let e : Alike ≡ Order k = bad.2 in cc)
+  | inr (inr bad) ↦ (let e : Alike ≡ Writes = bad.2 in cc)
+]
+alike_from_verdict k (Block left w x) (LastBlock right) v = elim v [
+  | inl bad ↦ (let e : Alike ≡ Members k = bad.1 in cc)
+  | inr (inl bad) ↦ (let e : Alike ≡ Order k = bad.2 in cc)
+  | inr (inr bad) ↦ (let e : Alike ≡ Writes = bad.2 in cc)
+]
+alike_from_verdict k (Block left w x) (Block right u y) v = elim v [
+  | inl bad ↦ (let e : Alike ≡ Members k = bad.1 in cc)
+  | inr (inl bad) ↦ (let e : Alike ≡ Order k = bad.2 in cc)
+  | inr (inr (m, o, inl bad)) ↦ (let e : Alike ≡ Writes = bad.1 in cc)
+  | inr (inr (m, o, inr good)) ↦ (record { members = m; order = o }, good.0, alike_from_verdict (k + 1) x y good.1)
+]
+
+-- where cut lists are alike, no other verdict is theirs
+pub verdict_of_alike : (k : ℕ) (x y : Cut) (verdict : Verdict) → AlikeCuts x y → IsVerdictFrom k x y verdict → verdict ≡ Alike
+verdict_of_alike k (LastBlock left) (LastBlock right) verdict alike v = elim v [
+  | inl bad ↦ absurd (bad.0 alike.members)
+  | inr (inl bad) ↦ absurd (bad.1 alike.order)
+  | inr (inr good) ↦ good.2
+]
+verdict_of_alike k (LastBlock left) (Block right w y) verdict alike v = absurd alike
+verdict_of_alike k (Block left w x) (LastBlock right) verdict alike v = absurd alike
+verdict_of_alike k (Block left w x) (Block right u y) verdict alike v = elim v [
+  | inl bad ↦ absurd (bad.0 alike.0.members)
+  | inr (inl bad) ↦ absurd (bad.1 alike.0.order)
+  | inr (inr (m, o, inl bad)) ↦ absurd (bad.0 alike.1)
+  | inr (inr (m, o, inr good)) ↦ verdict_of_alike (k + 1) x y verdict alike.2 good.1
+]
+
+-- what a decoder hears of a list, capped, is no longer than the list
+pub length-capped : (l : List Packet) → length (capped l) ≤ length l
+length-capped [] = omega arith
+length-capped (p ∷ l) = by_case (is_own_write p && begins_with_two l p) (length-capped l)
+  where
+    by_case : (t : Bool) → length (capped l) ≤ length l → length (cond t (capped l) (p ∷ capped l)) ≤ suc (length l)
+    by_case true h = omega arith
+    by_case false h = omega arith
+
+pub length-kept : (test : Packet → Bool) (l : List Packet) → length (filter test l) ≤ length l
+length-kept test [] = omega arith
+length-kept test (p ∷ l) = by_case (test p) (length-kept test l)
+  where
+    by_case : (t : Bool) → length (filter test l) ≤ length l → length (cond t (p ∷ filter test l) (filter test l)) ≤ suc (length l)
+    by_case true h = omega arith
+    by_case false h = omega arith

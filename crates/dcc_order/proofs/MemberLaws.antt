@@ -1,0 +1,125 @@
+-- The packets of a block, each once, and their numbers.
+use Rattle.std.proofs.Common.{ℕ, zero, suc, ◌+◌, ◌<◌, ◌≤◌, ◌≡◌, ◌∙◌, refl, sym, ap, subst, Bool, true, false, cond, List, [], ◌∷◌, ◌++◌, inl, inr, length, arith, eqb, get_or, map}
+use Rattle.std.specs.Prelude.{Contains, ◌↔◌, not}
+use Rattle.std.specs.List.{position_or_len}
+use Rattle.std.proofs.lemmas.Bool.Decides.{Decides-eqb}
+use Rattle.std.proofs.lemmas.List.{length-append}
+use Rattle.std.proofs.lemmas.List.Folds.{position_or_len_push}
+use Rattle.std.proofs.lemmas.List.Sums.{passes_at_first}
+use Rattle.std.proofs.lemmas.List.Elements.{Contains-append_left, Contains-push, Contains-push_cases}
+use lib.Pointwise.{pointwise}
+use Rattle.dcc_packet.specs.declared.packet.Packet.{Packet}
+use Rattle.dcc_packet.specs.SamePacket.{same}
+use Rattle.dcc_packet.specs.Spelling.{spelling}
+use Rattle.dcc_packet.proofs.SameFrames.{Decides-same, same-refl}
+use Rattle.dcc_order.specs.AlikeLists.{SameMembers}
+use Rattle.dcc_order.specs.Members.{number_of, AreMembers}
+use Rattle.dcc_order.proofs.AlikeBlocks.{true_is_not_false}
+
+-- a packet is found by its frame
+pub number-by_frame : (members : List Packet) (p : Packet) → position_or_len (pointwise eqb (spelling p)) (map spelling members) ≡ number_of members p
+unfolding same
+number-by_frame [] p = refl
+number-by_frame (m ∷ members) p = ap (λ n. cond (not (pointwise eqb (spelling p) (spelling m))) (1 + n) 0) (number-by_frame members p)
+
+pub number-within : (members : List Packet) (p : Packet) → number_of members p ≤ length members
+number-within [] p = omega arith
+number-within (m ∷ members) p = by_case (not (same p m)) (number-within members p)
+  where
+    by_case : (t : Bool) → number_of members p ≤ length members → cond t (1 + number_of members p) 0 ≤ suc (length members)
+    by_case true below = omega arith
+    by_case false below = omega arith
+
+-- a packet that has a number stands there
+pub stands_at : (members : List Packet) (p d : Packet) → number_of members p < length members → p ≡ get_or members (number_of members p) d
+stands_at members p d inside = (Decides-same p (get_or members (number_of members p) d)).0 (passes_at_first (same p) members d inside)
+
+place_contains : (members : List Packet) (p : Packet) → number_of members p < length members → Contains members p
+place_contains members p inside = (number_of members p, inside, sym (stands_at members p p inside))
+
+pub no_members : AreMembers [] []
+no_members = record {
+  same_set = λ p. (λ h. h, λ h. h);
+  once = λ k d h. absurd (omega arith);
+}
+
+-- one more packet that is a member already
+pub known_member : (members block : List Packet) (x : Packet) → AreMembers members block → number_of members x < length members → AreMembers members (block ++ x ∷ [])
+known_member members block x are inside = record {
+  same_set = λ p. (
+    λ h. Contains-append_left block (x ∷ []) p ((are.same_set p).0 h),
+    λ h. elim (Contains-push_cases block x p h) [
+      | inl old ↦ (are.same_set p).1 old
+      | inr e ↦ subst (Contains members) e (place_contains members x inside)
+    ],
+  );
+  once = are.once;
+}
+
+get-push_old : (members : List Packet) (x d : Packet) (k : ℕ) → k < length members → get_or (members ++ x ∷ []) k d ≡ get_or members k d
+get-push_old [] x d k h = absurd (omega arith)
+get-push_old (m ∷ members) x d zero h = refl
+get-push_old (m ∷ members) x d (suc k) h = get-push_old members x d k (omega arith)
+
+get-push_new : (members : List Packet) (x d : Packet) (k : ℕ) → k ≡ length members → get_or (members ++ x ∷ []) k d ≡ x
+get-push_new [] x d zero h = refl
+get-push_new [] x d (suc k) h = absurd (omega arith)
+get-push_new (m ∷ members) x d zero h = absurd (omega arith)
+get-push_new (m ∷ members) x d (suc k) h = get-push_new members x d k (omega arith)
+
+-- one more packet that is no member yet
+pub new_member : (members block : List Packet) (x : Packet) → AreMembers members block → number_of members x ≡ length members → AreMembers (members ++ x ∷ []) (block ++ x ∷ [])
+new_member members block x are none = record {
+  same_set = λ p. (
+    λ h. elim (Contains-push_cases members x p h) [
+      | inl old ↦ Contains-append_left block (x ∷ []) p ((are.same_set p).0 old)
+      | inr e ↦ subst (Contains (block ++ x ∷ [])) e (Contains-push block x)
+    ],
+    λ h. elim (Contains-push_cases block x p h) [
+      | inl old ↦ Contains-append_left members (x ∷ []) p ((are.same_set p).1 old)
+      | inr e ↦ subst (Contains (members ++ x ∷ [])) e (Contains-push members x)
+    ],
+  );
+  once = λ k d h. at_place k d h;
+}
+  where
+    found : (p : Packet) (t : Bool) → eqb (number_of members p) (length members) ≡ t → number_of (members ++ x ∷ []) p ≡ cond t (length members + cond (same p x) 0 1) (number_of members p)
+    found p t e = position_or_len_push (same p) members x ∙ ap (λ z. cond z (length members + cond (same p x) 0 1) (number_of members p)) e
+
+    old_place : (k : ℕ) (d : Packet) → k < length members → number_of (members ++ x ∷ []) (get_or (members ++ x ∷ []) k d) ≡ k
+    old_place k d inside =
+        ap (number_of (members ++ x ∷ [])) (get-push_old members x d k inside)
+        ∙ found (get_or members k d) false (apart (eqb (number_of members (get_or members k d)) (length members)) refl)
+        ∙ are.once k d inside
+      where
+        apart : (t : Bool) → eqb (number_of members (get_or members k d)) (length members) ≡ t → eqb (number_of members (get_or members k d)) (length members) ≡ false
+        apart false e = e
+        apart true e = absurd (
+            let here : number_of members (get_or members k d) ≡ length members = (Decides-eqb (number_of members (get_or members k d)) (length members)).0 e in
+            let there : number_of members (get_or members k d) ≡ k = are.once k d inside in
+            omega arith)
+
+    new_place : (k : ℕ) (d : Packet) → k ≡ length members → number_of (members ++ x ∷ []) (get_or (members ++ x ∷ []) k d) ≡ k
+    new_place k d last =
+        ap (number_of (members ++ x ∷ [])) (get-push_new members x d k last)
+        ∙ found x true ((Decides-eqb (number_of members x) (length members)).1 none)
+        ∙ ap (λ t. length members + cond t 0 1) (same-refl x)
+        ∙ (let e : length members + 0 ≡ k = omega arith in e)
+
+    at_place : (k : ℕ) (d : Packet) → k < length (members ++ x ∷ []) → number_of (members ++ x ∷ []) (get_or (members ++ x ∷ []) k d) ≡ k
+    at_place k d inside = by_case (eqb k (length members)) refl
+      where
+        by_case : (t : Bool) → eqb k (length members) ≡ t → number_of (members ++ x ∷ []) (get_or (members ++ x ∷ []) k d) ≡ k
+        by_case true e = new_place k d ((Decides-eqb k (length members)).0 e)
+        by_case false e = old_place k d (
+            let total : length (members ++ x ∷ []) ≡ length members + 1 = length-append members (x ∷ []) in
+            let other : k ≡ length members → ⊥ = λ i. true_is_not_false (sym ((Decides-eqb k (length members)).1 i) ∙ e) in
+            let bound : k < length (members ++ x ∷ []) = inside in
+            omega arith)
+
+-- blocks have the same packets exactly where their members do
+pub members_agree : (left_members right_members left right : List Packet) → AreMembers left_members left → AreMembers right_members right → SameMembers left_members right_members ↔ SameMembers left right
+members_agree left_members right_members left right mine its = (
+  λ m p. (λ h. (its.same_set p).0 ((m p).0 ((mine.same_set p).1 h)), λ h. (mine.same_set p).0 ((m p).1 ((its.same_set p).1 h))),
+  λ m p. (λ h. (its.same_set p).1 ((m p).0 ((mine.same_set p).0 h)), λ h. (mine.same_set p).1 ((m p).1 ((its.same_set p).0 h))),
+)

@@ -1,0 +1,89 @@
+-- Turns, counted by the numbers of packets.
+use Rattle.std.proofs.Common.{ℕ, ◌<◌, ◌≤◌, ◌+◌, ◌≡◌, ◌∙◌, refl, sym, ap, subst, Bool, true, false, cond, List, [], ◌∷◌, ◌++◌, length, eqb, get_or, map, arith}
+use Rattle.std.specs.Prelude.{◌||◌, ◌↔◌, fold}
+use Rattle.std.proofs.lemmas.Bool.Decides.{Decides-eqb}
+use Rattle.std.proofs.lemmas.List.{map-append}
+use Rattle.std.proofs.lemmas.List.Sums.{fold-append}
+use Rattle.dcc_packet.specs.declared.packet.Packet.{Packet}
+use Rattle.dcc_packet.specs.SamePacket.{same}
+use Rattle.dcc_packet.proofs.SameFrames.{Decides-same}
+use Rattle.dcc_order.specs.AlikeLists.{SameTurns}
+use Rattle.dcc_order.specs.declared.turns.Turns.{Turns}
+use Rattle.dcc_order.specs.Members.{number_of, EachOnce}
+use Rattle.dcc_order.specs.Turns.{turns_taken, own_turn, rival_turn, no_turns, with_turn, turns_of}
+use Rattle.dcc_order.proofs.AlikeBlocks.{true_is_not_false}
+use Rattle.dcc_order.proofs.MemberLaws.{stands_at}
+use Rattle.dcc_order.proofs.TurnLaws.{snoc, own_comes, rival_comes, other_comes, turns_told}
+
+turn_count : (own rival : ℕ) (taken : Turns) (number : ℕ) → (with_turn own rival taken number).count ≤ taken.count + 1
+turn_count own rival taken number = by_case (eqb number own) (eqb number rival) (taken.rival_last || eqb taken.count 0) taken.rival_last
+  where
+    by_case : (s t u v : Bool) → (cond s (cond u (record { count = taken.count + 1; rival_last = false }) taken) (cond t (cond v taken (record { count = taken.count + 1; rival_last = true })) taken)).count ≤ taken.count + 1
+    by_case true t true v = omega arith
+    by_case true t false v = omega arith
+    by_case false true u true = omega arith
+    by_case false true u false = omega arith
+    by_case false false u v = omega arith
+
+-- there are no more turns than numbers
+turns_within : (own rival : ℕ) (taken : Turns) (numbers : List ℕ) → (fold (with_turn own rival) taken numbers).count ≤ taken.count + length numbers
+turns_within own rival taken [] = omega arith
+turns_within own rival taken (n ∷ numbers) =
+    let rest = turns_within own rival (with_turn own rival taken n) numbers in
+    let one = turn_count own rival taken n in
+    omega arith
+
+pub turns_fit : (own rival : ℕ) (numbers : List ℕ) → (turns_of own rival numbers).count ≤ length numbers
+turns_fit own rival numbers = let all = turns_within own rival no_turns numbers in omega arith
+
+-- one more number
+pub turns_of-more : (own rival : ℕ) (numbers : List ℕ) (n : ℕ) → turns_of own rival (numbers ++ n ∷ []) ≡ with_turn own rival (turns_of own rival numbers) n
+turns_of-more own rival numbers n = fold-append (with_turn own rival) no_turns numbers (n ∷ [])
+
+module _ (members : List Packet) (once : EachOnce members) (own rival : ℕ) (d e : Packet) (own_in : own < length members) (rival_in : rival < length members) where
+  abbrev first : Packet
+  first = get_or members own d
+
+  abbrev second : Packet
+  second = get_or members rival e
+
+  -- a packet with a number is the member of that place
+  is_member : (x y : Packet) (k : ℕ) → k < length members → eqb (number_of members x) k ≡ true → x ≡ get_or members k y
+  is_member x y k inside e =
+      let here : number_of members x ≡ k = (Decides-eqb (number_of members x) k).0 e in
+      stands_at members x y (subst (λ n. n < length members) (sym here) inside) ∙ ap (λ n. get_or members n y) here
+
+  -- a packet with another number is another packet
+  is_other : (x y : Packet) (k : ℕ) → k < length members → eqb (number_of members x) k ≡ false → same (get_or members k y) x ≡ false
+  is_other x y k inside e = by_case (same (get_or members k y) x) refl
+    where
+      by_case : (t : Bool) → same (get_or members k y) x ≡ t → t ≡ false
+      by_case false i = refl
+      by_case true i = absurd (true_is_not_false (
+          sym ((Decides-eqb (number_of members x) k).1 (ap (number_of members) (sym ((Decides-same (get_or members k y) x).0 i)) ∙ once k y inside)) ∙ e))
+
+  turn_more : (first ≡ second → ⊥) → (block : List Packet) (x : Packet) → with_turn own rival (turns_taken first second block) (number_of members x) ≡ turns_taken first second (block ++ x ∷ [])
+  turn_more apart block x = by_case (eqb (number_of members x) own) (eqb (number_of members x) rival) refl refl
+    where
+      by_case : (s t : Bool) → eqb (number_of members x) own ≡ s → eqb (number_of members x) rival ≡ t →
+          cond s (own_turn (turns_taken first second block)) (cond t (rival_turn (turns_taken first second block)) (turns_taken first second block)) ≡ turns_taken first second (block ++ x ∷ [])
+      by_case true t i j = sym (own_comes first second apart block) ∙ ap (λ z. turns_taken first second (block ++ z ∷ [])) (sym (is_member x d own own_in i))
+      by_case false true i j = sym (rival_comes first second block) ∙ ap (λ z. turns_taken first second (block ++ z ∷ [])) (sym (is_member x e rival rival_in j))
+      by_case false false i j = sym (other_comes first second x (ap (λ t. t || same second x) (is_other x d own own_in i) ∙ is_other x e rival rival_in j) block)
+
+  -- turns that are counted by numbers are those of the packets
+  pub turns_counted : (first ≡ second → ⊥) → (block : List Packet) → turns_of own rival (map (number_of members) block) ≡ turns_taken first second block
+  turns_counted apart = snoc (λ block. turns_of own rival (map (number_of members) block) ≡ turns_taken first second block) refl
+      (λ block x counted.
+      ap (turns_of own rival) (map-append (number_of members) block (x ∷ []))
+      ∙ turns_of-more own rival (map (number_of members) block) (number_of members x)
+      ∙ ap (λ taken. with_turn own rival taken (number_of members x)) counted
+      ∙ turn_more apart block x)
+
+  -- members that are two packets take the same turns in two blocks exactly where the count is the same
+  pub same_turns_counted : (first ≡ second → ⊥) → (left right : List Packet) →
+      SameTurns left right first second ↔ (turns_of own rival (map (number_of members) left) ≡ turns_of own rival (map (number_of members) right))
+  same_turns_counted apart left right = (
+    λ h. turns_counted apart left ∙ (turns_told first second left right).0 h ∙ sym (turns_counted apart right),
+    λ h. (turns_told first second left right).1 (sym (turns_counted apart left) ∙ h ∙ turns_counted apart right),
+  )

@@ -1,0 +1,29 @@
+-- What lists that are alike for a decoder have in common.
+use Rattle.std.specs.Prelude.{ℕ, ◌≡◌, List, ◌++◌, ◌∷◌}
+use Rattle.std.proofs.Common.{zero, suc}
+use Rattle.dcc_packet.specs.declared.packet.Packet.{Packet}
+use Rattle.dcc_regs.specs.declared.register.Who.{Who}
+use Rattle.dcc_regs.specs.declared.register.Register.{Register}
+use Rattle.dcc_regs.specs.declared.register.Register.TheVariants.{CvBit}
+use Rattle.dcc_regs.specs.Result.{RegisterMap, result_of_heard, result}
+use Rattle.dcc_order.specs.AlikeLists.{Cut, LastBlock, Block, cut_for, AlikeFor}
+
+-- whatever the registers are at the start, the two lists leave the same in each
+abbrev pub LeaveTheSame : Who → List Packet → List Packet → Type 0
+LeaveTheSame who left right = (start : RegisterMap) (register : Register) → result who start left register ≡ result who start right register
+
+-- lists that are alike for a decoder leave the same in each of its registers: the plain ones, the CV bits and Pending
+abbrev pub AlikeListsLeaveTheSame : Type 0
+AlikeListsLeaveTheSame = (who : Who) (left right : List Packet) → AlikeFor who left right → LeaveTheSame who left right
+
+-- the packets of a cut list up to the end of block k
+abbrev pub through_block : ℕ → Cut → List Packet
+through_block k (LastBlock block) = block
+through_block zero (Block block write rest) = block
+through_block (suc k) (Block block write rest) = block ++ write ∷ through_block k rest
+
+-- lists that are alike for a decoder have left the same CV bits after each block
+abbrev pub AlikeListsAgreeAfterEachBlock : Type 0
+AlikeListsAgreeAfterEachBlock = (who : Who) (left right : List Packet) → AlikeFor who left right →
+    (k : ℕ) (start : RegisterMap) (cv place : ℕ) →
+    result_of_heard start (through_block k (cut_for who left)) (CvBit cv place) ≡ result_of_heard start (through_block k (cut_for who right)) (CvBit cv place)

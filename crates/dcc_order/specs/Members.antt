@@ -1,0 +1,19 @@
+-- The different packets of a block, and their numbers.
+use Rattle.std.specs.Prelude.{ℕ, ◌≡◌, ◌<◌, List, length, slice_index_or}
+use Rattle.std.specs.List.{position_or_len}
+use Rattle.dcc_packet.specs.declared.packet.Packet.{Packet}
+use Rattle.dcc_packet.specs.SamePacket.{same}
+use Rattle.dcc_order.specs.AlikeLists.{SameMembers}
+
+-- the number of a packet among members: its place, or their count where it is none of them
+abbrev pub number_of : List Packet → Packet → ℕ
+number_of members p = position_or_len (same p) members
+
+-- no packet stands twice: each is found at its own place
+abbrev pub EachOnce : List Packet → Type 0
+EachOnce members = (k : ℕ) (d : Packet) → k < length members → number_of members (slice_index_or members k d) ≡ k
+
+-- the packets of a block, each once
+pub record AreMembers (members block : List Packet) : Type 0 where
+  pub same_set : SameMembers members block
+  pub once : EachOnce members

@@ -1,0 +1,42 @@
+-- How two packets take turns in a block, in short: how many turns they take, and which has the last.
+use Rattle.std.specs.Prelude.{ℕ, ◌+◌, ◌||◌, ◌==◌, true, false, List, [], ◌∷◌, Option, Some, None, filter, fold, length, if◌then◌else◌}
+use Rattle.dcc_packet.specs.declared.packet.Packet.{Packet}
+use Rattle.dcc_regs.specs.Result.{is_repeated}
+use Rattle.dcc_order.specs.declared.turns.Turns.{Turns}
+use Rattle.dcc_order.specs.AlikeLists.{is_one_of, turns}
+
+-- the last packet of a list, or, where the list is empty, the one before it
+abbrev pub last_behind : Option Packet → List Packet → Option Packet
+last_behind before [] = before
+last_behind before (p ∷ later) = last_behind (Some p) later
+
+-- which of two packets has the last turn in a block
+abbrev pub last_turn : Packet → Packet → List Packet → Option Packet
+last_turn p q block = last_behind None (filter (is_one_of p q) block)
+
+-- how many turns a packet and its rival take in a block, and whether the rival has the last
+abbrev pub turns_taken : Packet → Packet → List Packet → Turns
+turns_taken p rival block = record { count = length (turns p rival block); rival_last = is_repeated (last_turn p rival block) rival }
+
+-- before any turn
+abbrev pub no_turns : Turns
+no_turns = record { count = 0; rival_last = false }
+
+-- the packet itself comes: it takes a turn unless it had the last one
+abbrev pub own_turn : Turns → Turns
+own_turn taken = if taken.rival_last || taken.count == 0 then record { count = taken.count + 1; rival_last = false } else taken
+
+-- its rival comes
+abbrev pub rival_turn : Turns → Turns
+rival_turn taken = if taken.rival_last then taken else record { count = taken.count + 1; rival_last = true }
+
+-- the packet of this number comes, where packet and rival have the first two numbers
+abbrev pub with_turn : ℕ → ℕ → Turns → ℕ → Turns
+with_turn own rival taken number =
+    if number == own then own_turn taken
+    else if number == rival then rival_turn taken
+    else taken
+
+-- the packets of these numbers come in turn
+abbrev pub turns_of : ℕ → ℕ → List ℕ → Turns
+turns_of own rival numbers = fold (with_turn own rival) no_turns numbers

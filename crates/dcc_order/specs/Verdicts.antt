@@ -1,0 +1,26 @@
+-- The first difference of two lists of packets for a decoder.
+use Rattle.std.specs.Prelude.{ℕ, ◌+◌, ◌≡◌, ◌≢◌, ◌⊎◌, List}
+use Rattle.dcc_packet.specs.declared.packet.Packet.{Packet}
+use Rattle.dcc_regs.specs.declared.register.Who.{Who}
+use Rattle.dcc_order.specs.declared.verdict.Verdict.{Verdict}
+use Rattle.dcc_order.specs.declared.verdict.Verdict.TheVariants.{Alike, Writes, Members, Order}
+use Rattle.dcc_order.specs.AlikeLists.{Cut, LastBlock, Block, cut_for, SameMembers, SameOrder}
+
+-- the verdict where the blocks of number k differ. Where they do not, it is as `further` says
+abbrev pub BlocksVerdict : ℕ → List Packet → List Packet → Verdict → Type 0 → Type 0
+BlocksVerdict k left right verdict further =
+    (¬ SameMembers left right × (verdict ≡ Members k))
+    ⊎ ((SameMembers left right × ¬ SameOrder left right × (verdict ≡ Order k))
+    ⊎ (SameMembers left right × SameOrder left right × further))
+
+-- the verdict on two cut lists whose first blocks have number k
+abbrev pub IsVerdictFrom : ℕ → Cut → Cut → Verdict → Type 0
+IsVerdictFrom k (LastBlock left) (LastBlock right) verdict = BlocksVerdict k left right verdict (verdict ≡ Alike)
+IsVerdictFrom k (Block left write lefts) (Block right other rights) verdict =
+    BlocksVerdict k left right verdict (((write ≢ other) × (verdict ≡ Writes)) ⊎ ((write ≡ other) × IsVerdictFrom (k + 1) lefts rights verdict))
+IsVerdictFrom k (LastBlock left) (Block right other rights) verdict = BlocksVerdict k left right verdict (verdict ≡ Writes)
+IsVerdictFrom k (Block left write lefts) (LastBlock right) verdict = BlocksVerdict k left right verdict (verdict ≡ Writes)
+
+-- the verdict on two lists of packets for a decoder
+abbrev pub IsVerdict : Who → List Packet → List Packet → Verdict → Type 0
+IsVerdict who left right verdict = IsVerdictFrom 0 (cut_for who left) (cut_for who right) verdict

@@ -1,0 +1,105 @@
+//! How a packet and its rivals take turns in a block.
+
+ghost use Rattle.std.specs.Prelude.{◌≡◌, ◌↔◌, ◌<◌, ◌-◌, ◌^◌, ℕ, IsTrue, IfOk, length, vec_len, slice_index_or, map};
+ghost use Rattle.dcc_order.specs.declared.turns.Turns.{Turns};
+ghost use Rattle.dcc_order.specs.Turns.{no_turns, own_turn, rival_turn, with_turn, turns_of};
+
+use std::alloc::{AllocError, Global};
+
+/// How many turns a packet and a rival take, and whether the rival has the last. That tells all: they take turns, so
+/// these two numbers say which was first too.
+#[derive(Clone, Copy, Debug)]
+pub struct Turns {
+    count: usize,
+    rival_last: bool,
+}
+
+impl Turns {
+    /// Before any turn.
+    fn none() -> Turns
+        ensures { result ≡ no_turns }
+    {
+        Turns {
+            count: 0,
+            rival_last: false,
+        }
+    }
+
+    /// The packet itself comes.
+    fn with_own(self) -> Turns
+        requires { self.count < 2 ^ 64 - 1 }
+        ensures { result ≡ own_turn self }
+    {
+        if self.rival_last || self.count == 0 {
+            Turns {
+                count: self.count + 1,
+                rival_last: false,
+            }
+        } else {
+            self
+        }
+    }
+
+    /// Its rival comes.
+    fn with_rival(self) -> Turns
+        requires { self.count < 2 ^ 64 - 1 }
+        ensures { result ≡ rival_turn self }
+    {
+        if self.rival_last {
+            self
+        } else {
+            Turns {
+                count: self.count + 1,
+                rival_last: true,
+            }
+        }
+    }
+
+    pub fn is(&self, other: &Turns) -> bool
+        ensures { IsTrue result ↔ (self.now ≡ other.now) }
+    {
+        self.count == other.count && self.rival_last == other.rival_last
+    }
+}
+
+/// How the member of one number and each member take turns, where packets come by their numbers.
+pub fn turns_with(
+    alloc: Global,
+    own: usize,
+    count: usize,
+    numbers: &[usize],
+) -> Result<Vec<Turns>, AllocError>
+    ensures each { IfOk result (λ v. (rival : ℕ) (d : Turns) → rival < count → slice_index_or v.items rival d ≡ turns_of own rival numbers.now) }
+    ensures count { IfOk result (λ v. vec_len v ≡ count) }
+{
+    let mut turns = Vec::new(alloc);
+    for rival in 0..count {
+        turns.push(Turns::none())?;
+    }
+    for number in numbers {
+        take_turn(turns.as_mut_slice(), own, *number);
+    }
+    Ok(turns)
+}
+
+/// The packet that all these are of comes.
+fn take_own_turn(turns: &mut [Turns])
+    requires { (rival : ℕ) (d : Turns) → rival < length turns.old → (slice_index_or turns.old rival d).count < 2 ^ 64 - 1 }
+    ensures { turns.new ≡ map own_turn turns.old }
+{
+    for taken in turns.iter_mut() {
+        *taken = taken.with_own();
+    }
+}
+
+/// The packet of this number comes.
+fn take_turn(turns: &mut [Turns], own: usize, number: usize)
+    requires { (rival : ℕ) (d : Turns) → rival < length turns.old → (slice_index_or turns.old rival d).count < 2 ^ 64 - 1 }
+    ensures { (rival : ℕ) (d : Turns) → rival < length turns.old → slice_index_or turns.new rival d ≡ with_turn own rival (slice_index_or turns.old rival d) number }
+{
+    if number == own {
+        take_own_turn(turns);
+    } else if number < turns.len() {
+        turns[number] = turns[number].with_rival();
+    }
+}
