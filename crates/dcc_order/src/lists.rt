@@ -22,7 +22,7 @@ pub fn heard_and_capped(
     capped(alloc, heard.as_slice())
 }
 
-// The packets of a list that a decoder hears.
+/// The packets of a list that a decoder hears.
 fn heard(alloc: Global, who: Who, packets: &[Packet]) -> Result<Vec<Packet>, AllocError>
     ensures { IfOk result (λ v. v.items ≡ registers.heard who packets.now) }
 {
@@ -35,7 +35,7 @@ fn heard(alloc: Global, who: Who, packets: &[Packet]) -> Result<Vec<Packet>, All
     Ok(heard)
 }
 
-// A list in which of more than two equal own writes in a row two are kept.
+/// A list in which of more than two equal own writes in a row two are kept.
 fn capped(alloc: Global, packets: &[Packet]) -> Result<Vec<Packet>, AllocError>
     ensures { IfOk result (λ v. v.items ≡ alike.capped packets.now) }
 {
@@ -86,7 +86,7 @@ pub fn first_block(packets: &[Packet]) -> FirstBlock<'_>
     }
 }
 
-// How many packets stand before the first own write.
+/// How many packets stand before the first own write.
 fn first_block_len(packets: &[Packet]) -> usize
     ensures place { result ≡ position_or_len is_own_write_of packets.now }
     ensures within { result ≤ length packets.now }
