@@ -22,7 +22,8 @@ use Rattle.dcc_regs.specs.Writes.{bit_set, cv_bit_set, writes_cv29, writes_mode}
 use Rattle.dcc_regs.specs.Result.{is_effective, mode_of}
 use Rattle.dcc_regs.specs.Laws.{ConflictIsMutual, IdleIsUnheard, ModeStays, NoConflictWithItself, OneAddress, PacketsAreDecided, ValuesAreDecided, WritesSetNoPlain}
 use Rattle.dcc_regs.proofs.Stepping.{step-keeps}
-use Rattle.dcc_regs.proofs.Values.{same_value, Decides-same_value, sets-own_write}
+use Rattle.dcc_regs.proofs.SameValues.{same_value, Decides-same_value}
+use Rattle.dcc_regs.proofs.OwnWrites.{sets-own_write}
 
 pub idle_is_unheard : IdleIsUnheard
 idle_is_unheard (LocoWho active) = refl

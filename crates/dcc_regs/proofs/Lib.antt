@@ -10,7 +10,6 @@ pub mod DifferLemmas
 pub mod ByKind
 pub mod MeetLemmas
 pub mod ConflictLemmas
-pub mod Values
 pub mod LawLemmas
 pub mod CvLemmas
 pub mod WholeMap

@@ -1,7 +1,6 @@
 -- The registers after a list, packet by packet: the pending write, the CV bits and the plain registers, each by itself.
-use Rattle.std.proofs.Common.{◌≡◌, ◌∙◌, refl, sym, ap, Bool, true, false, cond, List, [], ◌∷◌, ◌++◌, Option, Some, None, ℕ}
+use Rattle.std.proofs.Common.{◌≡◌, ◌∙◌, refl, ap, Bool, true, false, cond, List, [], ◌∷◌, ◌++◌, Option, Some, None}
 use Rattle.std.specs.Prelude.{◌&&◌, option_map}
-use mathlib.Core.Path.{fun_ext}
 use Rattle.dcc_packet.specs.declared.packet.Packet.{Packet}
 use Rattle.dcc_regs.specs.declared.register.Register.{Register}
 use Rattle.dcc_regs.specs.declared.register.Register.TheVariants.{Speed as SpeedRegister, Direction, Function, CvBit, Pending as PendingRegister, Out, Position, Aspect}
@@ -10,7 +9,7 @@ use Rattle.dcc_regs.specs.declared.register.Value.TheVariants.{Flag, Pending as 
 use Rattle.dcc_regs.specs.declared.register.Who.TheVariants.{Loco}
 use Rattle.dcc_regs.specs.Sets.{sets}
 use Rattle.dcc_regs.specs.Writes.{is_own_write, bit_set}
-use Rattle.dcc_regs.specs.Result.{RegisterMap, is_pending, left_pending, effective_set, result_of_heard}
+use Rattle.dcc_regs.specs.Result.{RegisterMap, is_pending, left_pending, result_of_heard}
 use Rattle.dcc_regs.specs.Setting.{mode_in, overwritten}
 use Rattle.dcc_regs.proofs.InParts.{result_of_heard-append, result-nothing}
 use Rattle.dcc_regs.proofs.Stepping.{heard-sets, overwritten-none}
