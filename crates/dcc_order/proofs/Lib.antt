@@ -1,6 +1,8 @@
 pub mod Stepped
 pub mod SpelledLemmas
 pub mod HearingLemmas
+pub mod PieceLemmas
+pub mod WholeTheorem
 pub mod Clash
 pub mod AlikeBlocks
 pub mod AlikeCuts

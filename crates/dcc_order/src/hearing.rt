@@ -48,3 +48,16 @@ pub fn hear(decoders: &mut [Box<dyn Decoder>], framer: &mut Framer, us: u16) -> 
     hear_seen(decoders, &seen);
     seen
 }
+
+/// A fleet hears a piece of a track, half by half. So the track may come in pieces of any length: members that have heard
+/// the halves before it have then heard these behind them.
+pub fn hear_piece(decoders: &mut [Box<dyn Decoder>], framer: &mut Framer, durations: &[u16])
+    ensures stands { (halves : List ℕ) → StandsFor framer.old halves → StandsFor framer.new (halves ++ durations.now) }
+    ensures since { (halves : List ℕ) → StandsFor framer.old halves → (starts : List (Who × RegisterMap)) →
+        AllZip (λ start now. HasHeardHalves halves start.0 start.1 (who now) (registers now)) starts decoders.old →
+        AllZip (λ start now. HasHeardHalves (halves ++ durations.now) start.0 start.1 (who now) (registers now)) starts decoders.new }
+{
+    for us in durations {
+        hear(decoders, framer, *us);
+    }
+}

@@ -113,3 +113,31 @@ fn refused_halves_change_nothing(rt: HostRuntime) -> Result<(), Fail> {
     );
     Ok(())
 }
+
+#[test]
+fn a_track_may_come_in_pieces(rt: HostRuntime) -> Result<(), Fail> {
+    let alloc = rt.alloc();
+    let frame = Frame::of(&[0x03, 0x62, 0x61])?;
+    let mut durations = [0; 84];
+    let mut place = 0;
+    for us in Halves::new(frame, Timing::main()) {
+        if place < 84 {
+            durations[place] = us;
+        }
+        place += 1;
+    }
+    assert_eq!(rt; place, 84);
+    for cut in [0, 1, 29, 50, 83, 84] {
+        let mut framer = Framer::new();
+        let mut fleet: [Box<dyn Decoder>; 1] = [Box::new(alloc, s3())?];
+        let (first, second) = durations.split_at(cut);
+        hear_piece(&mut fleet, &mut framer, first);
+        hear_piece(&mut fleet, &mut framer, second);
+        assert_eq!(rt;
+            fleet[0].get(Register::Speed),
+            Some(Value::Speed(Speed::Step28(1))),
+            "{cut}"
+        );
+    }
+    Ok(())
+}

@@ -1,7 +1,13 @@
 //! Laws of the definitions.
 
-ghost use Rattle.dcc_order.specs.HearingLaws.{NoHalvesHeard, OneListOfPackets};
+ghost use Rattle.std.specs.Prelude.{◌≡◌, ℕ, List};
+ghost use Rattle.dcc_regs.specs.Result.{RegisterMap};
+ghost use Rattle.dcc_regs.specs.declared.register.Who.{Who};
+ghost use Rattle.dcc_order.specs.Hearing.{HasHeardHalves};
+ghost use Rattle.dcc_order.specs.HearingLaws.{AlikeHalves, AlikeHalvesLeaveTheSame, NoHalvesHeard, OneListOfPackets};
 ghost use Rattle.dcc_order.specs.Laws.{AlikeListsAgreeAfterEachBlock, AlikeListsLeaveTheSame};
+
+use dcc_regs::Decoder;
 
 /// A list of halves holds one list of packets.
 pub fn one_list_of_packets()
@@ -22,4 +28,19 @@ pub fn alike_lists_agree_after_each_block()
 /// Lists that are alike for a decoder leave the same in each of its registers, whatever these held at the start.
 pub fn alike_lists_leave_the_same()
     ensures { AlikeListsLeaveTheSame }
+{}
+
+/// Decoders that are equal at the start and hear halves whose packets are alike for them hold the same in each register.
+pub fn alike_halves_leave_the_same()
+    ensures { AlikeHalvesLeaveTheSame }
+{}
+
+/// However two streams of halves are cut: two decoders of any types that started as one and the same, and have heard,
+/// each through a new framer and in any pieces, halves whose packets are alike for them, hold the same in each
+/// register. That they have heard their halves is what `hear` promises of each member of a fleet.
+pub fn decoders_that_heard_alike_halves_are_equal(left: &dyn Decoder, right: &dyn Decoder)
+    ensures { (own : Who) (start : RegisterMap) (halves others : List ℕ) → AlikeHalves own halves others →
+        HasHeardHalves halves own start (who left.now) (registers left.now) →
+        HasHeardHalves others own start (who right.now) (registers right.now) →
+        registers left.now ≡ registers right.now }
 {}

@@ -15,7 +15,7 @@ mod turns;
 mod verdict;
 
 pub use comparing::compare;
-pub use hearing::hear;
+pub use hearing::{hear, hear_piece};
 pub use no_memory::NoMemory;
 pub use verdict::Verdict;
 
