@@ -19,7 +19,7 @@ use Rattle.dcc_tool.specs.PacketRead.{AnswersPacket}
 use Rattle.dcc_tool.specs.Encoded.{frame_line, encoding, Encodes, EncodesText}
 use Rattle.dcc_tool.proofs.WrittenLemmas.{Appends-none, front_behind, Appends-append}
 use Rattle.dcc_tool.proofs.HeldLemmas.{AppendsFront-more}
-use Rattle.dcc_tool.proofs.ItemsLemmas.{Gave-none, Gave-append, up_to_fault, reads_up_to}
+use Rattle.dcc_tool.proofs.ItemsLemmas.{Gave-none, Gave-append, up_to_fault, reads_up_to, uses_all_lines}
 
 -- so far these frames were read and written
 pub record Encoding (how : Encode) (start now : InputState) (before after : Option (List ℕ)) (writes count : ℕ) : Type 0 where
@@ -80,6 +80,7 @@ encodes_all how start now new before after writes count so_far answer =
     let last = answer.0 in (
       (up_to_fault packet_lines start now so_far.frames None (Encodes how before after) so_far.gave answer.2 so_far.written, last.failures ∙ so_far.gave.failures),
       answer.1,
+      uses_all_lines packet_lines start new (so_far.frames ++ []) (Gave-append packet_lines start now new so_far.frames [] so_far.gave last) answer.1,
       last.fault,
       so_far.failures,
     )
