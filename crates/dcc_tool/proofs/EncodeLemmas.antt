@@ -1,5 +1,5 @@
 -- How an encoding grows.
-use Rattle.std.proofs.Common.{◌≡◌, ℕ, List, [], ◌∷◌, ◌++◌, Option, None, Some, Ok, Err, refl, sym, ap, ◌∙◌, subst, append_assoc, IfSome, IsSomeAnd}
+use Rattle.std.proofs.Common.{◌≡◌, ℕ, List, [], ◌∷◌, ◌++◌, Option, None, Some, Ok, Err, refl, sym, ap, ◌∙◌, subst, IfSome, IsSomeAnd}
 use Rattle.std.proofs.lemmas.List.{append-nil}
 use Rattle.std.proofs.lemmas.List.Concat.{flat_map-append}
 use Rattle.std.specs.Io.KnownBytes.{Appends}
@@ -17,9 +17,9 @@ use Rattle.dcc_tool.specs.Items.{Items, Gives, Gave}
 use Rattle.dcc_tool.specs.PacketLines.{packet_lines, frames_in}
 use Rattle.dcc_tool.specs.PacketRead.{AnswersPacket}
 use Rattle.dcc_tool.specs.Encoded.{frame_line, encoding, Encodes, EncodesText}
-use Rattle.dcc_tool.proofs.WrittenLemmas.{Appends-none, Appends-append}
+use Rattle.dcc_tool.proofs.WrittenLemmas.{Appends-none, front_behind, Appends-append}
 use Rattle.dcc_tool.proofs.HeldLemmas.{AppendsFront-more}
-use Rattle.dcc_tool.proofs.ItemsLemmas.{Gave-none, Gave-append, up_to_fault, reads_up_to}
+use Rattle.dcc_tool.proofs.ItemsLemmas.{Gave-none, Gave-append, up_to_fault, reads_up_to, uses_all_lines}
 
 -- so far these frames were read and written
 pub record Encoding (how : Encode) (start now : InputState) (before after : Option (List ℕ)) (writes count : ℕ) : Type 0 where
@@ -63,15 +63,6 @@ front_of_all how start now frames before after gave wrote = go start.text now.te
         ap (λ (items : Items (List ℕ)). encoding how items.said) gives.in_whole ∙ encoding-append how frames later in
         subst (λ (bytes : List ℕ). AppendsFront before after bytes) (sym lines) (AppendsFront-more before after (encoding how frames) (encoding how later) wrote)
 
--- what was written, and a front of what comes
-front_behind : (before mid after : Option (List ℕ)) (bytes more : List ℕ) → Appends before mid bytes → AppendsFront mid after more → AppendsFront before after (bytes ++ more)
-front_behind before mid after bytes more first second = record {
-  front = bytes ++ second.front;
-  rest = second.rest;
-  whole = ap (λ (xs : List ℕ). bytes ++ xs) second.whole ∙ sym (append_assoc bytes second.front second.rest);
-  written = Appends-append before mid after bytes second.front first second.written;
-}
-
 -- a write failed
 pub stops_at_write : (how : Encode) (start now new : InputState) (before after then : Option (List ℕ)) (writes count later : ℕ) (packet : Packet)
     → Encoding how start now before after writes count → AnswersPacket now (Ok (Some packet)) new → AppendsFront after then (frame_line how (spelling packet)) → HasRisen count later
@@ -89,6 +80,7 @@ encodes_all how start now new before after writes count so_far answer =
     let last = answer.0 in (
       (up_to_fault packet_lines start now so_far.frames None (Encodes how before after) so_far.gave answer.2 so_far.written, last.failures ∙ so_far.gave.failures),
       answer.1,
+      uses_all_lines packet_lines start new (so_far.frames ++ []) (Gave-append packet_lines start now new so_far.frames [] so_far.gave last) answer.1,
       last.fault,
       so_far.failures,
     )

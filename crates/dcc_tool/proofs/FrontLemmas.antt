@@ -9,7 +9,7 @@ use Rattle.std.specs.List.{list_all}
 use Rattle.std.specs.Char.{is_ascii_digit}
 use Rattle.std.specs.Str.Parse.{digits_value}
 use Rattle.dcc_tool.specs.declared.word.FrontWord.{FrontWord}
-use Rattle.dcc_tool.specs.Place.{Place, line_behind}
+use Rattle.dcc_tool.specs.Place.{Place, line_behind, lines_with, lines_through}
 use Rattle.dcc_tool.specs.Words.{Word, is_gap, comments, ended_words, duration_of, Passes}
 use Rattle.dcc_tool.specs.Front.{IsFrontWord}
 use Rattle.dcc_tool.specs.declared.fault.KeptFault.{KeptFault}
@@ -100,6 +100,24 @@ passes_front line gap word digits some is = λ more.
     or_gap true is = refl
     or_gap false is = is
 
+-- digits and a gap stand on one line
+lines_of_front : (lines line gap : ℕ) (word rest : List ℕ) → list_all is_ascii_digit word ≡ true
+    → lines_through lines line ((word ++ gap ∷ []) ++ (rest ++ 10 ∷ [])) ≡ lines_through line (line_behind line gap) (rest ++ 10 ∷ [])
+lines_of_front lines line gap [] rest digits = ap (λ n. lines_through n (line_behind line gap) (rest ++ 10 ∷ [])) (some rest)
+  where
+    some : (rest : List ℕ) → lines_with lines line (rest ++ 10 ∷ []) ≡ line
+    some [] = refl
+    some (byte ∷ rest) = refl
+lines_of_front lines line gap (byte ∷ word) rest digits =
+    let parts = both (is_ascii_digit byte) (list_all is_ascii_digit word) digits in
+    let plain = plain_digit byte parts.0 in
+    ap (λ n. lines_through n (line_behind line byte) ((word ++ gap ∷ []) ++ (rest ++ 10 ∷ []))) (some word)
+    ∙ rw plain.no_line (lines_of_front line line gap word rest parts.1)
+  where
+    some : (word : List ℕ) → lines_with lines line ((word ++ gap ∷ []) ++ (rest ++ 10 ∷ [])) ≡ line
+    some [] = refl
+    some (first ∷ word) = refl
+
 -- what a word that spells a duration is made of
 record IsDuration (word : List ℕ) : Type 0 where
   some : 0 < length word
@@ -118,10 +136,10 @@ duration_parts word us spells = go (nat_lt 0 (length word)) refl (nat_le (length
 -- a half was taken from the word at the front
 pub takes_front : (old new : InputState) (whole rest : Option (List ℕ)) (ahead : List ℕ) (front : FrontWord)
     → old.text ≡ closed_text false whole → new.text ≡ closed_text false rest → Consumes whole rest (take (front.len + 1) ahead)
-    → IsFrontWord ahead front → old.place.in_comment ≡ false → new.place ≡ outside (line_behind old.place.line (get_or ahead front.len 0))
+    → IsFrontWord ahead front → old.place.in_comment ≡ false → new.place ≡ outside (line_behind old.place.line (get_or ahead front.len 0)) → new.lines ≡ old.place.line
     → new.bytes + (front.len + 1) ≡ old.bytes → 0 < new.bytes → 0 < old.halves → new.halves ≡ old.halves - 1 → new.fault ≡ None → new.failures ≡ old.failures
     → AnswersHalf old (Ok (Some front.us)) new
-takes_front old new whole rest ahead front old_text new_text consumed is_front no_comment place bytes some_bytes some halves fault failures =
+takes_front old new whole rest ahead front old_text new_text consumed is_front no_comment place lines bytes some_bytes some halves fault failures =
     let parts = duration_parts (take front.len ahead) front.us is_front.spells in
     let used : take (front.len + 1) ahead ≡ take front.len ahead ++ get_or ahead front.len 0 ∷ [] = take_more ahead front.len 0 is_front.inside in
     let count : length (take front.len ahead) ≡ front.len = let inside = is_front.inside in simp length-take (omega arith) in (
@@ -135,12 +153,12 @@ takes_front old new whole rest ahead front old_text new_text consumed is_front n
             fault = fault;
             failures = failures;
           }
-          is_front.spells some (ap (λ (n : ℕ). record { text = new.text; ahead = new.ahead; place = new.place; halves = n; bytes = new.bytes; fault = new.fault; failures = new.failures }) halves),
+          is_front.spells some (ap (λ (n : ℕ). record { text = new.text; ahead = new.ahead; place = new.place; lines = new.lines; halves = n; bytes = new.bytes; fault = new.fault; failures = new.failures }) halves),
       omega (arith, bytes),
     )
   where
     mid : InputState
-    mid = record { text = new.text; ahead = new.ahead; place = new.place; halves = old.halves; bytes = new.bytes; fault = new.fault; failures = new.failures }
+    mid = record { text = new.text; ahead = new.ahead; place = new.place; lines = new.lines; halves = old.halves; bytes = new.bytes; fault = new.fault; failures = new.failures }
 
     words : List Word
     words = record { line = old.place.line; bytes = take front.len ahead } ∷ []
@@ -159,31 +177,37 @@ takes_front old new whole rest ahead front old_text new_text consumed is_front n
           ∙ ap (λ (at : Place). words ++ ended_words at more) (sym place);
       bytes = simp length-append (omega (arith, bytes, count));
       room = λ one none. absurd (omega arith);
+      lines = ap (λ n. lines_through n new.place.line (ys ++ 10 ∷ [])) lines
+          ∙ ap (λ (at : Place). lines_through old.place.line at.line (ys ++ 10 ∷ [])) place
+          ∙ sym (lines_of_front old.lines old.place.line (get_or ahead front.len 0) (take front.len ahead) ys parts.digits)
+          ∙ ap (λ (zs : List ℕ). lines_through old.lines old.place.line zs)
+          (sym (append_assoc (take front.len ahead ++ get_or ahead front.len 0 ∷ []) ys (10 ∷ [])) ∙ ap (λ (zs : List ℕ). zs ++ 10 ∷ []) (sym (taken ∙ ap (λ (zs : List ℕ). zs ++ ys) used)));
     }
 
 -- what an input with these fields is
-abbrev state_of : Told → ℕ → Bool → Bool → ℕ → ℕ → Option KeptFault → InputState
-state_of source line in_comment closed halves bytes fault = record {
+abbrev state_of : Told → ℕ → ℕ → Bool → Bool → ℕ → ℕ → Option KeptFault → InputState
+state_of source line lines in_comment closed halves bytes fault = record {
   text = closed_text closed source.text;
   ahead = source.ahead;
   place = record { line = line; in_comment = in_comment };
+  lines = lines;
   halves = halves;
   bytes = bytes + closing closed;
   fault = fault;
   failures = source.failures;
 }
 
-pub takes_front_at : (source later : Told) (line next halves bytes : ℕ) (in_comment closed : Bool) (fault : Option KeptFault) (front : FrontWord)
+pub takes_front_at : (source later : Told) (line next lines halves bytes : ℕ) (in_comment closed : Bool) (fault : Option KeptFault) (front : FrontWord)
     → closed ≡ false → in_comment ≡ false → halves ≢ 0 → front.len < bytes → IsFrontWord source.ahead front
     → Consumes source.text later.text (take (front.len + 1) source.ahead) → later.failures ≡ source.failures → fault ≡ None
     → next ≡ line_behind line (get_or source.ahead front.len 0)
-    → AnswersHalf (state_of source line in_comment closed halves bytes fault) (Ok (Some front.us))
-    (state_of later next in_comment closed (halves - 1) (bytes - (front.len + 1)) fault)
-takes_front_at source later line next halves bytes in_comment closed fault front is_open no_comment some fits is_front consumed failures none behind_gap =
-    takes_front (state_of source line in_comment closed halves bytes fault) (state_of later next in_comment closed (halves - 1) (bytes - (front.len + 1)) fault)
+    → AnswersHalf (state_of source line lines in_comment closed halves bytes fault) (Ok (Some front.us))
+    (state_of later next line in_comment closed (halves - 1) (bytes - (front.len + 1)) fault)
+takes_front_at source later line next lines halves bytes in_comment closed fault front is_open no_comment some fits is_front consumed failures none behind_gap =
+    takes_front (state_of source line lines in_comment closed halves bytes fault) (state_of later next line in_comment closed (halves - 1) (bytes - (front.len + 1)) fault)
     source.text later.text source.ahead front
     (ap (λ (b : Bool). closed_text b source.text) is_open) (ap (λ (b : Bool). closed_text b later.text) is_open) consumed is_front no_comment
-    (rw (no_comment, behind_gap) refl) (omega arith) (rw is_open (omega arith)) (omega arith) refl none failures
+    (rw (no_comment, behind_gap) refl) refl (omega arith) (rw is_open (omega arith)) (omega arith) refl none failures
 
 pub line_of_gap : (line gap : ℕ) (ends_line : Bool) → ends_line ≡ eqb gap 10 → ends_line ≡ true → line + 1 ≡ line_behind line gap
 line_of_gap line gap ends_line is ends = rw (sym is ∙ ends) refl

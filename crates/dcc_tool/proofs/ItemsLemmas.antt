@@ -4,7 +4,8 @@ use Rattle.std.proofs.lemmas.List.{append-nil}
 use Rattle.dcc_tool.specs.declared.fault.KeptFault.{KeptFault}
 use Rattle.dcc_tool.specs.declared.fault.KeptFault.TheVariants.{Number, Line, Read, TooMuch}
 use Rattle.dcc_tool.specs.Failures.{one_more, HasRisen}
-use Rattle.dcc_tool.specs.InputState.{InputState}
+use Rattle.dcc_tool.specs.Told.{IsAtEnd}
+use Rattle.dcc_tool.specs.InputState.{InputState, all_lines, UsesAllLines}
 use Rattle.dcc_tool.specs.Items.{Items, Reading, preceded, only_fault, Gives, Gave, StopsAt, EndsWith, ReadsUpTo}
 use Rattle.dcc_tool.proofs.WrittenLemmas.{HasRisen-one_more}
 
@@ -14,7 +15,7 @@ module _ {A : Type 0} (reading : Reading A) where
     where
       go : (text : Option (List ℕ)) → IfSome text (λ whole. IsSomeAnd text (λ rest. Gives reading input [] input whole rest))
       go None = tt
-      go (Some text) = record { used = []; whole = refl; in_whole = refl; in_part = λ more. refl }
+      go (Some text) = record { used = []; whole = refl; in_whole = refl; in_part = λ more. refl; lines = refl }
 
   joined : (first second : List A) (items : Items A) → preceded first (preceded second items) ≡ preceded (first ++ second) items
   joined first second items = ap (λ (said : List A). record { said = said; fault = items.fault }) (sym (append_assoc first second items.said))
@@ -37,6 +38,7 @@ module _ {A : Type 0} (reading : Reading A) where
         whole = p.whole ∙ ap (λ (rest : List ℕ). p.used ++ rest) q.whole ∙ sym (append_assoc p.used q.used z);
         in_whole = p.in_whole ∙ ap (preceded first) q.in_whole ∙ joined first second (reading.in_text new z);
         in_part = λ more. ap (reading.before_failure old) (append_assoc p.used q.used more) ∙ p.in_part (q.used ++ more) ∙ ap (preceded first) (q.in_part more) ∙ joined first second (reading.before_failure new more);
+        lines = q.lines ∙ p.lines;
       }
 
   -- items, and then no more before this fault
@@ -120,3 +122,13 @@ module _ {A : Type 0} (reading : Reading A) where
         gives.whole ∙ ap (λ (bytes : List ℕ). gives.used ++ bytes) fails.1 ∙ sym (append_assoc gives.used fails.0 left),
         gives.in_part fails.0 ∙ ap (preceded []) fails.2,
       )
+
+  -- where nothing is left, each line is used
+  pub uses_all_lines : (start now : InputState) (said : List A) → Gave reading start said now → IsAtEnd now.text → UsesAllLines start now
+  uses_all_lines start now said gave at_end = go start.text now.text gave.text at_end
+    where
+      go : (whole rest : Option (List ℕ)) → IfSome whole (λ text. IsSomeAnd rest (λ more. Gives reading start said now text more)) → IsAtEnd rest
+          → IfSome whole (λ text. now.lines ≡ all_lines start text)
+      go None rest gives end = tt
+      go (Some text) None gives end = absurd gives
+      go (Some text) (Some rest) gives end = ap (λ (xs : List ℕ). all_lines now xs) (sym end) ∙ gives.lines

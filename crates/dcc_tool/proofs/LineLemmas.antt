@@ -11,12 +11,12 @@ use Rattle.std.specs.Prelude.{nat_le, nat_lt}
 use Rattle.dcc_packet.specs.declared.fault.PacketFault.TheVariants as faults
 use Rattle.dcc_tool.specs.declared.fault.KeptFault.{KeptFault}
 use Rattle.dcc_tool.specs.declared.fault.KeptFault.TheVariants.{Number, Line, Read, TooMuch}
-use Rattle.dcc_tool.specs.Place.{Place}
+use Rattle.dcc_tool.specs.Place.{Place, lines_with}
 use Rattle.dcc_tool.specs.Failures.{one_more}
 use Rattle.dcc_tool.specs.Told.{BeginsWith, IsAtEnd}
 use Rattle.dcc_tool.specs.InputState.{InputState, TakesByte, FailsToRead, HasMoreBytes, AnswersByte}
 use Rattle.dcc_tool.specs.Lines.{is_good}
-use Rattle.dcc_tool.specs.LineRead.{has_line_feed, IsOneLine, EndsLine, EndsText, IsBadAt, MeetsBadLine, FailsWithin, FailsInLine, OverflowsInLine, AnswersLine}
+use Rattle.dcc_tool.specs.LineRead.{has_line_feed, lines_within, IsOneLine, EndsLine, EndsText, IsBadAt, MeetsBadLine, FailsWithin, FailsInLine, OverflowsInLine, AnswersLine}
 use Rattle.dcc_tool.proofs.PassedLemmas.{map_taken, map_kept, count_used}
 
 pub and_true : (a b : Bool) → (a && b) ≡ true → (a ≡ true) × (b ≡ true)
@@ -83,6 +83,7 @@ pub record OpensLine (old : InputState) (line : List ℕ) (now : InputState) : T
   pub is_line : IsOneLine line
   pub text : IfSome old.text (λ text. IsSomeAnd now.text (λ rest. (text ≡ line ++ rest) × (rest ≡ [] → line ≡ [])))
   pub place : now.place ≡ old.place
+  pub lines : IfSome old.text (λ text. IsSomeAnd now.text (λ rest. now.lines ≡ lines_within old.lines old.place.line line))
   pub halves : now.halves ≡ old.halves
   pub bytes : now.bytes + length line ≡ old.bytes
   pub room : 0 < length line → now.bytes ≡ 0 → IsAtEnd now.text
@@ -96,6 +97,19 @@ starts_text : (text : Option (List ℕ)) → IfSome text (λ whole. IsSomeAnd te
 starts_text None = tt
 starts_text (Some text) = (refl, λ none. refl)
 
+starts_lines : (input : InputState) (text : Option (List ℕ)) → IfSome text (λ whole. IsSomeAnd text (λ rest. input.lines ≡ lines_within input.lines input.place.line no_bytes))
+starts_lines input None = tt
+starts_lines input (Some text) = refl
+
+within-more : (lines line byte : ℕ) (front : List ℕ) → lines_within lines line (front ++ byte ∷ []) ≡ line
+within-more lines line byte [] = refl
+within-more lines line byte (first ∷ front) = refl
+
+-- two facts of the rest
+if_some_both : (R S : List ℕ → Type 0) (text : Option (List ℕ)) → IfSome text R → IfSome text S → IfSome text (λ rest. R rest × S rest)
+if_some_both R S None first second = tt
+if_some_both R S (Some rest) first second = (first, second)
+
 same_place : (old new : Place) → new.line ≡ old.line → new.in_comment ≡ old.in_comment → new ≡ old
 same_place old new line comment = ap (λ (n : ℕ). record { line = n; in_comment = new.in_comment }) line ∙ ap (λ (b : Bool). record { line = old.line; in_comment = b }) comment
 
@@ -104,6 +118,7 @@ OpensLine-start input fault = record {
   is_line = record { good = refl; one = refl };
   text = starts_text input.text;
   place = refl;
+  lines = starts_lines input input.text;
   halves = refl;
   bytes = omega arith;
   room = λ some. absurd (omega arith);
@@ -123,6 +138,10 @@ OpensLine-byte old now new line byte opens takes no_end fits =
           (λ text more before last. (before.0 ∙ sym (append_assoc line (byte ∷ []) more), λ none. absurd (not_end (last none))))
           opens.text takes.text takes.last;
       place = same_place now.place new.place (takes.line ∙ rw no_end refl) takes.in_comment ∙ opens.place;
+      lines = map_taken (λ text rest. now.lines ≡ lines_within old.lines old.place.line line) (λ text rest. new.lines ≡ lines_within old.lines old.place.line (line ++ byte ∷ []))
+          (λ rest. (rest ≡ [] → byte ≡ 10) × (new.lines ≡ lines_with now.lines now.place.line rest)) old.text now.text new.text byte
+          (λ text more before known. on_line more known) opens.lines takes.text
+          (if_some_both (λ rest. rest ≡ [] → byte ≡ 10) (λ rest. new.lines ≡ lines_with now.lines now.place.line rest) new.text takes.last takes.lines);
       halves = takes.halves ∙ opens.halves;
       bytes = simp length-append (omega (arith, opens.bytes, takes.bytes));
       room = λ some. takes.room;
@@ -140,6 +159,10 @@ OpensLine-byte old now new line byte opens takes no_end fits =
     not_end : byte ≡ 10 → ⊥
     not_end is_end = let clash : true ≡ false = sym (rw is_end refl) ∙ no_end in cc
 
+    on_line : (more : List ℕ) → (more ≡ [] → byte ≡ 10) × (new.lines ≡ lines_with now.lines now.place.line more) → new.lines ≡ lines_within old.lines old.place.line (line ++ byte ∷ [])
+    on_line [] known = absurd (not_end (known.0 refl))
+    on_line (next ∷ more) known = known.1 ∙ ap (λ (place : Place). place.line) opens.place ∙ sym (within-more old.lines old.place.line byte line)
+
 -- its line feed was taken
 pub OpensLine-ends : (old now new : InputState) (line : List ℕ) (byte n : ℕ) → OpensLine old line now → TakesByte now byte new → byte ≡ 10 → n ≡ old.place.line → EndsLine old n line new
 OpensLine-ends old now new line byte n opens takes is_end is_number = record {
@@ -148,6 +171,10 @@ OpensLine-ends old now new line byte n opens takes is_end is_number = record {
   text = map_taken (λ text rest. (text ≡ line ++ rest) × (rest ≡ [] → line ≡ [])) (λ text rest. text ≡ line ++ 10 ∷ rest) (λ rest. rest ≡ [] → byte ≡ 10)
       old.text now.text new.text byte (λ text more before last. before.0 ∙ ap (λ (end : ℕ). line ++ end ∷ more) is_end) opens.text takes.text takes.last;
   next = same_place (record { line = now.place.line + 1; in_comment = now.place.in_comment }) new.place (takes.line ∙ rw is_end refl) takes.in_comment ∙ rw opens.place refl;
+  lines = map_taken (λ text rest. now.lines ≡ lines_within old.lines old.place.line line) (λ text rest. new.lines ≡ lines_with (lines_within old.lines old.place.line line) old.place.line rest)
+      (λ rest. new.lines ≡ lines_with now.lines now.place.line rest) old.text now.text new.text byte
+      (λ text more before known. known ∙ ap (λ n. lines_with n now.place.line more) before
+      ∙ ap (λ (place : Place). lines_with (lines_within old.lines old.place.line line) place.line more) opens.place) opens.lines takes.text takes.lines;
   halves = takes.halves ∙ opens.halves;
   bytes = omega (arith, opens.bytes, takes.bytes);
   room = takes.room;
@@ -162,6 +189,7 @@ OpensLine-none old now line opens at_end = record {
   at_end = at_end;
   bytes = omega (arith, opens.bytes);
   place = opens.place;
+  lines = kept old.text now.text opens.text opens.lines at_end;
   halves = opens.halves;
   fault = opens.fault;
   failures = opens.failures;
@@ -172,6 +200,13 @@ OpensLine-none old now line opens at_end = record {
     go None rest before end = tt
     go (Some text) None before end = absurd before
     go (Some text) (Some more) before end = (before.0 ∙ rw (before.1 end, end) refl, end)
+
+    kept : (whole rest : Option (List ℕ)) → IfSome whole (λ text. IsSomeAnd rest (λ more. (text ≡ line ++ more) × (more ≡ [] → line ≡ [])))
+        → IfSome whole (λ text. IsSomeAnd rest (λ more. now.lines ≡ lines_within old.lines old.place.line line)) → IsAtEnd rest
+        → IfSome whole (λ text. IsSomeAnd rest (λ more. now.lines ≡ old.lines))
+    kept None rest before lines end = tt
+    kept (Some text) None before lines end = absurd before
+    kept (Some text) (Some more) before lines end = lines ∙ ap (λ (xs : List ℕ). lines_within old.lines old.place.line xs) (before.1 end)
 
 -- a byte that makes the line bad was taken
 pub OpensLine-bad : (old now mid new : InputState) (line : List ℕ) (byte number : ℕ) → OpensLine old line now → TakesByte now byte mid → eqb byte 10 ≡ false

@@ -7,11 +7,11 @@ use Rattle.dcc_packet.specs.Words.{words}
 use Rattle.dcc_packet.specs.Line.{said}
 use Rattle.dcc_tool.specs.declared.fault.KeptFault.{KeptFault}
 use Rattle.dcc_tool.specs.declared.fault.KeptFault.TheVariants.{Line, Read, TooMuch}
-use Rattle.dcc_tool.specs.Place.{Place}
+use Rattle.dcc_tool.specs.Place.{Place, line_behind, lines_with, lines_through}
 use Rattle.dcc_tool.specs.Told.{IsAtEnd}
-use Rattle.dcc_tool.specs.InputState.{InputState}
+use Rattle.dcc_tool.specs.InputState.{InputState, all_lines}
 use Rattle.dcc_tool.specs.Lines.{NumberedLine, lines_from, onto_first_line, is_good}
-use Rattle.dcc_tool.specs.LineRead.{has_line_feed, IsOneLine, EndsLine, EndsText, IsBadAt, MeetsBadLine, FailsWithin, FailsInLine, OverflowsInLine}
+use Rattle.dcc_tool.specs.LineRead.{has_line_feed, lines_within, IsOneLine, EndsLine, EndsText, IsBadAt, MeetsBadLine, FailsWithin, FailsInLine, OverflowsInLine}
 use Rattle.dcc_tool.specs.Items.{Items, preceded, only_fault, Gives, Gave, StopsAt}
 use Rattle.dcc_tool.specs.PacketLines.{is_skipped, behind_line, frames_of, frames_in, frames_before_failure, packet_lines}
 use Rattle.dcc_tool.proofs.CaptureLemmas.{count_more, above_limit, not_within, zero_fits, same_test}
@@ -116,27 +116,54 @@ behind_ended old new number line text rest ends whole room = record { in_whole =
         let count = count_more old.bytes new.bytes (length used) rest total (above_limit (length rest) new.bytes within) (λ some. room) in
         rw (test, within, count, split, take-append-add used rest (new.bytes - 1)) (step (take (new.bytes - 1) rest) (Some TooMuch))
 
+-- a line and its line feed leave the number of all lines
+lines_of_line : (lines number : ℕ) (line rest : List ℕ) → has_line_feed line ≡ false
+    → lines_through lines number (line ++ 10 ∷ rest) ≡ lines_through (lines_with (lines_within lines number line) number rest) (number + 1) rest
+lines_of_line lines number [] rest one = refl
+lines_of_line lines number (byte ∷ line) rest one =
+    let parts = feed_parts (eqb byte 10) (has_line_feed line) one in
+    ap (λ n. lines_through n (line_behind number byte) (line ++ 10 ∷ rest)) (some line)
+    ∙ rw parts.0 (lines_of_line number number line rest parts.1)
+    ∙ ap (λ n. lines_through (lines_with n number rest) (number + 1) rest) (within line)
+  where
+    some : (line : List ℕ) → lines_with lines number (line ++ 10 ∷ rest) ≡ number
+    some [] = refl
+    some (first ∷ line) = refl
+
+    within : (line : List ℕ) → lines_within number number line ≡ number
+    within [] = refl
+    within (first ∷ line) = refl
+
+kept_lines : (old new : InputState) (line text rest : List ℕ) → has_line_feed line ≡ false → text ≡ line ++ 10 ∷ rest → new.place.line ≡ old.place.line + 1
+    → new.lines ≡ lines_with (lines_within old.lines old.place.line line) old.place.line rest → all_lines new rest ≡ all_lines old text
+kept_lines old new line text rest one whole at lines =
+    ap (λ n. lines_through n new.place.line rest) lines
+    ∙ ap (λ n. lines_through (lines_with (lines_within old.lines old.place.line line) old.place.line rest) n rest) at
+    ∙ sym (lines_of_line old.lines old.place.line line rest one) ∙ ap (λ (xs : List ℕ). all_lines old xs) (sym whole)
+
 -- a line that says these frames was taken
 gave_line : (old new : InputState) (number : ℕ) (line : List ℕ) (frames : List (List ℕ)) → EndsLine old number line new
     → ((rest : Items (List ℕ)) → behind_line (numbered old.place.line line) rest ≡ preceded frames rest) → Gave packet_lines old frames new
 gave_line old new number line frames ends says = record {
-  text = go old.text new.text ends.text ends.room;
+  text = go old.text new.text ends.text ends.lines ends.room;
   bytes = omega (arith, ends.bytes);
   fault = ends.fault;
   failures = ends.failures;
 }
   where
-    go : (whole left : Option (List ℕ)) → IfSome whole (λ text. IsSomeAnd left (λ rest. text ≡ line ++ 10 ∷ rest)) → (new.bytes ≡ 0 → IsAtEnd left)
+    go : (whole left : Option (List ℕ)) → IfSome whole (λ text. IsSomeAnd left (λ rest. text ≡ line ++ 10 ∷ rest))
+        → IfSome whole (λ text. IsSomeAnd left (λ rest. new.lines ≡ lines_with (lines_within old.lines old.place.line line) old.place.line rest)) → (new.bytes ≡ 0 → IsAtEnd left)
         → IfSome whole (λ text. IsSomeAnd left (λ rest. Gives packet_lines old frames new text rest))
-    go None left text room = tt
-    go (Some text) None whole room = absurd whole
-    go (Some text) (Some rest) whole room =
+    go None left text lines room = tt
+    go (Some text) None whole lines room = absurd whole
+    go (Some text) (Some rest) whole lines room =
         let behind = behind_ended old new number line text rest ends whole room in
         record {
           used = line ++ 10 ∷ [];
           whole = whole ∙ sym (append_assoc line (10 ∷ []) rest);
           in_whole = behind.in_whole ∙ says (frames_in new rest);
           in_part = λ more. behind.in_part more ∙ says (frames_before_failure new more);
+          lines = kept_lines old new line text rest ends.is_line.one whole (next_line old new line ends.next) lines;
         }
 
 -- a line that says nothing
@@ -164,7 +191,7 @@ stops_at_words old mid new number line fault ends some says is_new = rw is_new (
 -- the text has ended
 pub Gave-end : (old new : InputState) → EndsText old new → Gave packet_lines old [] new × IsAtEnd new.text × IfSome old.text (λ text. frames_in old text ≡ only_fault None)
 Gave-end old new ends = (
-  record { text = gives old.text new.text ends.text; bytes = ends.bytes; fault = ends.fault; failures = ends.failures },
+  record { text = gives old.text new.text ends.text ends.lines; bytes = ends.bytes; fault = ends.fault; failures = ends.failures },
   ends.at_end,
   none old.text new.text ends.text,
 )
@@ -172,14 +199,16 @@ Gave-end old new ends = (
     empty : (input : InputState) → frames_in input [] ≡ only_fault None
     empty input = rw (zero_fits input.bytes) refl
 
-    gives : (whole left : Option (List ℕ)) → IfSome whole (λ text. IsSomeAnd left (λ rest. (text ≡ []) × (rest ≡ []))) → IfSome whole (λ text. IsSomeAnd left (λ rest. Gives packet_lines old [] new text rest))
-    gives None left text = tt
-    gives (Some text) None whole = absurd whole
-    gives (Some text) (Some rest) whole = record {
+    gives : (whole left : Option (List ℕ)) → IfSome whole (λ text. IsSomeAnd left (λ rest. (text ≡ []) × (rest ≡ [])))
+        → IfSome whole (λ text. IsSomeAnd left (λ rest. new.lines ≡ old.lines)) → IfSome whole (λ text. IsSomeAnd left (λ rest. Gives packet_lines old [] new text rest))
+    gives None left text lines = tt
+    gives (Some text) None whole lines = absurd whole
+    gives (Some text) (Some rest) whole lines = record {
       used = [];
       whole = whole.0 ∙ sym whole.1;
       in_whole = ap (frames_in old) whole.0 ∙ empty old ∙ sym (ap (frames_in new) whole.1 ∙ empty new);
       in_part = λ more. ap (λ (place : Place). frames_of (lines_from place.line more) (Some Read)) (sym ends.place);
+      lines = ap (λ (xs : List ℕ). all_lines new xs) whole.1 ∙ lines ∙ ap (λ (xs : List ℕ). all_lines old xs) (sym whole.0);
     }
 
     none : (whole left : Option (List ℕ)) → IfSome whole (λ text. IsSomeAnd left (λ rest. (text ≡ []) × (rest ≡ []))) → IfSome whole (λ text. frames_in old text ≡ only_fault None)

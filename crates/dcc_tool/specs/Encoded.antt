@@ -13,7 +13,7 @@ use Rattle.dcc_tool.specs.declared.fault.ToolFault.{ToolFault}
 use Rattle.dcc_tool.specs.declared.fault.ToolFault.TheVariants.{Usage, Number, Line, Read, Write, NoMemory, TooMuch}
 use Rattle.dcc_tool.specs.Failures.{HasRisen}
 use Rattle.dcc_tool.specs.Told.{IsAtEnd}
-use Rattle.dcc_tool.specs.InputState.{InputState}
+use Rattle.dcc_tool.specs.InputState.{InputState, UsesAllLines}
 use Rattle.dcc_tool.specs.Written.{AppendsFront}
 use Rattle.dcc_tool.specs.Items.{ReadsUpTo}
 use Rattle.dcc_tool.specs.PacketLines.{packet_lines, frames_in}
@@ -49,7 +49,7 @@ EncodesUpTo how old fault new before after = (new.fault ≡ Some fault) × Reads
 -- A fault comes only where its cause stands, and all that stands before it is encoded.
 abbrev pub EncodesText : Encode → InputState → Option (List ℕ) → ℕ → Result (Unit {0}) ToolFault → InputState → Option (List ℕ) → ℕ → Type 0
 EncodesText how old before writes (Ok done) new after now =
-    ReadsUpTo packet_lines old None new (Encodes how before after) × IsAtEnd new.text × (new.fault ≡ None) × (now ≡ writes)
+    ReadsUpTo packet_lines old None new (Encodes how before after) × IsAtEnd new.text × UsesAllLines old new × (new.fault ≡ None) × (now ≡ writes)
 EncodesText how old before writes (Err (Line number fault)) new after now = EncodesUpTo how old (kept.Line number fault) new before after × (now ≡ writes)
 EncodesText how old before writes (Err Read) new after now = EncodesUpTo how old kept.Read new before after × (now ≡ writes)
 EncodesText how old before writes (Err TooMuch) new after now = EncodesUpTo how old kept.TooMuch new before after × (now ≡ writes)

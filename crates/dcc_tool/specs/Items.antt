@@ -3,7 +3,7 @@ use Rattle.std.specs.Prelude.{◌≡◌, ℕ, ◌≤◌, ◌++◌, List, [], Opt
 use Rattle.dcc_tool.specs.declared.fault.KeptFault.{KeptFault}
 use Rattle.dcc_tool.specs.declared.fault.KeptFault.TheVariants as kept
 use Rattle.dcc_tool.specs.Failures.{one_more, HasRisen}
-use Rattle.dcc_tool.specs.InputState.{InputState}
+use Rattle.dcc_tool.specs.InputState.{InputState, all_lines}
 
 -- the items before the first fault, and that fault
 pub record Items (A : Type 0) : Type 0 where
@@ -28,6 +28,7 @@ pub record Gives {A : Type 0} (reading : Reading A) (old : InputState) (items : 
   pub whole : text ≡ used ++ rest
   pub in_whole : reading.in_text old text ≡ preceded items (reading.in_text new rest)
   pub in_part : (more : List ℕ) → reading.before_failure old (used ++ more) ≡ preceded items (reading.before_failure new more)
+  pub lines : all_lines new rest ≡ all_lines old text
 
 -- these items were taken, and nothing went wrong
 pub record Gave {A : Type 0} (reading : Reading A) (old : InputState) (items : List A) (new : InputState) : Type 0 where

@@ -6,6 +6,7 @@ use Rattle.dcc_tool.specs.declared.text_line.TextLine.{TextLine}
 use Rattle.dcc_tool.specs.declared.fault.KeptFault.{KeptFault}
 use Rattle.dcc_tool.specs.declared.fault.KeptFault.TheVariants.{Number, Line, Read, TooMuch}
 use Rattle.dcc_tool.specs.Failures.{one_more}
+use Rattle.dcc_tool.specs.Place.{lines_with}
 use Rattle.dcc_tool.specs.Told.{IsAtEnd}
 use Rattle.dcc_tool.specs.InputState.{InputState}
 use Rattle.dcc_tool.specs.Lines.{is_good}
@@ -19,12 +20,18 @@ pub record IsOneLine (line : List ℕ) : Type 0 where
   pub good : is_good line ≡ true
   pub one : has_line_feed line ≡ false
 
+-- how many lines were used once the front of a line is, the line feed that ends it aside
+abbrev pub lines_within : ℕ → ℕ → List ℕ → ℕ
+lines_within lines line [] = lines
+lines_within lines line (byte ∷ front) = line
+
 -- this line was read, and the line feed that ends it
 pub record EndsLine (old : InputState) (number : ℕ) (line : List ℕ) (new : InputState) : Type 0 where
   pub at : number ≡ old.place.line
   pub is_line : IsOneLine line
   pub text : IfSome old.text (λ text. IsSomeAnd new.text (λ rest. text ≡ line ++ 10 ∷ rest))
   pub next : new.place ≡ record { line = old.place.line + 1; in_comment = old.place.in_comment }
+  pub lines : IfSome old.text (λ text. IsSomeAnd new.text (λ rest. new.lines ≡ lines_with (lines_within old.lines old.place.line line) old.place.line rest))
   pub halves : new.halves ≡ old.halves
   pub bytes : new.bytes + length line + 1 ≡ old.bytes
   pub room : new.bytes ≡ 0 → IsAtEnd new.text
@@ -37,6 +44,7 @@ pub record EndsText (old new : InputState) : Type 0 where
   pub at_end : IsAtEnd new.text
   pub bytes : new.bytes ≤ old.bytes
   pub place : new.place ≡ old.place
+  pub lines : IfSome old.text (λ text. IsSomeAnd new.text (λ rest. new.lines ≡ old.lines))
   pub halves : new.halves ≡ old.halves
   pub fault : new.fault ≡ None
   pub failures : new.failures ≡ old.failures

@@ -211,3 +211,31 @@ fn the_fault_of_a_line_has_its_text(rt: HostRuntime) -> Result<(), Fail> {
     assert_eq!(rt; exit_status(&Ok(Ending::Done)), 0);
     Ok(())
 }
+
+#[test]
+fn lines_are_counted_with_the_last_one(rt: HostRuntime) {
+    let rows: [(&[u8], u32); 8] = [
+        (b"", 0),
+        (b"idle", 1),
+        (b"idle\n", 1),
+        (b"\n", 1),
+        (b"idle\nidle", 2),
+        (b"idle\nidle\n", 2),
+        (b"idle\n\n", 2),
+        (b"idle\n\n \n#", 4),
+    ];
+    for (lines, count) in rows {
+        let mut input = Input::new(Counted::new(lines), Limits::full());
+        assert_eq!(rt; input.lines(), 0);
+        let mut writer = Counted::new(Vec::new(rt.alloc()));
+        assert_eq!(rt; encode(&mut input, &mut writer, HEX), Ok(()));
+        assert_eq!(rt; input.lines(), count);
+    }
+    let mut input = Input::new(Counted::new(b"idle\nx\nidle\n".as_slice()), Limits::full());
+    let mut writer = Counted::new(Vec::new(rt.alloc()));
+    assert_eq!(rt;
+        encode(&mut input, &mut writer, HEX),
+        refused(2, PacketFault::Word)
+    );
+    assert_eq!(rt; input.lines(), 2);
+}

@@ -1,5 +1,6 @@
-//! Laws of listings.
+//! Laws of listings and of lines.
 
+ghost use Rattle.dcc_tool.specs.LineLaws.{LinesAreCounted};
 ghost use Rattle.dcc_tool.specs.ListingLaws.{OneListing, ListsInHex};
 
 /// A listing is one text: what `show` writes is settled by what the halves show.
@@ -12,4 +13,9 @@ pub fn outcomes_have_one_listing()
 #[tactic(auto, using(crate::proofs::ListingLaws::lists_in_hex))]
 pub fn without_words_the_listing_is_in_hex()
     ensures { ListsInHex }
+{}
+
+/// An input that is used up has given a line for each line feed, and one for what stands behind the last.
+pub fn lines_are_counted_by_line_feeds()
+    ensures { LinesAreCounted }
 {}

@@ -520,3 +520,23 @@ fn faults_have_their_texts_and_numbers(rt: HostRuntime) -> Result<(), Fail> {
     assert_eq!(rt; exit_status(&Ok(Ending::Done)), 0);
     Ok(())
 }
+
+#[test]
+fn lines_of_a_capture_are_counted(rt: HostRuntime) {
+    let rows: [(&[u8], u32); 6] = [
+        (b"", 0),
+        (b"58 58", 1),
+        (b"58 58\n", 1),
+        (b"58\n58", 2),
+        (b"58\n\n58 100 # x\n", 3),
+        (b"58\n58 100\n# x", 3),
+    ];
+    for (text, count) in rows {
+        for each in [1, 512] {
+            let mut input = Input::new(Giving::new(text, each, 1000, false), Limits::full());
+            let mut writer = Counted::new(Vec::new(rt.alloc()));
+            assert_eq!(rt; show(&mut input, &mut writer, false), Ok(()));
+            assert_eq!(rt; input.lines(), count);
+        }
+    }
+}

@@ -1,0 +1,29 @@
+-- The error byte is the exclusive or of the bytes before it.
+use Rattle.std.proofs.Common.{◌≡◌, ℕ, List, [], ◌∷◌, ◌++◌, length, take, bit_xor, sym, ◌∙◌, ap, refl, arith}
+use Rattle.std.proofs.lemmas.List.{take_at, length-append}
+use Rattle.std.proofs.lemmas.List.Sums.{fold-append}
+use lib.Bits.{xor_self, xor_assoc, xor_zero_l, xor_zero_r}
+use Rattle.dcc_wire.specs.Frames.{xor_of, with_error_byte}
+
+pub xor_of-append : (bytes : List ℕ) (e : ℕ) → xor_of (bytes ++ e ∷ []) ≡ bit_xor (xor_of bytes) e
+xor_of-append bytes e = fold-append bit_xor 0 bytes (e ∷ [])
+
+-- with its error byte the exclusive or is 0
+pub xor_of-with_error_byte : (bytes : List ℕ) → xor_of (with_error_byte bytes) ≡ 0
+xor_of-with_error_byte bytes = xor_of-append bytes (xor_of bytes) ∙ xor_self (xor_of bytes)
+
+equal_from_xor : (a e : ℕ) → bit_xor a e ≡ 0 → e ≡ a
+equal_from_xor a e h =
+    let one : bit_xor (bit_xor a a) e ≡ e = ap (λ (x : ℕ). bit_xor x e) (xor_self a) ∙ xor_zero_l e in
+    let two : bit_xor (bit_xor a a) e ≡ a = xor_assoc a a e ∙ ap (λ (x : ℕ). bit_xor a x) h ∙ xor_zero_r a in
+    sym one ∙ two
+
+-- where the exclusive or is 0, the last byte is the error byte
+pub last_is_error_byte : (bytes : List ℕ) (e : ℕ) → xor_of (bytes ++ e ∷ []) ≡ 0 → bytes ++ e ∷ [] ≡ with_error_byte bytes
+last_is_error_byte bytes e h = ap (λ (x : ℕ). bytes ++ x ∷ []) (equal_from_xor (xor_of bytes) e (sym (xor_of-append bytes e) ∙ h))
+
+-- the bytes before the error byte are known
+pub same_bytes : (a b : List ℕ) → with_error_byte a ≡ with_error_byte b → a ≡ b
+same_bytes a b e =
+    let n : length a ≡ length b = omega (arith, ap length e, length-append a (xor_of a ∷ []), length-append b (xor_of b ∷ [])) in
+    sym (take_at a (xor_of a ∷ []) (length a) refl) ∙ ap (take (length a)) e ∙ take_at b (xor_of b ∷ []) (length a) (sym n)

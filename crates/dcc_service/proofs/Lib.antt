@@ -1,0 +1,11 @@
+pub mod CheckedValues
+pub mod ErrorBytes
+pub mod OneSpelling
+pub mod FrameLemmas
+pub mod BitLemmas
+pub mod BitsLemmas
+pub mod StepLemmas
+pub mod QuestionLemmas
+pub mod LawLemmas
+pub mod ReaderLemmas
+pub mod ReadingLemmas

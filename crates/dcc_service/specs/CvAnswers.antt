@@ -1,0 +1,27 @@
+-- The questions by which a CV is read (NMRA S-9.2.3).
+use Rattle.std.specs.Prelude.{◌≡◌, ℕ, ◌+◌, ◌==◌, if◌then◌else◌, Bool, true, List, length}
+use Rattle.dcc_wire.specs.Frames.{with_error_byte}
+use Rattle.dcc_packet.specs.declared.cv.CvNumber.{CvNumber}
+use Rattle.dcc_service.specs.declared.packet.ServicePacket.{ServicePacket}
+use Rattle.dcc_service.specs.declared.packet.ServicePacket.TheVariants.{Write, Verify, BitWrite, BitVerify}
+use Rattle.dcc_service.specs.Bits.{number_of}
+use Rattle.dcc_service.specs.Table.{access_bytes}
+
+-- a CV that is being read, and the answers so far
+pub record CvAnswers : Type 0 where
+  pub cv : CvNumber
+  pub answers : List Bool
+
+-- The next question: behind k answers whether bit k is one, behind eight whether the byte is that of the answers.
+abbrev pub Asks : CvAnswers → ServicePacket → Type 0
+Asks so_far (BitVerify cv bits one) = (cv ≡ so_far.cv) × (bits.place ≡ length so_far.answers) × (one ≡ true)
+Asks so_far (Verify cv value) = (cv ≡ so_far.cv) × (length so_far.answers ≡ 8) × (value ≡ number_of so_far.answers)
+Asks so_far (Write cv value) = ⊥
+Asks so_far (BitWrite cv bits one) = ⊥
+
+-- the bytes of the frame of that question
+abbrev pub question_frame : CvAnswers → List ℕ
+question_frame so_far =
+    if length so_far.answers == 8
+    then with_error_byte (access_bytes 0x74 so_far.cv (number_of so_far.answers))
+    else with_error_byte (access_bytes 0x78 so_far.cv (0xE8 + length so_far.answers))

@@ -1,0 +1,9 @@
+pub mod Table
+pub mod Cvs
+pub mod Machine
+pub mod Question
+pub mod Bits
+pub mod CvAnswers
+pub mod Readings
+pub mod QuestionLaws
+pub mod ReadingLaws

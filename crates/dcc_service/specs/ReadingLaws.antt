@@ -1,0 +1,48 @@
+-- What a reading of a CV comes to on a programming track.
+use Rattle.std.specs.Prelude.{◌≡◌, ◌<◌, ℕ, Bool, true, false, List, [], ◌∷◌, ◌++◌, Some, length, take, replicate, slice_get}
+use Rattle.std.specs.Int.{bit_at}
+use Rattle.dcc_packet.specs.Rows.{bit}
+use Rattle.dcc_packet.specs.declared.cv.CvNumber.{CvNumber}
+use Rattle.dcc_service.specs.declared.packet.ServicePacket.{ServicePacket}
+use Rattle.dcc_service.specs.declared.reader.Reading.{Reading}
+use Rattle.dcc_service.specs.declared.reader.Reading.TheVariants.{Value, NoAnswer}
+use Rattle.dcc_service.specs.Bits.{bits_of, number_of}
+use Rattle.dcc_service.specs.Cvs.{IsCvs, cv_value}
+use Rattle.dcc_service.specs.CvAnswers.{CvAnswers, Asks, question_frame}
+use Rattle.dcc_service.specs.Machine.{acknowledged, acted_on}
+use Rattle.dcc_service.specs.Readings.{Comes}
+use Rattle.dcc_service.specs.Table.{spelling}
+
+-- the true answers to the nine questions about a CV with this value: its bits, the lowest first, and yes
+abbrev pub true_answers : ℕ → List Bool
+true_answers value = bits_of 8 value ++ true ∷ []
+
+-- the answers so far are the first of these
+abbrev pub AreFirstOf : List Bool → List Bool → Type 0
+AreFirstOf answers all = answers ≡ take (length answers) all
+
+-- behind true answers, whether a decoder acknowledges the question is the next true answer
+abbrev pub DecodersTellTheTruth : Type 0
+DecodersTellTheTruth = (so_far : CvAnswers) (question : ServicePacket) (cvs : List ℕ) → IsCvs cvs → Asks so_far question
+    → AreFirstOf so_far.answers (true_answers (cv_value cvs so_far.cv))
+    → AreFirstOf (so_far.answers ++ acknowledged question cvs ∷ []) (true_answers (cv_value cvs so_far.cv))
+
+-- the questions of a reading change no CV
+abbrev pub ReadingLeavesTheCvs : Type 0
+ReadingLeavesTheCvs = (so_far : CvAnswers) (question : ServicePacket) (cvs : List ℕ) → Asks so_far question → acted_on question cvs ≡ cvs
+
+-- the true answers come to the value
+abbrev pub TruthComesToTheValue : Type 0
+TruthComesToTheValue = (cv : CvNumber) (value : ℕ) (reading : Reading) → value < 256 → Comes cv (true_answers value) reading → reading ≡ Value value
+
+-- nine times no comes to no value
+abbrev pub SilenceComesToNoAnswer : Type 0
+SilenceComesToNoAnswer = (cv : CvNumber) (reading : Reading) → Comes cv (replicate 9 false) reading → reading ≡ NoAnswer
+
+-- bit k of a number is the one at place k of its bits
+abbrev pub NumbersHaveTheirBits : Type 0
+NumbersHaveTheirBits = (bits : List Bool) (k : ℕ) (one : Bool) → slice_get bits k ≡ Some one → bit_at (number_of bits) k ≡ bit one
+
+-- the question of a reading has this frame
+abbrev pub QuestionsHaveTheirFrames : Type 0
+QuestionsHaveTheirFrames = (so_far : CvAnswers) (question : ServicePacket) → Asks so_far question → spelling question ≡ question_frame so_far

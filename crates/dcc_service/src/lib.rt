@@ -1,0 +1,22 @@
+//! Service mode: configuration variables (CVs) read and written on the programming track, in direct mode
+//! (NMRA S-9.2.3). A station puts questions, and a decoder answers each with an acknowledgement or with
+//! silence. Nothing here takes memory.
+#![tactic(auto)]
+
+mod bits;
+mod cvs;
+mod decoder;
+pub mod laws;
+mod packet;
+mod question;
+mod reader;
+mod reading;
+mod writing;
+
+pub use decoder::ServiceDecoder;
+pub use packet::ServicePacket;
+pub use question::{ask, question_frames};
+pub use reader::{CvReader, Reading};
+
+#[cfg(test)]
+mod tests;
