@@ -58,3 +58,7 @@ one_list_of_packets halves ps qs e f = same_packets ps qs (e ∙ sym f)
 
 pub no_halves_heard : NoHalvesHeard
 no_halves_heard who start = record { packets = []; seen = ap frames_in (sym seen-none); heard = heard_nothing who start }
+
+-- no halves hold no packets
+pub no_packets : ArePackets [] []
+no_packets = ap frames_in (sym seen-none)

@@ -1,0 +1,62 @@
+//! The packets of a capture, all held.
+ghost use Rattle.std.specs.Prelude.{◌≡◌, ◌<◌, ◌≤◌, ◌+◌, ◌++◌, ◌^◌, List, None, OnOk, IfOk, IfErr, length};
+ghost use Rattle.dcc_packet.specs.declared.packet.Packet.{Packet};
+ghost use Rattle.dcc_order.specs.Hearing.{AreSpelled, frames_of};
+ghost use Rattle.dcc_tool.specs.Capture.{AnswersHalf};
+ghost use Rattle.dcc_tool.specs.Gathered.{GatherFails, Gathered};
+
+use crate::fault::{KeptFault, ToolFault};
+use crate::input::Input;
+use crate::stream::Source;
+use dcc_packet::Packet;
+use dcc_wire::{Framer, Seen};
+use std::alloc::{AllocError, Global};
+
+/// Reads a capture to its end, and holds its packets.
+pub fn gather<R: Source>(alloc: Global, input: &mut Input<R>) -> Result<Vec<Packet>, ToolFault>
+    ensures gathers { IfOk result (λ v. Gathered input.old v.items input.new) }
+    ensures few { IfOk result (λ v. length v.items < 2 ^ 32) }
+    ensures fails { IfErr result (λ fault. GatherFails input.old fault input.new) }
+{
+    if let Some(fault) = input.fault() {
+        return Err(fault.told());
+    }
+    let most = input.halves_left();
+    let mut framer = Framer::new();
+    let mut packets = Vec::new(alloc);
+    'halves: loop {
+        match next_half(input) {
+            Ok(Some(us)) => {
+                let seen = framer.push(us);
+                match hold_seen(&mut packets, &seen) {
+                    Ok(()) => (),
+                    Err(_) => return Err(ToolFault::NoMemory),
+                }
+            }
+            Ok(None) => return Ok(packets),
+            Err(fault) => return Err(fault.told()),
+        }
+    }
+}
+
+/// The next half, or none at the end.
+fn next_half<R: Source>(input: &mut Input<R>) -> Result<Option<u16>, KeptFault>
+    requires { input.old.fault ≡ None }
+    ensures { AnswersHalf input.old result input.new }
+{
+    if let Some(us) = input.half_at_hand() {
+        return Ok(Some(us));
+    }
+    input.next_half()
+}
+
+/// Holds the packet that a half showed, if it showed one.
+fn hold_seen(packets: &mut Vec<Packet>, seen: &Seen) -> Result<(), AllocError>
+    ensures { OnOk result ((shown : List Packet) × AreSpelled shown (frames_of seen.now) × (packets.new.items ≡ packets.old.items ++ shown) × (length shown ≤ 1)) }
+{
+    match seen {
+        Seen::Packet(frame) => Ok(packets.push(Packet::read(frame))?),
+        Seen::Nothing => Ok(()),
+        Seen::Refused(_) => Ok(()),
+    }
+}
