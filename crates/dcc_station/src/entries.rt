@@ -10,7 +10,7 @@ use circular_buffer::HeapCircularBuffer;
 use dcc_packet::Packet;
 use dcc_regs::{address_of, conflict};
 
-/// The front entry, which goes to the end.
+/// The front entry, which goes to the end. Nothing changes where there is none.
 pub fn rotated(entries: &mut HeapCircularBuffer<Packet>) -> Option<Packet>
     ensures front { result ≡ slice_get entries.old.items 0 }
     ensures entries { IfSome result (λ entry. entries.new ≡ buffer (drop 1 entries.old.items ++ entry ∷ []) entries.old.capacity) }
@@ -20,6 +20,7 @@ pub fn rotated(entries: &mut HeapCircularBuffer<Packet>) -> Option<Packet>
         Some(entry) => *entry,
         None => return None,
     };
+    // The length is within the capacity, so there is room behind once the front one is taken.
     let _len = entries.len();
     match entries.pop_front() {
         Some(entry) => {
@@ -30,7 +31,8 @@ pub fn rotated(entries: &mut HeapCircularBuffer<Packet>) -> Option<Packet>
     Some(front)
 }
 
-/// The entries after the first copy of a command.
+/// What the first copy of a command does to the entries: those that it puts an end to are removed, and then it is one
+/// itself, the last, where it sets the speed or functions of one locomotive.
 pub fn refresh_after(entries: &mut HeapCircularBuffer<Packet>, command: &Packet)
     ensures entries { Refreshes entries.old.capacity command.now entries.old.items entries.new.items }
     ensures capacity { entries.new.capacity ≡ entries.old.capacity }

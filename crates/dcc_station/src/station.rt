@@ -15,7 +15,10 @@ use dcc_packet::Packet;
 use std::alloc::{AllocError, Global};
 use std::marker::Model;
 
-/// A command station.
+/// A command station: a queue of commands and a list of entries that it refreshes. The first command of the queue is
+/// sent so many times in a row, a write of a configuration variable once more, with nothing between, and then leaves the
+/// queue. While nothing waits, the entries are sent in turn, as packets may be lost on the track and are to be
+/// repeated (NMRA S-9.2). It takes memory where it is made, and none from then on.
 #[derive(Drop)]
 pub struct Station {
     commands: HeapCircularBuffer<Packet>,
@@ -36,7 +39,8 @@ impl Model for Station {
 }
 
 impl Station {
-    /// A station with no command.
+    /// A station with no command, for at most so many commands that wait, so many entries, and so many copies of a
+    /// command. C1 where one of them is past its limits: 1 to 64, 1 to 128, 1 to 8. Then C2 for want of memory.
     pub fn new(
         alloc: Global,
         queue: usize,
@@ -80,7 +84,9 @@ impl Station {
         })
     }
 
-    /// A command waits behind the others, or comes back.
+    /// A command waits behind the others. C3 where it is none that a station sends: an idle packet, a frame of no row, or
+    /// a CV access to all decoders. Then C4, exactly where as many commands wait as the queue holds. A command that is
+    /// refused comes back, and the station is unchanged. A command that is partly sent still waits.
     pub fn command(&mut self, packet: Packet) -> Result<(), (Refused, Packet)>
         ensures ok { OnOk result (self.new ≡ accepted self.old packet) }
         ensures err { OnErr result (self.new ≡ self.old) }
@@ -120,14 +126,19 @@ impl Station {
         self.commands.len()
     }
 
-    /// How many packets are refreshed.
+    /// How many entries are refreshed.
     pub fn entries(&self) -> usize
         ensures { result ≡ length self.now.entries }
     {
         self.entries.len()
     }
 
-    /// The packet that is sent next.
+    /// The packet that is sent next: a copy of the first command that waits; where none waits the front entry, which
+    /// goes to the end; where there is none either, Idle.
+    ///
+    /// The first copy of a command removes the entries that equal it or conflict with it and, where it writes CV29, those
+    /// of its address. A speed or function command to one locomotive is then an entry itself, the last one. Where the
+    /// entries are full, the front one goes first.
     pub fn next(&mut self) -> Packet
         ensures next { Next self.old result self.new }
         ensures stands { (commands packets : List Packet) → StandsFor self.old commands packets → StandsFor self.new commands (packets ++ result ∷ []) }
@@ -144,7 +155,7 @@ impl Station {
         self.commands.front().copied()
     }
 
-    /// One copy of the first command.
+    /// A copy of the first command.
     fn send(&mut self, command: Packet) -> Packet
         requires { slice_get self.old.waiting 0 ≡ Some command }
         ensures { Next self.old result self.new }
