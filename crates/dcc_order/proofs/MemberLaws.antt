@@ -37,12 +37,6 @@ stands_at members p d inside = (Decides-same p (get_or members (number_of member
 place_contains : (members : List Packet) (p : Packet) → number_of members p < length members → Contains members p
 place_contains members p inside = (number_of members p, inside, sym (stands_at members p p inside))
 
-pub no_members : AreMembers [] []
-no_members = record {
-  same_set = λ p. (λ h. h, λ h. h);
-  once = λ k d h. absurd (omega arith);
-}
-
 -- one more packet that is a member already
 pub known_member : (members block : List Packet) (x : Packet) → AreMembers members block → number_of members x < length members → AreMembers members (block ++ x ∷ [])
 known_member members block x are inside = record {

@@ -1,0 +1,6 @@
+pub mod Tables
+pub mod Effects
+pub mod Transparent
+pub mod Nexts
+pub mod Left
+pub mod Turning

@@ -1,0 +1,5 @@
+use Rattle.dcc_station.proofs.Turning.{in_turn}
+use Rattle.dcc_station.proofs.laws.entries_are_handed_out_in_turn.Goals as goal
+
+pub returns : goal.returns
+returns c = in_turn

@@ -1,0 +1,5 @@
+pub mod Commands
+pub mod Sending
+pub mod Limits
+pub mod Refresh
+pub mod FaultNumbers

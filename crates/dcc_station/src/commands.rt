@@ -1,0 +1,69 @@
+//! Which packets a station sends, and how.
+
+ghost use Rattle.std.specs.Prelude.{◌≡◌, ◌≤◌};
+ghost use Rattle.dcc_regs.specs.Writes as writes;
+ghost use Rattle.dcc_station.specs.Commands as commands;
+ghost use Rattle.dcc_station.specs.Sending as sending;
+
+use dcc_packet::{Address, Packet, What};
+use dcc_regs::is_own_write;
+
+/// Whether a packet is a command that can be sent.
+#[tactic(auto, unfolding(crate::specs::Commands::is_sendable))]
+pub fn is_sendable(packet: &Packet) -> bool
+    ensures { result ≡ commands.is_sendable packet.now }
+{
+    match packet {
+        Packet::Idle => false,
+        Packet::Other(_) => false,
+        Packet::Loco {
+            to: Address::Broadcast,
+            what,
+        } => !what.is_cv_access(),
+        _ => true,
+    }
+}
+
+/// Whether a command is refreshed: it sets the speed or functions of one locomotive.
+#[tactic(auto, unfolding(crate::specs::Commands::is_refreshed))]
+pub fn is_refreshed(command: &Packet) -> bool
+    ensures { result ≡ commands.is_refreshed command.now }
+{
+    match command {
+        Packet::Loco {
+            to: Address::Short(_) | Address::Long(_),
+            what,
+        } => {
+            matches!(
+                what,
+                What::Speed28 { .. } | What::Speed128 { .. } | What::Functions(_)
+            )
+        }
+        _ => false,
+    }
+}
+
+/// Whether a command writes CV29, as a byte or a bit.
+pub fn writes_cv29(command: &Packet) -> bool
+    ensures { result ≡ writes.writes_cv29 command.now }
+{
+    match command {
+        Packet::Loco {
+            what: What::CvWrite { cv, .. } | What::CvBitWrite { cv, .. },
+            ..
+        } => cv.number() == 29,
+        _ => false,
+    }
+}
+
+/// How often a command is sent in a row.
+pub fn copies(repeats: u8, command: &Packet) -> u8
+    requires { repeats ≤ 8 }
+    ensures { result ≡ sending.copies repeats command.now }
+{
+    if is_own_write(command) {
+        repeats + 1
+    } else {
+        repeats
+    }
+}

@@ -1,0 +1,85 @@
+//! The packets that a station refreshes, and what a command leaves of them.
+
+ghost use Rattle.std.specs.Prelude.{◌≡◌, IsTrue, ◌↔◌, slice_get, drop, ◌++◌, ◌∷◌, [], IfSome, IfNone};
+ghost use Rattle.circular_buffer.specs.Buffer.{buffer};
+ghost use Rattle.dcc_regs.specs.Heard as heard;
+ghost use Rattle.dcc_station.specs.Sending.{Displaces, Leaves, Refreshes};
+
+use crate::commands::{is_refreshed, writes_cv29};
+use circular_buffer::HeapCircularBuffer;
+use dcc_packet::Packet;
+use dcc_regs::{address_of, conflict};
+
+/// The front entry, which goes to the end. Nothing changes where there is none.
+pub fn rotated(entries: &mut HeapCircularBuffer<Packet>) -> Option<Packet>
+    ensures front { result ≡ slice_get entries.old.items 0 }
+    ensures entries { IfSome result (λ entry. entries.new ≡ buffer (drop 1 entries.old.items ++ entry ∷ []) entries.old.capacity) }
+    ensures none { IfNone result (entries.new ≡ entries.old) }
+{
+    let front = match entries.front() {
+        Some(entry) => *entry,
+        None => return None,
+    };
+    // The length is within the capacity, so there is room behind once the front one is taken.
+    let _len = entries.len();
+    match entries.pop_front() {
+        Some(entry) => {
+            entries.push_back(entry);
+        }
+        None => (),
+    }
+    Some(front)
+}
+
+/// What the first copy of a command does to the entries: those that it puts an end to are removed, and then it is one
+/// itself, the last, where it sets the speed or functions of one locomotive.
+pub fn refresh_after(entries: &mut HeapCircularBuffer<Packet>, command: &Packet)
+    ensures entries { Refreshes entries.old.capacity command.now entries.old.items entries.new.items }
+    ensures capacity { entries.new.capacity ≡ entries.old.capacity }
+{
+    remove_displaced(entries, command);
+    if is_refreshed(command) {
+        entries.push_back(*command);
+    }
+}
+
+/// Removes the entries that a command puts an end to.
+fn remove_displaced(entries: &mut HeapCircularBuffer<Packet>, command: &Packet)
+    ensures entries { Leaves command.now entries.old.items entries.new.items }
+    ensures capacity { entries.new.capacity ≡ entries.old.capacity }
+{
+    for _ in 0..entries.len() {
+        if let Some(entry) = entries.pop_front() {
+            if !displaces(command, &entry) {
+                entries.push_back(entry);
+            }
+        }
+    }
+}
+
+/// Whether a command puts an end to an entry.
+fn displaces(command: &Packet, entry: &Packet) -> bool
+    ensures { IsTrue result ↔ Displaces command.now entry.now }
+{
+    if entry.is(command) {
+        return true;
+    }
+    if conflict(command, entry) {
+        return true;
+    }
+    if !writes_cv29(command) {
+        return false;
+    }
+    has_address_of(entry, command)
+}
+
+/// Whether an entry is sent to the address of a command.
+fn has_address_of(entry: &Packet, command: &Packet) -> bool
+    ensures { IsTrue result ↔ (heard.address_of entry.now ≡ heard.address_of command.now) }
+{
+    match (address_of(entry), address_of(command)) {
+        (Some(entry), Some(command)) => entry.is(&command),
+        (None, None) => true,
+        _ => false,
+    }
+}
