@@ -11,7 +11,7 @@ use crate::{
 use dcc_wire::Frame;
 
 /// `all`, or `s` or `l` and a number.
-pub(crate) fn address(word: &[u8]) -> Result<Address, PacketFault>
+pub fn address(word: &[u8]) -> Result<Address, PacketFault>
     ensures { result ≡ address word.now }
 {
     match word {
@@ -23,7 +23,7 @@ pub(crate) fn address(word: &[u8]) -> Result<Address, PacketFault>
 }
 
 /// `f` for forward, `r` for reverse.
-pub(crate) fn direction(word: &[u8]) -> Result<bool, PacketFault>
+pub fn direction(word: &[u8]) -> Result<bool, PacketFault>
     ensures { result ≡ direction word.now }
 {
     match word {
@@ -33,20 +33,20 @@ pub(crate) fn direction(word: &[u8]) -> Result<bool, PacketFault>
     }
 }
 
-pub(crate) fn speed28_bits(word: &[u8]) -> Result<SpeedBits28, PacketFault>
+pub fn speed28_bits(word: &[u8]) -> Result<SpeedBits28, PacketFault>
     ensures { result ≡ speed28_bits word.now }
 {
     SpeedBits28::new(small_number(word)?)
 }
 
-pub(crate) fn speed128_bits(word: &[u8]) -> Result<SpeedBits128, PacketFault>
+pub fn speed128_bits(word: &[u8]) -> Result<SpeedBits128, PacketFault>
     ensures { result ≡ speed128_bits word.now }
 {
     SpeedBits128::new(small_number(word)?)
 }
 
 /// A group by the number of its first function. `05` is none of them.
-pub(crate) fn group(word: &[u8]) -> Result<Group, PacketFault>
+pub fn group(word: &[u8]) -> Result<Group, PacketFault>
     ensures { result ≡ group word.now }
 {
     match word {
@@ -64,26 +64,26 @@ pub(crate) fn group(word: &[u8]) -> Result<Group, PacketFault>
     }
 }
 
-pub(crate) fn group_bits(group: Group, word: &[u8]) -> Result<GroupBits, PacketFault>
+pub fn group_bits(group: Group, word: &[u8]) -> Result<GroupBits, PacketFault>
     ensures { result ≡ group_bits group word.now }
 {
     GroupBits::new(group, small_number(word)?)
 }
 
-pub(crate) fn cv_number(word: &[u8]) -> Result<CvNumber, PacketFault>
+pub fn cv_number(word: &[u8]) -> Result<CvNumber, PacketFault>
     ensures { result ≡ cv_number word.now }
 {
     CvNumber::new(number(word)?)
 }
 
-pub(crate) fn bit_place(word: &[u8]) -> Result<BitPlace, PacketFault>
+pub fn bit_place(word: &[u8]) -> Result<BitPlace, PacketFault>
     ensures { result ≡ bit_place word.now }
 {
     BitPlace::new(small_number(word)?)
 }
 
 /// `1` or `0`.
-pub(crate) fn bit_state(word: &[u8]) -> Result<bool, PacketFault>
+pub fn bit_state(word: &[u8]) -> Result<bool, PacketFault>
     ensures { result ≡ bit_state word.now }
 {
     match word {
@@ -93,20 +93,20 @@ pub(crate) fn bit_state(word: &[u8]) -> Result<bool, PacketFault>
     }
 }
 
-pub(crate) fn board_number(word: &[u8]) -> Result<Board, PacketFault>
+pub fn board_number(word: &[u8]) -> Result<Board, PacketFault>
     ensures { result ≡ board_number word.now }
 {
     Board::new(number(word)?)
 }
 
-pub(crate) fn output_number(word: &[u8]) -> Result<Output, PacketFault>
+pub fn output_number(word: &[u8]) -> Result<Output, PacketFault>
     ensures { result ≡ output_number word.now }
 {
     Output::new(small_number(word)?)
 }
 
 /// `on` or `off`.
-pub(crate) fn switch(word: &[u8]) -> Result<bool, PacketFault>
+pub fn switch(word: &[u8]) -> Result<bool, PacketFault>
     ensures { result ≡ switch word.now }
 {
     match word {
@@ -116,14 +116,14 @@ pub(crate) fn switch(word: &[u8]) -> Result<bool, PacketFault>
     }
 }
 
-pub(crate) fn signal_number(word: &[u8]) -> Result<SignalAddress, PacketFault>
+pub fn signal_number(word: &[u8]) -> Result<SignalAddress, PacketFault>
     ensures { result ≡ signal_number word.now }
 {
     SignalAddress::new(number(word)?)
 }
 
 /// The frame whose bytes stand in hex, with digits of either case.
-pub(crate) fn hex_frame(word: &[u8]) -> Result<Frame, PacketFault>
+pub fn hex_frame(word: &[u8]) -> Result<Frame, PacketFault>
     ensures { result ≡ hex_frame word.now }
 {
     let len = word.len() / 2;

@@ -8,7 +8,7 @@ ghost use Rattle.dcc_packet.specs.LineWords.{is_numeral, number, small_number};
 use crate::PacketFault;
 
 /// A number up to 65535.
-pub(crate) fn number(word: &[u8]) -> Result<u16, PacketFault>
+pub fn number(word: &[u8]) -> Result<u16, PacketFault>
     ensures { result ≡ number word.now }
 {
     if !is_numeral(word) {
@@ -22,7 +22,7 @@ pub(crate) fn number(word: &[u8]) -> Result<u16, PacketFault>
 }
 
 /// A number up to 255.
-pub(crate) fn small_number(word: &[u8]) -> Result<u8, PacketFault>
+pub fn small_number(word: &[u8]) -> Result<u8, PacketFault>
     ensures { result ≡ small_number word.now }
 {
     let value = number(word)?;

@@ -1,0 +1,26 @@
+-- Bits of numbers that ascend.
+use Rattle.std.proofs.Common.{◌≡◌, ℕ, ◌+◌, ◌*◌, ◌^◌, ◌%◌, ◌<◌, ◌≤◌, arith, suc}
+use Rattle.std.proofs.lemmas.Nat.{pow_pos}
+use Rattle.std.proofs.Math.Nat.{mod-eq_of_lt}
+use native.Mathlib.Nat.{pow-le-pow_right, pow-succ'}
+
+pub twice : (n : ℕ) → 2 ^ (n + 1) ≡ 2 * 2 ^ n
+twice n = rw (one_more n) (pow-succ' 2 n)
+  where
+    one_more : (n : ℕ) → n + 1 ≡ suc n
+    one_more n = omega arith
+
+-- a bit and those above it, at a type that has them all
+fit : (top limit bit below others : ℕ) → limit ≤ top → others + 2 * bit ≤ limit → 0 < bit → below ≤ bit → (1 * bit) % top + others + below ≤ limit
+fit top limit bit below others within room some less =
+    let whole : bit % top ≡ bit = mod-eq_of_lt (omega arith) in
+    let once : 1 * bit ≡ bit = omega arith in
+    rw (once, whole) (omega arith)
+
+pub bits_fit : (top limit n least others : ℕ) → limit ≤ top → least ≤ n → others + 2 ^ (n + 1) ≤ limit → (1 * 2 ^ n) % top + others + 2 ^ least ≤ limit
+bits_fit top limit n least others within ordered room =
+    let less : 2 ^ least ≤ 2 ^ n = pow-le-pow_right {n = 2} (omega arith) ordered in
+    fit top limit (2 ^ n) (2 ^ least) others within (rw (twice n) at room) (pow_pos n) less
+
+pub one_bit_fits : (limit least : ℕ) → least ≤ limit → 0 + 2 ^ least ≤ 2 ^ limit
+one_bit_fits limit least within = let less : 2 ^ least ≤ 2 ^ limit = pow-le-pow_right {n = 2} (omega arith) within in omega arith
