@@ -1,23 +1,25 @@
 -- How a reading on the programming track goes on, and what it comes to.
-use Rattle.std.proofs.Common.{◌≡◌, ℕ, ◌≤◌, ◌+◌, Bool, true, false, List, [], ◌∷◌, ◌++◌, Option, None, Some, IfSome, Result, Ok, Err, ◌-◌, ◌+◌, length, take, drop, replicate, refl, sym, ap, ◌∙◌, subst, append_assoc, arith}
-use Rattle.std.proofs.lemmas.List.{append-nil, take_all, take-append-drop, take-replicate, replicate-append-replicate, length-append}
+use Rattle.std.proofs.Common.{◌≡◌, ℕ, ◌≤◌, ◌+◌, Bool, true, false, List, [], ◌∷◌, ◌++◌, Option, None, Some, IfSome, OnOk, Result, Ok, Err, ◌-◌, ◌+◌, length, take, drop, replicate, refl, sym, ap, ◌∙◌, subst, append_assoc, arith}
+use Rattle.std.proofs.lemmas.List.{append-nil, take_all, take_at, take-append-drop, take-replicate, replicate-append-replicate, length-append}
 use Rattle.std.specs.Io.KnownBytes.{Appends}
 use Rattle.dcc_packet.specs.declared.cv.CvNumber.{CvNumber}
 use Rattle.dcc_service.specs.declared.packet.ServicePacket.{ServicePacket}
+use Rattle.dcc_service.specs.declared.packet.ServicePacket.TheVariants.{Write, Verify, BitWrite, BitVerify}
 use Rattle.dcc_service.specs.declared.reader.Reading.{Reading}
 use Rattle.dcc_service.specs.declared.reader.Reading.TheVariants.{More, Value, NoAnswer}
-use Rattle.dcc_service.specs.Bits.{bits_of}
+use Rattle.dcc_service.specs.Bits.{bits_of, number_of}
 use Rattle.dcc_service.specs.CvAnswers.{CvAnswers, Asks, question_frame}
 use Rattle.dcc_service.specs.Cvs.{IsCvs, cv_value}
-use Rattle.dcc_service.specs.Machine.{acknowledged}
+use Rattle.dcc_service.specs.Machine.{ServiceState, acknowledged}
+use Rattle.dcc_service.specs.Question.{after_question}
 use Rattle.dcc_service.specs.ReadingLaws.{AreFirstOf}
 use Rattle.dcc_service.specs.Readings.{Comes}
 use Rattle.dcc_service.proofs.ReadingLemmas.{next_is_true, truth_is_the_value, silence_is_no_answer}
 use Rattle.dcc_tool.specs.declared.fault.ToolFault.{ToolFault}
-use Rattle.dcc_tool.specs.declared.fault.ToolFault.TheVariants.{Write}
+use Rattle.dcc_tool.specs.declared.fault.ToolFault.TheVariants as faults
 use Rattle.dcc_tool.specs.Failures.{HasRisen}
 use Rattle.dcc_tool.specs.TrackAnswers.{TakesAnswer, Tells}
-use Rattle.dcc_tool.specs.TrackReading.{value_on, answers_on, answered_line, with_answer, answered_lines, unasked, value_line, reading_text, ReadsCv}
+use Rattle.dcc_tool.specs.TrackReading.{value_on, answers_on, answered_line, with_answer, answered_lines, unasked, value_line, reading_text, after_reading, ReadsCv}
 use Rattle.dcc_tool.specs.Written.{AppendsFront}
 use Rattle.dcc_tool.proofs.HeldLemmas.{AppendsFront-more}
 use Rattle.dcc_tool.proofs.WrittenLemmas.{Appends-none, Appends-append, front_behind}
@@ -88,7 +90,7 @@ IsReading-more track cv so_far next answer before mid after writes count later r
 pub fails_in_line : (track : Option (List ℕ)) (cv : CvNumber) (so_far : CvAnswers) (answer : Bool) (before mid after : Option (List ℕ)) (writes count later : ℕ)
     → IsReading track cv so_far before mid writes count → AreFirstOf (so_far.answers ++ answer ∷ []) (answers_on track cv)
     → AppendsFront mid after (answered_line (question_frame so_far) answer) → HasRisen count later
-    → ReadsCv track cv before writes (Err Write) after later
+    → ReadsCv track cv before writes (Err faults.Write) after later
 fails_in_line track cv so_far answer before mid after writes count later reading first front risen =
     let rest = first_lines cv (so_far.answers ++ answer ∷ []) (answers_on track cv) first in
     let lines : answered_lines (unasked cv) (so_far.answers ++ answer ∷ []) ≡ answered_lines (unasked cv) so_far.answers ++ answered_line (question_frame so_far) answer =
@@ -133,16 +135,26 @@ nine_answers : (cv : CvNumber) (answers : List Bool) (told : Option ℕ) → Com
 nine_answers cv answers None comes = omega (arith, comes.1, ap length comes.2, length-append comes.0 (false ∷ []))
 nine_answers cv answers (Some value) comes = omega (arith, comes.1, ap length comes.2, length-append comes.0 (true ∷ []))
 
+-- a reading that has come to its end has all answers
+all_answers : (track : Option (List ℕ)) (cv : CvNumber) (so_far : CvAnswers) (answer : Bool) (told : Option ℕ) → AreFirstOf (so_far.answers ++ answer ∷ []) (answers_on track cv)
+    → Comes so_far.cv (so_far.answers ++ answer ∷ []) (reading_of told) → so_far.answers ++ answer ∷ [] ≡ answers_on track cv
+all_answers track cv so_far answer told first comes = all_of _ _ (nine_answers so_far.cv (so_far.answers ++ answer ∷ []) told comes) (nine_on track cv) first
+
+-- and tells the value
+told_value : (track : Option (List ℕ)) (cv : CvNumber) (so_far : CvAnswers) (answer : Bool) (told : Option ℕ) → IfSome track IsCvs → so_far.cv ≡ cv
+    → AreFirstOf (so_far.answers ++ answer ∷ []) (answers_on track cv) → Comes so_far.cv (so_far.answers ++ answer ∷ []) (reading_of told) → told ≡ value_on track cv
+told_value track cv so_far answer told ok same_cv first comes =
+    let P : List Bool → Type 0 = λ answers. Comes cv answers (reading_of told) in
+    let Q : CvNumber → Type 0 = λ c. Comes c (so_far.answers ++ answer ∷ []) (reading_of told) in
+    outcome track cv told ok (subst P (all_answers track cv so_far answer told first comes) (subst Q same_cv comes))
+
 -- the value is told, behind the lines of all answers
 pub tells_value : (track : Option (List ℕ)) (cv : CvNumber) (so_far : CvAnswers) (answer : Bool) (told : Option ℕ) (before mid after then : Option (List ℕ)) (writes count later last : ℕ)
     (result : Result (Option ℕ) ToolFault) → IfSome track IsCvs → IsReading track cv so_far before mid writes count → AreFirstOf (so_far.answers ++ answer ∷ []) (answers_on track cv)
     → TakesAnswer so_far answer mid count (Ok (reading_of told)) after later → Tells told after later result then last → ReadsCv track cv before writes result then last
 tells_value track cv so_far answer told before mid after then writes count later last result ok reading first takes tells =
-    let nine = nine_answers so_far.cv (so_far.answers ++ answer ∷ []) told takes.0 in
-    let all : so_far.answers ++ answer ∷ [] ≡ answers_on track cv = all_of _ _ nine (nine_on track cv) first in
-    let P : List Bool → Type 0 = λ answers. Comes cv answers (reading_of told) in
-    let Q : CvNumber → Type 0 = λ c. Comes c (so_far.answers ++ answer ∷ []) (reading_of told) in
-    let value : told ≡ value_on track cv = outcome track cv told ok (subst P all (subst Q reading.same_cv takes.0)) in
+    let all = all_answers track cv so_far answer told first takes.0 in
+    let value = told_value track cv so_far answer told ok reading.same_cv first takes.0 in
     let lines : Appends before after (answered_lines (unasked cv) (answers_on track cv)) =
     subst (λ (answers : List Bool). Appends before after (answered_lines (unasked cv) answers)) all (written_more cv so_far answer before mid after reading.same_cv reading.written takes.1) in
     ends result value lines (takes.2 ∙ reading.failures) tells
@@ -159,6 +171,43 @@ tells_value track cv so_far answer told before mid after then writes count later
       front_behind before after then _ _ lines (subst (λ (v : Option ℕ). AppendsFront after then (value_line v)) value tells.1),
       subst (λ (n : ℕ). HasRisen n last) same tells.2,
     )
+
+-- eight answers stand before the last of nine
+eight_before : (answers bits : List Bool) (answer last : Bool) → length bits ≡ 8 → answers ++ answer ∷ [] ≡ bits ++ last ∷ [] → (length answers ≡ 8) × (bits ≡ answers)
+eight_before answers bits answer last eight split =
+    let all : length answers ≡ 8 = omega (arith, ap length split, length-append answers (answer ∷ []), length-append bits (last ∷ [])) in
+    (all, sym (take_at bits (last ∷ []) 8 eight) ∙ ap (λ (xs : List Bool). take 8 xs) (sym split) ∙ take_at answers (answer ∷ []) 8 all)
+
+-- the question behind which a value is told is that of the byte
+byte_asked : (so_far : CvAnswers) (question : ServicePacket) (cv : CvNumber) (value : ℕ) → Asks so_far question → so_far.cv ≡ cv → length so_far.answers ≡ 8
+    → value ≡ number_of so_far.answers → question ≡ Verify cv value
+byte_asked so_far (Write c x) cv value asks same_cv all is = absurd asks
+byte_asked so_far (BitWrite c place one) cv value asks same_cv all is = absurd asks
+byte_asked so_far (BitVerify c place one) cv value asks same_cv all is = absurd (omega (arith, asks.1, place.in_range))
+byte_asked so_far (Verify c x) cv value asks same_cv all is = ap (λ n. Verify n x) (asks.0 ∙ same_cv) ∙ ap (λ (v : ℕ). Verify cv v) (asks.2 ∙ sym is)
+
+-- a decoder that has told its value was asked for the byte last
+pub asked_last : (so_far : CvAnswers) (question : ServicePacket) (before now new : ServiceState) (cv : CvNumber) (answer : Bool) (told : Option ℕ) → Asks so_far question → so_far.cv ≡ cv
+    → IsCvs before.cvs → now.cvs ≡ before.cvs → new ≡ after_question now question → AreFirstOf (so_far.answers ++ answer ∷ []) (answers_on (Some before.cvs) cv)
+    → Comes so_far.cv (so_far.answers ++ answer ∷ []) (reading_of told) → new ≡ after_reading before cv
+asked_last so_far question before now new cv answer None asks same_cv ok same is first comes =
+    let clash : None ≡ Some (cv_value before.cvs cv) = told_value (Some before.cvs) cv so_far answer None ok same_cv first comes in absurd (cc)
+asked_last so_far question before now new cv answer (Some value) asks same_cv ok same is first comes =
+    let told : Some value ≡ Some (cv_value before.cvs cv) = told_value (Some before.cvs) cv so_far answer (Some value) ok same_cv first comes in
+    let exact : value ≡ cv_value before.cvs cv = cc in
+    let parts = eight_before so_far.answers comes.0 answer true comes.1 comes.2 in
+    let byte : question ≡ Verify cv value = byte_asked so_far question cv value asks same_cv parts.0 (comes.3 ∙ ap number_of parts.1) in
+    is ∙ ap (λ q. after_question now q) (byte ∙ ap (λ (v : ℕ). Verify cv v) exact)
+    ∙ ap (λ (cvs : List ℕ). record { in_service = true; pending = Some (Verify cv (cv_value before.cvs cv)); cvs = cvs }) same
+
+-- a fact that holds holds of an answer Ok too
+pub on_ok : (result : Result (Option ℕ) ToolFault) (P : Type 0) → P → OnOk result P
+on_ok (Ok value) P fact = fact
+on_ok (Err fault) P fact = tt
+
+pub on_ok_map : (result : Result (Option ℕ) ToolFault) (P Q : Type 0) → (P → Q) → OnOk result P → OnOk result Q
+on_ok_map (Ok value) P Q each fact = each fact
+on_ok_map (Err fault) P Q each fact = tt
 
 -- a decoder's answer to the question behind true answers is the next one
 pub true_answer : (so_far : CvAnswers) (question : ServicePacket) (cvs now : List ℕ) (cv : CvNumber) (answer : Bool) → now ≡ cvs → so_far.cv ≡ cv → IsCvs now → Asks so_far question

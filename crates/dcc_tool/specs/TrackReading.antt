@@ -4,7 +4,9 @@ use Rattle.std.specs.Io.KnownBytes.{Appends}
 use Rattle.hex.specs.Hex.{encode_lower}
 use Rattle.dcc_packet.specs.declared.cv.CvNumber.{CvNumber}
 use Rattle.dcc_service.specs.CvAnswers.{CvAnswers, question_frame}
+use Rattle.dcc_service.specs.declared.packet.ServicePacket.TheVariants.{Verify}
 use Rattle.dcc_service.specs.Cvs.{cv_value}
+use Rattle.dcc_service.specs.Machine.{ServiceState}
 use Rattle.dcc_service.specs.ReadingLaws.{true_answers}
 use Rattle.dcc_tool.specs.declared.fault.ToolFault.{ToolFault}
 use Rattle.dcc_tool.specs.declared.fault.ToolFault.TheVariants.{Write}
@@ -50,6 +52,10 @@ value_line (Some value) = codes "value " ++ (decimal value ++ codes "\n")
 -- the questions with their answers, and the value
 abbrev pub reading_text : Option (List ℕ) → CvNumber → List ℕ
 reading_text track cv = answered_lines (unasked cv) (answers_on track cv) ++ value_line (value_on track cv)
+
+-- a decoder behind the ninth question about a CV, which it has acknowledged and which is still pending
+abbrev pub after_reading : ServiceState → CvNumber → ServiceState
+after_reading before cv = record { in_service = true; pending = Some (Verify cv (cv_value before.cvs cv)); cvs = before.cvs }
 
 -- The value is told and all of the text is written, or a front of it where a write failed or took no byte.
 abbrev pub ReadsCv : Option (List ℕ) → CvNumber → Option (List ℕ) → ℕ → Result (Option ℕ) ToolFault → Option (List ℕ) → ℕ → Type 0

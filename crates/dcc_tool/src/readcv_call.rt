@@ -1,10 +1,10 @@
 //! The reading of a variable on the programming track.
-ghost use Rattle.std.specs.Prelude.{◌≡◌, None, Some};
+ghost use Rattle.std.specs.Prelude.{◌≡◌, None, Some, OnOk};
 ghost use Rattle.std.specs.Option.{option_map, option_copied_mut};
 ghost use Rattle.dcc_service.specs.CvAnswers.{Asks};
 ghost use Rattle.dcc_tool.specs.Loan.{left_in};
 ghost use Rattle.dcc_tool.specs.TrackAnswers.{TakesAnswer, Tells};
-ghost use Rattle.dcc_tool.specs.TrackReading.{ReadsCv};
+ghost use Rattle.dcc_tool.specs.TrackReading.{ReadsCv, after_reading};
 
 use crate::fault::ToolFault;
 use crate::listing::write_all;
@@ -28,6 +28,9 @@ pub fn readcv<W: Sink>(
     ensures reads { ReadsCv (option_map (λ d. d.cvs) (option_copied_mut decoder.entry)) cv (W.contents writer.old) (W.failures writer.old)
         result (W.contents writer.new) (W.failures writer.new) }
     ensures cvs { option_map (λ d. d.cvs) (left_in decoder.exit) ≡ option_map (λ d. d.cvs) (option_copied_mut decoder.entry) }
+
+    // Where the answer is Ok, the decoder itself has been asked, the byte last.
+    ensures asked { OnOk result (left_in decoder.exit ≡ option_map (λ d. after_reading d cv) (option_copied_mut decoder.entry)) }
 {
     match decoder {
         Some(decoder) => read_decoder(decoder, cv, writer),
@@ -43,6 +46,7 @@ fn read_decoder<W: Sink>(
 ) -> Result<Option<u8>, ToolFault>
     ensures tells { ReadsCv (Some decoder.old.cvs) cv (W.contents writer.old) (W.failures writer.old) result (W.contents writer.new) (W.failures writer.new) }
     ensures cvs { decoder.new.cvs ≡ decoder.old.cvs }
+    ensures asked { OnOk result (decoder.new ≡ after_reading decoder.old cv) }
 {
     let mut reader = CvReader::new(cv);
     'questions: loop {
