@@ -24,11 +24,23 @@ pub fn command<'a>(alloc: Global) -> Result<Command<'a>, AllocError> {
             "The bytes of each packet, in place of its halves",
         ))?
         .arg(flag(alloc, "service", "The timing of service mode"))?;
+    let readcv = Command::new(alloc, "readcv")
+        .about("Reads a CV of the first locomotive of a decoder text, on a programming track")
+        .arg(
+            Arg::new(alloc, "cv")
+                .long("cv")
+                .required(true)
+                .action(ArgAction::Set)
+                .value_parser(clap::value_parser!(u16).range(1..=1024))
+                .help("The number of the CV, 1 to 1024"),
+        )?
+        .arg(flag(alloc, "empty", "An empty track; no decoder text is read"))?;
     Command::new(alloc, "dcc")
         .about("Digital Command Control: captures, packets and halves")
         .version("0.1.0")
         .subcommand_required(true)
         .disable_help_subcommand(true)
         .subcommand(show)?
-        .subcommand(encode)
+        .subcommand(encode)?
+        .subcommand(readcv)
 }
