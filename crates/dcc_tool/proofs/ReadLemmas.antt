@@ -131,8 +131,8 @@ module _ {A : Type 0} where
   )
 
   -- a decoder too many
-  pub Refuses-too_many : (read : Reader A) (old now : InputState) → Leads read old (stop_at too_many) now → Refuses read old TooMuch (record { text = now.text; ahead = now.ahead; place = now.place; halves = now.halves; bytes = now.bytes; fault = Some TooMuch; failures = now.failures })
-  Refuses-too_many read old now a = Refuses-behind read (stop_at too_many) old now (record { text = now.text; ahead = now.ahead; place = now.place; halves = now.halves; bytes = now.bytes; fault = Some TooMuch; failures = now.failures }) TooMuch a (refl, go now.text)
+  pub Refuses-too_many : (read : Reader A) (old now : InputState) → Leads read old (stop_at too_many) now → Refuses read old TooMuch (record now { fault = Some TooMuch })
+  Refuses-too_many read old now a = Refuses-behind read (stop_at too_many) old now (record now { fault = Some TooMuch }) TooMuch a (refl, go now.text)
     where
       either : (text : List ℕ) (b : Bool) → nat_le (length text) now.bytes ≡ b → answer_in (stop_at {A = A} too_many) now text ≡ Err TooMuch
       either text true is = rw is refl
