@@ -57,7 +57,7 @@ pub(crate) fn version_line(line: &[u8]) -> Result<(), PacketFault>
 }
 
 /// The active address of a locomotive decoder, or `none`.
-fn own_address(word: &[u8]) -> Result<Option<Address>, PacketFault>
+pub(crate) fn own_address(word: &[u8]) -> Result<Option<Address>, PacketFault>
     ensures is { result ≡ own_address word.now }
     ensures active { IfOk result (λ active. is_active active ≡ true) }
 {
