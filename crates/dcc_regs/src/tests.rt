@@ -43,6 +43,23 @@ const NOTHING: Value = Value::Pending(None);
 
 const STOP: Value = Value::Speed(Speed::Stop);
 
+/// Forward at the bits 9: step 3 of 14 with F0 on, or step 6 of 28.
+const STEP: &str = "frame 037477";
+
+/// Bit 1 of CV29 is made zero, for 14 steps, and one, for 28.
+const TO_14: &str = "frame 03e81cf106";
+const TO_28: &str = "frame 03e81cf90e";
+
+/// CV29 is made 6.
+const WRITE: &str = "frame 03ec1c06f5";
+
+/// Outputs of board 12, and of all boards.
+const FIVE_ON: &str = "frame 8cfd71";
+const FOUR_ON: &str = "frame 8cfc70";
+const ZERO_ON_FOR_ALL: &str = "frame bf8837";
+const RESET: &str = "frame 000000";
+const ASPECTS_FOR_ALL: &str = "frame bf0705bd";
+
 /// Starts with CV29 as given, hears the lines, then holds the value in the register.
 type Row<'a> = (u8, &'a [&'a str], Register, Value);
 
@@ -188,19 +205,16 @@ fn functions(rt: HostRuntime) -> Result<(), Fail> {
 
 #[test]
 fn mode_of_the_moment(rt: HostRuntime) -> Result<(), Fail> {
-    let x = "frame 037477";
-    let to_14 = "frame 03e81cf106";
-    let to_28 = "frame 03e81cf90e";
     let rows: [Row; 2] = [
         (
             2,
-            &[x, to_14, to_14, x, to_28, to_28, x],
+            &[STEP, TO_14, TO_14, STEP, TO_28, TO_28, STEP],
             Register::Function(0),
             ON,
         ),
         (
             2,
-            &[x, to_14, to_14, to_28, to_28, x],
+            &[STEP, TO_14, TO_14, TO_28, TO_28, STEP],
             Register::Function(0),
             OFF,
         ),
@@ -215,17 +229,16 @@ fn mode_of_the_moment(rt: HostRuntime) -> Result<(), Fail> {
 
 #[test]
 fn writes(rt: HostRuntime) -> Result<(), Fail> {
-    let w = "frame 03ec1c06f5";
     let rows: [(&[&str], u16, u8); 11] = [
-        (&[w], 29, 2),
-        (&[w, w], 29, 6),
-        (&[w, w, w], 29, 6),
+        (&[WRITE], 29, 2),
+        (&[WRITE, WRITE], 29, 6),
+        (&[WRITE, WRITE, WRITE], 29, 6),
         // what the decoder does not hear leaves the write pending
-        (&[w, "frame ff00ff", "frame 046266", w], 29, 6),
+        (&[WRITE, "frame ff00ff", "frame 046266", WRITE], 29, 6),
         // any packet that it hears clears it
-        (&[w, "frame 038182", w], 29, 2),
-        (&[w, "frame 006060", w], 29, 2),
-        (&[w, "frame 006262", w], 29, 2),
+        (&[WRITE, "frame 038182", WRITE], 29, 2),
+        (&[WRITE, "frame 006060", WRITE], 29, 2),
+        (&[WRITE, "frame 006262", WRITE], 29, 2),
         (&["frame 03e81cfd0a", "frame 03e81cfd0a"], 29, 34),
         (&["frame 03ec0708e0", "frame 03ec0708e0"], 8, 0),
         (&["frame 03efffffec", "frame 03efffffec"], 1024, 255),
@@ -237,8 +250,8 @@ fn writes(rt: HostRuntime) -> Result<(), Fail> {
         assert_eq!(rt; cv(&decoder, number)?, value, "{lines:?}");
     }
     let mut decoder = loco(2);
-    hear(&mut decoder, &[w])?;
-    let pending = Packet::from_line(w)?;
+    hear(&mut decoder, &[WRITE])?;
+    let pending = Packet::from_line(WRITE)?;
     assert_eq!(rt;
         decoder.get(Register::Pending),
         Some(Value::Pending(Some(pending)))
@@ -317,31 +330,29 @@ fn active_addresses(rt: HostRuntime) -> Result<(), Fail> {
     Ok(())
 }
 
+/// Board 12 hears the lines, then holds the value in the register.
+type BoardRow<'a> = (&'a [&'a str], Register, Value);
+
 #[test]
 fn boards(rt: HostRuntime) -> Result<(), Fail> {
-    let on = "frame 8cfd71";
-    let other = "frame 8cfc70";
-    let to_all = "frame bf8837";
-    let reset = "frame 000000";
-    let aspects = "frame bf0705bd";
     let number = Value::Number;
-    let rows: [(&[&str], Register, Value); 17] = [
-        (&[], Register::Out(5), OFF),
-        (&[], Register::Position(2), number(0)),
-        (&[on], Register::Out(5), ON),
-        (&[on], Register::Position(2), number(1)),
-        (&[on, other], Register::Out(4), ON),
-        (&[on, other], Register::Position(2), number(0)),
-        (&[on, other], Register::Out(5), ON),
-        (&[on, to_all], Register::Out(0), ON),
-        (&[on, to_all], Register::Position(0), number(0)),
-        (&[on, other, to_all, reset], Register::Out(5), OFF),
-        (&[on, other, to_all, reset], Register::Out(0), OFF),
-        (&[on, reset], Register::Position(2), number(1)),
+    let rows: [BoardRow; 17] = [
+        (&["idle"], Register::Out(5), OFF),
+        (&["idle"], Register::Position(2), number(0)),
+        (&[FIVE_ON], Register::Out(5), ON),
+        (&[FIVE_ON], Register::Position(2), number(1)),
+        (&[FIVE_ON, FOUR_ON], Register::Out(4), ON),
+        (&[FIVE_ON, FOUR_ON], Register::Position(2), number(0)),
+        (&[FIVE_ON, FOUR_ON], Register::Out(5), ON),
+        (&[FIVE_ON, ZERO_ON_FOR_ALL], Register::Out(0), ON),
+        (&[FIVE_ON, ZERO_ON_FOR_ALL], Register::Position(0), number(0)),
+        (&[FIVE_ON, FOUR_ON, ZERO_ON_FOR_ALL, RESET], Register::Out(5), OFF),
+        (&[FIVE_ON, FOUR_ON, ZERO_ON_FOR_ALL, RESET], Register::Out(0), OFF),
+        (&[FIVE_ON, RESET], Register::Position(2), number(1)),
         // a reset of one locomotive is not for boards
-        (&[on, "frame 030003"], Register::Out(5), ON),
-        (&[aspects], Register::Aspect(0), number(5)),
-        (&[aspects], Register::Aspect(3), number(5)),
+        (&[FIVE_ON, "frame 030003"], Register::Out(5), ON),
+        (&[ASPECTS_FOR_ALL], Register::Aspect(0), number(5)),
+        (&[ASPECTS_FOR_ALL], Register::Aspect(3), number(5)),
         // signal 51 is the fourth of board 12, signal 52 the first of board 13
         (
             &["signal 51 7", "signal 52 9"],
@@ -349,7 +360,7 @@ fn boards(rt: HostRuntime) -> Result<(), Fail> {
             number(7),
         ),
         (
-            &["signal 51 7", "signal 52 9", reset],
+            &["signal 51 7", "signal 52 9", RESET],
             Register::Aspect(0),
             number(0),
         ),
@@ -364,7 +375,7 @@ fn boards(rt: HostRuntime) -> Result<(), Fail> {
         );
     }
     let mut decoder = BoardDecoder::new(Board::new(12)?)?;
-    hear(&mut decoder, &[on, "signal 51 7"])?;
+    hear(&mut decoder, &[FIVE_ON, "signal 51 7"])?;
     decoder.power_up();
     assert_eq!(rt; decoder.get(Register::Out(5)), Some(OFF));
     assert_eq!(rt; decoder.get(Register::Position(2)), Some(number(1)));
