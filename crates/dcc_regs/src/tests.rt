@@ -48,6 +48,7 @@ const STEP: &str = "frame 037477";
 
 /// Bit 1 of CV29 is made zero, for 14 steps, and one, for 28.
 const TO_14: &str = "frame 03e81cf106";
+
 const TO_28: &str = "frame 03e81cf90e";
 
 /// CV29 is made 6.
@@ -55,9 +56,13 @@ const WRITE: &str = "frame 03ec1c06f5";
 
 /// Outputs of board 12, and of all boards.
 const FIVE_ON: &str = "frame 8cfd71";
+
 const FOUR_ON: &str = "frame 8cfc70";
+
 const ZERO_ON_FOR_ALL: &str = "frame bf8837";
+
 const RESET: &str = "frame 000000";
+
 const ASPECTS_FOR_ALL: &str = "frame bf0705bd";
 
 /// Starts with CV29 as given, hears the lines, then holds the value in the register.
@@ -345,9 +350,21 @@ fn boards(rt: HostRuntime) -> Result<(), Fail> {
         (&[FIVE_ON, FOUR_ON], Register::Position(2), number(0)),
         (&[FIVE_ON, FOUR_ON], Register::Out(5), ON),
         (&[FIVE_ON, ZERO_ON_FOR_ALL], Register::Out(0), ON),
-        (&[FIVE_ON, ZERO_ON_FOR_ALL], Register::Position(0), number(0)),
-        (&[FIVE_ON, FOUR_ON, ZERO_ON_FOR_ALL, RESET], Register::Out(5), OFF),
-        (&[FIVE_ON, FOUR_ON, ZERO_ON_FOR_ALL, RESET], Register::Out(0), OFF),
+        (
+            &[FIVE_ON, ZERO_ON_FOR_ALL],
+            Register::Position(0),
+            number(0),
+        ),
+        (
+            &[FIVE_ON, FOUR_ON, ZERO_ON_FOR_ALL, RESET],
+            Register::Out(5),
+            OFF,
+        ),
+        (
+            &[FIVE_ON, FOUR_ON, ZERO_ON_FOR_ALL, RESET],
+            Register::Out(0),
+            OFF,
+        ),
         (&[FIVE_ON, RESET], Register::Position(2), number(1)),
         // a reset of one locomotive is not for boards
         (&[FIVE_ON, "frame 030003"], Register::Out(5), ON),
