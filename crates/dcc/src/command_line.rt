@@ -1,6 +1,6 @@
 //! The command line.
 
-use clap::{Arg, ArgAction, Command};
+use clap::{Arg, ArgAction, Command, value_parser};
 use std::alloc::{AllocError, Global};
 
 /// A flag of a subcommand.
@@ -8,6 +8,14 @@ fn flag<'a>(alloc: Global, name: &'a str, help: &'a str) -> Arg<'a> {
     Arg::new(alloc, name)
         .long(name)
         .action(ArgAction::SetTrue)
+        .help(help)
+}
+
+/// A number of a subcommand, 0 to 255.
+fn number<'a>(alloc: Global, name: &'a str, help: &'a str) -> Arg<'a> {
+    Arg::new(alloc, name)
+        .long(name)
+        .value_parser(value_parser!(u8))
         .help(help)
 }
 
@@ -23,7 +31,27 @@ pub fn command<'a>(alloc: Global) -> Result<Command<'a>, AllocError> {
             "hex",
             "The bytes of each packet, in place of its halves",
         ))?
-        .arg(flag(alloc, "service", "The timing of service mode"))?;
+        .arg(flag(alloc, "service", "The timing of service mode"))?
+        .arg(flag(
+            alloc,
+            "station",
+            "A station sends the packets, as many as lines `send N` ask for",
+        ))?
+        .arg(number(
+            alloc,
+            "queue",
+            "How many commands may wait, 16 if not given",
+        ))?
+        .arg(number(
+            alloc,
+            "slots",
+            "How many packets are refreshed, 32 if not given",
+        ))?
+        .arg(number(
+            alloc,
+            "repeats",
+            "How often a command is sent in a row, 2 if not given",
+        ))?;
     let readcv = Command::new(alloc, "readcv")
         .about("Reads a CV of the first locomotive of a decoder text, on a programming track")
         .arg(

@@ -10,16 +10,19 @@ use std::test::Fail;
 const HEX: Encode = Encode {
     hex: true,
     service: false,
+    station: None,
 };
 
 const MAIN: Encode = Encode {
     hex: false,
     service: false,
+    station: None,
 };
 
 const SERVICE: Encode = Encode {
     hex: false,
     service: true,
+    station: None,
 };
 
 /// The halves of `03 62 61` on the main track.
@@ -47,9 +50,9 @@ fn expect(
 ) {
     let mut input = Input::new(Counted::new(lines), Limits::full());
     let mut writer = Counted::new(Vec::new(alloc));
-    assert_eq!(rt; encode(&mut input, &mut writer, how), answer);
+    assert_eq!(rt; encode(alloc, &mut input, &mut writer, how), answer);
     assert_eq!(rt; writer.inner.as_slice(), written);
-    assert_eq!(rt; encode(&mut input, &mut writer, how), answer);
+    assert_eq!(rt; encode(alloc, &mut input, &mut writer, how), answer);
     assert_eq!(rt; writer.inner.as_slice(), written);
 }
 
@@ -147,11 +150,11 @@ fn endless_lines_are_too_much(rt: HostRuntime) {
     let mut input = Input::new(Giving::new(b"\n", 1, 5000, true), limits);
     let mut writer = Counted::new(Vec::new(rt.alloc()));
     assert_eq!(rt;
-        encode(&mut input, &mut writer, HEX),
+        encode(rt.alloc(), &mut input, &mut writer, HEX),
         Err(ToolFault::TooMuch)
     );
     assert_eq!(rt;
-        encode(&mut input, &mut writer, HEX),
+        encode(rt.alloc(), &mut input, &mut writer, HEX),
         Err(ToolFault::TooMuch)
     );
     assert!(rt; writer.inner.is_empty());
@@ -162,10 +165,10 @@ fn the_limit_of_bytes_counts_line_feeds(rt: HostRuntime) {
     let mut writer = Counted::new(Vec::new(rt.alloc()));
     let limits = |bytes| Limits { halves: 0, bytes };
     let mut input = Input::new(Counted::new(b"idle\n".as_slice()), limits(5));
-    assert_eq!(rt; encode(&mut input, &mut writer, HEX), Ok(()));
+    assert_eq!(rt; encode(rt.alloc(), &mut input, &mut writer, HEX), Ok(()));
     let mut input = Input::new(Counted::new(b"idle\n".as_slice()), limits(4));
     assert_eq!(rt;
-        encode(&mut input, &mut writer, HEX),
+        encode(rt.alloc(), &mut input, &mut writer, HEX),
         Err(ToolFault::TooMuch)
     );
     assert_eq!(rt; writer.inner.as_slice(), b"ff00ff\n".as_slice());
@@ -175,9 +178,15 @@ fn the_limit_of_bytes_counts_line_feeds(rt: HostRuntime) {
 fn a_failing_reader_is_told_behind_the_lines_that_ended(rt: HostRuntime) {
     let mut input = Input::new(Giving::new(b"idle\nidle\n", 4, 2, false), Limits::full());
     let mut writer = Counted::new(Vec::new(rt.alloc()));
-    assert_eq!(rt; encode(&mut input, &mut writer, HEX), Err(ToolFault::Read));
+    assert_eq!(rt;
+        encode(rt.alloc(), &mut input, &mut writer, HEX),
+        Err(ToolFault::Read)
+    );
     assert_eq!(rt; writer.inner.as_slice(), b"ff00ff\n".as_slice());
-    assert_eq!(rt; encode(&mut input, &mut writer, HEX), Err(ToolFault::Read));
+    assert_eq!(rt;
+        encode(rt.alloc(), &mut input, &mut writer, HEX),
+        Err(ToolFault::Read)
+    );
     assert_eq!(rt; writer.inner.as_slice(), b"ff00ff\n".as_slice());
 }
 
@@ -185,15 +194,21 @@ fn a_failing_reader_is_told_behind_the_lines_that_ended(rt: HostRuntime) {
 fn a_writer_takes_a_line_in_parts_or_fails(rt: HostRuntime) {
     let mut input = Input::new(Counted::new(b"idle".as_slice()), Limits::full());
     let mut writer = Taking::new(rt.alloc(), 1, 100);
-    assert_eq!(rt; encode(&mut input, &mut writer, HEX), Ok(()));
+    assert_eq!(rt; encode(rt.alloc(), &mut input, &mut writer, HEX), Ok(()));
     assert_eq!(rt; writer.taken.as_slice(), b"ff00ff\n".as_slice());
     let mut input = Input::new(Counted::new(b"idle\nx".as_slice()), Limits::full());
     let mut writer = Taking::new(rt.alloc(), 2, 2);
-    assert_eq!(rt; encode(&mut input, &mut writer, HEX), Err(ToolFault::Write));
+    assert_eq!(rt;
+        encode(rt.alloc(), &mut input, &mut writer, HEX),
+        Err(ToolFault::Write)
+    );
     assert_eq!(rt; writer.taken.as_slice(), b"ff00".as_slice());
     let mut input = Input::new(Counted::new(b"idle".as_slice()), Limits::full());
     let mut writer = Taking::new(rt.alloc(), 0, 2);
-    assert_eq!(rt; encode(&mut input, &mut writer, HEX), Err(ToolFault::Write));
+    assert_eq!(rt;
+        encode(rt.alloc(), &mut input, &mut writer, HEX),
+        Err(ToolFault::Write)
+    );
 }
 
 #[test]
@@ -228,13 +243,13 @@ fn lines_are_counted_with_the_last_one(rt: HostRuntime) {
         let mut input = Input::new(Counted::new(lines), Limits::full());
         assert_eq!(rt; input.lines(), 0);
         let mut writer = Counted::new(Vec::new(rt.alloc()));
-        assert_eq!(rt; encode(&mut input, &mut writer, HEX), Ok(()));
+        assert_eq!(rt; encode(rt.alloc(), &mut input, &mut writer, HEX), Ok(()));
         assert_eq!(rt; input.lines(), count);
     }
     let mut input = Input::new(Counted::new(b"idle\nx\nidle\n".as_slice()), Limits::full());
     let mut writer = Counted::new(Vec::new(rt.alloc()));
     assert_eq!(rt;
-        encode(&mut input, &mut writer, HEX),
+        encode(rt.alloc(), &mut input, &mut writer, HEX),
         refused(2, PacketFault::Word)
     );
     assert_eq!(rt; input.lines(), 2);

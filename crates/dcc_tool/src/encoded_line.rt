@@ -2,9 +2,12 @@
 ghost use Rattle.std.specs.Prelude.{◌≡◌, ◌≤◌, ◌+◌, ◌++◌, [], length, decimal};
 ghost use Rattle.arrayvec.specs.ArrayVec.{array_vec_len};
 ghost use Rattle.dcc_wire.specs.Sending.{sent};
+ghost use Rattle.dcc_tool.specs.Written.{Writes};
 ghost use Rattle.dcc_tool.specs.Encoded.{frame_line, timing_of, spaced};
 
 use crate::encoding::Encode;
+use crate::listing::write_all;
+use crate::stream::{Failed, Sink};
 use crate::text::{append_decimal, append_hex};
 use arrayvec::ArrayVec;
 use dcc_wire::{Frame, Halves, Timing};
@@ -12,8 +15,15 @@ use dcc_wire::{Frame, Halves, Timing};
 /// Room for the 150 halves of six bytes in service mode, each of up to five digits and a space.
 pub(crate) type EncodedLine = ArrayVec<u8, 1024>;
 
+/// Writes the line of a frame.
+pub(crate) fn write_frame<W: Sink>(writer: &mut W, frame: &Frame, how: Encode) -> Result<(), Failed>
+    ensures { Writes (W.contents writer.old) (W.failures writer.old) (frame_line how frame.now) result (W.contents writer.new) (W.failures writer.new) }
+{
+    write_all(writer, frame_line(frame, how).as_slice())
+}
+
 /// The line of a frame.
-pub(crate) fn frame_line(frame: &Frame, how: Encode) -> EncodedLine
+fn frame_line(frame: &Frame, how: Encode) -> EncodedLine
     ensures { result.items ≡ frame_line how frame.now }
 {
     let mut line = EncodedLine::new();

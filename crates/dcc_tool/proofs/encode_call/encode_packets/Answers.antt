@@ -1,6 +1,6 @@
 use Rattle.std.proofs.Common.{sym, ◌∙◌}
 use Rattle.dcc_tool.proofs.EncodeLemmas.{Encoding-start, Encoding-packet, stops_at_write}
-use Rattle.dcc_tool.proofs.encode_call.encode.Goals as goal
+use Rattle.dcc_tool.proofs.encode_call.encode_packets.Goals as goal
 
 pub packets-init : goal.packets-init
 packets-init g c =
