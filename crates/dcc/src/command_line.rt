@@ -63,6 +63,8 @@ pub fn command<'a>(alloc: Global) -> Result<Command<'a>, AllocError> {
                 .help("The number of the CV, 1 to 1024"),
         )?
         .arg(flag(alloc, "empty", "An empty track; no decoder text is read"))?;
+    let run = Command::new(alloc, "run")
+        .about("Plays the capture behind a decoder text to its decoders, and writes them as they are then");
     Command::new(alloc, "dcc")
         .about("Digital Command Control: captures, packets and halves")
         .version("0.1.0")
@@ -70,5 +72,6 @@ pub fn command<'a>(alloc: Global) -> Result<Command<'a>, AllocError> {
         .disable_help_subcommand(true)
         .subcommand(show)?
         .subcommand(encode)?
-        .subcommand(readcv)
+        .subcommand(readcv)?
+        .subcommand(run)
 }
