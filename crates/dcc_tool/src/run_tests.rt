@@ -143,7 +143,7 @@ fn faults_are_told_by_line_and_reason(rt: HostRuntime) -> Result<(), Fail> {
 
 /// A text of so many boards.
 fn boards(alloc: Global, count: usize) -> Result<String, Fail> {
-    let mut text = String::from(alloc, "dcc-decoders 1\n")?;
+    let mut text = String::from_str(alloc, "dcc-decoders 1\n")?;
     for _ in 0..count {
         text.push_str("board 12\nout\nposition 0 0 0 0\naspect 0 0 0 0\n")?;
     }
