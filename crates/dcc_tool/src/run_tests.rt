@@ -70,7 +70,7 @@ fn texts_are_written_back(rt: HostRuntime) -> Result<(), Fail> {
         TEXT,
         "dcc-decoders 1\nend\n",
         "dcc-decoders 1\nloco none\nspeed 126 126 r\non 0 5 68\npending none\ncv 1024 255\n\
-            loco l1000\nspeed 14 14 f\non 1\npending c3e8ec1c06e1\nend\n",
+            loco l1000\nspeed 14 14 f\non 1\npending c3e8ec1c06dd\nend\n",
         "dcc-decoders 1\nboard 0\nout 0 3 7\nposition 0 1 0 1\naspect 0 1 254 255\nend\n",
     ];
     for text in rows {
