@@ -7,18 +7,18 @@ ghost use Rattle.dcc_regs.specs.Result.{HasHeard};
 use dcc_packet::Packet;
 use dcc_regs::Decoder;
 
-/// One member hears a packet.
-fn hear_one(decoder: &mut Box<dyn Decoder>, packet: &Packet)
-    ensures { HasHeard (packet.now ∷ []) (who decoder.old) (registers decoder.old) (who decoder.new) (registers decoder.new) }
-{
-    decoder.apply(packet);
-}
-
 /// Each member hears a packet.
-pub fn hear_packet(decoders: &mut [Box<dyn Decoder>], packet: &Packet)
-    ensures { AllZip (λ old now. HasHeard (packet.now ∷ []) (who old) (registers old) (who now) (registers now)) decoders.old decoders.new }
+pub fn hear_packet<D: Decoder>(decoders: &mut [D], packet: &Packet)
+    ensures { AllZip (λ old now. HasHeard (packet.now ∷ []) (D.who old) (D.registers old) (D.who now) (D.registers now)) decoders.old decoders.new }
 {
     for decoder in decoders.iter_mut() {
         hear_one(decoder, packet);
     }
+}
+
+/// One member hears a packet.
+fn hear_one<D: Decoder>(decoder: &mut D, packet: &Packet)
+    ensures { HasHeard (packet.now ∷ []) (D.who decoder.old) (D.registers decoder.old) (D.who decoder.new) (D.registers decoder.new) }
+{
+    decoder.apply(packet);
 }

@@ -14,9 +14,9 @@ use dcc_regs::Decoder;
 use dcc_wire::{Framer, Seen};
 
 /// Each member hears the packet that was seen, if one was.
-fn hear_seen(decoders: &mut [Box<dyn Decoder>], seen: &Seen)
+fn hear_seen<D: Decoder>(decoders: &mut [D], seen: &Seen)
     ensures hears { (packets : List Packet) → AreSpelled packets (frames_of seen.now) →
-        AllZip (λ old now. HasHeard packets (who old) (registers old) (who now) (registers now)) decoders.old decoders.new }
+        AllZip (λ old now. HasHeard packets (D.who old) (D.registers old) (D.who now) (D.registers now)) decoders.old decoders.new }
     ensures spelled { (packets : List Packet) × AreSpelled packets (frames_of seen.now) }
 {
     match seen {
@@ -28,7 +28,7 @@ fn hear_seen(decoders: &mut [Box<dyn Decoder>], seen: &Seen)
 
 /// A fleet hears a half of this many microseconds. Where a packet ends with it, each member hears
 /// that packet, and otherwise each stays as it is. The answer is that of the framer.
-pub fn hear(decoders: &mut [Box<dyn Decoder>], framer: &mut Framer, us: u16) -> Seen
+pub fn hear<D: Decoder>(decoders: &mut [D], framer: &mut Framer, us: u16) -> Seen
     ensures stands { (halves : List ℕ) → StandsFor framer.old halves → StandsFor framer.new (halves ++ us ∷ []) }
     ensures sees { (halves : List ℕ) → StandsFor framer.old halves →
         seen_in (halves ++ us ∷ []) ≡ seen_in halves ++ reported (length halves) result }
@@ -37,12 +37,12 @@ pub fn hear(decoders: &mut [Box<dyn Decoder>], framer: &mut Framer, us: u16) -> 
     ensures spelled { (packets : List Packet) × AreSpelled packets (frames_of result) }
     // and each member has heard just that.
     ensures hears { (packets : List Packet) → AreSpelled packets (frames_of result) →
-        AllZip (λ old now. HasHeard packets (who old) (registers old) (who now) (registers now)) decoders.old decoders.new }
+        AllZip (λ old now. HasHeard packets (D.who old) (D.registers old) (D.who now) (D.registers now)) decoders.old decoders.new }
 
     // So members that have heard a list of halves have then heard the list with this half behind it.
     ensures since { (halves : List ℕ) → StandsFor framer.old halves → (starts : List (Who × RegisterMap)) →
-        AllZip (λ start now. HasHeardHalves halves start.0 start.1 (who now) (registers now)) starts decoders.old →
-        AllZip (λ start now. HasHeardHalves (halves ++ us ∷ []) start.0 start.1 (who now) (registers now)) starts decoders.new }
+        AllZip (λ start now. HasHeardHalves halves start.0 start.1 (D.who now) (D.registers now)) starts decoders.old →
+        AllZip (λ start now. HasHeardHalves (halves ++ us ∷ []) start.0 start.1 (D.who now) (D.registers now)) starts decoders.new }
 {
     let seen = framer.push(us);
     hear_seen(decoders, &seen);
@@ -51,11 +51,11 @@ pub fn hear(decoders: &mut [Box<dyn Decoder>], framer: &mut Framer, us: u16) -> 
 
 /// A fleet hears a piece of a track, half by half. So the track may come in pieces of any length: members that have heard
 /// the halves before it have then heard these behind them.
-pub fn hear_piece(decoders: &mut [Box<dyn Decoder>], framer: &mut Framer, durations: &[u16])
+pub fn hear_piece<D: Decoder>(decoders: &mut [D], framer: &mut Framer, durations: &[u16])
     ensures stands { (halves : List ℕ) → StandsFor framer.old halves → StandsFor framer.new (halves ++ durations.now) }
     ensures since { (halves : List ℕ) → StandsFor framer.old halves → (starts : List (Who × RegisterMap)) →
-        AllZip (λ start now. HasHeardHalves halves start.0 start.1 (who now) (registers now)) starts decoders.old →
-        AllZip (λ start now. HasHeardHalves (halves ++ durations.now) start.0 start.1 (who now) (registers now)) starts decoders.new }
+        AllZip (λ start now. HasHeardHalves halves start.0 start.1 (D.who now) (D.registers now)) starts decoders.old →
+        AllZip (λ start now. HasHeardHalves (halves ++ durations.now) start.0 start.1 (D.who now) (D.registers now)) starts decoders.new }
 {
     for us in durations {
         hear(decoders, framer, *us);

@@ -4,6 +4,7 @@
 
 mod board;
 mod board_state;
+mod boxed;
 mod conflicts;
 mod cvs;
 mod decoder;

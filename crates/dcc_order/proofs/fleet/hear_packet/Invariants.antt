@@ -7,7 +7,5 @@ abbrev pub invariant-loop-decoder : goal.invariant-loop-decoder
 invariant-loop-decoder g l =
     SteppedTo
     (λ old now.
-    let was = goal.Decoder-dyn g (old.vtable, old.value) in
-    let is = goal.Decoder-dyn g (now.vtable, now.value) in
-    HasHeard (l.packet ∷ []) (was.who old.value) (was.registers old.value) (is.who now.value) (is.registers now.value))
+    HasHeard (l.packet ∷ []) (g.D.Decoder.who old) (g.D.Decoder.registers old) (g.D.Decoder.who now) (g.D.Decoder.registers now))
     l.decoder-index l.fn.decoders l.decoders

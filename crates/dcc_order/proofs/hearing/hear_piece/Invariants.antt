@@ -10,6 +10,6 @@ abbrev pub invariant-loop-us : goal.invariant-loop-us
 invariant-loop-us g l = record {
   stands : (halves : List ℕ) → StandsFor l.fn.framer halves → StandsFor l.framer (halves ++ take l.us-index l.durations);
   since : (halves : List ℕ) → StandsFor l.fn.framer halves → (starts : List (Who × RegisterMap)) →
-      AllZip (λ start now. let is = goal.Decoder-dyn g (now.vtable, now.value) in HasHeardHalves halves start.0 start.1 (is.who now.value) (is.registers now.value)) starts l.fn.decoders →
-      AllZip (λ start now. let is = goal.Decoder-dyn g (now.vtable, now.value) in HasHeardHalves (halves ++ take l.us-index l.durations) start.0 start.1 (is.who now.value) (is.registers now.value)) starts l.decoders;
+      AllZip (λ start now. HasHeardHalves halves start.0 start.1 (g.D.Decoder.who now) (g.D.Decoder.registers now)) starts l.fn.decoders →
+      AllZip (λ start now. HasHeardHalves (halves ++ take l.us-index l.durations) start.0 start.1 (g.D.Decoder.who now) (g.D.Decoder.registers now)) starts l.decoders;
 }
