@@ -108,8 +108,8 @@ module _ {A : Type 0} (view : A → Who × RegisterMap) where
   texts_more before mid after xs i x within is first second =
       let tail : texts (slice_index_or xs i x ∷ []) ≡ member_text (view x) = ap (λ y. texts (y ∷ [])) (sym is) ∙ append-nil (member_text (view x)) in
       let whole : header ++ texts (take (i + 1) xs) ≡ (header ++ texts (take i xs)) ++ member_text (view x) =
-          ap (λ (ys : List A). header ++ texts ys) (next_text xs i x within) ∙ ap (λ (bytes : List ℕ). header ++ bytes) (texts-append (take i xs) (slice_index_or xs i x ∷ []) ∙ ap (λ (bytes : List ℕ). texts (take i xs) ++ bytes) tail)
-          ∙ sym (append_assoc header (texts (take i xs)) (member_text (view x))) in
+      ap (λ (ys : List A). header ++ texts ys) (next_text xs i x within) ∙ ap (λ (bytes : List ℕ). header ++ bytes) (texts-append (take i xs) (slice_index_or xs i x ∷ []) ∙ ap (λ (bytes : List ℕ). texts (take i xs) ++ bytes) tail)
+      ∙ sym (append_assoc header (texts (take i xs)) (member_text (view x))) in
       subst (λ (bytes : List ℕ). Appends before after bytes) (sym whole) (Appends-append before mid after (header ++ texts (take i xs)) (member_text (view x)) first second)
 
   -- a member could not be written
@@ -117,9 +117,9 @@ module _ {A : Type 0} (view : A → Who × RegisterMap) where
       → between ≡ failures → Writes mid between (member_text (view x)) (Err failed) after now → Writes before failures (fleet_text (map view xs)) (Err failed) after now
   texts_stopped before mid after failures between now xs i x failed within is first same second =
       let all : texts xs ≡ texts (take i xs) ++ (member_text (view x) ++ texts (drop (i + 1) xs)) =
-          ap texts (split xs i x within) ∙ texts-append (take i xs) (slice_index_or xs i x ∷ drop (i + 1) xs) ∙ ap (λ y. texts (take i xs) ++ (member_text (view y) ++ texts (drop (i + 1) xs))) (sym is) in
+      ap texts (split xs i x within) ∙ texts-append (take i xs) (slice_index_or xs i x ∷ drop (i + 1) xs) ∙ ap (λ y. texts (take i xs) ++ (member_text (view y) ++ texts (drop (i + 1) xs))) (sym is) in
       let whole : fleet_text (map view xs) ≡ ((header ++ texts (take i xs)) ++ member_text (view x)) ++ (texts (drop (i + 1) xs) ++ codes "end\n") =
-          ap (λ (bytes : List ℕ). header ++ (bytes ++ codes "end\n")) all ∙ simp append_assoc refl in
+      ap (λ (bytes : List ℕ). header ++ (bytes ++ codes "end\n")) all ∙ simp append_assoc refl in
       writes_front before after failures now (fleet_text (map view xs)) ((header ++ texts (take i xs)) ++ member_text (view x)) (texts (drop (i + 1) xs) ++ codes "end\n") failed whole
       (Writes-then before mid after failures between now (header ++ texts (take i xs)) (member_text (view x)) (Err failed) first same second)
 
@@ -129,7 +129,7 @@ module _ {A : Type 0} (view : A → Who × RegisterMap) where
   texts_ended before mid after failures between now xs i result is first same second =
       let all : take i xs ≡ xs = ap (λ n. take n xs) is ∙ take-length xs in
       let whole : fleet_text (map view xs) ≡ (header ++ texts (take i xs)) ++ codes "end\n" =
-          ap (λ (ys : List A). header ++ (texts ys ++ codes "end\n")) (sym all) ∙ sym (append_assoc header (texts (take i xs)) (codes "end\n")) in
+      ap (λ (ys : List A). header ++ (texts ys ++ codes "end\n")) (sym all) ∙ sym (append_assoc header (texts (take i xs)) (codes "end\n")) in
       subst (λ (bytes : List ℕ). Writes before failures bytes result after now) (sym whole)
       (Writes-then before mid after failures between now (header ++ texts (take i xs)) (codes "end\n") result first same second)
 

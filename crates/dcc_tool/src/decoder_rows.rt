@@ -139,7 +139,10 @@ fn append_speed_line(rows: &mut Rows, decoder: &dyn Decoder)
     append(rows, b"speed ");
     append_speed(rows, speed_in(decoder.get(Register::Speed)));
     append(rows, b" ");
-    append(rows, direction_word(forward_in(decoder.get(Register::Direction))));
+    append(
+        rows,
+        direction_word(forward_in(decoder.get(Register::Direction))),
+    );
     append(rows, b"\n");
 }
 
@@ -222,7 +225,11 @@ fn cv_bit(decoder: &dyn Decoder, cv: u16, place: u8, weight: u8) -> u8
     ensures value { result ≡ (if is_on_value (registers decoder.now (Register.CvBit cv place)) then weight else 0) }
     ensures at_most { result ≤ weight }
 {
-    if is_on(decoder.get(Register::CvBit(cv, place))) { weight } else { 0 }
+    if is_on(decoder.get(Register::CvBit(cv, place))) {
+        weight
+    } else {
+        0
+    }
 }
 
 /// The line of a CV.
@@ -243,10 +250,22 @@ fn append_position_line(rows: &mut Rows, decoder: &dyn Decoder)
     ensures len { array_vec_len rows.new ≤ array_vec_len rows.old + 60 }
 {
     append(rows, b"position");
-    append_number(rows, u32::from(number_in(decoder.get(Register::Position(0)))));
-    append_number(rows, u32::from(number_in(decoder.get(Register::Position(1)))));
-    append_number(rows, u32::from(number_in(decoder.get(Register::Position(2)))));
-    append_number(rows, u32::from(number_in(decoder.get(Register::Position(3)))));
+    append_number(
+        rows,
+        u32::from(number_in(decoder.get(Register::Position(0)))),
+    );
+    append_number(
+        rows,
+        u32::from(number_in(decoder.get(Register::Position(1)))),
+    );
+    append_number(
+        rows,
+        u32::from(number_in(decoder.get(Register::Position(2)))),
+    );
+    append_number(
+        rows,
+        u32::from(number_in(decoder.get(Register::Position(3)))),
+    );
     append(rows, b"\n");
 }
 

@@ -1,14 +1,23 @@
 //! Decoder texts with a capture behind them, and the text afterwards.
 
+use crate::fakes::{Giving, Taking};
 use crate::{Counted, Encode, Input, Limits, Saved, ToolFault, encode, read_decoders, run};
-use dcc_packet::PacketFault;
-use dcc_regs::{BoardDecoder, Decoder, LocoDecoder};
+use dcc_regs::{BoardDecoder, Decoder, LocoDecoder, Register, Speed, Value};
 use std::alloc::Global;
 use std::process::Abort;
 use std::test::Fail;
 
-const TEXT: &str = "dcc-decoders 1\nloco s3\nspeed stop f\non\npending none\ncv 1 3\ncv 29 2\n\
+/// A locomotive decoder at short 3, and board 12.
+const TEXT: &[u8] = b"dcc-decoders 1\nloco s3\nspeed stop f\non\npending none\ncv 1 3\ncv 29 2\n\
     board 12\nout\nposition 0 0 0 0\naspect 0 0 0 0\nend\n";
+
+/// Packets to both of them.
+const LINES: &[u8] = b"frame 036261\nframe 039093\nframe 03ec1c06f5\nframe 8cfd71\n";
+
+/// The text when they have heard these.
+const AFTER: &[u8] =
+    b"dcc-decoders 1\nloco s3\nspeed 28 1 f\non 0\npending 03ec1c06f5\ncv 1 3\ncv 29 2\n\
+    board 12\nout 5\nposition 0 0 1 0\naspect 0 0 0 0\nend\n";
 
 /// A decoder as it was saved.
 fn restored(alloc: Global, saved: &Saved) -> Result<Box<dyn Decoder>, Fail> {
@@ -18,15 +27,25 @@ fn restored(alloc: Global, saved: &Saved) -> Result<Box<dyn Decoder>, Fail> {
     }
 }
 
-/// Plays an input to the decoders that it saves, and compares the answer and what was written.
+/// The fleet of these.
+fn fleet_of(alloc: Global, saved: &[Saved]) -> Result<Vec<Box<dyn Decoder>>, Fail> {
+    let mut fleet: Vec<Box<dyn Decoder>> = Vec::new(alloc);
+    for decoder in saved {
+        fleet.push(restored(alloc, decoder)?)?;
+    }
+    Ok(fleet)
+}
+
+/// Plays an input to the decoders that it saves, twice, and compares the answers and what was written.
 fn expect(
     rt: &impl Abort,
     alloc: Global,
     text: &[u8],
+    limits: Limits,
     answer: Result<(), ToolFault>,
-    written: &str,
+    written: &[u8],
 ) -> Result<(), Fail> {
-    let mut input = Input::new(Counted::new(text), Limits::full());
+    let mut input = Input::new(Counted::new(text), limits);
     let mut writer = Counted::new(Vec::new(alloc));
     let saved = match read_decoders(alloc, &mut input) {
         Ok(saved) => saved,
@@ -35,128 +54,146 @@ fn expect(
             return Ok(());
         }
     };
-    let mut fleet: Vec<Box<dyn Decoder>> = Vec::new(alloc);
-    for decoder in &saved {
-        fleet.push(restored(alloc, decoder)?)?;
-    }
-    assert_eq!(rt; run(&mut fleet, &mut input, &mut writer), answer);
-    assert_eq!(rt; writer.inner.as_slice(), written.as_bytes());
+    let mut fleet = fleet_of(alloc, saved.as_slice())?;
+    assert_eq!(rt; run(fleet.as_mut_slice(), &mut input, &mut writer), answer);
+    assert_eq!(rt; writer.inner.as_slice(), written);
     Ok(())
 }
 
-/// The text, and behind it the halves of packets.
-fn played(alloc: Global, text: &str, lines: &str) -> Result<Vec<u8>, Fail> {
-    let mut input = Input::new(Counted::new(lines.as_bytes()), Limits::full());
+/// The text, and behind it the halves of the packets of these lines.
+fn played(alloc: Global, lines: &[u8]) -> Result<Vec<u8>, Fail> {
+    let mut input = Input::new(Counted::new(lines), Limits::full());
     let mut writer = Counted::new(Vec::new(alloc));
     let how = Encode {
         hex: false,
         service: false,
+        station: None,
     };
-    for byte in text.as_bytes() {
-        writer.inner.push(*byte)?;
-    }
-    encode(&mut input, &mut writer, how)?;
+    writer.inner.extend_from_slice(TEXT)?;
+    encode(alloc, &mut input, &mut writer, how)?;
     Ok(writer.inner)
-}
-
-fn refused(line: u64, fault: PacketFault) -> Result<(), ToolFault> {
-    Err(ToolFault::Line { line, fault })
 }
 
 #[test]
 fn texts_are_written_back(rt: HostRuntime) -> Result<(), Fail> {
-    let alloc = rt.alloc();
-    let rows = [
+    let rows: [&[u8]; 4] = [
         TEXT,
-        "dcc-decoders 1\nend\n",
-        "dcc-decoders 1\nloco none\nspeed 126 126 r\non 0 5 68\npending none\ncv 1024 255\n\
+        b"dcc-decoders 1\nend\n",
+        b"dcc-decoders 1\nloco none\nspeed 126 126 r\non 0 5 68\npending none\ncv 1024 255\n\
             loco l1000\nspeed 14 14 f\non 1\npending c3e8ec1c06dd\nend\n",
-        "dcc-decoders 1\nboard 0\nout 0 3 7\nposition 0 1 0 1\naspect 0 1 254 255\nend\n",
+        b"dcc-decoders 1\nboard 0\nout 0 3 7\nposition 0 1 0 1\naspect 0 1 254 255\nend\n",
     ];
     for text in rows {
-        expect(&rt, alloc, text.as_bytes(), Ok(()), text)?;
+        expect(&rt, rt.alloc(), text, Limits::full(), Ok(()), text)?;
     }
-    expect(&rt, alloc, b"dcc-decoders 1\nend", Ok(()), "dcc-decoders 1\nend\n")?;
-    Ok(())
+    let text = b"dcc-decoders 1\nend".as_slice();
+    let whole = b"dcc-decoders 1\nend\n".as_slice();
+    expect(&rt, rt.alloc(), text, Limits::full(), Ok(()), whole)
 }
 
 #[test]
 fn a_fleet_hears_its_packets(rt: HostRuntime) -> Result<(), Fail> {
-    let alloc = rt.alloc();
-    let lines = "frame 036261\nframe 039093\nframe 03EC1C06F5\nframe 8CFD71\n";
-    let after = "dcc-decoders 1\nloco s3\nspeed 28 1 f\non 0\npending 03ec1c06f5\ncv 1 3\ncv 29 2\n\
-        board 12\nout 5\nposition 0 0 1 0\naspect 0 0 0 0\nend\n";
-    let input = played(alloc, TEXT, lines)?;
-    expect(&rt, alloc, input.as_slice(), Ok(()), after)?;
-    Ok(())
+    let input = played(rt.alloc(), LINES)?;
+    let text = input.as_slice();
+    expect(&rt, rt.alloc(), text, Limits::full(), Ok(()), AFTER)?;
+    // what was written is a decoder text again
+    expect(&rt, rt.alloc(), AFTER, Limits::full(), Ok(()), AFTER)
 }
 
 #[test]
 fn a_bad_word_behind_the_text_is_told_by_its_line(rt: HostRuntime) -> Result<(), Fail> {
-    let alloc = rt.alloc();
-    let input = played(alloc, TEXT, "")?;
-    let mut bad = input;
-    for byte in b"58x" {
-        bad.push(*byte)?;
-    }
+    let mut text = played(rt.alloc(), b"")?;
+    text.extend_from_slice(b"58x")?;
+    let answer = Err(ToolFault::Number { line: 13 });
     expect(
         &rt,
-        alloc,
-        bad.as_slice(),
-        Err(ToolFault::Number { line: 13 }),
-        "",
-    )?;
+        rt.alloc(),
+        text.as_slice(),
+        Limits::full(),
+        answer,
+        b"",
+    )
+}
+
+#[test]
+fn halves_and_bytes_have_limits(rt: HostRuntime) -> Result<(), Fail> {
+    let text = b"dcc-decoders 1\nend\n58 58\n".as_slice();
+    let whole = b"dcc-decoders 1\nend\n".as_slice();
+    let limits = |halves, bytes| Limits { halves, bytes };
+    expect(&rt, rt.alloc(), text, limits(2, 25), Ok(()), whole)?;
+    let much = Err(ToolFault::TooMuch);
+    expect(&rt, rt.alloc(), text, limits(1, 25), much, b"")?;
+    expect(&rt, rt.alloc(), text, limits(2, 24), much, b"")
+}
+
+#[test]
+fn packets_before_a_failed_read_are_heard(rt: HostRuntime) -> Result<(), Fail> {
+    let alloc = rt.alloc();
+    let two = played(alloc, b"frame 036261\nframe 039093\n")?;
+    let calls = (two.len() as u32).wrapping_add(1);
+    let text = played(alloc, LINES)?;
+    let mut input = Input::new(
+        Giving::new(text.as_slice(), 1, calls, false),
+        Limits::full(),
+    );
+    let saved = read_decoders(alloc, &mut input)?;
+    let mut fleet = fleet_of(alloc, saved.as_slice())?;
+    let mut writer = Counted::new(Vec::new(alloc));
+    assert_eq!(rt;
+        run(fleet.as_mut_slice(), &mut input, &mut writer),
+        Err(ToolFault::Read)
+    );
+    assert_eq!(rt;
+        run(fleet.as_mut_slice(), &mut input, &mut writer),
+        Err(ToolFault::Read)
+    );
+    assert!(rt; writer.inner.is_empty());
+    for member in fleet.iter().take(1) {
+        assert_eq!(rt;
+            member.get(Register::Speed),
+            Some(Value::Speed(Speed::Step28(1)))
+        );
+        assert_eq!(rt; member.get(Register::Function(0)), Some(Value::Flag(true)));
+        assert_eq!(rt; member.get(Register::Pending), Some(Value::Pending(None)));
+    }
     Ok(())
 }
 
 #[test]
-fn faults_are_told_by_line_and_reason(rt: HostRuntime) -> Result<(), Fail> {
+fn a_writer_takes_the_text_in_parts_or_fails(rt: HostRuntime) -> Result<(), Fail> {
     let alloc = rt.alloc();
-    let rows = [
-        ("", 1, PacketFault::Word),
-        ("dcc-decoders 1\n", 2, PacketFault::Word),
-        ("dcc-decoders 01\n", 1, PacketFault::Word),
-        ("dcc-decoders 1\n\nend\n", 2, PacketFault::Word),
-        ("dcc-decoders 1\nloco all\n", 2, PacketFault::Word),
-        ("dcc-decoders 1\nloco s0\n", 2, PacketFault::Short),
-        ("dcc-decoders 1\nloco s\n", 2, PacketFault::Number),
-        ("dcc-decoders 1\nloco s3\nspeed 28 29 x\n", 3, PacketFault::State),
-        ("dcc-decoders 1\nloco s3\nspeed 28 0 f\n", 3, PacketFault::State),
-        ("dcc-decoders 1\nloco s3\nspeed stop f\non 69\n", 4, PacketFault::State),
-        ("dcc-decoders 1\nloco s3\nspeed stop f\non 5 0\n", 4, PacketFault::Word),
-        ("dcc-decoders 1\nloco s3\nspeed stop f\non\npending 04ec1c06f2\n", 5, PacketFault::State),
-        ("dcc-decoders 1\nloco s3\nspeed stop f\non\npending 036261 x\n", 5, PacketFault::State),
-        ("dcc-decoders 1\nloco s3\nspeed stop f\non\npending 0303\n", 5, PacketFault::Frame),
-        ("dcc-decoders 1\nloco s3\nspeed stop f\non\npending none\ncv 1 256\n", 6, PacketFault::Number),
-        ("dcc-decoders 1\nloco s3\nspeed stop f\non\npending none\ncv 1025 1\n", 6, PacketFault::CvNumber),
-        ("dcc-decoders 1\nloco s3\nspeed stop f\non\npending none\ncv 2 1\ncv 2 1\n", 7, PacketFault::Word),
-        ("dcc-decoders 1\nboard 511\n", 2, PacketFault::Board),
-        ("dcc-decoders 1\nboard 12\nout 8\n", 3, PacketFault::Output),
-        ("dcc-decoders 1\nboard 12\nout\nposition 0 0 2 0\n", 4, PacketFault::Word),
-        ("dcc-decoders 1\nboard 12\nout\nposition 0 0 0 0\naspect 0 0 0\n", 5, PacketFault::Word),
-    ];
-    for (text, line, fault) in rows {
-        expect(&rt, alloc, text.as_bytes(), refused(line, fault), "")?;
-    }
+    let mut input = Input::new(Counted::new(TEXT), Limits::full());
+    let saved = read_decoders(alloc, &mut input)?;
+    let mut fleet = fleet_of(alloc, saved.as_slice())?;
+    let mut writer = Taking::new(alloc, 1, 1000);
+    assert_eq!(rt; run(fleet.as_mut_slice(), &mut input, &mut writer), Ok(()));
+    assert_eq!(rt; writer.taken.as_slice(), TEXT);
+    let mut writer = Taking::new(alloc, 2, 2);
+    assert_eq!(rt;
+        run(fleet.as_mut_slice(), &mut input, &mut writer),
+        Err(ToolFault::Write)
+    );
+    assert_eq!(rt; writer.taken.as_slice(), b"dcc-".as_slice());
     Ok(())
 }
 
 /// A text of so many boards.
-fn boards(alloc: Global, count: usize) -> Result<String, Fail> {
-    let mut text = String::from_str(alloc, "dcc-decoders 1\n")?;
+fn boards(alloc: Global, count: u32) -> Result<Vec<u8>, Fail> {
+    let mut text = Vec::new(alloc);
+    text.extend_from_slice(b"dcc-decoders 1\n")?;
     for _ in 0..count {
-        text.push_str("board 12\nout\nposition 0 0 0 0\naspect 0 0 0 0\n")?;
+        text.extend_from_slice(b"board 12\nout\nposition 0 0 0 0\naspect 0 0 0 0\n")?;
     }
-    text.push_str("end\n")?;
+    text.extend_from_slice(b"end\n")?;
     Ok(text)
 }
 
 #[test]
 fn at_most_64_decoders_are_read(rt: HostRuntime) -> Result<(), Fail> {
-    let alloc = rt.alloc();
-    let most = boards(alloc, 64)?;
-    expect(&rt, alloc, most.as_bytes(), Ok(()), most.as_str())?;
-    let more = boards(alloc, 65)?;
-    expect(&rt, alloc, more.as_bytes(), Err(ToolFault::TooMuch), "")?;
-    Ok(())
+    let most = boards(rt.alloc(), 64)?;
+    let text = most.as_slice();
+    expect(&rt, rt.alloc(), text, Limits::full(), Ok(()), text)?;
+    let more = boards(rt.alloc(), 65)?;
+    let much = Err(ToolFault::TooMuch);
+    expect(&rt, rt.alloc(), more.as_slice(), Limits::full(), much, b"")
 }

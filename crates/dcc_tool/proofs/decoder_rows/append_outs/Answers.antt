@@ -19,11 +19,11 @@ loop-n-preserved g c =
     let on : ℕ → Bool = λ n. holds_one (is.registers c.args.decoder.now.1 (registers.Out n)) in
     let told : on c.loop-n.n ≡ c.is_on.result = sym (c.is_on.ensures ∙ ap holds_one c.get.ensures) in
     elim c.if-is_on.branch [
-      then-is_on w ↦ rw w.rows-is (
+      | then-is_on w ↦ rw w.rows-is (
         row_on on c.args.rows.now.items (codes "out") c.loop-n.rows.items w.append_number.new.rows.items c.loop-n.n c.loop-n.invariant.0 (rw w.from.ensures at w.append_number.ensures.items) (told ∙ w.if-is_on.true),
         omega (arith, c.loop-n.invariant.1, w.append_number.ensures.len),
       )
-    | else-is_on w ↦ rw w.rows-is (
+      | else-is_on w ↦ rw w.rows-is (
         row_off on c.args.rows.now.items (codes "out") c.loop-n.rows.items c.loop-n.n c.loop-n.invariant.0 (told ∙ w.if-is_on.false),
         omega (arith, c.loop-n.invariant.1),
       )

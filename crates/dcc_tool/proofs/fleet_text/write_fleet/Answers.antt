@@ -13,7 +13,7 @@ returns-in-Err g c =
 pub returns-in-Err-write_decoder : goal.returns-in-Err-write_decoder
 returns-in-Err-write_decoder g c =
     let wrote = subst (λ d. Writes (g.W.Sink.contents c.loop-decoder.writer) (g.W.Sink.failures c.loop-decoder.writer) (decoder_text ((goal.Decoder-dyn g d).who d.1) ((goal.Decoder-dyn g d).registers d.1))
-      (Err c.in-Err-write_decoder.failed) (g.W.Sink.contents c.write_decoder.new.writer) (g.W.Sink.failures c.write_decoder.new.writer)) c.deref_box-1.ensures.1 c.in-Err-write_decoder.ensures in
+    (Err c.in-Err-write_decoder.failed) (g.W.Sink.contents c.write_decoder.new.writer) (g.W.Sink.failures c.write_decoder.new.writer)) c.deref_box-1.ensures.1 c.in-Err-write_decoder.ensures in
     texts_stopped (λ decoder. let is = goal.Decoder-dyn g (decoder.vtable, decoder.value) in (is.who decoder.value, is.registers decoder.value))
     (g.W.Sink.contents c.args.writer.now) (g.W.Sink.contents c.loop-decoder.writer) (g.W.Sink.contents c.write_decoder.new.writer)
     (g.W.Sink.failures c.args.writer.now) (g.W.Sink.failures c.loop-decoder.writer) (g.W.Sink.failures c.write_decoder.new.writer)
@@ -22,11 +22,10 @@ returns-in-Err-write_decoder g c =
 pub loop-decoder-preserved : goal.loop-decoder-preserved
 loop-decoder-preserved g c =
     let wrote = subst (λ d. Writes (g.W.Sink.contents c.loop-decoder.writer) (g.W.Sink.failures c.loop-decoder.writer) (decoder_text ((goal.Decoder-dyn g d).who d.1) ((goal.Decoder-dyn g d).registers d.1))
-      (Ok tt) (g.W.Sink.contents c.write_decoder.new.writer) (g.W.Sink.failures c.write_decoder.new.writer)) c.deref_box-1.ensures.1 c.in-Ok-write_decoder.ensures in
-    (
+    (Ok tt) (g.W.Sink.contents c.write_decoder.new.writer) (g.W.Sink.failures c.write_decoder.new.writer)) c.deref_box-1.ensures.1 c.in-Ok-write_decoder.ensures in (
       texts_more (λ decoder. let is = goal.Decoder-dyn g (decoder.vtable, decoder.value) in (is.who decoder.value, is.registers decoder.value))
-      (g.W.Sink.contents c.args.writer.now) (g.W.Sink.contents c.loop-decoder.writer) (g.W.Sink.contents c.write_decoder.new.writer)
-      c.args.decoders.now c.loop-decoder.decoder-index c.decoder-item.result c.loop-decoder-test.true c.decoder-item.is c.loop-decoder.invariant.0 wrote.0,
+          (g.W.Sink.contents c.args.writer.now) (g.W.Sink.contents c.loop-decoder.writer) (g.W.Sink.contents c.write_decoder.new.writer)
+          c.args.decoders.now c.loop-decoder.decoder-index c.decoder-item.result c.loop-decoder-test.true c.decoder-item.is c.loop-decoder.invariant.0 wrote.0,
       wrote.1 ∙ c.loop-decoder.invariant.1,
     )
 
