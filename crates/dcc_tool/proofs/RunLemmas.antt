@@ -18,7 +18,7 @@ use Rattle.dcc_tool.specs.Capture.{captures, capture_in, AnswersHalf}
 use Rattle.dcc_tool.specs.Written.{Writes}
 use Rattle.dcc_tool.specs.FleetText.{fleet_text}
 use Rattle.dcc_tool.specs.FleetRun.{Members, HaveHeard, HearsUpTo, HearsAll, Runs}
-use Rattle.dcc_tool.proofs.ItemsLemmas.{Gave-none, Gave-append, reads_up_to, up_to_fault}
+use Rattle.dcc_tool.proofs.ItemsLemmas.{Gave-none, Gave-append, reads_up_to, up_to_fault, uses_all_lines}
 
 -- these halves were taken
 pub record Hearing (old now : InputState) (framer : Framer) (heard : List ℕ → Type 0) : Type 0 where
@@ -56,6 +56,7 @@ hears_all starts ends old now new halves gave heard stops =
       fault = last.fault;
       heard = (up_to_fault captures old now halves None (HaveHeard starts ends) gave stops.2 heard, last.failures ∙ gave.failures);
       at_end = stops.1;
+      lines = uses_all_lines captures old new (halves ++ []) (Gave-append captures old now new halves [] gave last) stops.1;
     }
 
 pub ran : (starts ends : Members) (old new : InputState) (before after : Option (List ℕ)) (writes now : ℕ) → HearsAll starts old ends new → Writes before writes (fleet_text ends) (Ok tt) after now

@@ -11,7 +11,7 @@ use Rattle.dcc_tool.specs.declared.fault.KeptFault.{KeptFault}
 use Rattle.dcc_tool.specs.declared.fault.KeptFault.TheVariants as kept
 use Rattle.dcc_tool.specs.Failures.{HasRisen}
 use Rattle.dcc_tool.specs.Told.{IsAtEnd}
-use Rattle.dcc_tool.specs.InputState.{InputState}
+use Rattle.dcc_tool.specs.InputState.{InputState, UsesAllLines}
 use Rattle.dcc_tool.specs.Items.{ReadsUpTo}
 use Rattle.dcc_tool.specs.Capture.{captures}
 use Rattle.dcc_tool.specs.Written.{AppendsFront}
@@ -37,6 +37,7 @@ pub record HearsAll (starts : Members) (old : InputState) (ends : Members) (new 
   pub fault : new.fault ≡ None
   pub heard : ReadsUpTo captures old None new (HaveHeard starts ends)
   pub at_end : IsAtEnd new.text
+  pub lines : UsesAllLines old new
 
 -- A fault comes only where its cause stands, and each member has heard all that stands before it.
 abbrev pub Runs : Members → InputState → Option (List ℕ) → ℕ → Result (Unit {0}) ToolFault → Members → InputState → Option (List ℕ) → ℕ → Type 0
