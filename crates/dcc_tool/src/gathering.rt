@@ -51,7 +51,7 @@ fn next_half<R: Source>(input: &mut Input<R>) -> Result<Option<u16>, KeptFault>
 }
 
 /// Holds the packet that a half showed, if it showed one.
-fn hold_seen(packets: &mut Vec<Packet>, seen: &Seen) -> Result<(), AllocError>
+pub(crate) fn hold_seen(packets: &mut Vec<Packet>, seen: &Seen) -> Result<(), AllocError>
     ensures { OnOk result ((shown : List Packet) × AreSpelled shown (frames_of seen.now) × (packets.new.items ≡ packets.old.items ++ shown) × (length shown ≤ 1)) }
 {
     match seen {
