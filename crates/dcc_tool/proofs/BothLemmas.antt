@@ -13,7 +13,8 @@ use Rattle.dcc_tool.specs.InputState.{InputState, all_lines}
 use Rattle.dcc_tool.specs.Words.{Word, ended_words, is_gap, uncommented, onto_first, pieces, but_last, has_bytes, is_mark, duration_of}
 use Rattle.dcc_tool.specs.Passed.{Uses, Passed, FailsBehind, FailsBeforeWord, OverflowsBeforeWord, AnswersWord}
 use Rattle.dcc_tool.specs.Capture.{halves_of}
-use Rattle.dcc_tool.specs.BothCaptures.{Both, Said, stopped, in_front, only_second, has_more_words, behind_mark, counted_first, both_of, both_from, in_limit, LeadsIn, Leads, first_so_far, first_is, IsBehindLine, StopsBoth, AnswersFirst}
+use Rattle.dcc_tool.specs.BothCaptures.{Both, Said, stopped, in_front, only_second, has_more_words, behind_mark, counted_first, both_of, both_from, in_limit}
+use Rattle.dcc_tool.specs.FirstRead.{LeadsIn, Leads, first_so_far, first_is, IsBehindLine, StopsBoth, AnswersFirst}
 use Rattle.dcc_tool.specs.FirstSteps.{CountsWord, EndsMark}
 use Rattle.dcc_tool.proofs.PassedLemmas.{map_same}
 use Rattle.dcc_tool.proofs.CaptureLemmas.{with_left, count_more, above_limit, not_within, zero_fits, same_test}

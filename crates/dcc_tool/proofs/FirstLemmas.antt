@@ -8,7 +8,7 @@ use Rattle.dcc_tool.specs.Spells.{Spells}
 use Rattle.dcc_tool.specs.InputState.{InputState}
 use Rattle.dcc_tool.specs.Words.{is_some_byte, is_gap, comments}
 use Rattle.dcc_tool.specs.Passed.{Passed}
-use Rattle.dcc_tool.specs.BothCaptures.{EndsLine}
+use Rattle.dcc_tool.specs.FirstRead.{EndsLine}
 use Rattle.dcc_tool.proofs.WordsLemmas.{eqb_line_feed}
 use Rattle.dcc_tool.proofs.PassedLemmas.{Opens, TakesNoted, Opens-word, Opens-gap, EndsWord-gap, Passed-gap, Passed-end}
 use Rattle.dcc_tool.proofs.CaptureLemmas.{if_some_map}

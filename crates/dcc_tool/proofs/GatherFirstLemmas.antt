@@ -18,7 +18,8 @@ use Rattle.dcc_tool.specs.Words.{ended_words}
 use Rattle.dcc_tool.specs.Items.{EndsWith, ReadsUpTo}
 use Rattle.dcc_tool.specs.Capture.{captures, halves_of, capture_in, capture_before_failure}
 use Rattle.dcc_tool.specs.Gathered.{Gathered, GatherFails, StopsGathering}
-use Rattle.dcc_tool.specs.BothCaptures.{Both, Said, stopped, in_front, only_second, both_from, in_limit, LeadsIn, Leads, first_so_far, first_is, AnswersFirst}
+use Rattle.dcc_tool.specs.BothCaptures.{Both, Said, stopped, in_front, only_second, both_from, in_limit}
+use Rattle.dcc_tool.specs.FirstRead.{LeadsIn, Leads, first_so_far, first_is, AnswersFirst}
 use Rattle.dcc_tool.specs.GatheredBoth.{both_in, both_before_failure, GatheredFirst, HoldBoth, GatheredBoth, ReadsBothUpTo, StopsBothAt, BothFail}
 use Rattle.dcc_tool.proofs.ShowLemmas.{Answers}
 use Rattle.dcc_tool.proofs.WrittenLemmas.{HasRisen-one_more}

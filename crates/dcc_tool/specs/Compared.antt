@@ -32,7 +32,7 @@ abbrev pub OneFails : InputState → InputState → ToolFault → InputState →
 OneFails left right fault left' right' =
     (GatherFails left fault left' × (right' ≡ right)) ⊎ ((packets : List Packet) × Gathered left packets left' × GatherFails right fault right')
 
--- a capture's fault is answered where it stands, and then nothing is written
+-- a capture's fault is answered where it stands, or there is no memory, and then nothing is written
 abbrev pub StopsComparing : InputState → InputState → Option (List ℕ) → ℕ → ToolFault → InputState → InputState → Option (List ℕ) → ℕ → Type 0
 StopsComparing left right before writes fault left' right' after now = OneFails left right fault left' right' × (after ≡ before) × (now ≡ writes)
 
@@ -44,7 +44,7 @@ Compares who left right before writes (Err (Number line)) left' right' after now
 Compares who left right before writes (Err (Line line fault)) left' right' after now = StopsComparing left right before writes (Line line fault) left' right' after now
 Compares who left right before writes (Err Read) left' right' after now = StopsComparing left right before writes Read left' right' after now
 Compares who left right before writes (Err TooMuch) left' right' after now = StopsComparing left right before writes TooMuch left' right' after now
-Compares who left right before writes (Err NoMemory) left' right' after now = (after ≡ before) × (now ≡ writes)
+Compares who left right before writes (Err NoMemory) left' right' after now = StopsComparing left right before writes NoMemory left' right' after now
 Compares who left right before writes (Err Write) left' right' after now =
     (verdict : Verdict) × Compared who left right left' right' verdict × AppendsFront before after (verdict_line verdict) × HasRisen writes now
 Compares who left right before writes (Err (Usage usage)) left' right' after now = ⊥

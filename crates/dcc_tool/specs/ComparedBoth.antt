@@ -26,7 +26,7 @@ pub record ComparedBoth (who : Who) (input input' : InputState) (verdict : Verdi
   pub alike_is : (verdict ≡ Alike) ↔ AlikeFor who packets others
   pub alike : verdict ≡ Alike → LeaveTheSame who packets others
 
--- a fault of the input is answered where it stands, and then nothing is written
+-- a fault of the input is answered where it stands, or there is no memory, and then nothing is written
 abbrev pub StopsComparingBoth : InputState → Option (List ℕ) → ℕ → ToolFault → InputState → Option (List ℕ) → ℕ → Type 0
 StopsComparingBoth input before writes fault input' after now = BothFail input fault input' × (after ≡ before) × (now ≡ writes)
 
@@ -38,7 +38,7 @@ ComparesBoth who input before writes (Err (Number line)) input' after now = Stop
 ComparesBoth who input before writes (Err (Line line fault)) input' after now = StopsComparingBoth input before writes (Line line fault) input' after now
 ComparesBoth who input before writes (Err Read) input' after now = StopsComparingBoth input before writes Read input' after now
 ComparesBoth who input before writes (Err TooMuch) input' after now = StopsComparingBoth input before writes TooMuch input' after now
-ComparesBoth who input before writes (Err NoMemory) input' after now = (after ≡ before) × (now ≡ writes)
+ComparesBoth who input before writes (Err NoMemory) input' after now = StopsComparingBoth input before writes NoMemory input' after now
 ComparesBoth who input before writes (Err Write) input' after now =
     (verdict : Verdict) × ComparedBoth who input input' verdict × AppendsFront before after (verdict_line verdict) × HasRisen writes now
 ComparesBoth who input before writes (Err (Usage usage)) input' after now = ⊥

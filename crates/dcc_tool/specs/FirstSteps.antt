@@ -4,7 +4,7 @@ use Rattle.dcc_tool.specs.declared.fault.KeptFault.{KeptFault}
 use Rattle.dcc_tool.specs.declared.fault.KeptFault.TheVariants.{Number, TooMuch}
 use Rattle.dcc_tool.specs.InputState.{InputState}
 use Rattle.dcc_tool.specs.Words.{duration_of}
-use Rattle.dcc_tool.specs.BothCaptures.{EndsLine}
+use Rattle.dcc_tool.specs.FirstRead.{EndsLine}
 
 -- the word on this line spells a half that is counted, or is refused
 abbrev pub CountsWord : InputState → ℕ → List ℕ → Result (Option (ℕ × ℕ)) KeptFault → InputState → Type 0

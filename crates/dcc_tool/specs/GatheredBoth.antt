@@ -9,7 +9,8 @@ use Rattle.dcc_tool.specs.declared.fault.ToolFault.TheVariants.{Usage, Number, L
 use Rattle.dcc_tool.specs.Failures.{HasRisen}
 use Rattle.dcc_tool.specs.Told.{IsAtEnd}
 use Rattle.dcc_tool.specs.InputState.{InputState, UsesAllLines, HasCause}
-use Rattle.dcc_tool.specs.BothCaptures.{Both, both_from, in_limit, EndsFirst}
+use Rattle.dcc_tool.specs.BothCaptures.{Both, both_from, in_limit}
+use Rattle.dcc_tool.specs.FirstRead.{EndsFirst}
 
 -- both captures of an input with this text, and of one whose reader fails behind these bytes
 abbrev pub both_in : InputState → List ℕ → Both

@@ -2,7 +2,7 @@
 ghost use Rattle.std.specs.Prelude.{◌≡◌, ◌==◌, ◌&&◌, not, ◌<◌, ◌^◌, ℕ, List, None, IfOk, IfErr, length};
 ghost use Rattle.dcc_tool.specs.Words.{is_mark};
 ghost use Rattle.dcc_tool.specs.Spells.{Spells};
-ghost use Rattle.dcc_tool.specs.BothCaptures.{AnswersFirst, EndsLine};
+ghost use Rattle.dcc_tool.specs.FirstRead.{AnswersFirst, EndsLine};
 ghost use Rattle.dcc_tool.specs.FirstSteps.{CountsWord, EndsMark};
 ghost use Rattle.dcc_tool.specs.GatheredBoth.{BothFail, GatheredFirst};
 
