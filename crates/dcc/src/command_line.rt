@@ -65,6 +65,15 @@ pub fn command<'a>(alloc: Global) -> Result<Command<'a>, AllocError> {
         .arg(flag(alloc, "empty", "An empty track; no decoder text is read"))?;
     let run = Command::new(alloc, "run")
         .about("Plays the capture behind a decoder text to its decoders, and writes them as they are then");
+    let who = Arg::new(alloc, "who")
+        .long("who")
+        .value_name("W")
+        .required(true)
+        .action(ArgAction::Set)
+        .help("The decoder: s3 or l1000, none, or board b12");
+    let same = Command::new(alloc, "same")
+        .about("Tells whether two captures, with a line --- between them, are alike for a decoder")
+        .arg(who)?;
     Command::new(alloc, "dcc")
         .about("Digital Command Control: captures, packets and halves")
         .version("0.1.0")
@@ -72,6 +81,7 @@ pub fn command<'a>(alloc: Global) -> Result<Command<'a>, AllocError> {
         .disable_help_subcommand(true)
         .subcommand(show)?
         .subcommand(encode)?
-        .subcommand(readcv)?
-        .subcommand(run)
+        .subcommand(run)?
+        .subcommand(same)?
+        .subcommand(readcv)
 }
