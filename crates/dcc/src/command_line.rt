@@ -63,8 +63,9 @@ pub fn command<'a>(alloc: Global) -> Result<Command<'a>, AllocError> {
                 .help("The number of the CV, 1 to 1024"),
         )?
         .arg(flag(alloc, "empty", "An empty track; no decoder text is read"))?;
-    let run = Command::new(alloc, "run")
-        .about("Plays the capture behind a decoder text to its decoders, and writes them as they are then");
+    let run = Command::new(alloc, "run").about(
+        "Plays the capture behind a decoder text to its decoders, and writes them as they are then",
+    );
     let who = Arg::new(alloc, "who")
         .long("who")
         .value_name("W")
