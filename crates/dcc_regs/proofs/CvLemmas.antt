@@ -106,7 +106,7 @@ active_address-loco d a b c e =
     (cv_of-loco d 18 (omega arith) (omega arith) c) (cv_of-loco d 29 (omega arith) (omega arith) e))
 
 -- the number 0 has no function on
-is_one-zero : (k : ℕ) → is_one 0 k ≡ false
+pub is_one-zero : (k : ℕ) → is_one 0 k ≡ false
 is_one-zero k = rw (bit_at-zero k) refl
 
 pub started-zero : (bytes : List ℕ)

@@ -10,9 +10,11 @@ pub mod Setting
 pub mod Addresses
 pub mod Loco
 pub mod LocoDecoder
+pub mod PackedLoco
 pub mod LocoState
 pub mod Board
 pub mod BoardDecoder
+pub mod PackedBoard
 pub mod BoardState
 pub mod Possible
 pub mod Conflict

@@ -89,7 +89,8 @@ fn set_positions(positions: &mut [bool; 4], packet: &Packet)
     }
 }
 
-fn set_aspects(aspects: &mut [u8; 4], packet: &Packet)
+/// Gives the signals the aspects that a packet gives them.
+pub fn set_aspects(aspects: &mut [u8; 4], packet: &Packet)
     ensures { (n : ℕ) → n ≤ 3 → slice_index aspects.new n ≡ unwrap_or (table.aspect_set packet.now n) (slice_index aspects.old n) }
 {
     for n in 0..4u8 {
@@ -99,7 +100,7 @@ fn set_aspects(aspects: &mut [u8; 4], packet: &Packet)
 }
 
 /// A law: aspects are bytes.
-fn are_bytes(aspects: &[u8])
+pub fn are_bytes(aspects: &[u8])
     ensures { (n : ℕ) → slice_index aspects.now n < 256 }
 {}
 

@@ -1,0 +1,46 @@
+-- Truth values that are packed into a number, one to a bit, from the lowest bit up.
+use Rattle.std.proofs.Common.{◌≡◌, ◌≢◌, ℕ, ◌+◌, ◌*◌, ◌^◌, ◌%◌, ◌<◌, ◌≤◌, Bool, true, false, refl, ◌∙◌, arith, below_more, bit_or}
+use Rattle.std.specs.Prelude.{if◌then◌else◌}
+use Rattle.std.specs.Int.{bit_at}
+use Rattle.std.proofs.lemmas.Grind.{common_steps}
+use Rattle.std.proofs.lemmas.Nat.Bits.{bit_at_or, bit_at-zero}
+use mir.Val.{bool_byte}
+use Rattle.dcc_regs.specs.Bits.{is_one}
+use Rattle.dcc_regs.proofs.Bits.{same_bit, other_bit}
+
+-- a one that is shifted to its place is not cut off
+pub shifted_one_128 : (n : ℕ) → n ≤ 68 → 1 * 2 ^ n % 340282366920938463463374607431768211456 ≡ 2 ^ n
+shifted_one_128 n h = grind (arith, common_steps)
+
+-- a truth value that is shifted to place n, in numbers below a limit that are wide enough for it
+shifted : (on : Bool) (n limit : ℕ) → 1 * 2 ^ n % limit ≡ 2 ^ n → bool_byte on * 2 ^ n % limit ≡ (if on then 2 ^ n else 0)
+shifted true n limit fits = fits
+shifted false n limit fits = grind (arith, common_steps)
+
+nothing_put : (word k : ℕ) → is_one (bit_or word 0) k ≡ is_one word k
+nothing_put word k =
+    let z : bit_at 0 k ≡ 0 = bit_at-zero k in
+    let b : bit_at (bit_or word 0) k ≡ bit_at word k = rw (bit_at_or word 0 k) (omega arith) in
+    rw b refl
+
+put_here : (word n mask : ℕ) (on : Bool) → mask ≡ (if on then 2 ^ n else 0) → is_one word n ≡ false → is_one (bit_or word mask) n ≡ on
+put_here word n mask true e free = same_bit word mask n e
+put_here word n mask false e free = rw e (nothing_put word n ∙ free)
+
+put_elsewhere : (word n mask k : ℕ) (on : Bool) → mask ≡ (if on then 2 ^ n else 0) → k ≢ n → is_one (bit_or word mask) k ≡ is_one word k
+put_elsewhere word n mask k true e ne = other_bit word mask k n e ne
+put_elsewhere word n mask k false e ne = rw e (nothing_put word k)
+
+-- the truth values below n are packed, and the one at n is put
+pub packed_more : (word n limit : ℕ) (on : Bool) (f : ℕ → Bool) → 1 * 2 ^ n % limit ≡ 2 ^ n
+    → ((k : ℕ) → k < n → is_one word k ≡ f k) → is_one word n ≡ false → on ≡ f n
+    → (k : ℕ) → k < n + 1 → is_one (bit_or word (bool_byte on * 2 ^ n % limit)) k ≡ f k
+packed_more word n limit on f fits before free here =
+    below_more (λ k. is_one (bit_or word (bool_byte on * 2 ^ n % limit)) k ≡ f k) n
+    (λ k lt. put_elsewhere word n _ k on (shifted on n limit fits) (omega arith) ∙ before k lt)
+    (put_here word n _ on (shifted on n limit fits) free ∙ here)
+
+-- above them all bits are zero
+pub zero_above : (word n limit : ℕ) (on : Bool) → 1 * 2 ^ n % limit ≡ 2 ^ n → ((k : ℕ) → n ≤ k → is_one word k ≡ false)
+    → (k : ℕ) → n + 1 ≤ k → is_one (bit_or word (bool_byte on * 2 ^ n % limit)) k ≡ false
+zero_above word n limit on fits zero k h = put_elsewhere word n _ k on (shifted on n limit fits) (omega arith) ∙ zero k (omega arith)

@@ -1,0 +1,7 @@
+-- What the packed locomotive decoder holds: bit n of its number is function n.
+use Rattle.dcc_regs.specs.declared.packed_loco.PackedLoco.{PackedLoco}
+use Rattle.dcc_regs.specs.Bits.{is_one}
+use Rattle.dcc_regs.specs.Loco.{LocoContent, cv_in}
+
+abbrev pub content : PackedLoco → LocoContent
+content d = record { speed = d.speed; forward = d.forward; functions = is_one d.functions; cvs = cv_in d.cvs.bytes; pending = d.pending }

@@ -1,0 +1,138 @@
+//! A locomotive decoder with its functions packed into one number.
+ghost use Rattle.std.specs.Prelude.{◌≡◌, ℕ, ◌<◌, ◌≤◌, unwrap_or, true, ◌↔◌, IsOk, IfOk, IfErr};
+ghost use Rattle.dcc_regs.specs.Addresses.{is_active};
+ghost use Rattle.dcc_regs.specs.Bits.{is_one};
+ghost use Rattle.dcc_regs.specs.FunctionBits.{function_set as function_set_of};
+ghost use Rattle.dcc_regs.specs.Loco.{is_speed, is_pending_for};
+
+use crate::cvs::Cvs;
+use crate::decoder::Decoder;
+use crate::function_bits::function_set;
+use crate::heard::hears;
+use crate::loco_state::LocoState;
+use crate::register::{Register, Speed, SpeedMode, Value, Who};
+use crate::speeds::{direction_set, speed_set};
+use crate::writes::own_write;
+use dcc_packet::{Address, CvNumber, Packet, PacketFault};
+
+/// A locomotive decoder as small as it goes: bit n of `functions` is function n, its CVs are bytes.
+#[derive(Drop)]
+pub struct PackedLoco {
+    address: Option<Address>,
+    speed: Speed,
+    forward: bool,
+    functions: u128,
+    cvs: Cvs,
+    pending: Option<Packet>,
+    ghost is_active: { is_active address ≡ true },
+    ghost is_speed: { is_speed speed ≡ true },
+    ghost is_pending: { is_pending_for address pending ≡ true },
+}
+
+impl PackedLoco {
+    ghost use Rattle.dcc_regs.specs.Addresses.{active_address};
+    ghost use Rattle.dcc_regs.specs.Loco.{cv_in, cv_of, loco_registers, powered_up, started};
+    ghost use Rattle.dcc_regs.specs.LocoState.{is_state, content as content_of};
+    ghost use Rattle.dcc_regs.specs.declared.register.Who.TheVariants.{Loco as LocoWho};
+
+    /// A decoder powered up with these CVs.
+    pub fn new(cvs: &[u8; 1024]) -> PackedLoco
+        ensures who { ⟦<PackedLoco as Decoder>⟧.who result ≡ LocoWho (active_address (cv_in cvs.now)) }
+        ensures registers { ⟦<PackedLoco as Decoder>⟧.registers result ≡ loco_registers (started (cv_in cvs.now)) }
+        ensures bytes { (n : ℕ) → cv_in cvs.now n < 256 }
+    {
+        let cvs = Cvs { bytes: *cvs };
+        PackedLoco {
+            address: cvs.active_address(),
+            speed: Speed::Stop,
+            forward: true,
+            functions: 0,
+            cvs,
+            pending: None,
+        }
+    }
+
+    /// A decoder in this state.
+    pub fn restore(state: &LocoState) -> Result<PackedLoco, PacketFault>
+        ensures valid { IsOk result ↔ (is_state state.now ≡ true) }
+        ensures fault { IfErr result (λ fault. fault ≡ PacketFault.State) }
+        ensures who { IfOk result (λ d. ⟦<PackedLoco as Decoder>⟧.who d ≡ LocoWho state.now.address) }
+        ensures registers { IfOk result (λ d. ⟦<PackedLoco as Decoder>⟧.registers d ≡ loco_registers (content_of state.now)) }
+    {
+        if state.is_possible() {
+            Ok(PackedLoco {
+                address: state.address,
+                speed: state.speed,
+                forward: state.forward,
+                functions: state.functions,
+                cvs: Cvs { bytes: state.cvs },
+                pending: state.pending,
+            })
+        } else {
+            Err(PacketFault::State)
+        }
+    }
+
+    /// Powers the decoder up: it is as `new` makes one of its present CVs.
+    pub fn power_up(&mut self)
+        ensures who { ⟦<PackedLoco as Decoder>⟧.who self.new ≡ LocoWho (active_address (cv_of (⟦<PackedLoco as Decoder>⟧.registers self.old))) }
+        ensures registers { ⟦<PackedLoco as Decoder>⟧.registers self.new ≡ powered_up (⟦<PackedLoco as Decoder>⟧.registers self.old) }
+    {
+        *self = PackedLoco::new(&self.cvs.bytes);
+    }
+
+    /// The value of a CV.
+    pub fn cv(&self, cv: CvNumber) -> u8
+        ensures { result ≡ cv_of (⟦<PackedLoco as Decoder>⟧.registers self.now) cv.number }
+    {
+        self.cvs.value(cv)
+    }
+}
+
+/// The functions after a heard packet.
+fn functions_after(functions: u128, mode: SpeedMode, packet: &Packet) -> u128
+    ensures { (n : ℕ) → n ≤ 68 → is_one result n ≡ unwrap_or (function_set_of mode packet.now n) (is_one functions n) }
+{
+    let mut after = 0;
+    for n in 0..69 {
+        let on = function_set(mode, packet, n).unwrap_or(functions >> n & 1 == 1);
+        after |= (on as u128) << n;
+    }
+    after
+}
+
+impl Decoder for PackedLoco {
+    ghost use Rattle.dcc_regs.specs.PackedLoco.{content};
+    ghost use Rattle.dcc_regs.specs.Loco.{loco_registers};
+    ghost use Rattle.dcc_regs.specs.declared.register.Who.TheVariants.{Loco as LocoWho};
+
+    ghost who = { λ d. LocoWho d.address };
+
+    ghost registers = { λ d. loco_registers (content d) };
+
+    fn who(&self) -> Who {
+        Who::Loco(self.address)
+    }
+
+    fn apply(&mut self, packet: &Packet) {
+        if hears(self.who(), packet) {
+            let mode = self.cvs.mode();
+            self.cvs.hear(&self.pending, packet);
+            self.speed = speed_set(mode, packet).unwrap_or(self.speed);
+            self.forward = direction_set(packet).unwrap_or(self.forward);
+            self.functions = functions_after(self.functions, mode, packet);
+            self.pending = own_write(packet);
+        }
+    }
+
+    fn get(&self, register: Register) -> Option<Value> {
+        match register {
+            Register::Speed => Some(Value::Speed(self.speed)),
+            Register::Direction => Some(Value::Forward(self.forward)),
+            Register::Function(n) if n <= 68 => Some(Value::Flag(self.functions >> n & 1 == 1)),
+            Register::CvBit(cv, place) => self.cvs.bit(cv, place).map(Value::Flag),
+            Register::Pending => Some(Value::Pending(self.pending)),
+            _ => None,
+        }
+    }
+}
