@@ -11,12 +11,12 @@ use Rattle.dcc_wire.specs.Steps.{rest_after, left_of, answer_of}
 use Rattle.dcc_wire.proofs.FramingLemmas.{rest-push}
 
 -- a half of each class, in microseconds
-abbrev microseconds : Half → ℕ
+abbrev pub microseconds : Half → ℕ
 microseconds One = 58
 microseconds Zero = 100
 microseconds Bad = 0
 
-class_of-microseconds : (half : Half) → class_of (microseconds half) ≡ half
+pub class_of-microseconds : (half : Half) → class_of (microseconds half) ≡ half
 class_of-microseconds One = refl
 class_of-microseconds Zero = refl
 class_of-microseconds Bad = refl

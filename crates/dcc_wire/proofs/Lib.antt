@@ -12,6 +12,7 @@ pub mod OutcomeTableLemmas
 pub mod OutcomeRows
 pub mod HistoryLemmas
 pub mod FramerSteps
+pub mod RunLemmas
 pub mod ErrorByte
 pub mod SeenLemmas
 pub mod PlainHalves

@@ -8,6 +8,7 @@ pub mod Outcomes
 pub mod Framing
 pub mod SeenLaws
 pub mod Steps
+pub mod Runs
 pub mod FramerState
 pub mod Timings
 pub mod NominalTimings

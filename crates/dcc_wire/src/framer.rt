@@ -12,7 +12,7 @@ use std::marker::Model;
 /// Whatever comes of a body, the framer hunts for the next preamble after it.
 #[derive(Drop)]
 pub struct Framer {
-    state: State,
+    pub(crate) state: State,
 }
 
 /// Between bodies, a number of ones, counted to 20; else a body.
@@ -36,10 +36,11 @@ impl Model for Framer {
 }
 
 impl Framer {
-    ghost use Rattle.std.specs.Prelude.{◌≡◌, ◌≢◌, ℕ, List, ◌++◌, [], ◌∷◌, length};
+    ghost use Rattle.std.specs.Prelude.{◌≡◌, ◌≢◌, ◌↔◌, ℕ, List, ◌++◌, [], ◌∷◌, length, IsTrue};
     ghost use Rattle.dcc_wire.specs.Outcomes.{ones_left};
     ghost use Rattle.dcc_wire.specs.Framing.{Hunting, StandsFor, seen, reported};
     ghost use Rattle.dcc_wire.specs.Steps.{rest_after, answer_to};
+    ghost use Rattle.dcc_wire.specs.Runs.{IsQuietFor, rest_after_run};
 
     /// A framer that was given no halves.
     #[tactic(auto, using(crate::proofs::FramerSteps::nothing_yet))]
@@ -92,12 +93,34 @@ impl Framer {
             }
         }
     }
+
+    /// Whether no number of such halves shows anything.
+    pub(crate) fn is_quiet(&self, half: Half) -> bool
+        ensures { IsTrue result ↔ IsQuietFor self.now half }
+    {
+        match self.state {
+            State::Hunting(ones) => half != Half::Zero || ones < 20,
+            State::InBody(_) => false,
+        }
+    }
+
+    /// Takes n halves that show nothing.
+    #[tactic(auto, unfolding(crate::specs::Runs::rest_after_run))]
+    pub(crate) fn skip(&mut self, half: Half, n: u32)
+        requires { IsQuietFor self.old half }
+        ensures { self.new ≡ rest_after_run self.old half n }
+    {
+        if let State::Hunting(ones) = self.state {
+            self.state = State::Hunting(count_on(ones, half, n));
+        }
+    }
 }
 
 ghost use Rattle.std.specs.Prelude.{◌≡◌};
 ghost use Rattle.dcc_wire.specs.Framing.{Hunting};
 ghost use Rattle.dcc_wire.specs.FramerState.{rest_of};
 ghost use Rattle.dcc_wire.specs.Steps.{rest_after};
+ghost use Rattle.dcc_wire.specs.Runs.{ones_after};
 
 /// Counts a half between bodies.
 #[tactic(auto, unfolding(crate::specs::Steps::rest_after))]
@@ -108,5 +131,18 @@ fn hunt(ones: u8, half: Half) -> State
         Half::One => State::Hunting(ones.saturating_add(1).min(20)),
         Half::Zero if ones >= 20 => State::InBody(OpenBody::new()),
         Half::Zero | Half::Bad => State::Hunting(0),
+    }
+}
+
+/// Counts n halves between bodies.
+fn count_on(ones: u8, half: Half, n: u32) -> u8
+    ensures { result ≡ ones_after ones half n }
+{
+    if n == 0 {
+        return ones;
+    }
+    match half {
+        Half::One => n.saturating_add(u32::from(ones)).min(20) as u8,
+        Half::Zero | Half::Bad => 0,
     }
 }

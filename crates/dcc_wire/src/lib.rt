@@ -14,6 +14,9 @@ pub mod laws;
 mod open_body;
 #[cfg(test)]
 mod plain;
+mod run;
+#[cfg(test)]
+mod run_tests;
 #[cfg(test)]
 mod tests;
 mod timing;
@@ -23,4 +26,5 @@ pub use frame::{Frame, FrameFault};
 pub use framer::Framer;
 pub use half::Half;
 pub use halves::Halves;
+pub use run::RunSeen;
 pub use timing::{Timing, TimingFault};

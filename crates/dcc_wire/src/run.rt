@@ -1,0 +1,60 @@
+//! Halves that come many at a time, all alike.
+
+use crate::{Framer, Half, Seen};
+
+/// What a run of halves of one duration shows.
+#[derive(Clone, Copy, Debug, PartialEq, Eq)]
+pub struct RunSeen {
+    /// The one outcome whose last half is in the run, or [`Seen::Nothing`].
+    pub seen: Seen,
+    /// The number of that half in the run, from 1; where nothing is seen, the number of all halves.
+    pub at: u32,
+}
+
+impl Framer {
+    ghost use Rattle.std.specs.Prelude.{◌≡◌, ◌≢◌, ◌≤◌, ◌+◌, ◌-◌, ℕ, List, ◌++◌, length, replicate};
+    ghost use Rattle.dcc_wire.specs.Framing.{StandsFor, seen, reported};
+
+    /// Takes n halves of this many microseconds, as n calls of [`Framer::push`] would. At most one of
+    /// these answers an outcome: what it leaves is no preamble, and halves that are all alike make none
+    /// and a start bit.
+    ///
+    /// However many halves there are, only those of one body are taken one by one, 110 at most.
+    pub fn push_run(&mut self, us: u16, n: u32) -> RunSeen
+        // For every list of halves that the framer stands for, of which there is at least one,
+        ensures history { (durations : List ℕ) × StandsFor self.old durations }
+        // it then stands for the list with these halves behind it,
+        ensures stands { (durations : List ℕ) → StandsFor self.old durations → StandsFor self.new (durations ++ replicate n us) }
+        // the longer list shows the answer at its number, and nothing else behind the list,
+        ensures sees { (durations : List ℕ) → StandsFor self.old durations →
+            seen (durations ++ replicate n us) ≡ seen durations ++ reported (length durations + result.at - 1) result.seen }
+        // and the halves before that number show nothing.
+        ensures before { (durations : List ℕ) → StandsFor self.old durations → seen (durations ++ replicate (result.at - 1) us) ≡ seen durations }
+
+        ensures nothing { result.seen ≡ Seen.Nothing → result.at ≡ n }
+        ensures something { result.seen ≢ Seen.Nothing → (1 ≤ result.at) × (result.at ≤ n) }
+    {
+        let _ = &self.state;
+        let half = Half::of(us);
+        let mut at = 0;
+        while !self.is_quiet(half) {
+            if at == n {
+                return RunSeen {
+                    seen: Seen::Nothing,
+                    at,
+                };
+            }
+            let seen = self.push(us);
+            at += 1;
+            if !seen.is_nothing() {
+                self.skip(half, n - at);
+                return RunSeen { seen, at };
+            }
+        }
+        self.skip(half, n - at);
+        RunSeen {
+            seen: Seen::Nothing,
+            at: n,
+        }
+    }
+}
