@@ -1,7 +1,7 @@
 //! A fleet that hears a track.
 
 ghost use Rattle.std.specs.List.{AllZip};
-ghost use Rattle.std.specs.Prelude.{◌≡◌, ◌++◌, ◌∷◌, [], ℕ, List, length};
+ghost use Rattle.std.specs.Prelude.{◌≡◌, ◌≢◌, ◌≤◌, ◌+◌, ◌-◌, ◌++◌, ◌∷◌, [], ℕ, List, length, replicate};
 ghost use Rattle.dcc_wire.specs.Framing.{StandsFor, reported, seen as seen_in};
 ghost use Rattle.dcc_packet.specs.declared.packet.Packet.{Packet};
 ghost use Rattle.dcc_regs.specs.Result.{HasHeard, RegisterMap};
@@ -11,7 +11,7 @@ ghost use Rattle.dcc_order.specs.Hearing.{AreSpelled, HasHeardHalves, frames_of}
 use crate::fleet::hear_packet;
 use dcc_packet::Packet;
 use dcc_regs::Decoder;
-use dcc_wire::{Framer, Seen};
+use dcc_wire::{Framer, RunSeen, Seen};
 
 /// Each member hears the packet that was seen, if one was.
 fn hear_seen<D: Decoder>(decoders: &mut [D], seen: &Seen)
@@ -47,6 +47,32 @@ pub fn hear<D: Decoder>(decoders: &mut [D], framer: &mut Framer, us: u16) -> See
     let seen = framer.push(us);
     hear_seen(decoders, &seen);
     seen
+}
+
+/// A fleet hears n halves of this many microseconds, as n calls of [`hear`] would. At most one packet ends in them: where one
+/// does, each member hears it, and otherwise each stays as it is. The answer is that of the framer.
+pub fn hear_run(decoders: &mut [Box<dyn Decoder>], framer: &mut Framer, us: u16, n: u32) -> RunSeen
+    ensures stands { (halves : List ℕ) → StandsFor framer.old halves → StandsFor framer.new (halves ++ replicate n us) }
+    ensures sees { (halves : List ℕ) → StandsFor framer.old halves →
+        seen_in (halves ++ replicate n us) ≡ seen_in halves ++ reported (length halves + result.at - 1) result.seen }
+    ensures before { (halves : List ℕ) → StandsFor framer.old halves → seen_in (halves ++ replicate (result.at - 1) us) ≡ seen_in halves }
+    ensures nothing { result.seen ≡ Seen.Nothing → result.at ≡ n }
+    ensures something { result.seen ≢ Seen.Nothing → (1 ≤ result.at) × (result.at ≤ n) }
+
+    // What the run showed is some list of packets, one or none,
+    ensures spelled { (packets : List Packet) × AreSpelled packets (frames_of result.seen) }
+    // and each member has heard just that.
+    ensures hears { (packets : List Packet) → AreSpelled packets (frames_of result.seen) →
+        AllZip (λ old now. HasHeard packets (who old) (registers old) (who now) (registers now)) decoders.old decoders.new }
+
+    // So members that have heard a list of halves have then heard the list with these halves behind it.
+    ensures since { (halves : List ℕ) → StandsFor framer.old halves → (starts : List (Who × RegisterMap)) →
+        AllZip (λ start now. HasHeardHalves halves start.0 start.1 (who now) (registers now)) starts decoders.old →
+        AllZip (λ start now. HasHeardHalves (halves ++ replicate n us) start.0 start.1 (who now) (registers now)) starts decoders.new }
+{
+    let run = framer.push_run(us, n);
+    hear_seen(decoders, &run.seen);
+    run
 }
 
 /// A fleet hears a piece of a track, half by half. So the track may come in pieces of any length: members that have heard

@@ -117,6 +117,42 @@ fn refused_halves_change_nothing(rt: HostRuntime) -> Result<(), Fail> {
     Ok(())
 }
 
+/// The runs of `03 62 61` in the timing of the main track.
+const SPEED_STEP_1: [(u16, u32); 11] = [
+    (58, 28),
+    (100, 14),
+    (58, 4),
+    (100, 4),
+    (58, 4),
+    (100, 6),
+    (58, 2),
+    (100, 6),
+    (58, 4),
+    (100, 8),
+    (58, 4),
+];
+
+#[test]
+fn a_track_may_come_in_runs(rt: HostRuntime) -> Result<(), Fail> {
+    let alloc = rt.alloc();
+    let mut framer = Framer::new();
+    let mut fleet: [Box<dyn Decoder>; 1] = [Box::new(alloc, s3())?];
+    let mut last = 0;
+    for (us, n) in SPEED_STEP_1 {
+        assert_eq!(rt;
+            fleet[0].get(Register::Speed),
+            Some(Value::Speed(Speed::Stop))
+        );
+        last = hear_run(&mut fleet, &mut framer, us, n).at;
+    }
+    assert_eq!(rt; last, 4);
+    assert_eq!(rt;
+        fleet[0].get(Register::Speed),
+        Some(Value::Speed(Speed::Step28(1)))
+    );
+    Ok(())
+}
+
 #[test]
 fn a_track_may_come_in_pieces(rt: HostRuntime) -> Result<(), Fail> {
     let alloc = rt.alloc();

@@ -15,7 +15,7 @@ mod turns;
 mod verdict;
 
 pub use comparing::compare;
-pub use hearing::{hear, hear_piece};
+pub use hearing::{hear, hear_piece, hear_run};
 pub use no_memory::NoMemory;
 pub use verdict::Verdict;
 
