@@ -8,6 +8,7 @@ use Rattle.std.specs.List.{fold}
 use Rattle.dcc_wire.specs.Frames.{AllBytes}
 use Rattle.dcc_wire.specs.Bodies.{bits_of, number_of, body_bits}
 use Rattle.dcc_wire.specs.Outcomes.{bytes_in}
+use Rattle.dcc_wire.specs.Packed.{byte_bits}
 use Rattle.dcc_wire.proofs.BitLemmas.{zero_long, zero_some, option_map-none, option_map_some, some_same}
 use Rattle.dcc_wire.proofs.SendingLemmas.{length-bits_of}
 
@@ -52,11 +53,6 @@ number_of-small bits eight =
     omega arith
 
 -- The bits of bytes
-
--- each byte behind a zero
-unfoldable pub byte_bits : List ℕ → List Bool
-byte_bits [] = []
-byte_bits (byte ∷ bytes) = false ∷ bits_of 8 byte ++ byte_bits bytes
 
 pub body_bits-end : (bytes : List ℕ) → body_bits bytes ≡ byte_bits bytes ++ true ∷ []
 unfolding body_bits byte_bits

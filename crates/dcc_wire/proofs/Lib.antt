@@ -7,6 +7,7 @@ pub mod ByteLemmas
 pub mod SendingLemmas
 pub mod HalvesLemmas
 pub mod ByteBits
+pub mod PackedLemmas
 pub mod OpenLists
 pub mod OutcomeTableLemmas
 pub mod OutcomeRows

@@ -10,12 +10,13 @@ use Rattle.dcc_wire.specs.declared.fault.Seen.TheVariants.{Refused}
 use Rattle.dcc_wire.specs.Frames.{xor_of, AllBytes, IsFrame}
 use Rattle.dcc_wire.specs.Bodies.{halves_of, body_bits, body}
 use Rattle.dcc_wire.specs.Outcomes.{bits_in, behind_bits, bytes_in, closed, by_bits, by_halves, outcome_of}
+use Rattle.dcc_wire.specs.Packed.{byte_bits}
 use Rattle.dcc_wire.specs.OutcomeTable.{IsOpen, IsUnpaired, IsRow, Comes, IsUnfinished}
 use Rattle.dcc_wire.specs.OutcomeLaws.{OutcomesAreRows, NoOutcomeIsUnfinished, SomeRowFits, OneRowFits, NoRowIsUnfinished}
 use Rattle.dcc_wire.proofs.BitLemmas.{halves_of-append, length-halves_of, halves_split, bits_in-behind, some_same}
 use Rattle.dcc_wire.proofs.SendingLemmas.{length-body_bits, closed-packet}
 use Rattle.dcc_wire.proofs.ByteLemmas.{AllBytes-index}
-use Rattle.dcc_wire.proofs.ByteBits.{byte_bits, body_bits-end, length-byte_bits, Reads, bytes_in-reads}
+use Rattle.dcc_wire.proofs.ByteBits.{body_bits-end, length-byte_bits, Reads, bytes_in-reads}
 use Rattle.dcc_wire.proofs.OpenLists.{bits-open}
 use Rattle.dcc_wire.proofs.OutcomeTableLemmas.{closed-short, closed-wrong, comes-outcome, unfinished-outcome}
 

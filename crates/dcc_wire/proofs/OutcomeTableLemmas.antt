@@ -11,11 +11,12 @@ use Rattle.dcc_wire.specs.declared.fault.Seen.TheVariants.{Nothing, Packet, Refu
 use Rattle.dcc_wire.specs.Frames.{xor_of, AllBytes}
 use Rattle.dcc_wire.specs.Bodies.{halves_of, body_bits, body}
 use Rattle.dcc_wire.specs.Outcomes.{bytes_in, closed, by_bits, outcome_of}
+use Rattle.dcc_wire.specs.Packed.{byte_bits}
 use Rattle.dcc_wire.specs.OutcomeTable.{IsUnpaired, IsRow, Comes, IsUnfinished}
 use Rattle.dcc_wire.proofs.BitLemmas.{halves_of-append, length-halves_of, bytes_in-edge}
 use Rattle.dcc_wire.proofs.OutcomeLemmas.{outcome_of-more, outcome_of-bits, outcome_bits, outcome_bad_first, outcome_one_first, outcome_zero_first, outcome_one_bad, outcome_zero_bad, outcome_one_zero, outcome_zero_one}
 use Rattle.dcc_wire.proofs.SendingLemmas.{outcome_of-body, bytes_in-body, length-body_bits}
-use Rattle.dcc_wire.proofs.ByteBits.{byte_bits, body_bits-end, length-byte_bits}
+use Rattle.dcc_wire.proofs.ByteBits.{body_bits-end, length-byte_bits}
 use Rattle.dcc_wire.proofs.OpenLists.{OpenBits, short_by, open-bits}
 
 -- the body of some bytes is what they are with an end bit

@@ -4,6 +4,7 @@ pub mod FrameOf
 pub mod FaultNumbers
 pub mod Padded
 pub mod Bodies
+pub mod Packed
 pub mod Outcomes
 pub mod Framing
 pub mod SeenLaws

@@ -68,9 +68,17 @@ impl Frame {
         if xor(bytes) != 0 {
             return Err(FrameFault::XorNotZero);
         }
-        Ok(Frame {
+        Ok(Frame::of_valid(bytes))
+    }
+
+    /// The frame of bytes that are known to be one.
+    pub(crate) fn of_valid(bytes: &[u8]) -> Frame
+        requires { IsFrame bytes.now }
+        ensures { result ≡ bytes.now }
+    {
+        Frame {
             bytes: PacketBytes::of(bytes),
-        })
+        }
     }
 
     /// The bytes, in the order in which they are sent.

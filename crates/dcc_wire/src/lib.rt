@@ -5,6 +5,10 @@
 #![tactic(auto)]
 
 mod bytes;
+#[cfg(test)]
+mod collected;
+#[cfg(test)]
+mod collected_tests;
 mod fault;
 mod frame;
 mod framer;
@@ -12,6 +16,7 @@ mod half;
 mod halves;
 pub mod laws;
 mod open_body;
+mod packed_bits;
 #[cfg(test)]
 mod plain;
 mod run;

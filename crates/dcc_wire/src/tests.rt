@@ -1,5 +1,6 @@
 //! Worked examples: what the standard's rules give, with the halves written out.
 
+use crate::collected::CollectingFramer;
 use crate::{Fault, Frame, FrameFault, Framer, Half, Halves, Seen, Timing, TimingFault, plain};
 use std::alloc::{AllocError, Global};
 use std::process::Abort;
@@ -78,9 +79,11 @@ fn shows(
 ) -> Result<(), Fail> {
     let halves = joined(alloc, pieces)?;
     let mut framer = Framer::new();
+    let mut plain = CollectingFramer::new();
     let mut left = want;
     for (place, us) in halves.iter().enumerate() {
         let answer = framer.push(*us);
+        assert_eq!(rt; plain.push(*us), answer);
         if !answer.is_nothing() {
             match left {
                 [] => panic!(rt; "{}: {answer:?}", place + 1),

@@ -2,7 +2,7 @@ use Rattle.std.proofs.Common.{get_or, false, refl, arith, add-one}
 use Rattle.std.proofs.Math.Nat.{pow-suc}
 use Rattle.dcc_wire.specs.Bodies.{number_of}
 use Rattle.dcc_wire.proofs.BitNumbers.{pow_small, number_of-more, byte_of_bool, byte_of_bool_le}
-use Rattle.dcc_wire.proofs.open_body.number.Goals as goal
+use Rattle.dcc_wire.proofs.collected.number.Goals as goal
 
 pub loop-bit-init : goal.loop-bit-init
 unfolding number_of

@@ -3,8 +3,8 @@ use Rattle.std.proofs.lemmas.Bool.Decides.{nat_tests}
 use Rattle.dcc_wire.specs.Outcomes.{bytes_in, closed}
 use Rattle.dcc_wire.proofs.BitLemmas.{bytes_in-inside}
 use Rattle.dcc_wire.proofs.OutcomeLemmas.{answer-closed, answer-full, answer-open, open-room, something_closed}
-use Rattle.dcc_wire.proofs.open_body.take_bit.Goals as goal
-use Rattle.dcc_wire.proofs.open_body.take_bit.Goals.{then-len-eq0+else-bit+else-is_full, else-len-eq0, After-push}
+use Rattle.dcc_wire.proofs.collected.take_bit.Goals as goal
+use Rattle.dcc_wire.proofs.collected.take_bit.Goals.{then-len-eq0+else-bit+else-is_full, else-len-eq0, After-push}
 
 pub returns-then-bit-clause-answer : goal.returns-then-bit-clause-answer
 returns-then-bit-clause-answer c =

@@ -1,6 +1,6 @@
 use Rattle.std.proofs.Common.{arith}
 use Rattle.dcc_wire.proofs.BitLemmas.{Spelling-start, Spelling-few, Spelling-next, Spelling-done}
-use Rattle.dcc_wire.proofs.open_body.bytes_of.Goals as goal
+use Rattle.dcc_wire.proofs.collected.bytes_of.Goals as goal
 
 pub loop-left-init : goal.loop-left-init
 loop-left-init c = rw c.new-bytes.ensures (Spelling-start c.args.bits.now c.requires.unfinished c.requires.whole)

@@ -1,0 +1,93 @@
+//! The bits of a body, packed into bytes as they come.
+
+ghost use Rattle.std.specs.Prelude.{◌≡◌, ◌≤◌, length};
+ghost use Rattle.dcc_wire.specs.Frames.{xor_of};
+ghost use Rattle.dcc_wire.specs.Outcomes.{closed};
+
+use crate::{Body, Fault, Frame, Seen};
+use arrayvec::ArrayVec;
+use std::marker::Model;
+
+/// The bits of an unfinished body: its whole bytes, and the bits that came behind them.
+#[derive(Drop)]
+pub struct PackedBits {
+    bytes: ArrayVec<u8, 6>,
+    /// The exclusive or of the bytes.
+    xor: u8,
+    /// The bits behind the bytes, shifted in one by one: the zero before the next byte is the first.
+    shift: u8,
+    /// How many bits are behind the bytes, 8 at most.
+    count: u8,
+}
+
+impl Model for PackedBits {
+    ghost use Rattle.std.specs.Prelude.{List, Bool};
+    ghost use Rattle.dcc_wire.specs.Packed.{packed_bits, IsPacked};
+
+    ghost Value = { List Bool };
+
+    ghost view = { λ p. packed_bits p.bytes.items p.count p.shift };
+
+    ghost invariant = { λ p. IsPacked p.bytes.items p.xor p.count p.shift };
+}
+
+impl PackedBits {
+    ghost use Rattle.std.specs.Prelude.{◌≡◌, ◌++◌, [], ◌∷◌, None};
+    ghost use Rattle.std.specs.Option.{option_map};
+    ghost use Rattle.dcc_wire.specs.Outcomes.{bytes_in, by_bits};
+    ghost use Rattle.dcc_wire.specs.Steps.{answer_of};
+
+    /// No bits.
+    pub fn new() -> PackedBits
+        ensures { result ≡ [] }
+    {
+        PackedBits {
+            bytes: ArrayVec::new(),
+            xor: 0,
+            shift: 0,
+            count: 0,
+        }
+    }
+
+    /// Adds a bit, unless it closes the bytes.
+    pub fn push(&mut self, bit: bool) -> Seen
+        ensures answer { result ≡ answer_of (option_map by_bits (bytes_in 6 (self.old ++ bit ∷ []))) }
+        ensures added { result ≡ Seen.Nothing → self.new ≡ self.old ++ bit ∷ [] }
+        ensures unfinished { bytes_in 6 self.new ≡ None }
+    {
+        if self.count == 0 {
+            if bit {
+                return close(self.bytes.as_slice(), self.xor);
+            }
+            if self.bytes.is_full() {
+                return Seen::Refused(Fault::TooLong);
+            }
+        }
+        self.shift = 2 * self.shift + u8::from(bit);
+        self.count += 1;
+        if self.count < 9 {
+            return Seen::Nothing;
+        }
+        self.bytes.push(self.shift);
+        self.xor ^= self.shift;
+        self.shift = 0;
+        self.count = 0;
+        Seen::Nothing
+    }
+}
+
+/// What bytes with an end bit are.
+#[tactic(auto, unfolding(crate::specs::Outcomes::closed))]
+fn close(bytes: &[u8], xor: u8) -> Seen
+    requires few { length bytes.now ≤ 6 }
+    requires exclusive_or { xor ≡ xor_of bytes.now }
+    ensures { result ≡ closed bytes.now }
+{
+    if bytes.len() < 3 {
+        return Seen::Refused(Fault::TooShort);
+    }
+    if xor != 0 {
+        return Seen::Refused(Fault::ErrorByte(Body::of(bytes)));
+    }
+    Seen::Packet(Frame::of_valid(bytes))
+}
