@@ -51,7 +51,7 @@ pub fn hear<D: Decoder>(decoders: &mut [D], framer: &mut Framer, us: u16) -> See
 
 /// A fleet hears n halves of this many microseconds, as n calls of [`hear`] would. At most one packet ends in them: where one
 /// does, each member hears it, and otherwise each stays as it is. The answer is that of the framer.
-pub fn hear_run(decoders: &mut [Box<dyn Decoder>], framer: &mut Framer, us: u16, n: u32) -> RunSeen
+pub fn hear_run<D: Decoder>(decoders: &mut [D], framer: &mut Framer, us: u16, n: u32) -> RunSeen
     ensures stands { (halves : List ℕ) → StandsFor framer.old halves → StandsFor framer.new (halves ++ replicate n us) }
     ensures sees { (halves : List ℕ) → StandsFor framer.old halves →
         seen_in (halves ++ replicate n us) ≡ seen_in halves ++ reported (length halves + result.at - 1) result.seen }
@@ -63,12 +63,12 @@ pub fn hear_run(decoders: &mut [Box<dyn Decoder>], framer: &mut Framer, us: u16,
     ensures spelled { (packets : List Packet) × AreSpelled packets (frames_of result.seen) }
     // and each member has heard just that.
     ensures hears { (packets : List Packet) → AreSpelled packets (frames_of result.seen) →
-        AllZip (λ old now. HasHeard packets (who old) (registers old) (who now) (registers now)) decoders.old decoders.new }
+        AllZip (λ old now. HasHeard packets (D.who old) (D.registers old) (D.who now) (D.registers now)) decoders.old decoders.new }
 
     // So members that have heard a list of halves have then heard the list with these halves behind it.
     ensures since { (halves : List ℕ) → StandsFor framer.old halves → (starts : List (Who × RegisterMap)) →
-        AllZip (λ start now. HasHeardHalves halves start.0 start.1 (who now) (registers now)) starts decoders.old →
-        AllZip (λ start now. HasHeardHalves (halves ++ replicate n us) start.0 start.1 (who now) (registers now)) starts decoders.new }
+        AllZip (λ start now. HasHeardHalves halves start.0 start.1 (D.who now) (D.registers now)) starts decoders.old →
+        AllZip (λ start now. HasHeardHalves (halves ++ replicate n us) start.0 start.1 (D.who now) (D.registers now)) starts decoders.new }
 {
     let run = framer.push_run(us, n);
     hear_seen(decoders, &run.seen);
