@@ -11,8 +11,8 @@ use crate::outputs::{out_set, position_set};
 use crate::register::{Register, Value, Who};
 use dcc_packet::{Board, Packet, PacketFault};
 
-/// An accessory decoder as small as it goes: bit n of `outs` is output n, and bit n of `positions`, 0 to 3, is the
-/// side of pair n.
+/// An accessory decoder: bit n of `outs` is output n, bit n of `positions`, 0 to 3, the side of pair n. It keeps the
+/// contracts of `BoardDecoder`.
 #[derive(Drop)]
 pub struct PackedBoard {
     board: Board,

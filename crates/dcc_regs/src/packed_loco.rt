@@ -15,7 +15,7 @@ use crate::speeds::{direction_set, speed_set};
 use crate::writes::own_write;
 use dcc_packet::{Address, CvNumber, Packet, PacketFault};
 
-/// A locomotive decoder as small as it goes: bit n of `functions` is function n, its CVs are bytes.
+/// A locomotive decoder: bit n of `functions` is function n, its CVs are bytes. It keeps the contracts of `LocoDecoder`.
 #[derive(Drop)]
 pub struct PackedLoco {
     address: Option<Address>,
