@@ -21,6 +21,9 @@ pub const STEP_1: Value = Value::Speed(Speed::Step28(1));
 /// CV29 of locomotive 3 is made 6.
 pub const WRITE: &str = "frame 03ec1c06f5";
 
+/// CV1 of locomotive 3 is made 10.
+pub const TO_S10: &str = "frame 03ec000ae5";
+
 /// Output 5 of board 12 is turned on.
 pub const FIVE_ON: &str = "frame 8cfd71";
 

@@ -41,6 +41,8 @@ pub use same::same_registers;
 pub use writes::is_own_write;
 
 #[cfg(test)]
+mod address_tests;
+#[cfg(test)]
 mod board_tests;
 #[cfg(test)]
 mod examples;
