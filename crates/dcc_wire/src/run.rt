@@ -16,10 +16,10 @@ impl Framer {
     ghost use Rattle.dcc_wire.specs.Framing.{StandsFor, seen, reported};
 
     /// Takes n halves of this many microseconds, as n calls of [`Framer::push`] would. At most one of
-    /// these answers an outcome: what it leaves is no preamble, and halves that are all alike make none
-    /// and a start bit.
+    /// these answers an outcome: behind it halves that are all alike bring no preamble with a start bit.
     ///
-    /// However many halves there are, only those of one body are taken one by one, 110 at most.
+    /// However many halves there are, only those of one body are taken one by one, 110 at most: where
+    /// no such half begins a body, the rest changes but the number of ones.
     pub fn push_run(&mut self, us: u16, n: u32) -> RunSeen
         // For every list of halves that the framer stands for, of which there is at least one,
         ensures history { (durations : List ℕ) × StandsFor self.old durations }
