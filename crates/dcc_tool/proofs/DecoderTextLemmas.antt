@@ -112,10 +112,10 @@ pub record ReadsDecoders (old : InputState) (before : List Saved) (head : Head) 
   pub count : room + length before ≡ 64
   pub leads : Leads decoder_text old (decoders_from room before head) now
 
-abbrev behind_head : Head → Reader (List Saved)
+abbrev pub behind_head : Head → Reader (List Saved)
 behind_head head = decoders_from 64 [] head
 
-abbrev behind_version : Unit {0} → Reader (List Saved)
+abbrev pub behind_version : Unit {0} → Reader (List Saved)
 behind_version version = line_by head_line >>= behind_head
 
 Leads-text : (old : InputState) → old.fault ≡ None → Leads decoder_text old (line_by version_line >>= behind_version) old

@@ -1,5 +1,5 @@
 -- The decoder text that is written for a fleet, from what each member is and what its registers hold.
-use Rattle.std.specs.Prelude.{zero, suc, ℕ, ◌==◌, Bool, true, false, List, [], ◌∷◌, ◌++◌, codes, decimal, Option, None, Some, if◌then◌else◌}
+use Rattle.std.specs.Prelude.{zero, suc, ℕ, ◌==◌, Bool, true, List, [], ◌∷◌, ◌++◌, codes, Option, None, Some, if◌then◌else◌}
 use Rattle.std.specs.List.{flat_map}
 use Rattle.hex.specs.Hex.{encode_lower}
 use Rattle.dcc_packet.specs.declared.address.Address.{Address}

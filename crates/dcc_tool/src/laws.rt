@@ -2,6 +2,7 @@
 
 ghost use Rattle.dcc_tool.specs.LineLaws.{LinesAreCounted};
 ghost use Rattle.dcc_tool.specs.ListingLaws.{OneListing, ListsInHex};
+ghost use Rattle.dcc_tool.specs.ReadBack.{FleetsAreReadBack};
 
 /// A listing is one text: what `show` writes is settled by what the halves show.
 #[tactic(auto, using(crate::proofs::ListingLaws::one_listing))]
@@ -18,4 +19,9 @@ pub fn without_words_the_listing_is_in_hex()
 /// An input that is used up has given a line for each line feed, and one for what stands behind the last.
 pub fn lines_are_counted_by_line_feeds()
     ensures { LinesAreCounted }
+{}
+
+/// The text that is written for at most 64 decoders is read back as the same decoders.
+pub fn fleets_are_read_back()
+    ensures { FleetsAreReadBack }
 {}
