@@ -11,11 +11,12 @@ use Rattle.dcc_tool.specs.declared.decoder_line.Head.{Head}
 use Rattle.dcc_tool.specs.declared.decoder_line.Head.TheVariants as heads
 use Rattle.dcc_tool.specs.DecoderLines.{version_line, head_line}
 use Rattle.dcc_tool.specs.DecoderText.{decoder_lines, decoders_from, decoder_text}
-use Rattle.dcc_tool.specs.FleetText.{cvs_text, member_text, loco_address_line, speed_line, functions_line, pending_line, board_line, outs_line, positions_line, aspects_line}
+use Rattle.dcc_tool.specs.FleetText.{cvs_text, member_text, fleet_text, loco_address_line, speed_line, functions_line, pending_line, board_line, outs_line, positions_line, aspects_line}
 use Rattle.dcc_tool.specs.ReadBack.{SavesEach, IsPossibleMember, FleetsAreReadBack}
 use Rattle.dcc_tool.specs.TextReader.{line_by}
 use Rattle.dcc_tool.proofs.DecoderTextLemmas.{behind_head, behind_version}
 use Rattle.dcc_tool.proofs.DecodersBack.{BeginsWith, loco_begins, board_begins, end_begins, GivesDecoder, loco_given, board_given}
+use Rattle.dcc_tool.proofs.LinesKept.{read_lines}
 use Rattle.dcc_tool.proofs.LinesBack.{at, few_back, then_back}
 use Rattle.dcc_tool.proofs.RulesBack.{version_back}
 use Rattle.dcc_tool.proofs.TokensBack.{keyword_token}
@@ -99,11 +100,14 @@ unfolding decoder_text
 fleets_read_back members line rest few possible =
     let first = begins members rest possible in
     let all = all_given members 64 [] (line + 1 + 1) rest few possible in
+    let reads : decoder_text (at line (fleet_text members ++ rest)) ≡ Ok (all.states, at all.line rest) =
+    ap (λ (bytes : List ℕ). decoder_text (at line bytes)) (append_assoc (codes "dcc-decoders 1\n") (flat_map member_text members ++ codes "end\n") rest)
+    ∙ then_back (line_by version_line) behind_version tt (at line (codes "dcc-decoders 1\n" ++ tail members rest)) (at (line + 1) (tail members rest)) (Ok (all.states, at all.line rest)) (version_read line (tail members rest))
+    (then_back (line_by head_line) behind_head (head_of members) (at (line + 1) (tail members rest)) (at (line + 1 + 1) (rest_of members rest)) (Ok (all.states, at all.line rest)) (first.first (line + 1)) all.reads) in
     record {
       states = all.states;
       behind = all.line;
-      reads = ap (λ (bytes : List ℕ). decoder_text (at line bytes)) (append_assoc (codes "dcc-decoders 1\n") (flat_map member_text members ++ codes "end\n") rest)
-          ∙ then_back (line_by version_line) behind_version tt (at line (codes "dcc-decoders 1\n" ++ tail members rest)) (at (line + 1) (tail members rest)) (Ok (all.states, at all.line rest)) (version_read line (tail members rest))
-          (then_back (line_by head_line) behind_head (head_of members) (at (line + 1) (tail members rest)) (at (line + 1 + 1) (rest_of members rest)) (Ok (all.states, at all.line rest)) (first.first (line + 1)) all.reads);
+      reads = reads;
       saves = all.saves;
+      lines = read_lines line all.line all.states (fleet_text members) rest reads;
     }

@@ -1,5 +1,5 @@
 -- The text that is written for a fleet is read back as the same decoders.
-use Rattle.std.specs.Prelude.{◌≡◌, ℕ, ◌≤◌, ◌++◌, List, [], ◌∷◌, Ok, length}
+use Rattle.std.specs.Prelude.{◌≡◌, ℕ, ◌+◌, ◌≤◌, ◌==◌, if◌then◌else◌, ◌++◌, List, [], ◌∷◌, Ok, length}
 use Rattle.std.specs.List.{AllByRecursion}
 use Rattle.dcc_regs.specs.declared.register.Register.{Register}
 use Rattle.dcc_regs.specs.declared.register.Who.{Who}
@@ -36,12 +36,18 @@ SavesEach (one ∷ more) [] = ⊥
 abbrev pub IsPossibleMember : Who × RegisterMap → Type 0
 IsPossibleMember member = IsPossible member.0 member.1
 
+-- the line feeds of a text
+abbrev pub line_feeds : List ℕ → ℕ
+line_feeds [] = 0
+line_feeds (byte ∷ bytes) = if byte == 10 then 1 + line_feeds bytes else line_feeds bytes
+
 -- the text of these members is read as a state of each, and what follows it is left
 pub record ReadsBack (members : List (Who × RegisterMap)) (line : ℕ) (rest : List ℕ) : Type 0 where
   pub states : List Saved
   pub behind : ℕ
   pub reads : decoder_text (record { line = line; bytes = fleet_text members ++ rest }) ≡ Ok (states, record { line = behind; bytes = rest })
   pub saves : SavesEach states members
+  pub lines : behind ≡ line + line_feeds (fleet_text members)
 
 -- at most 64 decoders, each of which may be, are read back, wherever their text stands
 abbrev pub FleetsAreReadBack : Type 0
