@@ -1,23 +1,25 @@
 -- What words say of both captures of one input.
-use Rattle.std.proofs.Common.{zero, suc, ◌≡◌, ◌≢◌, ◌⊎◌, inl, inr, ℕ, ◌+◌, ◌-◌, ◌<◌, ◌≤◌, List, [], ◌∷◌, ◌++◌, length, take, filter, Bool, true, false, not, cond, eqb, nat_le, ◌&&◌, Option, None, Some, Result, Ok, Err, refl, sym, ap, ◌∙◌, subst, arith, append_assoc, length-append, IfSome, IsSomeAnd}
+use Rattle.std.proofs.Common.{◌≡◌, ◌≢◌, ◌⊎◌, inl, inr, ℕ, ◌+◌, ◌-◌, ◌<◌, ◌≤◌, List, [], ◌∷◌, ◌++◌, length, take, replicate, filter, Bool, true, false, not, cond, eqb, nat_le, ◌&&◌, Option, None, Some, Result, Ok, Err, refl, sym, ap, ◌∙◌, subst, arith, append_assoc, length-append, IfSome, IsSomeAnd}
 use Rattle.std.proofs.Math.Seq.{take-append-add}
 use Rattle.std.proofs.lemmas.List.{append-nil}
 use Rattle.std.proofs.lemmas.Bool.Decides.{nat_tests}
 use Rattle.dcc_packet.specs.declared.fault.PacketFault.TheVariants as faults
+use Rattle.dcc_tool.specs.declared.word.Run.{Run}
 use Rattle.dcc_tool.specs.declared.fault.KeptFault.{KeptFault}
 use Rattle.dcc_tool.specs.declared.fault.KeptFault.TheVariants.{Number, Line, Read, TooMuch}
 use Rattle.dcc_tool.specs.Place.{Place, line_behind}
 use Rattle.dcc_tool.specs.Failures.{one_more}
 use Rattle.dcc_tool.specs.Told.{IsAtEnd}
 use Rattle.dcc_tool.specs.InputState.{InputState, all_lines}
-use Rattle.dcc_tool.specs.Words.{Word, ended_words, is_gap, uncommented, onto_first, pieces, but_last, has_bytes, is_mark, duration_of}
+use Rattle.dcc_tool.specs.Words.{Word, ended_words, is_gap, uncommented, onto_first, pieces, but_last, has_bytes, is_mark, run_of}
 use Rattle.dcc_tool.specs.Passed.{Uses, Passed, FailsBehind, FailsBeforeWord, OverflowsBeforeWord, AnswersWord}
 use Rattle.dcc_tool.specs.Capture.{halves_of}
 use Rattle.dcc_tool.specs.BothCaptures.{Both, Said, stopped, in_front, only_second, has_more_words, behind_mark, counted_first, both_of, both_from, in_limit}
 use Rattle.dcc_tool.specs.FirstRead.{LeadsIn, Leads, first_so_far, first_is, IsBehindLine, StopsBoth, AnswersFirst}
 use Rattle.dcc_tool.specs.FirstSteps.{CountsWord, EndsMark}
 use Rattle.dcc_tool.proofs.PassedLemmas.{map_same}
-use Rattle.dcc_tool.proofs.CaptureLemmas.{with_left, count_more, above_limit, not_within, zero_fits, same_test}
+use Rattle.dcc_tool.proofs.CaptureLemmas.{with_left, count_more, above_limit, not_within, zero_fits, same_test, enough}
+use Rattle.dcc_tool.proofs.RunWordLemmas.{some_half}
 
 -- each word stands on this line or behind it
 abbrev AllFrom : ℕ → List Word → Type 0
@@ -232,9 +234,11 @@ Leads-counted before left old mid said leads = record {
   failures = leads.failures;
 }
 
-counted_some : (most us : ℕ) (rest : Both) → 0 < most → counted_first most us rest ≡ in_front (us ∷ []) rest
-counted_some zero us rest some = absurd (omega arith)
-counted_some (suc most) us rest some = refl
+counted_some : (most : ℕ) (run : Run) (rest : ℕ → Both) → run.n ≤ most → counted_first most run rest ≡ in_front (replicate run.n run.us) (rest (most - run.n))
+counted_some most run rest fits = rw (enough run.n most fits) refl
+
+counted_too_many : (most : ℕ) (run : Run) (rest : ℕ → Both) → most < run.n → counted_first most run rest ≡ stopped TooMuch
+counted_too_many most run rest above = rw (not_within run.n most above) refl
 
 abbrev with_fault : InputState → KeptFault → InputState
 with_fault input told = record { text = input.text; ahead = input.ahead; place = input.place; lines = input.lines; halves = input.halves; bytes = input.bytes; fault = Some told; failures = input.failures }
@@ -258,30 +262,36 @@ module _ (before line : ℕ) (word : List ℕ) (old mid : InputState) (fault : o
       → Leads before old mid G
   led G each = Leads-words before old old mid (record { line = line; bytes = word } ∷ []) (λ end ws last. both_of before old.halves end ws last) G (Leads-start before old fault) passed each
 
-  pub counts : (new : InputState) (result : Result (Option (ℕ × ℕ)) KeptFault) → mark ≡ false → mid.bytes < old.bytes → CountsWord mid line word result new → AnswersFirst before old result new
-  counts new (Ok (Some half)) none fewer count = rw count.3 (
-    rw count.0 (Leads-counted before (mid.halves - 1) old mid (λ end more last. in_front (half.1 ∷ []) (both_of line (mid.halves - 1) end (ended_words mid.place more) last))
-        (led (λ end more last. in_front (half.1 ∷ []) (both_of line (mid.halves - 1) end (ended_words mid.place more) last))
-        (λ end more last. rw (none, count.1, ← passed.halves) (counted_some mid.halves half.1 _ count.2)))),
-    omega (arith, count.2, passed.halves),
+  pub counts : (new : InputState) (result : Result (Option (ℕ × Run)) KeptFault) → mark ≡ false → mid.bytes < old.bytes → CountsWord mid line word result new → AnswersFirst before old result new
+  counts new (Ok (Some taken)) none fewer count = rw count.3 (
+    rw count.0 (Leads-counted before (mid.halves - taken.1.n) old mid said (led said (λ end more last. rw (none, count.1, ← passed.halves) (counted_some mid.halves taken.1 (λ left. both_of line left end (ended_words mid.place more) last) count.2)))),
+    let fits = count.2 in omega (arith, fits, passed.halves),
+    some_half word taken.1 count.1,
     fewer,
   )
+    where
+      said : Said
+      said end more last = in_front (replicate taken.1.n taken.1.us) (both_of line (mid.halves - taken.1.n) end (ended_words mid.place more) last)
   counts new (Ok None) none fewer count = absurd count
   counts new (Err told) none fewer count = go told count.0 count.1
     where
-      go : (told : KeptFault) → new ≡ with_fault mid told → ((duration_of word ≡ None) × (told ≡ Number line)) ⊎ ((us : ℕ) × (duration_of word ≡ Some us) × (told ≡ TooMuch) × (mid.halves ≡ 0))
+      go : (told : KeptFault) → new ≡ with_fault mid told → ((run_of word ≡ None) × (told ≡ Number line)) ⊎ ((run : Run) × (run_of word ≡ Some run) × (told ≡ TooMuch) × (mid.halves < run.n))
           → StopsBoth before old told new × (new.fault ≡ Some told)
       go told is_new (inl bad) = rw (is_new, bad.1) ((passed.failures, stops_said before old mid (Number line) (led (λ end more last. stopped (Number line)) (λ end more last. rw (none, bad.0) refl))), refl)
-      go told is_new (inr (us, spells, is_told, no_room)) = rw (is_new, is_told) (
-        (passed.failures, stops_said before old mid TooMuch (led (λ end more last. stopped TooMuch) (λ end more last. rw (none, spells, sym passed.halves ∙ no_room) refl))),
+      go told is_new (inr (run, spells, is_told, no_room)) = rw (is_new, is_told) (
+        (
+          passed.failures,
+          stops_said before old mid TooMuch (led (λ end more last. stopped TooMuch)
+              (λ end more last. rw (none, spells, ← passed.halves) (counted_too_many mid.halves run (λ left. both_of line left end (ended_words mid.place more) last) no_room))),
+        ),
         refl,
       )
 
   at_mark : mark ≡ true → Leads before old mid (λ end more last. behind_mark line old.halves (ended_words mid.place more) last)
   at_mark begins = led (λ end more last. behind_mark line old.halves (ended_words mid.place more) last) (λ end more last. rw begins refl)
 
-  pub marks : (new : InputState) (result : Result (Option (ℕ × ℕ)) KeptFault) → mark ≡ true → line ≤ mid.place.line → EndsMark mid line result new → AnswersFirst before old result new
-  marks new (Ok (Some half)) begins reached answer = absurd answer
+  pub marks : (new : InputState) (result : Result (Option (ℕ × Run)) KeptFault) → mark ≡ true → line ≤ mid.place.line → EndsMark mid line result new → AnswersFirst before old result new
+  marks new (Ok (Some taken)) begins reached answer = absurd answer
   marks new (Ok None) begins reached (inl kept) = rw kept.0 record {
     line = line;
     leads = led (first_is [] line mid) (λ end more last. rw (begins, passed.halves) refl);

@@ -1,7 +1,7 @@
 -- How the first of two captures is read.
 use Rattle.std.proofs.Common.{◌≡◌, ◌≢◌, ◌⊎◌, inl, inr, ℕ, ◌+◌, ◌<◌, List, [], ◌∷◌, ◌++◌, Bool, true, false, eqb, ◌||◌, Option, None, Some, Ok, refl, ap, ◌∙◌, subst, arith, IfSome}
 use Rattle.std.proofs.lemmas.Bool.Decides.{nat_tests}
-use Rattle.dcc_tool.specs.declared.word.DurationWord.{DurationWord}
+use Rattle.dcc_tool.specs.declared.word.RunWord.{RunWord}
 use Rattle.dcc_tool.specs.Place.{Place}
 use Rattle.dcc_tool.specs.Told.{IsAtEnd}
 use Rattle.dcc_tool.specs.Spells.{Spells}
@@ -14,14 +14,14 @@ use Rattle.dcc_tool.proofs.PassedLemmas.{Opens, TakesNoted, Opens-word, Opens-ga
 use Rattle.dcc_tool.proofs.CaptureLemmas.{if_some_map}
 
 -- within a line, no word of which has ended
-pub record OpensHere (old : InputState) (so_far : DurationWord) (now : InputState) : Type 0 where
+pub record OpensHere (old : InputState) (so_far : RunWord) (now : InputState) : Type 0 where
   pub opens : Opens old so_far now
   pub here : now.place.line ≡ old.place.line
 
 same_line : (now new : InputState) (byte : ℕ) → TakesNoted now byte new → eqb byte 10 ≡ false → new.place.line ≡ now.place.line
 same_line now new byte takes other = ap (λ (place : Place). place.line) takes.place ∙ rw other refl
 
-pub OpensHere-word : (old now new : InputState) (so_far more_far : DurationWord) (byte : ℕ) → OpensHere old so_far now → TakesNoted now byte new
+pub OpensHere-word : (old now new : InputState) (so_far more_far : RunWord) (byte : ℕ) → OpensHere old so_far now → TakesNoted now byte new
     → (comments now.place.in_comment byte || is_gap byte) ≡ false → ((word : List ℕ) → Spells so_far word → Spells more_far (word ++ byte ∷ []))
     → OpensHere old more_far new
 OpensHere-word old now new so_far more_far byte so takes no_gap spells = record {
@@ -36,7 +36,7 @@ OpensHere-word old now new so_far more_far byte so takes no_gap spells = record 
 other_byte : (a b : ℕ) → a ≢ b → eqb a b ≡ false
 other_byte a b other = grind (arith, nat_tests)
 
-pub OpensHere-gap : (old now new : InputState) (so_far : DurationWord) (byte : ℕ) (so : OpensHere old so_far now) → TakesNoted now byte new
+pub OpensHere-gap : (old now new : InputState) (so_far : RunWord) (byte : ℕ) (so : OpensHere old so_far now) → TakesNoted now byte new
     → (comments now.place.in_comment byte || is_gap byte) ≡ true → is_some_byte so.opens.word ≡ false → byte ≢ 10
     → OpensHere old so_far new
 OpensHere-gap old now new so_far byte so takes gap empty other = record {
@@ -49,7 +49,7 @@ if_some_all R None all = tt
 if_some_all R (Some rest) all = all rest
 
 -- the line feed behind no word
-pub ends_here : (old now new : InputState) (so_far : DurationWord) (byte : ℕ) (so : OpensHere old so_far now) → TakesNoted now byte new
+pub ends_here : (old now new : InputState) (so_far : RunWord) (byte : ℕ) (so : OpensHere old so_far now) → TakesNoted now byte new
     → (comments now.place.in_comment byte || is_gap byte) ≡ true → is_some_byte so.opens.word ≡ false → byte ≡ 10
     → EndsLine old (Ok true) new
 ends_here old now new so_far byte so takes gap empty feed =
@@ -58,13 +58,13 @@ ends_here old now new so_far byte so takes gap empty feed =
       if_some_all (λ rest. (rest ≡ []) ⊎ (old.place.line < new.place.line)) new.text (λ rest. inr (omega (arith, line))),
     )
 
-pub ends_at_end : (old now : InputState) (so_far : DurationWord) → OpensHere old so_far now → IsAtEnd now.text → EndsLine old (Ok true) now
+pub ends_at_end : (old now : InputState) (so_far : RunWord) → OpensHere old so_far now → IsAtEnd now.text → EndsLine old (Ok true) now
 ends_at_end old now so_far so at_end = (
   Passed-end old now so_far so.opens at_end,
   if_some_map (λ rest. rest ≡ []) (λ rest. (rest ≡ []) ⊎ (old.place.line < now.place.line)) now.text (λ rest none. inl none) at_end,
 )
 
-pub ends_in_word : (old now new : InputState) (so_far : DurationWord) (byte : ℕ) (so : OpensHere old so_far now) → TakesNoted now byte new
+pub ends_in_word : (old now new : InputState) (so_far : RunWord) (byte : ℕ) (so : OpensHere old so_far now) → TakesNoted now byte new
     → (comments now.place.in_comment byte || is_gap byte) ≡ true → is_some_byte so.opens.word ≡ true
     → EndsLine old (Ok false) new
 ends_in_word old now new so_far byte so takes gap some =

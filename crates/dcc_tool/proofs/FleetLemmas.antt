@@ -1,5 +1,5 @@
 -- The text of a fleet, written piece by piece.
-use Rattle.std.proofs.Common.{zero, suc, ◌≡◌, ℕ, ◌+◌, ◌-◌, ◌<◌, eqb, false, if◌then◌else◌, List, [], ◌∷◌, ◌++◌, length, map, take, drop, slice_index_or, codes, Option, None, Some, Result, Ok, Err, refl, sym, ap, ◌∙◌, subst, append_assoc, arith}
+use Rattle.std.proofs.Common.{zero, suc, ◌≡◌, ℕ, ◌+◌, ◌-◌, ◌<◌, eqb, false, if◌then◌else◌, List, [], ◌∷◌, ◌++◌, length, map, take, drop, slice_index_or, codes, Option, Result, Ok, Err, refl, sym, ap, ◌∙◌, subst, append_assoc, arith}
 use Rattle.std.proofs.lemmas.Grind.{flat_map-append}
 use Rattle.std.proofs.lemmas.List.{append-nil, map-append}
 use Rattle.std.proofs.Math.Seq.{take-length}
@@ -14,7 +14,7 @@ use Rattle.dcc_tool.proofs.RowsLemmas.{cvs_next, cvs_some}
 use Rattle.std.specs.Io.KnownBytes.{Appends}
 use Rattle.dcc_tool.specs.declared.stream.Failed.{Failed}
 use Rattle.dcc_tool.specs.Failures.{HasRisen}
-use Rattle.dcc_tool.specs.Written.{AppendsFront, Writes}
+use Rattle.dcc_tool.specs.Written.{Writes}
 use Rattle.dcc_tool.proofs.WrittenLemmas.{Appends-append}
 
 -- all of one text was written, and then this happened to the other

@@ -16,9 +16,10 @@ use Rattle.dcc_tool.specs.declared.fault.KeptFault.{KeptFault}
 use Rattle.dcc_tool.specs.Told.{Told}
 use Rattle.dcc_tool.specs.InputState.{InputState, closed_text, closing}
 use Rattle.dcc_tool.specs.Passed.{Uses}
-use Rattle.dcc_tool.specs.Capture.{AnswersHalf}
+use Rattle.dcc_tool.specs.Capture.{AnswersRun}
 use Rattle.dcc_tool.proofs.WordsLemmas.{behind, opened, opened-none, opened-word, opened-gap, ended}
 use Rattle.dcc_tool.proofs.HandLemmas.{outside}
+use Rattle.dcc_tool.proofs.RunWordLemmas.{run_of_duration}
 use Rattle.dcc_tool.proofs.CaptureLemmas.{Gave-word}
 use Rattle.dcc_tool.proofs.SpellsLemmas.{digit_value-digit, is_ascii_digit-digit, digits_value_after-push}
 
@@ -133,17 +134,17 @@ duration_parts word us spells = go (nat_lt 0 (length word)) refl (nat_le (length
     go true some false c digits is = cc
     go false some b c digits is = cc
 
--- a half was taken from the word at the front
+-- a half was taken from the duration at the front
 pub takes_front : (old new : InputState) (whole rest : Option (List ℕ)) (ahead : List ℕ) (front : FrontWord)
     → old.text ≡ closed_text false whole → new.text ≡ closed_text false rest → Consumes whole rest (take (front.len + 1) ahead)
     → IsFrontWord ahead front → old.place.in_comment ≡ false → new.place ≡ outside (line_behind old.place.line (get_or ahead front.len 0)) → new.lines ≡ old.place.line
     → new.bytes + (front.len + 1) ≡ old.bytes → 0 < new.bytes → 0 < old.halves → new.halves ≡ old.halves - 1 → new.fault ≡ None → new.failures ≡ old.failures
-    → AnswersHalf old (Ok (Some front.us)) new
+    → AnswersRun old (Ok (Some (record { us = front.us; n = 1 }))) new
 takes_front old new whole rest ahead front old_text new_text consumed is_front no_comment place lines bytes some_bytes some halves fault failures =
     let parts = duration_parts (take front.len ahead) front.us is_front.spells in
     let used : take (front.len + 1) ahead ≡ take front.len ahead ++ get_or ahead front.len 0 ∷ [] = take_more ahead front.len 0 is_front.inside in
     let count : length (take front.len ahead) ≡ front.len = let inside = is_front.inside in simp length-take (omega arith) in (
-      Gave-word old mid new old.place.line front.us (take front.len ahead)
+      Gave-word old mid new old.place.line (record { us = front.us; n = 1 }) (take front.len ahead)
           record {
             text = subst (λ (xs : Option (List ℕ)). IfSome xs (λ text. IsSomeAnd new.text (λ left. Uses old mid words text left))) (sym old_text)
                 (subst (λ (xs : Option (List ℕ)). IfSome (closed_text false whole) (λ text. IsSomeAnd xs (λ left. Uses old mid words text left))) (sym new_text)
@@ -153,7 +154,8 @@ takes_front old new whole rest ahead front old_text new_text consumed is_front n
             fault = fault;
             failures = failures;
           }
-          is_front.spells some (ap (λ (n : ℕ). record { text = new.text; ahead = new.ahead; place = new.place; lines = new.lines; halves = n; bytes = new.bytes; fault = new.fault; failures = new.failures }) halves),
+          (run_of_duration (take front.len ahead) front.us parts.digits is_front.spells) (omega arith) (ap (λ (n : ℕ). record { text = new.text; ahead = new.ahead; place = new.place; lines = new.lines; halves = n; bytes = new.bytes; fault = new.fault; failures = new.failures }) halves),
+      omega arith,
       omega (arith, bytes),
     )
   where
@@ -201,7 +203,7 @@ pub takes_front_at : (source later : Told) (line next lines halves bytes : ℕ) 
     → closed ≡ false → in_comment ≡ false → halves ≢ 0 → front.len < bytes → IsFrontWord source.ahead front
     → Consumes source.text later.text (take (front.len + 1) source.ahead) → later.failures ≡ source.failures → fault ≡ None
     → next ≡ line_behind line (get_or source.ahead front.len 0)
-    → AnswersHalf (state_of source line lines in_comment closed halves bytes fault) (Ok (Some front.us))
+    → AnswersRun (state_of source line lines in_comment closed halves bytes fault) (Ok (Some (record { us = front.us; n = 1 })))
     (state_of later next line in_comment closed (halves - 1) (bytes - (front.len + 1)) fault)
 takes_front_at source later line next lines halves bytes in_comment closed fault front is_open no_comment some fits is_front consumed failures none behind_gap =
     takes_front (state_of source line lines in_comment closed halves bytes fault) (state_of later next line in_comment closed (halves - 1) (bytes - (front.len + 1)) fault)

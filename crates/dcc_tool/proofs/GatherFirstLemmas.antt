@@ -1,12 +1,13 @@
 -- How the packets of the first of two captures are gathered, and those of both.
-use Rattle.std.proofs.Common.{◌≡◌, ◌⊎◌, inl, inr, ℕ, ◌+◌, ◌-◌, ◌<◌, ◌≤◌, zero, suc, List, [], ◌∷◌, ◌++◌, length, take, Bool, true, false, nat_le, cond, Option, None, Some, Ok, Err, refl, sym, ap, ◌∙◌, subst, arith, append_assoc, length-append, IfSome, IsSomeAnd}
-use Rattle.std.proofs.lemmas.List.{append-nil}
+use Rattle.std.proofs.Common.{◌≡◌, ◌⊎◌, inl, inr, ℕ, ◌+◌, ◌-◌, ◌<◌, ◌≤◌, zero, suc, List, [], ◌∷◌, ◌++◌, length, take, replicate, Bool, true, false, nat_le, cond, Option, None, Some, Ok, Err, refl, sym, ap, ◌∙◌, subst, arith, append_assoc, length-append, IfSome, IsSomeAnd}
+use Rattle.std.proofs.lemmas.List.{append-nil, length-replicate}
 use Rattle.dcc_wire.specs.declared.framer.Framer.{Framer}
-use Rattle.dcc_wire.specs.declared.fault.Seen.{Seen}
+use Rattle.dcc_wire.specs.declared.run.RunSeen.{RunSeen}
 use Rattle.dcc_wire.specs.Framing.{StandsFor}
 use Rattle.dcc_packet.specs.declared.packet.Packet.{Packet}
 use Rattle.dcc_order.specs.Hearing.{ArePackets, AreSpelled, frames_of}
 use Rattle.dcc_order.proofs.HearingLemmas.{packets_more, no_packets}
+use Rattle.dcc_tool.specs.declared.word.Run.{Run}
 use Rattle.dcc_tool.specs.declared.fault.KeptFault.{KeptFault}
 use Rattle.dcc_tool.specs.declared.fault.KeptFault.TheVariants.{Number, Line, Read, TooMuch}
 use Rattle.dcc_tool.specs.declared.fault.ToolFault.{ToolFault}
@@ -22,6 +23,7 @@ use Rattle.dcc_tool.specs.BothCaptures.{Both, Said, stopped, in_front, only_seco
 use Rattle.dcc_tool.specs.FirstRead.{LeadsIn, Leads, first_so_far, first_is, AnswersFirst}
 use Rattle.dcc_tool.specs.GatheredBoth.{both_in, both_before_failure, GatheredFirst, HoldBoth, GatheredBoth, ReadsBothUpTo, StopsBothAt, BothFail}
 use Rattle.dcc_tool.proofs.ShowLemmas.{Answers}
+use Rattle.dcc_tool.proofs.GatherLemmas.{few_more}
 use Rattle.dcc_tool.proofs.WrittenLemmas.{HasRisen-one_more}
 use Rattle.dcc_tool.proofs.BothLemmas.{Leads-start, Leads-join, in_limit_of, second_behind}
 
@@ -37,24 +39,21 @@ pub record GatheringFirst (start now : InputState) (before : ℕ) (framer : Fram
 pub GatheringFirst-start : (input : InputState) (framer : Framer) → input.fault ≡ None → StandsFor framer [] → GatheringFirst input input 0 framer []
 GatheringFirst-start input framer fault stands = record { halves = []; leads = Leads-start 0 input fault; left = omega arith; stands = stands; hold = no_packets; few = omega arith }
 
-few_more : (packets shown : List Packet) (halves : List ℕ) (us : ℕ) → length packets ≤ length halves → length shown ≤ 1 → length (packets ++ shown) ≤ length (halves ++ us ∷ [])
-few_more packets shown halves us h k = simp length-append (omega (arith, h, k))
-
 in_front_twice : (first second : List ℕ) (both : Both) → in_front first (in_front second both) ≡ in_front (first ++ second) both
 in_front_twice first second both = ap (λ (l : List ℕ). record { first = l; second = both.second; fault = both.fault }) (sym (append_assoc first second both.first))
 
-pub GatheringFirst-half : (start now new : InputState) (before line us : ℕ) (framer next : Framer) (packets held : List Packet) (answer : Seen) (so_far : GatheringFirst start now before framer packets) (shown : List Packet)
-    → AnswersFirst before now (Ok (Some (line, us))) new → StandsFor next (so_far.halves ++ us ∷ []) → Answers so_far.halves us answer → AreSpelled shown (frames_of answer) → held ≡ packets ++ shown → length shown ≤ 1
-    → GatheringFirst start new line next held
-GatheringFirst-half start now new before line us framer next packets held answer so_far shown half stands answers spelled adds one = record {
-  halves = so_far.halves ++ us ∷ [];
-  leads = Leads-join 0 before start now new so_far.halves (first_so_far (us ∷ []) line new) (first_so_far (so_far.halves ++ us ∷ []) line new) so_far.leads half.0
-      (λ end more last. in_front_twice so_far.halves (us ∷ []) (both_from line new end more last));
-  left = let a = half.1 in let b = so_far.left in simp length-append (omega (arith, a, b));
+pub GatheringFirst-run : (start now new : InputState) (before line : ℕ) (run : Run) (framer next : Framer) (packets held : List Packet) (answer : RunSeen) (so_far : GatheringFirst start now before framer packets) (shown : List Packet)
+    → AnswersFirst before now (Ok (Some (line, run))) new → StandsFor next (so_far.halves ++ replicate run.n run.us) → Answers so_far.halves run answer → AreSpelled shown (frames_of answer.seen)
+    → held ≡ packets ++ shown → length shown ≤ 1 → GatheringFirst start new line next held
+GatheringFirst-run start now new before line run framer next packets held answer so_far shown taken stands answers spelled adds one = record {
+  halves = so_far.halves ++ replicate run.n run.us;
+  leads = Leads-join 0 before start now new so_far.halves (first_so_far (replicate run.n run.us) line new) (first_so_far (so_far.halves ++ replicate run.n run.us) line new) so_far.leads taken.0
+      (λ end more last. in_front_twice so_far.halves (replicate run.n run.us) (both_from line new end more last));
+  left = let a = taken.1 in let b = so_far.left in simp (length-append, length-replicate) (omega (arith, a, b));
   stands = stands;
-  hold = subst (λ (l : List Packet). ArePackets l (so_far.halves ++ us ∷ [])) (sym adds)
-      (packets_more so_far.halves (so_far.halves ++ us ∷ []) answer (length so_far.halves) packets shown answers so_far.hold spelled);
-  few = subst (λ (l : List Packet). length l ≤ length (so_far.halves ++ us ∷ [])) (sym adds) (few_more packets shown so_far.halves us so_far.few one);
+  hold = subst (λ (l : List Packet). ArePackets l (so_far.halves ++ replicate run.n run.us)) (sym adds)
+      (packets_more so_far.halves (so_far.halves ++ replicate run.n run.us) answer.seen (length so_far.halves + answer.at - 1) packets shown answers so_far.hold spelled);
+  few = subst (λ (l : List Packet). length l ≤ length (so_far.halves ++ replicate run.n run.us)) (sym adds) (few_more packets shown so_far.halves run so_far.few one taken.2);
 }
 
 pub gathers_first : (start now new : InputState) (before : ℕ) (framer : Framer) (packets : List Packet) → start.fault ≡ None → GatheringFirst start now before framer packets → AnswersFirst before now (Ok None) new

@@ -1,16 +1,18 @@
 -- How the packets of a capture are gathered.
-use Rattle.std.proofs.Common.{◌≡◌, ℕ, ◌≤◌, List, [], ◌∷◌, ◌++◌, length, None, Some, Ok, Err, inl, inr, refl, sym, ◌∙◌, subst, arith, length-append}
+use Rattle.std.proofs.Common.{◌≡◌, ℕ, ◌+◌, ◌-◌, ◌<◌, ◌≤◌, List, [], ◌++◌, length, replicate, None, Some, Ok, Err, inl, inr, refl, sym, ◌∙◌, subst, arith, length-append}
+use Rattle.std.proofs.lemmas.List.{length-replicate}
 use Rattle.dcc_wire.specs.declared.framer.Framer.{Framer}
-use Rattle.dcc_wire.specs.declared.fault.Seen.{Seen}
+use Rattle.dcc_wire.specs.declared.run.RunSeen.{RunSeen}
 use Rattle.dcc_wire.specs.Framing.{StandsFor}
 use Rattle.dcc_packet.specs.declared.packet.Packet.{Packet}
 use Rattle.dcc_order.specs.Hearing.{ArePackets, AreSpelled, frames_of}
 use Rattle.dcc_order.proofs.HearingLemmas.{packets_more, no_packets}
+use Rattle.dcc_tool.specs.declared.word.Run.{Run}
 use Rattle.dcc_tool.specs.declared.fault.KeptFault.{KeptFault}
 use Rattle.dcc_tool.specs.declared.fault.KeptFault.TheVariants.{Number, Line, Read, TooMuch}
 use Rattle.dcc_tool.specs.Faults.{as_tool_fault}
 use Rattle.dcc_tool.specs.InputState.{InputState, HasCause}
-use Rattle.dcc_tool.specs.Capture.{captures, GaveHalves, AnswersHalf}
+use Rattle.dcc_tool.specs.Capture.{captures, GaveHalves, AnswersRun}
 use Rattle.dcc_tool.specs.Gathered.{Gathered, GatherFails}
 use Rattle.dcc_tool.proofs.ItemsLemmas.{Gave-append, up_to_fault, reads_up_to, uses_all_lines}
 use Rattle.dcc_tool.proofs.ShowLemmas.{Answers, GaveHalves-none, GaveHalves-append}
@@ -26,22 +28,22 @@ pub record Gathering (start now : InputState) (framer : Framer) (packets : List 
 pub Gathering-start : (input : InputState) (framer : Framer) → input.fault ≡ None → StandsFor framer [] → Gathering input input framer []
 Gathering-start input framer fault stands = record { halves = []; gave = GaveHalves-none input fault; stands = stands; hold = no_packets; few = omega arith }
 
-few_more : (packets shown : List Packet) (halves : List ℕ) (us : ℕ) → length packets ≤ length halves → length shown ≤ 1 → length (packets ++ shown) ≤ length (halves ++ us ∷ [])
-few_more packets shown halves us h k = simp length-append (omega (arith, h, k))
+pub few_more : (packets shown : List Packet) (halves : List ℕ) (run : Run) → length packets ≤ length halves → length shown ≤ 1 → 0 < run.n → length (packets ++ shown) ≤ length (halves ++ replicate run.n run.us)
+few_more packets shown halves run h k some = simp (length-append, length-replicate) (omega (arith, h, k, some))
 
-pub Gathering-half : (start now new : InputState) (framer next : Framer) (packets held : List Packet) (us : ℕ) (answer : Seen) (so_far : Gathering start now framer packets) (shown : List Packet)
-    → GaveHalves now (us ∷ []) new → StandsFor next (so_far.halves ++ us ∷ []) → Answers so_far.halves us answer → AreSpelled shown (frames_of answer) → held ≡ packets ++ shown → length shown ≤ 1
-    → Gathering start new next held
-Gathering-half start now new framer next packets held us answer so_far shown gave stands answers spelled adds one = record {
-  halves = so_far.halves ++ us ∷ [];
-  gave = GaveHalves-append start now new so_far.halves (us ∷ []) so_far.gave gave;
+pub Gathering-run : (start now new : InputState) (framer next : Framer) (packets held : List Packet) (run : Run) (answer : RunSeen) (so_far : Gathering start now framer packets) (shown : List Packet)
+    → GaveHalves now (replicate run.n run.us) new → 0 < run.n → StandsFor next (so_far.halves ++ replicate run.n run.us) → Answers so_far.halves run answer → AreSpelled shown (frames_of answer.seen)
+    → held ≡ packets ++ shown → length shown ≤ 1 → Gathering start new next held
+Gathering-run start now new framer next packets held run answer so_far shown gave some stands answers spelled adds one = record {
+  halves = so_far.halves ++ replicate run.n run.us;
+  gave = GaveHalves-append start now new so_far.halves (replicate run.n run.us) so_far.gave gave;
   stands = stands;
-  hold = subst (λ (l : List Packet). ArePackets l (so_far.halves ++ us ∷ [])) (sym adds)
-      (packets_more so_far.halves (so_far.halves ++ us ∷ []) answer (length so_far.halves) packets shown answers so_far.hold spelled);
-  few = subst (λ (l : List Packet). length l ≤ length (so_far.halves ++ us ∷ [])) (sym adds) (few_more packets shown so_far.halves us so_far.few one);
+  hold = subst (λ (l : List Packet). ArePackets l (so_far.halves ++ replicate run.n run.us)) (sym adds)
+      (packets_more so_far.halves (so_far.halves ++ replicate run.n run.us) answer.seen (length so_far.halves + answer.at - 1) packets shown answers so_far.hold spelled);
+  few = subst (λ (l : List Packet). length l ≤ length (so_far.halves ++ replicate run.n run.us)) (sym adds) (few_more packets shown so_far.halves run so_far.few one some);
 }
 
-pub gathers_all : (start now new : InputState) (framer : Framer) (packets : List Packet) → start.fault ≡ None → Gathering start now framer packets → AnswersHalf now (Ok None) new
+pub gathers_all : (start now new : InputState) (framer : Framer) (packets : List Packet) → start.fault ≡ None → Gathering start now framer packets → AnswersRun now (Ok None) new
     → Gathered start packets new
 gathers_all start now new framer packets fault so_far answer =
     let all = answer.0 in
@@ -56,7 +58,7 @@ gathers_all start now new framer packets fault so_far answer =
 pub few_packets : (start now : InputState) (framer : Framer) (packets : List Packet) (most : ℕ) → Gathering start now framer packets → most ≡ start.halves → length packets ≤ most
 few_packets start now framer packets most so_far e = let a = so_far.gave.left in let b = so_far.few in omega (arith, a, b, e)
 
-pub gather_stops : (start now new : InputState) (framer : Framer) (packets : List Packet) (fault : KeptFault) → start.fault ≡ None → Gathering start now framer packets → AnswersHalf now (Err fault) new
+pub gather_stops : (start now new : InputState) (framer : Framer) (packets : List Packet) (fault : KeptFault) → start.fault ≡ None → Gathering start now framer packets → AnswersRun now (Err fault) new
     → GatherFails start (as_tool_fault fault) new
 gather_stops start now new framer packets (Number line) none so_far answer =
     inr (none, answer.1, reads_up_to captures start now new (Number line) so_far.halves (λ halves. Unit {0}) so_far.gave.items answer.0 tt)

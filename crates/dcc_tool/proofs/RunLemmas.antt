@@ -1,24 +1,20 @@
--- A fleet that hears a capture, half by half.
-use Rattle.std.proofs.Common.{◌≡◌, ℕ, ◌+◌, ◌≤◌, List, [], ◌∷◌, ◌++◌, map, Option, None, Some, Result, Ok, Err, refl, sym, ap, ◌∙◌, subst, arith, IfSome}
+-- A fleet that hears a capture, run by run.
+use Rattle.std.proofs.Common.{ℕ, List, [], ◌∷◌, ◌++◌, map, Option, None, Ok, Err, refl, ◌∙◌}
 use Rattle.std.specs.List.{AllZip}
 use Rattle.dcc_wire.specs.Framing.{StandsFor}
 use Rattle.dcc_wire.specs.declared.framer.Framer.{Framer}
-use Rattle.dcc_regs.specs.declared.register.Who.{Who}
-use Rattle.dcc_regs.specs.Result.{RegisterMap}
-use Rattle.dcc_order.specs.Hearing.{HasHeardHalves}
 use Rattle.dcc_tool.specs.declared.fault.KeptFault.{KeptFault}
 use Rattle.dcc_tool.specs.declared.fault.KeptFault.TheVariants as kept
 use Rattle.dcc_tool.specs.declared.fault.ToolFault.TheVariants as told
 use Rattle.dcc_tool.specs.declared.stream.Failed.{Failed}
 use Rattle.dcc_tool.specs.Faults.{as_tool_fault}
-use Rattle.dcc_tool.specs.Told.{IsAtEnd}
 use Rattle.dcc_tool.specs.InputState.{InputState}
-use Rattle.dcc_tool.specs.Items.{Gave, ReadsUpTo, only_fault}
-use Rattle.dcc_tool.specs.Capture.{captures, capture_in, AnswersHalf}
+use Rattle.dcc_tool.specs.Items.{Gave}
+use Rattle.dcc_tool.specs.Capture.{captures, AnswersRun}
 use Rattle.dcc_tool.specs.Written.{Writes}
 use Rattle.dcc_tool.specs.FleetText.{fleet_text}
-use Rattle.dcc_tool.specs.FleetRun.{Members, HaveHeard, HearsUpTo, HearsAll, Runs}
-use Rattle.dcc_tool.proofs.ItemsLemmas.{Gave-none, Gave-append, reads_up_to, up_to_fault, uses_all_lines}
+use Rattle.dcc_tool.specs.FleetRun.{Members, HaveHeard, HearsAll, Runs}
+use Rattle.dcc_tool.proofs.ItemsLemmas.{Gave-append, reads_up_to, up_to_fault, uses_all_lines}
 
 -- these halves were taken
 pub record Hearing (old now : InputState) (framer : Framer) (heard : List ℕ → Type 0) : Type 0 where
@@ -39,7 +35,7 @@ AllZip-start R view (y ∷ ys) each = (each y, AllZip-start R view ys each)
 
 -- a fault ends the capture
 pub hears_up_to : (starts ends : Members) (old now new : InputState) (before : Option (List ℕ)) (writes : ℕ) (halves : List ℕ) (fault : KeptFault) → Gave captures old halves now → HaveHeard starts ends halves
-    → AnswersHalf now (Err fault) new → Runs starts old before writes (Err (as_tool_fault fault)) ends new before writes
+    → AnswersRun now (Err fault) new → Runs starts old before writes (Err (as_tool_fault fault)) ends new before writes
 hears_up_to starts ends old now new before writes halves (kept.Number line) gave heard stops =
     record { kept = stops.1; heard = reads_up_to captures old now new (kept.Number line) halves (HaveHeard starts ends) gave stops.0 heard; written = refl; no_failure = refl }
 hears_up_to starts ends old now new before writes halves kept.Read gave heard stops =
@@ -49,7 +45,7 @@ hears_up_to starts ends old now new before writes halves kept.TooMuch gave heard
 hears_up_to starts ends old now new before writes halves (kept.Line line fault) gave heard stops = absurd stops
 
 -- the capture ends
-pub hears_all : (starts ends : Members) (old now new : InputState) (halves : List ℕ) → Gave captures old halves now → HaveHeard starts ends halves → AnswersHalf now (Ok None) new → HearsAll starts old ends new
+pub hears_all : (starts ends : Members) (old now new : InputState) (halves : List ℕ) → Gave captures old halves now → HaveHeard starts ends halves → AnswersRun now (Ok None) new → HearsAll starts old ends new
 hears_all starts ends old now new halves gave heard stops =
     let last = stops.0.items in
     record {

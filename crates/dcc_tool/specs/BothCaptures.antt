@@ -1,9 +1,10 @@
 -- The two captures of one input, with a line of the one word `---` between them.
-use Rattle.std.specs.Prelude.{zero, suc, ◌≡◌, ℕ, ◌+◌, ◌-◌, ◌==◌, ◌&&◌, not, nat_le, ◌∷◌, ◌++◌, List, [], Bool, false, Option, None, Some, length, take, if◌then◌else◌}
+use Rattle.std.specs.Prelude.{ℕ, ◌+◌, ◌-◌, ◌==◌, ◌&&◌, not, nat_le, ◌∷◌, ◌++◌, List, [], Bool, false, Option, None, Some, length, take, replicate, if◌then◌else◌}
 use Rattle.dcc_tool.specs.declared.fault.KeptFault.{KeptFault}
 use Rattle.dcc_tool.specs.declared.fault.KeptFault.TheVariants.{Number, TooMuch}
+use Rattle.dcc_tool.specs.declared.word.Run.{Run}
 use Rattle.dcc_tool.specs.InputState.{InputState, all_lines}
-use Rattle.dcc_tool.specs.Words.{Word, ended_words, is_mark, duration_of}
+use Rattle.dcc_tool.specs.Words.{Word, ended_words, is_mark, run_of}
 use Rattle.dcc_tool.specs.Items.{Items}
 use Rattle.dcc_tool.specs.Capture.{halves_of}
 use Rattle.dcc_tool.specs.TextRead.{cut_by}
@@ -35,15 +36,15 @@ has_more_words line (word ∷ words) = word.line == line
 abbrev pub behind_mark : ℕ → ℕ → List Word → Option KeptFault → Both
 behind_mark line most words last = if has_more_words line words then stopped (Number line) else only_second (halves_of most words last)
 
--- a half of the first capture, where at most so many may be taken, and what comes behind it
-abbrev pub counted_first : ℕ → ℕ → Both → Both
-counted_first zero us rest = stopped TooMuch
-counted_first (suc most) us rest = in_front (us ∷ []) rest
+-- a run of the first capture, where at most so many halves may be taken, and what comes behind it where so many are left
+abbrev pub counted_first : ℕ → Run → (ℕ → Both) → Both
+counted_first most run rest =
+    if nat_le run.n most then in_front (replicate run.n run.us) (rest (most - run.n)) else stopped TooMuch
 
--- a word of the first capture on this line that spells a duration, or does not, and what comes behind it
-abbrev pub spelled_first : ℕ → ℕ → Option ℕ → Both → Both
+-- a word of the first capture on this line that spells a run, or does not, and what comes behind it
+abbrev pub spelled_first : ℕ → ℕ → Option Run → (ℕ → Both) → Both
 spelled_first most line None rest = stopped (Number line)
-spelled_first most line (Some us) rest = counted_first most us rest
+spelled_first most line (Some run) rest = counted_first most run rest
 
 -- Both captures in these words, where at most so many halves may be taken. The word before them stands on the line
 -- `before`, 0 where there is none. Behind the last word comes this fault, or else the end: what lacks the line `---`
@@ -52,7 +53,7 @@ abbrev pub both_of : ℕ → ℕ → ℕ → List Word → Option KeptFault → 
 both_of before most end [] last = stopped (cut_by end last)
 both_of before most end (word ∷ words) last =
     if is_mark word.bytes && not (word.line == before) then behind_mark word.line most words last
-    else spelled_first most word.line (duration_of word.bytes) (both_of word.line (most - 1) end words last)
+    else spelled_first most word.line (run_of word.bytes) (λ left. both_of word.line left end words last)
 
 -- what is said of the bytes that are still to come, with the fault behind them or none, and the line behind the last
 abbrev pub Said : Type 0

@@ -1,7 +1,8 @@
 -- What was read of the first of two captures.
-use Rattle.std.specs.Prelude.{◌≡◌, ◌⊎◌, ℕ, ◌+◌, ◌<◌, ◌≤◌, ◌∷◌, ◌++◌, List, [], Bool, true, false, Option, None, Some, Result, Ok, Err, length, IfSome, IsSomeAnd}
+use Rattle.std.specs.Prelude.{◌≡◌, ◌⊎◌, ℕ, ◌+◌, ◌<◌, ◌≤◌, ◌∷◌, ◌++◌, List, [], Bool, true, false, Option, None, Some, Result, Ok, Err, length, replicate, IfSome, IsSomeAnd}
 use Rattle.dcc_tool.specs.declared.fault.KeptFault.{KeptFault}
 use Rattle.dcc_tool.specs.declared.fault.KeptFault.TheVariants.{Number, Line, Read, TooMuch}
+use Rattle.dcc_tool.specs.declared.word.Run.{Run}
 use Rattle.dcc_tool.specs.Failures.{one_more}
 use Rattle.dcc_tool.specs.InputState.{InputState, all_lines}
 use Rattle.dcc_tool.specs.Words.{ended_words}
@@ -51,9 +52,10 @@ StopsBoth before old (Number line) new = (new.failures ≡ old.failures) × IfSo
 StopsBoth before old (Line line fault) new = (new.failures ≡ old.failures) × IfSome old.text (λ text. in_limit (both_from before old) old text ≡ stopped (Line line fault))
 StopsBoth before old TooMuch new = (new.failures ≡ old.failures) × IfSome old.text (λ text. in_limit (both_from before old) old text ≡ stopped TooMuch)
 
--- the next half of the first capture and its line, or none behind the line `---`, or a fault
-abbrev pub AnswersFirst : ℕ → InputState → Result (Option (ℕ × ℕ)) KeptFault → InputState → Type 0
-AnswersFirst before old (Ok (Some half)) new = Leads before old new (first_so_far (half.1 ∷ []) half.0 new) × (new.halves + 1 ≡ old.halves) × (new.bytes < old.bytes)
+-- the halves of the next run of the first capture, and its line, or none behind the line `---`, or a fault
+abbrev pub AnswersFirst : ℕ → InputState → Result (Option (ℕ × Run)) KeptFault → InputState → Type 0
+AnswersFirst before old (Ok (Some taken)) new =
+    Leads before old new (first_so_far (replicate taken.1.n taken.1.us) taken.0 new) × (new.halves + taken.1.n ≡ old.halves) × (0 < taken.1.n) × (new.bytes < old.bytes)
 AnswersFirst before old (Ok None) new = EndsFirst before old [] new
 AnswersFirst before old (Err fault) new = StopsBoth before old fault new × (new.fault ≡ Some fault)
 

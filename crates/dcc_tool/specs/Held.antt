@@ -6,9 +6,10 @@ use Rattle.dcc_tool.specs.declared.stream.Failed.{Failed}
 use Rattle.dcc_tool.specs.declared.fault.ToolFault.{ToolFault}
 use Rattle.dcc_tool.specs.declared.fault.ToolFault.TheVariants.{Write}
 use Rattle.dcc_tool.specs.declared.fault.KeptFault.{KeptFault}
+use Rattle.dcc_tool.specs.declared.word.Run.{Run}
 use Rattle.dcc_tool.specs.Failures.{HasRisen}
 use Rattle.dcc_tool.specs.InputState.{InputState}
-use Rattle.dcc_tool.specs.Capture.{AnswersHalf}
+use Rattle.dcc_tool.specs.Capture.{AnswersRun}
 use Rattle.dcc_tool.specs.Listing.{IsListing}
 use Rattle.dcc_tool.specs.Written.{AppendsFront}
 
@@ -35,7 +36,7 @@ WritesRest before failures held answer result after now =
     ((result ≡ answer) × Appends before after held × (now ≡ failures))
     ⊎ ((result ≡ Err Write) × AppendsFront before after held × HasRisen failures now)
 
--- the next half was answered, behind a write of what was held, or that write failed or took no byte
-abbrev pub TakesHalf : InputState → Option (List ℕ) → ℕ → List ℕ → Result (Result (Option ℕ) KeptFault) Failed → InputState → List ℕ → Option (List ℕ) → ℕ → Type 0
-TakesHalf old before failures held (Ok answer) new left after now = AnswersHalf old answer new × Holds before after held left × (now ≡ failures)
-TakesHalf old before failures held (Err failed) new left after now = (new ≡ old) × AppendsFront before after held × HasRisen failures now
+-- the next run was answered, behind a write of what was held, or that write failed or took no byte
+abbrev pub TakesRun : InputState → Option (List ℕ) → ℕ → List ℕ → Result (Result (Option Run) KeptFault) Failed → InputState → List ℕ → Option (List ℕ) → ℕ → Type 0
+TakesRun old before failures held (Ok answer) new left after now = AnswersRun old answer new × Holds before after held left × (now ≡ failures)
+TakesRun old before failures held (Err failed) new left after now = (new ≡ old) × AppendsFront before after held × HasRisen failures now

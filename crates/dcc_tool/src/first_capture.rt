@@ -10,7 +10,7 @@ use crate::fault::{KeptFault, ToolFault};
 use crate::gathering::hold_seen;
 use crate::input::Input;
 use crate::stream::Source;
-use crate::word::DurationWord;
+use crate::word::{Run, RunWord};
 use dcc_packet::{Packet, PacketFault};
 use dcc_wire::Framer;
 use std::alloc::Global;
@@ -31,12 +31,12 @@ pub fn gather_first<R: Source>(
     let mut framer = Framer::new();
     let mut packets = Vec::new(alloc);
     let mut before = 0;
-    'halves: loop {
+    'runs: loop {
         match next_of_first(input, before) {
-            Ok(Some((line, us))) => {
+            Ok(Some((line, run))) => {
                 before = line;
-                let seen = framer.push(us);
-                match hold_seen(&mut packets, &seen) {
+                let shown = framer.push_run(run.us, run.n);
+                match hold_seen(&mut packets, &shown.seen) {
                     Ok(()) => (),
                     Err(_) => return Err(ToolFault::NoMemory),
                 }
@@ -47,12 +47,12 @@ pub fn gather_first<R: Source>(
     }
 }
 
-/// The next half of the first capture and its line, or none where the line `---` ends it. The word before
+/// The next run of the first capture and its line, or none where the line `---` ends it. The word before
 /// stands on the given line, 0 where there is none.
 fn next_of_first<R: Source>(
     input: &mut Input<R>,
     before: u64,
-) -> Result<Option<(u64, u16)>, KeptFault>
+) -> Result<Option<(u64, Run)>, KeptFault>
     requires { input.old.fault ≡ None }
     ensures { AnswersFirst before input.old result input.new }
 {
@@ -76,23 +76,23 @@ fn next_of_first<R: Source>(
 }
 
 /// Whether a word is `---` and the first one of its line.
-fn begins_with_mark(word: &DurationWord, line: u64, before: u64) -> bool
+fn begins_with_mark(word: &RunWord, line: u64, before: u64) -> bool
     ensures { (bytes : List ℕ) → Spells word.now bytes → result ≡ (is_mark bytes && not (line == before)) }
 {
     word.is_mark() && line != before
 }
 
-/// The half that a word on this line spells.
+/// The run that a word on this line spells.
 fn count_word<R: Source>(
     input: &mut Input<R>,
     line: u64,
-    word: &DurationWord,
-) -> Result<Option<(u64, u16)>, KeptFault>
+    word: &RunWord,
+) -> Result<Option<(u64, Run)>, KeptFault>
     ensures { (bytes : List ℕ) → Spells word.now bytes → CountsWord input.old line bytes result input.new }
 {
-    match word.duration() {
-        Some(us) => match input.count_half(us) {
-            Ok(_) => Ok(Some((line, us))),
+    match word.run() {
+        Some(run) => match input.count_run(run) {
+            Ok(_) => Ok(Some((line, run))),
             Err(fault) => Err(fault),
         },
         None => Err(input.refuse(KeptFault::Number { line })),
@@ -100,7 +100,7 @@ fn count_word<R: Source>(
 }
 
 /// Reads on behind the first word `---` of this line, on which no further word may stand.
-fn end_mark<R: Source>(input: &mut Input<R>, line: u64) -> Result<Option<(u64, u16)>, KeptFault>
+fn end_mark<R: Source>(input: &mut Input<R>, line: u64) -> Result<Option<(u64, Run)>, KeptFault>
     requires { input.old.fault ≡ None }
     ensures { EndsMark input.old line result input.new }
 {
@@ -119,7 +119,7 @@ fn ends_line<R: Source>(input: &mut Input<R>) -> Result<bool, KeptFault>
     requires { input.old.fault ≡ None }
     ensures { EndsLine input.old result input.new }
 {
-    let mut word = DurationWord::new();
+    let mut word = RunWord::new();
     'bytes: loop {
         match input.next_byte() {
             Ok(Some(byte)) => {

@@ -2,10 +2,9 @@
 ghost use Rattle.std.specs.Prelude.{◌≡◌, ◌<◌, ◌≤◌, ◌+◌, ◌++◌, ◌^◌, List, None, OnOk, IfOk, IfErr, length};
 ghost use Rattle.dcc_packet.specs.declared.packet.Packet.{Packet};
 ghost use Rattle.dcc_order.specs.Hearing.{AreSpelled, frames_of};
-ghost use Rattle.dcc_tool.specs.Capture.{AnswersHalf};
 ghost use Rattle.dcc_tool.specs.Gathered.{GatherFails, Gathered};
 
-use crate::fault::{KeptFault, ToolFault};
+use crate::fault::ToolFault;
 use crate::input::Input;
 use crate::stream::Source;
 use dcc_packet::Packet;
@@ -24,11 +23,11 @@ pub fn gather<R: Source>(alloc: Global, input: &mut Input<R>) -> Result<Vec<Pack
     let most = input.halves_left();
     let mut framer = Framer::new();
     let mut packets = Vec::new(alloc);
-    'halves: loop {
-        match next_half(input) {
-            Ok(Some(us)) => {
-                let seen = framer.push(us);
-                match hold_seen(&mut packets, &seen) {
+    'runs: loop {
+        match input.next_run() {
+            Ok(Some(run)) => {
+                let shown = framer.push_run(run.us, run.n);
+                match hold_seen(&mut packets, &shown.seen) {
                     Ok(()) => (),
                     Err(_) => return Err(ToolFault::NoMemory),
                 }
@@ -39,18 +38,7 @@ pub fn gather<R: Source>(alloc: Global, input: &mut Input<R>) -> Result<Vec<Pack
     }
 }
 
-/// The next half, or none at the end.
-fn next_half<R: Source>(input: &mut Input<R>) -> Result<Option<u16>, KeptFault>
-    requires { input.old.fault ≡ None }
-    ensures { AnswersHalf input.old result input.new }
-{
-    if let Some(us) = input.half_at_hand() {
-        return Ok(Some(us));
-    }
-    input.next_half()
-}
-
-/// Holds the packet that a half showed, if it showed one.
+/// Holds the packet that some halves showed, if they showed one.
 pub(crate) fn hold_seen(packets: &mut Vec<Packet>, seen: &Seen) -> Result<(), AllocError>
     ensures { OnOk result ((shown : List Packet) × AreSpelled shown (frames_of seen.now) × (packets.new.items ≡ packets.old.items ++ shown) × (length shown ≤ 1)) }
 {

@@ -1,15 +1,14 @@
 //! A fleet that hears a capture.
 ghost use Rattle.std.specs.Prelude.{◌≡◌, None, IfSome, map};
-ghost use Rattle.dcc_tool.specs.Capture.{AnswersHalf};
 ghost use Rattle.dcc_tool.specs.Faults.{as_tool_fault};
 ghost use Rattle.dcc_tool.specs.FleetRun.{Runs};
 ghost use Rattle.dcc_tool.specs.InputState.{HasCause};
 
-use crate::fault::{KeptFault, ToolFault};
+use crate::fault::ToolFault;
 use crate::fleet_text::write_fleet;
 use crate::input::Input;
 use crate::stream::{Sink, Source};
-use dcc_order::hear;
+use dcc_order::hear_run;
 use dcc_regs::Decoder;
 use dcc_wire::Framer;
 
@@ -35,10 +34,10 @@ pub fn run<R: Source, W: Sink>(
         return Err(fault.told());
     }
     let mut framer = Framer::new();
-    'halves: loop {
-        match next_half(input) {
-            Ok(Some(us)) => {
-                let _ = hear(decoders, &mut framer, us);
+    'runs: loop {
+        match input.next_run() {
+            Ok(Some(run)) => {
+                let _ = hear_run(decoders, &mut framer, run.us, run.n);
             }
             Ok(None) => break,
             Err(fault) => return Err(fault.told()),
@@ -47,16 +46,5 @@ pub fn run<R: Source, W: Sink>(
     match write_fleet(decoders, writer) {
         Ok(()) => Ok(()),
         Err(_) => Err(ToolFault::Write),
-    }
-}
-
-/// The next half, or none at the end.
-fn next_half<R: Source>(input: &mut Input<R>) -> Result<Option<u16>, KeptFault>
-    requires { input.old.fault ≡ None }
-    ensures { AnswersHalf input.old result input.new }
-{
-    match input.half_at_hand() {
-        Some(us) => Ok(Some(us)),
-        None => input.next_half(),
     }
 }

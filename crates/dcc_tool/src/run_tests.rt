@@ -115,6 +115,48 @@ fn a_bad_word_behind_the_text_is_told_by_its_line(rt: HostRuntime) -> Result<(),
     )
 }
 
+/// The packet `03 62 61` in runs.
+const SLOW: &[u8] = b"58*28 100*14 58*4 100*4 58*4 100*6 58*2 100*6 58*4 100*8 58*4";
+
+/// The text, and these words of a capture behind it.
+fn followed(alloc: Global, words: &[u8]) -> Result<Vec<u8>, Fail> {
+    let mut text = Vec::new(alloc);
+    text.extend_from_slice(TEXT)?;
+    text.extend_from_slice(words)?;
+    Ok(text)
+}
+
+#[test]
+fn a_fleet_hears_runs(rt: HostRuntime) -> Result<(), Fail> {
+    let text = followed(rt.alloc(), SLOW)?;
+    let after = b"dcc-decoders 1\nloco s3\nspeed 28 1 f\non\npending none\ncv 1 3\ncv 29 2\n\
+        board 12\nout\nposition 0 0 0 0\naspect 0 0 0 0\nend\n"
+        .as_slice();
+    let limits = |halves| Limits {
+        halves,
+        bytes: 1000,
+    };
+    expect(&rt, rt.alloc(), text.as_slice(), limits(84), Ok(()), after)?;
+    // the run with the last half of the packet is past the limit
+    let much = Err(ToolFault::TooMuch);
+    expect(&rt, rt.alloc(), text.as_slice(), limits(83), much, b"")?;
+    let rows: [&[u8]; 5] = [b"58*0", b"58*16777217", b"58*", b"*5", b"58*5*2"];
+    for word in rows {
+        let bad = followed(rt.alloc(), word)?;
+        let answer = Err(ToolFault::Number { line: 13 });
+        expect(&rt, rt.alloc(), bad.as_slice(), Limits::full(), answer, b"")?;
+    }
+    let longest = followed(rt.alloc(), b"58*16777216")?;
+    expect(
+        &rt,
+        rt.alloc(),
+        longest.as_slice(),
+        Limits::full(),
+        Ok(()),
+        TEXT,
+    )
+}
+
 #[test]
 fn halves_and_bytes_have_limits(rt: HostRuntime) -> Result<(), Fail> {
     let text = b"dcc-decoders 1\nend\n58 58\n".as_slice();

@@ -232,7 +232,11 @@ fn bad_words_are_told_with_their_line(rt: HostRuntime) -> Result<(), Fail> {
             Err(ToolFault::Number { line: 3 }),
             "behind a comment",
         ),
-        (b"58*5 ", Err(ToolFault::Number { line: 1 }), "a run"),
+        (
+            b"58* ",
+            Err(ToolFault::Number { line: 1 }),
+            "a run without a count",
+        ),
         (b"-58 ", Err(ToolFault::Number { line: 1 }), "a sign"),
         (
             b"00000000058 ",

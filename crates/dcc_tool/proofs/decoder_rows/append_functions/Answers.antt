@@ -1,9 +1,7 @@
-use Rattle.std.proofs.Common.{◌≡◌, ◌≤◌, ◌+◌, ◌*◌, ℕ, Bool, true, false, codes, arith, ap, sym, ◌∙◌}
-use Rattle.arrayvec.specs.ArrayVec.{array_vec_len}
+use Rattle.std.proofs.Common.{◌≡◌, ℕ, Bool, codes, arith, ap, sym, ◌∙◌}
 use Rattle.dcc_regs.specs.declared.register.Register.TheVariants as registers
 use Rattle.dcc_regs.specs.Loco.{holds_one}
-use Rattle.dcc_tool.specs.FleetText.{numbers_below}
-use Rattle.dcc_tool.proofs.RowsLemmas.{ended_row, numbers_none, row_on, row_off}
+use Rattle.dcc_tool.proofs.RowsLemmas.{numbers_none, row_on, row_off}
 use Rattle.dcc_tool.proofs.decoder_rows.append_functions.Goals as goal
 use Rattle.dcc_tool.proofs.decoder_rows.append_functions.Goals.{then-is_on, else-is_on}
 

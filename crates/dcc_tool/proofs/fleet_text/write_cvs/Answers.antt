@@ -1,4 +1,4 @@
-use Rattle.std.proofs.Common.{◌≡◌, Err, ap, sym, ◌∙◌, subst, refl, arith, List, ℕ, eqb, true, false, ◌+◌}
+use Rattle.std.proofs.Common.{◌≡◌, Err, ap, sym, ◌∙◌, subst, refl, List, ℕ, eqb, true, false, ◌+◌}
 use Rattle.std.proofs.lemmas.Bool.{ne_eqb, eq-eqb}
 use Rattle.dcc_regs.specs.Loco.{cv_of}
 use Rattle.dcc_tool.specs.Written.{Writes}

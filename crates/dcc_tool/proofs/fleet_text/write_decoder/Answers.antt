@@ -1,4 +1,4 @@
-use Rattle.std.proofs.Common.{◌≡◌, Ok, Err, List, ℕ, sym, ◌∙◌, subst}
+use Rattle.std.proofs.Common.{Ok, Err, List, ℕ, sym, ◌∙◌, subst}
 use Rattle.dcc_tool.specs.Written.{Writes}
 use Rattle.dcc_tool.proofs.FleetLemmas.{loco_then, loco_first}
 use Rattle.dcc_tool.proofs.fleet_text.write_decoder.Goals as goal

@@ -1,4 +1,4 @@
-use Rattle.std.proofs.Common.{◌≡◌, Ok, Err, arith, codes, ◌++◌, map, length, ◌∙◌, subst}
+use Rattle.std.proofs.Common.{Ok, Err, arith, codes, ◌++◌, map, ◌∙◌, subst}
 use Rattle.std.specs.List.{flat_map}
 use Rattle.dcc_tool.specs.Written.{Writes}
 use Rattle.dcc_tool.specs.FleetText.{decoder_text, member_text}
