@@ -2,7 +2,10 @@
 
 use super::*;
 use dcc_packet::{Board, Packet};
-use dcc_regs::{BoardDecoder, Decoder, LocoDecoder, Register, Speed, Value};
+use dcc_regs::{
+    BoardDecoder, Decoder, LocoDecoder, PackedBoard, PackedLoco, Register, Speed, Value,
+    same_registers,
+};
 use dcc_wire::{Frame, Framer, Halves, Seen, Timing};
 use std::test::Fail;
 
@@ -92,6 +95,36 @@ fn each_member_ends_as_it_would_alone(rt: HostRuntime) -> Result<(), Fail> {
             None => assert!(rt; false),
         }
     }
+    Ok(())
+}
+
+#[test]
+fn packed_decoders_end_as_plain_ones(rt: HostRuntime) -> Result<(), Fail> {
+    let alloc = rt.alloc();
+    let mut cvs = [0; 1024];
+    cvs[0] = 3;
+    cvs[28] = 2;
+    let board = Board::new(12)?;
+    let mut framer = Framer::new();
+    let mut fleet: [Box<dyn Decoder>; 4] = [
+        Box::new(alloc, LocoDecoder::new(&cvs))?,
+        Box::new(alloc, PackedLoco::new(&cvs))?,
+        Box::new(alloc, BoardDecoder::new(board)?)?,
+        Box::new(alloc, PackedBoard::new(board)?)?,
+    ];
+    let lines = [
+        "frame 036261",
+        "frame 039093",
+        "frame 03ec1c06f5",
+        "frame 8cfd71",
+    ];
+    for line in lines {
+        assert!(rt; play(&mut fleet, &mut framer, line)?, "{line}");
+    }
+    assert!(rt; same_registers(&*fleet[0], &*fleet[1]));
+    assert!(rt; same_registers(&*fleet[2], &*fleet[3]));
+    fleet[1].apply(&Packet::from_line("frame 039192")?);
+    assert!(rt; !same_registers(&*fleet[0], &*fleet[1]));
     Ok(())
 }
 
