@@ -4,22 +4,22 @@ use Rattle.std.proofs.Math.Seq.{take-append-add}
 use Rattle.std.proofs.lemmas.List.{append-nil}
 use Rattle.std.proofs.lemmas.Bool.Decides.{nat_tests}
 use Rattle.dcc_packet.specs.declared.fault.PacketFault.TheVariants as faults
-use Rattle.dcc_tool.specs.declared.word.Run.{Run}
-use Rattle.dcc_tool.specs.declared.fault.KeptFault.{KeptFault}
-use Rattle.dcc_tool.specs.declared.fault.KeptFault.TheVariants.{Number, Line, Read, TooMuch}
-use Rattle.dcc_tool.specs.Place.{Place, line_behind}
-use Rattle.dcc_tool.specs.Failures.{one_more}
-use Rattle.dcc_tool.specs.Told.{IsAtEnd}
-use Rattle.dcc_tool.specs.InputState.{InputState, all_lines}
-use Rattle.dcc_tool.specs.Words.{Word, ended_words, is_gap, uncommented, onto_first, pieces, but_last, has_bytes, is_mark, run_of}
-use Rattle.dcc_tool.specs.Passed.{Uses, Passed, FailsBehind, FailsBeforeWord, OverflowsBeforeWord, AnswersWord}
-use Rattle.dcc_tool.specs.Capture.{halves_of}
+use Rattle.dcc_io.specs.declared.word.Run.{Run}
+use Rattle.dcc_io.specs.declared.fault.KeptFault.{KeptFault}
+use Rattle.dcc_io.specs.declared.fault.KeptFault.TheVariants.{Number, Line, Read, TooMuch}
+use Rattle.dcc_io.specs.Place.{Place, line_behind}
+use Rattle.dcc_io.specs.Failures.{one_more}
+use Rattle.dcc_io.specs.Told.{IsAtEnd}
+use Rattle.dcc_io.specs.InputState.{InputState, all_lines}
+use Rattle.dcc_io.specs.Words.{Word, ended_words, is_gap, uncommented, onto_first, pieces, but_last, has_bytes, is_mark, run_of}
+use Rattle.dcc_io.specs.Passed.{Uses, Passed, FailsBehind, FailsBeforeWord, OverflowsBeforeWord, AnswersWord}
+use Rattle.dcc_io.specs.Capture.{halves_of}
 use Rattle.dcc_tool.specs.BothCaptures.{Both, Said, stopped, in_front, only_second, has_more_words, behind_mark, counted_first, both_of, both_from, in_limit}
 use Rattle.dcc_tool.specs.FirstRead.{LeadsIn, Leads, first_so_far, first_is, IsBehindLine, StopsBoth, AnswersFirst}
 use Rattle.dcc_tool.specs.FirstSteps.{CountsWord, EndsMark}
-use Rattle.dcc_tool.proofs.PassedLemmas.{map_same}
-use Rattle.dcc_tool.proofs.CaptureLemmas.{with_left, count_more, above_limit, not_within, zero_fits, same_test, enough}
-use Rattle.dcc_tool.proofs.RunWordLemmas.{some_half}
+use Rattle.dcc_io.proofs.PassedLemmas.{map_same}
+use Rattle.dcc_io.proofs.CaptureLemmas.{with_left, count_more, above_limit, not_within, zero_fits, same_test, enough}
+use Rattle.dcc_io.proofs.RunWordLemmas.{some_half}
 
 -- each word stands on this line or behind it
 abbrev AllFrom : ℕ → List Word → Type 0

@@ -4,13 +4,13 @@ use Rattle.std.specs.Fmt.{decimal}
 use Rattle.std.proofs.lemmas.Bool.{eqb-true, cases_lt}
 use Rattle.std.proofs.lemmas.Grind.{get_or-set_at, common_steps}
 use Rattle.std.proofs.lemmas.List.{append-nil, length-replicate}
-use Rattle.dcc_tool.specs.declared.decoder_line.Head.{Head}
-use Rattle.dcc_tool.specs.declared.decoder_line.LocoLine.TheVariants as behind
+use Rattle.dcc_io.specs.declared.decoder_line.Head.{Head}
+use Rattle.dcc_io.specs.declared.decoder_line.LocoLine.TheVariants as behind
 use Rattle.dcc_tool.specs.Encoded.{behind_space}
-use Rattle.dcc_tool.specs.DecoderLines.{loco_line}
-use Rattle.dcc_tool.specs.DecoderText.{behind_loco_line, cvs_from, cvs_lines}
+use Rattle.dcc_io.specs.DecoderLines.{loco_line}
+use Rattle.dcc_io.specs.DecoderText.{behind_loco_line, cvs_from, cvs_lines}
 use Rattle.dcc_tool.specs.FleetText.{cv_line, cvs_text}
-use Rattle.dcc_tool.specs.TextReader.{line_by}
+use Rattle.dcc_io.specs.TextReader.{line_by}
 use Rattle.dcc_tool.proofs.LinesBack.{at, few_back, then_back}
 use Rattle.dcc_tool.proofs.RulesBack.{cv_line_back}
 use Rattle.dcc_tool.proofs.TokensBack.{keyword_token, decimal_token}

@@ -13,20 +13,20 @@ use Rattle.dcc_regs.specs.declared.register.Who.TheVariants as who
 use Rattle.dcc_regs.specs.Loco.{holds_one, cv_of}
 use Rattle.dcc_regs.specs.Possible.{IsPossible}
 use Rattle.dcc_regs.specs.Result.{RegisterMap}
-use Rattle.dcc_tool.specs.declared.saved.Saved.{Saved}
-use Rattle.dcc_tool.specs.declared.saved.Saved.TheVariants as saved
-use Rattle.dcc_tool.specs.declared.decoder_line.Head.{Head}
-use Rattle.dcc_tool.specs.declared.decoder_line.Head.TheVariants as heads
-use Rattle.dcc_tool.specs.declared.decoder_line.LocoLine.TheVariants as behind
-use Rattle.dcc_tool.specs.DecoderLines.{head_line, loco_line, speed_line, functions_line, pending_line, outs_line, positions_line, aspects_line}
-use Rattle.dcc_tool.specs.DecoderText.{decoder_lines, cvs_lines, loco_lines, board_lines}
+use Rattle.dcc_io.specs.declared.saved.Saved.{Saved}
+use Rattle.dcc_io.specs.declared.saved.Saved.TheVariants as saved
+use Rattle.dcc_io.specs.declared.decoder_line.Head.{Head}
+use Rattle.dcc_io.specs.declared.decoder_line.Head.TheVariants as heads
+use Rattle.dcc_io.specs.declared.decoder_line.LocoLine.TheVariants as behind
+use Rattle.dcc_io.specs.DecoderLines.{head_line, loco_line, speed_line, functions_line, pending_line, outs_line, positions_line, aspects_line}
+use Rattle.dcc_io.specs.DecoderText.{decoder_lines, cvs_lines, loco_lines, board_lines}
 use Rattle.dcc_tool.specs.FleetText.{own_address_word, cvs_text, speed_held, forward_held, pending_held, loco_address_line, board_line}
 use Rattle.dcc_tool.specs.FleetText.{speed_line as speed_bytes, functions_line as functions_bytes, pending_line as pending_bytes, outs_line as outs_bytes, positions_line as positions_bytes, aspects_line as aspects_bytes}
 use Rattle.dcc_tool.specs.ReadBack.{Saves}
-use Rattle.dcc_tool.specs.TextReader.{line_by}
+use Rattle.dcc_io.specs.TextReader.{line_by}
 use Rattle.dcc_tool.proofs.BoardMapsBack.{four_of, sides_of, positions_of, aspects_of, board_state, sides_are, aspects_small, same_board}
 use Rattle.dcc_tool.proofs.CvsBack.{IsHeadLine, all_cvs}
-use Rattle.dcc_tool.proofs.DecoderTextLemmas.{behind_board_head, behind_aspects, behind_positions, behind_outs, behind_cvs, behind_pending, behind_functions, behind_speed}
+use Rattle.dcc_io.proofs.DecoderTextLemmas.{behind_board_head, behind_aspects, behind_positions, behind_outs, behind_cvs, behind_pending, behind_functions, behind_speed}
 use Rattle.dcc_tool.proofs.LinesBack.{at, few_back, then_back}
 use Rattle.dcc_tool.proofs.MapsBack.{speed_is, pending_is, byte_small, loco_state, same_loco}
 use Rattle.dcc_tool.proofs.RowsBack.{fed, functions_read, outs_read, speed_read, pending_read, aspects_read, positions_read}

@@ -6,20 +6,20 @@ use Rattle.std.specs.Io.KnownBytes.{Appends}
 use Rattle.dcc_packet.specs.declared.packet.Packet.{Packet}
 use Rattle.dcc_packet.specs.Spelling.{spelling}
 use Rattle.dcc_tool.specs.declared.encoding.Encode.{Encode}
-use Rattle.dcc_tool.specs.declared.fault.KeptFault.{KeptFault}
-use Rattle.dcc_tool.specs.declared.fault.KeptFault.TheVariants.{Number, Line, Read, TooMuch}
-use Rattle.dcc_tool.specs.declared.fault.ToolFault.TheVariants.{Write}
-use Rattle.dcc_tool.specs.Failures.{HasRisen}
-use Rattle.dcc_tool.specs.Faults.{as_tool_fault}
-use Rattle.dcc_tool.specs.InputState.{InputState}
-use Rattle.dcc_tool.specs.Written.{AppendsFront}
-use Rattle.dcc_tool.specs.Items.{Items, Gives, Gave}
-use Rattle.dcc_tool.specs.PacketLines.{packet_lines, frames_in}
-use Rattle.dcc_tool.specs.PacketRead.{AnswersPacket}
+use Rattle.dcc_io.specs.declared.fault.KeptFault.{KeptFault}
+use Rattle.dcc_io.specs.declared.fault.KeptFault.TheVariants.{Number, Line, Read, TooMuch}
+use Rattle.dcc_io.specs.declared.fault.ToolFault.TheVariants.{Write}
+use Rattle.dcc_io.specs.Failures.{HasRisen}
+use Rattle.dcc_io.specs.Faults.{as_tool_fault}
+use Rattle.dcc_io.specs.InputState.{InputState}
+use Rattle.dcc_io.specs.Written.{AppendsFront}
+use Rattle.dcc_io.specs.Items.{Items, Gives, Gave}
+use Rattle.dcc_io.specs.PacketLines.{packet_lines, frames_in}
+use Rattle.dcc_io.specs.PacketRead.{AnswersPacket}
 use Rattle.dcc_tool.specs.Encoded.{frame_line, encoding, Encodes, EncodesText}
-use Rattle.dcc_tool.proofs.WrittenLemmas.{Appends-none, front_behind, Appends-append}
+use Rattle.dcc_io.proofs.WrittenLemmas.{Appends-none, front_behind, Appends-append}
 use Rattle.dcc_tool.proofs.HeldLemmas.{AppendsFront-more}
-use Rattle.dcc_tool.proofs.ItemsLemmas.{Gave-none, Gave-append, up_to_fault, reads_up_to, uses_all_lines}
+use Rattle.dcc_io.proofs.ItemsLemmas.{Gave-none, Gave-append, up_to_fault, reads_up_to, uses_all_lines}
 
 -- so far these frames were read and written
 pub record Encoding (how : Encode) (start now : InputState) (before after : Option (List ℕ)) (writes count : ℕ) : Type 0 where

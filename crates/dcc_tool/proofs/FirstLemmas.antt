@@ -1,17 +1,17 @@
 -- How the first of two captures is read.
 use Rattle.std.proofs.Common.{◌≡◌, ◌≢◌, ◌⊎◌, inl, inr, ℕ, ◌+◌, ◌<◌, List, [], ◌∷◌, ◌++◌, Bool, true, false, eqb, ◌||◌, Option, None, Some, Ok, refl, ap, ◌∙◌, subst, arith, IfSome}
 use Rattle.std.proofs.lemmas.Bool.Decides.{nat_tests}
-use Rattle.dcc_tool.specs.declared.word.RunWord.{RunWord}
-use Rattle.dcc_tool.specs.Place.{Place}
-use Rattle.dcc_tool.specs.Told.{IsAtEnd}
-use Rattle.dcc_tool.specs.Spells.{Spells}
-use Rattle.dcc_tool.specs.InputState.{InputState}
-use Rattle.dcc_tool.specs.Words.{is_some_byte, is_gap, comments}
-use Rattle.dcc_tool.specs.Passed.{Passed}
+use Rattle.dcc_io.specs.declared.word.RunWord.{RunWord}
+use Rattle.dcc_io.specs.Place.{Place}
+use Rattle.dcc_io.specs.Told.{IsAtEnd}
+use Rattle.dcc_io.specs.Spells.{Spells}
+use Rattle.dcc_io.specs.InputState.{InputState}
+use Rattle.dcc_io.specs.Words.{is_some_byte, is_gap, comments}
+use Rattle.dcc_io.specs.Passed.{Passed}
 use Rattle.dcc_tool.specs.FirstRead.{EndsLine}
-use Rattle.dcc_tool.proofs.WordsLemmas.{eqb_line_feed}
-use Rattle.dcc_tool.proofs.PassedLemmas.{Opens, TakesNoted, Opens-word, Opens-gap, EndsWord-gap, Passed-gap, Passed-end}
-use Rattle.dcc_tool.proofs.CaptureLemmas.{if_some_map}
+use Rattle.dcc_io.proofs.WordsLemmas.{eqb_line_feed}
+use Rattle.dcc_io.proofs.PassedLemmas.{Opens, TakesNoted, Opens-word, Opens-gap, EndsWord-gap, Passed-gap, Passed-end}
+use Rattle.dcc_io.proofs.CaptureLemmas.{if_some_map}
 
 -- within a line, no word of which has ended
 pub record OpensHere (old : InputState) (so_far : RunWord) (now : InputState) : Type 0 where

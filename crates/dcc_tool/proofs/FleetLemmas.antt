@@ -12,10 +12,10 @@ use Rattle.dcc_regs.specs.Loco.{cv_of}
 use Rattle.dcc_tool.specs.FleetText.{cv_line, cvs_text, decoder_text, loco_front, member_text, fleet_text}
 use Rattle.dcc_tool.proofs.RowsLemmas.{cvs_next, cvs_some}
 use Rattle.std.specs.Io.KnownBytes.{Appends}
-use Rattle.dcc_tool.specs.declared.stream.Failed.{Failed}
-use Rattle.dcc_tool.specs.Failures.{HasRisen}
-use Rattle.dcc_tool.specs.Written.{Writes}
-use Rattle.dcc_tool.proofs.WrittenLemmas.{Appends-append}
+use Rattle.dcc_io.specs.declared.stream.Failed.{Failed}
+use Rattle.dcc_io.specs.Failures.{HasRisen}
+use Rattle.dcc_io.specs.Written.{Writes}
+use Rattle.dcc_io.proofs.WrittenLemmas.{Appends-append}
 
 -- all of one text was written, and then this happened to the other
 pub Writes-then : (before mid after : Option (List ℕ)) (failures between now : ℕ) (xs ys : List ℕ) (result : Result (Unit {0}) Failed) → Appends before mid xs → between ≡ failures

@@ -7,24 +7,24 @@ use Rattle.dcc_wire.specs.Framing.{StandsFor}
 use Rattle.dcc_packet.specs.declared.packet.Packet.{Packet}
 use Rattle.dcc_order.specs.Hearing.{ArePackets, AreSpelled, frames_of}
 use Rattle.dcc_order.proofs.HearingLemmas.{packets_more, no_packets}
-use Rattle.dcc_tool.specs.declared.word.Run.{Run}
-use Rattle.dcc_tool.specs.declared.fault.KeptFault.{KeptFault}
-use Rattle.dcc_tool.specs.declared.fault.KeptFault.TheVariants.{Number, Line, Read, TooMuch}
-use Rattle.dcc_tool.specs.declared.fault.ToolFault.{ToolFault}
-use Rattle.dcc_tool.specs.declared.fault.ToolFault.TheVariants as told
-use Rattle.dcc_tool.specs.Faults.{as_tool_fault}
-use Rattle.dcc_tool.specs.Failures.{one_more, HasRisen}
-use Rattle.dcc_tool.specs.InputState.{InputState, all_lines, HasCause}
-use Rattle.dcc_tool.specs.Words.{ended_words}
-use Rattle.dcc_tool.specs.Items.{EndsWith, ReadsUpTo}
-use Rattle.dcc_tool.specs.Capture.{captures, halves_of, capture_in, capture_before_failure}
+use Rattle.dcc_io.specs.declared.word.Run.{Run}
+use Rattle.dcc_io.specs.declared.fault.KeptFault.{KeptFault}
+use Rattle.dcc_io.specs.declared.fault.KeptFault.TheVariants.{Number, Line, Read, TooMuch}
+use Rattle.dcc_io.specs.declared.fault.ToolFault.{ToolFault}
+use Rattle.dcc_io.specs.declared.fault.ToolFault.TheVariants as told
+use Rattle.dcc_io.specs.Faults.{as_tool_fault}
+use Rattle.dcc_io.specs.Failures.{one_more, HasRisen}
+use Rattle.dcc_io.specs.InputState.{InputState, all_lines, HasCause}
+use Rattle.dcc_io.specs.Words.{ended_words}
+use Rattle.dcc_io.specs.Items.{EndsWith, ReadsUpTo}
+use Rattle.dcc_io.specs.Capture.{captures, halves_of, capture_in, capture_before_failure}
 use Rattle.dcc_tool.specs.Gathered.{Gathered, GatherFails, StopsGathering}
 use Rattle.dcc_tool.specs.BothCaptures.{Both, Said, stopped, in_front, only_second, both_from, in_limit}
 use Rattle.dcc_tool.specs.FirstRead.{LeadsIn, Leads, first_so_far, first_is, AnswersFirst}
 use Rattle.dcc_tool.specs.GatheredBoth.{both_in, both_before_failure, GatheredFirst, HoldBoth, GatheredBoth, ReadsBothUpTo, StopsBothAt, BothFail}
 use Rattle.dcc_tool.proofs.ShowLemmas.{Answers}
 use Rattle.dcc_tool.proofs.GatherLemmas.{few_more}
-use Rattle.dcc_tool.proofs.WrittenLemmas.{HasRisen-one_more}
+use Rattle.dcc_io.proofs.WrittenLemmas.{HasRisen-one_more}
 use Rattle.dcc_tool.proofs.BothLemmas.{Leads-start, Leads-join, in_limit_of, second_behind}
 
 -- so far these halves of the first capture were read, the last of them on this line, and their packets are held

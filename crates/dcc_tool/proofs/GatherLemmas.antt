@@ -7,14 +7,14 @@ use Rattle.dcc_wire.specs.Framing.{StandsFor}
 use Rattle.dcc_packet.specs.declared.packet.Packet.{Packet}
 use Rattle.dcc_order.specs.Hearing.{ArePackets, AreSpelled, frames_of}
 use Rattle.dcc_order.proofs.HearingLemmas.{packets_more, no_packets}
-use Rattle.dcc_tool.specs.declared.word.Run.{Run}
-use Rattle.dcc_tool.specs.declared.fault.KeptFault.{KeptFault}
-use Rattle.dcc_tool.specs.declared.fault.KeptFault.TheVariants.{Number, Line, Read, TooMuch}
-use Rattle.dcc_tool.specs.Faults.{as_tool_fault}
-use Rattle.dcc_tool.specs.InputState.{InputState, HasCause}
-use Rattle.dcc_tool.specs.Capture.{captures, GaveHalves, AnswersRun}
+use Rattle.dcc_io.specs.declared.word.Run.{Run}
+use Rattle.dcc_io.specs.declared.fault.KeptFault.{KeptFault}
+use Rattle.dcc_io.specs.declared.fault.KeptFault.TheVariants.{Number, Line, Read, TooMuch}
+use Rattle.dcc_io.specs.Faults.{as_tool_fault}
+use Rattle.dcc_io.specs.InputState.{InputState, HasCause}
+use Rattle.dcc_io.specs.Capture.{captures, GaveHalves, AnswersRun}
 use Rattle.dcc_tool.specs.Gathered.{Gathered, GatherFails}
-use Rattle.dcc_tool.proofs.ItemsLemmas.{Gave-append, up_to_fault, reads_up_to, uses_all_lines}
+use Rattle.dcc_io.proofs.ItemsLemmas.{Gave-append, up_to_fault, reads_up_to, uses_all_lines}
 use Rattle.dcc_tool.proofs.ShowLemmas.{Answers, GaveHalves-none, GaveHalves-append}
 
 -- so far these halves were read, and their packets are held

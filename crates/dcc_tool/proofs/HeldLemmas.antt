@@ -1,9 +1,9 @@
 -- Bytes that are held behind those that were written.
 use Rattle.std.proofs.Common.{ℕ, List, [], ◌++◌, Option, refl, sym, ap, ◌∙◌, subst, append_assoc}
 use Rattle.std.specs.Io.KnownBytes.{Appends}
-use Rattle.dcc_tool.specs.Written.{AppendsFront}
+use Rattle.dcc_io.specs.Written.{AppendsFront}
 use Rattle.dcc_tool.specs.Held.{Holds}
-use Rattle.dcc_tool.proofs.WrittenLemmas.{Appends-none, Appends-append}
+use Rattle.dcc_io.proofs.WrittenLemmas.{Appends-none, Appends-append}
 
 -- nothing was written yet
 pub Holds-same : (before : Option (List ℕ)) (bytes : List ℕ) → Holds before before bytes bytes

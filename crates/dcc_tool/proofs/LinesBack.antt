@@ -9,9 +9,9 @@ use Rattle.dcc_packet.specs.declared.fault.PacketFault.TheVariants as faults
 use Rattle.dcc_packet.specs.Words.{Word, words}
 use Rattle.dcc_packet.specs.Written.{spaced}
 use Rattle.dcc_packet.proofs.WrittenWords.{IsWord, not_true, words_spaced}
-use Rattle.dcc_tool.specs.Lines.{is_good}
-use Rattle.dcc_tool.specs.TextReader.{Text, Stop, Reader, ◌>>=◌, read_on, first_line, behind_line, ended_line, line_by}
-use Rattle.dcc_tool.specs.TextReader.Stop.{refused}
+use Rattle.dcc_io.specs.Lines.{is_good}
+use Rattle.dcc_io.specs.TextReader.{Text, Stop, Reader, ◌>>=◌, read_on, first_line, behind_line, ended_line, line_by}
+use Rattle.dcc_io.specs.TextReader.Stop.{refused}
 
 -- a byte that may stand in a line
 abbrev pub is_plain : ℕ → Bool

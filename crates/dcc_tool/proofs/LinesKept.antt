@@ -7,18 +7,18 @@ use Rattle.dcc_packet.specs.declared.fault.PacketFault.TheVariants as faults
 use Rattle.dcc_packet.specs.Words.{Word, words}
 use Rattle.dcc_regs.specs.declared.register.Who.{Who}
 use Rattle.dcc_regs.specs.declared.register.Who.TheVariants as who
-use Rattle.dcc_tool.specs.declared.saved.Saved.{Saved}
-use Rattle.dcc_tool.specs.declared.decoder_line.Head.{Head}
-use Rattle.dcc_tool.specs.declared.decoder_line.Head.TheVariants as heads
-use Rattle.dcc_tool.specs.declared.decoder_line.LocoLine.{LocoLine}
-use Rattle.dcc_tool.specs.declared.decoder_line.LocoLine.TheVariants as behind
-use Rattle.dcc_tool.specs.DecoderLines.{version_line, head_line, speed_line, functions_line, pending_line, loco_line, outs_line, positions_line, aspects_line}
-use Rattle.dcc_tool.specs.DecoderText.{behind_loco_line, cvs_from, cvs_lines, loco_lines, board_lines, decoder_lines, decoders_from, decoder_text}
-use Rattle.dcc_tool.specs.Lines.{is_good}
+use Rattle.dcc_io.specs.declared.saved.Saved.{Saved}
+use Rattle.dcc_io.specs.declared.decoder_line.Head.{Head}
+use Rattle.dcc_io.specs.declared.decoder_line.Head.TheVariants as heads
+use Rattle.dcc_io.specs.declared.decoder_line.LocoLine.{LocoLine}
+use Rattle.dcc_io.specs.declared.decoder_line.LocoLine.TheVariants as behind
+use Rattle.dcc_io.specs.DecoderLines.{version_line, head_line, speed_line, functions_line, pending_line, loco_line, outs_line, positions_line, aspects_line}
+use Rattle.dcc_io.specs.DecoderText.{behind_loco_line, cvs_from, cvs_lines, loco_lines, board_lines, decoder_lines, decoders_from, decoder_text}
+use Rattle.dcc_io.specs.Lines.{is_good}
 use Rattle.dcc_tool.specs.ReadBack.{line_feeds}
-use Rattle.dcc_tool.specs.TextReader.{Text, Stop, Reader, ◌>>=◌, read_on, judged, first_line, behind_line, ended_line, line_by}
-use Rattle.dcc_tool.specs.TextReader.Stop.{refused}
-use Rattle.dcc_tool.proofs.DecoderTextLemmas.{behind_board_head, behind_aspects, behind_positions, behind_outs, behind_cvs, behind_pending, behind_functions, behind_speed, behind_head, behind_version}
+use Rattle.dcc_io.specs.TextReader.{Text, Stop, Reader, ◌>>=◌, read_on, judged, first_line, behind_line, ended_line, line_by}
+use Rattle.dcc_io.specs.TextReader.Stop.{refused}
+use Rattle.dcc_io.proofs.DecoderTextLemmas.{behind_board_head, behind_aspects, behind_positions, behind_outs, behind_cvs, behind_pending, behind_functions, behind_speed, behind_head, behind_version}
 
 -- the line behind a text
 abbrev pub end_of : Text → ℕ

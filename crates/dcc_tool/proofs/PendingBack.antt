@@ -24,9 +24,9 @@ use Rattle.dcc_regs.specs.declared.register.Who.TheVariants.{Loco as LocoWho}
 use Rattle.dcc_regs.specs.Heard.{hears}
 use Rattle.dcc_regs.specs.Loco.{writes_byte, is_byte_write, is_pending_for}
 use Rattle.dcc_regs.specs.Writes.{is_cv_write, is_own_write}
-use Rattle.dcc_tool.specs.DecoderLines.{pending_word, pending_line}
+use Rattle.dcc_io.specs.DecoderLines.{pending_word, pending_line}
 use Rattle.dcc_tool.specs.FleetText.{pending_text}
-use Rattle.dcc_tool.proofs.PendingLemmas.{is_pending_write}
+use Rattle.dcc_io.proofs.PendingLemmas.{is_pending_write}
 
 pub all_three : (a b c : Bool) → (a && b && c) ≡ true → (a ≡ true) × (b ≡ true) × (c ≡ true)
 all_three true true true h = (refl, refl, refl)

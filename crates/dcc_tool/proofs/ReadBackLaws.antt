@@ -6,15 +6,15 @@ use Rattle.dcc_regs.specs.declared.register.Who.{Who}
 use Rattle.dcc_regs.specs.declared.register.Who.TheVariants as who
 use Rattle.dcc_regs.specs.Loco.{cv_of}
 use Rattle.dcc_regs.specs.Result.{RegisterMap}
-use Rattle.dcc_tool.specs.declared.saved.Saved.{Saved}
-use Rattle.dcc_tool.specs.declared.decoder_line.Head.{Head}
-use Rattle.dcc_tool.specs.declared.decoder_line.Head.TheVariants as heads
-use Rattle.dcc_tool.specs.DecoderLines.{version_line, head_line}
-use Rattle.dcc_tool.specs.DecoderText.{decoder_lines, decoders_from, decoder_text}
+use Rattle.dcc_io.specs.declared.saved.Saved.{Saved}
+use Rattle.dcc_io.specs.declared.decoder_line.Head.{Head}
+use Rattle.dcc_io.specs.declared.decoder_line.Head.TheVariants as heads
+use Rattle.dcc_io.specs.DecoderLines.{version_line, head_line}
+use Rattle.dcc_io.specs.DecoderText.{decoder_lines, decoders_from, decoder_text}
 use Rattle.dcc_tool.specs.FleetText.{cvs_text, member_text, fleet_text, loco_address_line, speed_line, functions_line, pending_line, board_line, outs_line, positions_line, aspects_line}
 use Rattle.dcc_tool.specs.ReadBack.{SavesEach, IsPossibleMember, FleetsAreReadBack}
-use Rattle.dcc_tool.specs.TextReader.{line_by}
-use Rattle.dcc_tool.proofs.DecoderTextLemmas.{behind_head, behind_version}
+use Rattle.dcc_io.specs.TextReader.{line_by}
+use Rattle.dcc_io.proofs.DecoderTextLemmas.{behind_head, behind_version}
 use Rattle.dcc_tool.proofs.DecodersBack.{BeginsWith, loco_begins, board_begins, end_begins, GivesDecoder, loco_given, board_given}
 use Rattle.dcc_tool.proofs.LinesKept.{read_lines}
 use Rattle.dcc_tool.proofs.LinesBack.{at, few_back, then_back}

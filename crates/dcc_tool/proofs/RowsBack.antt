@@ -14,9 +14,9 @@ use Rattle.dcc_regs.specs.declared.register.Speed.{Speed}
 use Rattle.dcc_regs.specs.declared.register.Speed.TheVariants.{Stop, Emergency, Step14, Step28, Step126}
 use Rattle.dcc_regs.specs.Bits.{is_one}
 use Rattle.dcc_regs.specs.Loco.{is_speed, is_pending_for}
-use Rattle.dcc_tool.specs.DecoderLines.{functions_line, outs_line, speed_line, pending_line, positions_line, aspects_line}
+use Rattle.dcc_io.specs.DecoderLines.{functions_line, outs_line, speed_line, pending_line, positions_line, aspects_line}
 use Rattle.dcc_tool.specs.FleetText.{numbers_below, speed_text, pending_text, four_numbers}
-use Rattle.dcc_tool.specs.TextReader.{line_by}
+use Rattle.dcc_io.specs.TextReader.{line_by}
 use Rattle.dcc_tool.proofs.LinesBack.{IsToken, at, line_back, few_back}
 use Rattle.dcc_tool.proofs.NumbersBack.{on_words, value_of, numbers_are, ons_short, functions_are, outs_are, value_bits}
 use Rattle.dcc_tool.proofs.PendingBack.{pending_back}

@@ -15,9 +15,9 @@ use Rattle.dcc_regs.specs.declared.register.Speed.{Speed}
 use Rattle.dcc_regs.specs.declared.register.Speed.TheVariants.{Stop, Emergency, Step14, Step28, Step126}
 use Rattle.dcc_regs.specs.Addresses.{is_active}
 use Rattle.dcc_regs.specs.Loco.{is_speed}
-use Rattle.dcc_tool.specs.declared.decoder_line.Head.TheVariants as heads
-use Rattle.dcc_tool.specs.declared.decoder_line.LocoLine.TheVariants as behind
-use Rattle.dcc_tool.specs.DecoderLines.{version_line, own_address, own_board, head_line, step_up_to, speed_line, positions_line, aspects_line, loco_line}
+use Rattle.dcc_io.specs.declared.decoder_line.Head.TheVariants as heads
+use Rattle.dcc_io.specs.declared.decoder_line.LocoLine.TheVariants as behind
+use Rattle.dcc_io.specs.DecoderLines.{version_line, own_address, own_board, head_line, step_up_to, speed_line, positions_line, aspects_line, loco_line}
 use Rattle.dcc_tool.specs.FleetText.{own_address_word}
 
 pub version_back : version_line (codes "dcc-decoders" ∷ codes "1" ∷ []) ≡ Ok tt

@@ -3,18 +3,18 @@ use Rattle.std.proofs.Common.{ℕ, List, [], ◌∷◌, ◌++◌, map, Option, N
 use Rattle.std.specs.List.{AllZip}
 use Rattle.dcc_wire.specs.Framing.{StandsFor}
 use Rattle.dcc_wire.specs.declared.framer.Framer.{Framer}
-use Rattle.dcc_tool.specs.declared.fault.KeptFault.{KeptFault}
-use Rattle.dcc_tool.specs.declared.fault.KeptFault.TheVariants as kept
-use Rattle.dcc_tool.specs.declared.fault.ToolFault.TheVariants as told
-use Rattle.dcc_tool.specs.declared.stream.Failed.{Failed}
-use Rattle.dcc_tool.specs.Faults.{as_tool_fault}
-use Rattle.dcc_tool.specs.InputState.{InputState}
-use Rattle.dcc_tool.specs.Items.{Gave}
-use Rattle.dcc_tool.specs.Capture.{captures, AnswersRun}
-use Rattle.dcc_tool.specs.Written.{Writes}
+use Rattle.dcc_io.specs.declared.fault.KeptFault.{KeptFault}
+use Rattle.dcc_io.specs.declared.fault.KeptFault.TheVariants as kept
+use Rattle.dcc_io.specs.declared.fault.ToolFault.TheVariants as told
+use Rattle.dcc_io.specs.declared.stream.Failed.{Failed}
+use Rattle.dcc_io.specs.Faults.{as_tool_fault}
+use Rattle.dcc_io.specs.InputState.{InputState}
+use Rattle.dcc_io.specs.Items.{Gave}
+use Rattle.dcc_io.specs.Capture.{captures, AnswersRun}
+use Rattle.dcc_io.specs.Written.{Writes}
 use Rattle.dcc_tool.specs.FleetText.{fleet_text}
 use Rattle.dcc_tool.specs.FleetRun.{Members, HaveHeard, HearsAll, Runs}
-use Rattle.dcc_tool.proofs.ItemsLemmas.{Gave-append, reads_up_to, up_to_fault, uses_all_lines}
+use Rattle.dcc_io.proofs.ItemsLemmas.{Gave-append, reads_up_to, up_to_fault, uses_all_lines}
 
 -- these halves were taken
 pub record Hearing (old now : InputState) (framer : Framer) (heard : List ℕ → Type 0) : Type 0 where

@@ -8,23 +8,23 @@ use Rattle.dcc_station.specs.Commands.{is_sendable}
 use Rattle.dcc_station.specs.declared.fault.Refused.{Refused}
 use Rattle.dcc_station.specs.declared.fault.Refused.TheVariants.{NotSendable, QueueFull}
 use Rattle.dcc_station.specs.Sending.{Sending, accepted}
-use Rattle.dcc_tool.specs.declared.stream.Failed.{Failed}
+use Rattle.dcc_io.specs.declared.stream.Failed.{Failed}
 use Rattle.dcc_tool.specs.declared.encoding.Encode.{Encode}
 use Rattle.dcc_tool.specs.declared.station_line.StationLine.{StationLine}
-use Rattle.dcc_tool.specs.declared.fault.KeptFault.{KeptFault}
-use Rattle.dcc_tool.specs.declared.fault.KeptFault.TheVariants.{Number, Line, Read, TooMuch}
-use Rattle.dcc_tool.specs.declared.fault.ToolFault.TheVariants.{Write}
-use Rattle.dcc_tool.specs.Failures.{HasRisen}
-use Rattle.dcc_tool.specs.Faults.{as_tool_fault}
-use Rattle.dcc_tool.specs.InputState.{InputState}
-use Rattle.dcc_tool.specs.Written.{Writes}
-use Rattle.dcc_tool.specs.Items.{Items, Gives, Gave}
-use Rattle.dcc_tool.specs.PacketLines.{items_in}
-use Rattle.dcc_tool.specs.PacketRead.{AnswersSaid}
+use Rattle.dcc_io.specs.declared.fault.KeptFault.{KeptFault}
+use Rattle.dcc_io.specs.declared.fault.KeptFault.TheVariants.{Number, Line, Read, TooMuch}
+use Rattle.dcc_io.specs.declared.fault.ToolFault.TheVariants.{Write}
+use Rattle.dcc_io.specs.Failures.{HasRisen}
+use Rattle.dcc_io.specs.Faults.{as_tool_fault}
+use Rattle.dcc_io.specs.InputState.{InputState}
+use Rattle.dcc_io.specs.Written.{Writes}
+use Rattle.dcc_io.specs.Items.{Items, Gives, Gave}
+use Rattle.dcc_io.specs.PacketLines.{items_in}
+use Rattle.dcc_io.specs.PacketRead.{AnswersSaid}
 use Rattle.dcc_tool.specs.StationLines.{Asked, Command, Next, asked_by, station_words, station_lines}
 use Rattle.dcc_tool.specs.StationEncoded.{refusal, refusal_line, command_line, after_command, Answers, AnswersAll, Wrote, WroteFront, WritesAnswers, Answered, StationText}
-use Rattle.dcc_tool.proofs.WrittenLemmas.{Appends-none, front_behind, Appends-append}
-use Rattle.dcc_tool.proofs.ItemsLemmas.{Gave-none, Gave-append, up_to_fault, reads_up_to, uses_all_lines}
+use Rattle.dcc_io.proofs.WrittenLemmas.{Appends-none, front_behind, Appends-append}
+use Rattle.dcc_io.proofs.ItemsLemmas.{Gave-none, Gave-append, up_to_fault, reads_up_to, uses_all_lines}
 
 pub AnswersAll-append : (how : Encode) (s between new : Sending) (xs ys : List Asked) (first rest : List ℕ) → AnswersAll how s xs first between → AnswersAll how between ys rest new
     → AnswersAll how s (xs ++ ys) (first ++ rest) new

@@ -15,14 +15,14 @@ use Rattle.dcc_service.specs.Question.{after_question}
 use Rattle.dcc_service.specs.ReadingLaws.{AreFirstOf}
 use Rattle.dcc_service.specs.Readings.{Comes}
 use Rattle.dcc_service.proofs.ReadingLemmas.{next_is_true, truth_is_the_value, silence_is_no_answer}
-use Rattle.dcc_tool.specs.declared.fault.ToolFault.{ToolFault}
-use Rattle.dcc_tool.specs.declared.fault.ToolFault.TheVariants as faults
-use Rattle.dcc_tool.specs.Failures.{HasRisen}
+use Rattle.dcc_io.specs.declared.fault.ToolFault.{ToolFault}
+use Rattle.dcc_io.specs.declared.fault.ToolFault.TheVariants as faults
+use Rattle.dcc_io.specs.Failures.{HasRisen}
 use Rattle.dcc_tool.specs.TrackAnswers.{TakesAnswer, Tells}
 use Rattle.dcc_tool.specs.TrackReading.{value_on, answers_on, answered_line, with_answer, answered_lines, unasked, value_line, reading_text, after_reading, ReadsCv}
-use Rattle.dcc_tool.specs.Written.{AppendsFront}
+use Rattle.dcc_io.specs.Written.{AppendsFront}
 use Rattle.dcc_tool.proofs.HeldLemmas.{AppendsFront-more}
-use Rattle.dcc_tool.proofs.WrittenLemmas.{Appends-none, Appends-append, front_behind}
+use Rattle.dcc_io.proofs.WrittenLemmas.{Appends-none, Appends-append, front_behind}
 
 -- the lines of some answers and then of others
 lines-append : (so_far : CvAnswers) (xs ys : List Bool)

@@ -1,13 +1,13 @@
 -- The two captures of one input, with a line of the one word `---` between them.
 use Rattle.std.specs.Prelude.{ℕ, ◌+◌, ◌-◌, ◌==◌, ◌&&◌, not, nat_le, ◌∷◌, ◌++◌, List, [], Bool, false, Option, None, Some, length, take, replicate, if◌then◌else◌}
-use Rattle.dcc_tool.specs.declared.fault.KeptFault.{KeptFault}
-use Rattle.dcc_tool.specs.declared.fault.KeptFault.TheVariants.{Number, TooMuch}
-use Rattle.dcc_tool.specs.declared.word.Run.{Run}
-use Rattle.dcc_tool.specs.InputState.{InputState, all_lines}
-use Rattle.dcc_tool.specs.Words.{Word, ended_words, is_mark, run_of}
-use Rattle.dcc_tool.specs.Items.{Items}
-use Rattle.dcc_tool.specs.Capture.{halves_of}
-use Rattle.dcc_tool.specs.TextRead.{cut_by}
+use Rattle.dcc_io.specs.declared.fault.KeptFault.{KeptFault}
+use Rattle.dcc_io.specs.declared.fault.KeptFault.TheVariants.{Number, TooMuch}
+use Rattle.dcc_io.specs.declared.word.Run.{Run}
+use Rattle.dcc_io.specs.InputState.{InputState, all_lines}
+use Rattle.dcc_io.specs.Words.{Word, ended_words, is_mark, run_of}
+use Rattle.dcc_io.specs.Items.{Items}
+use Rattle.dcc_io.specs.Capture.{halves_of}
+use Rattle.dcc_io.specs.TextRead.{cut_by}
 
 -- the halves of both captures before the first fault, and that fault
 pub record Both : Type 0 where

@@ -8,13 +8,13 @@ use Rattle.dcc_order.specs.declared.verdict.Verdict.TheVariants.{Alike}
 use Rattle.dcc_order.specs.AlikeLists.{AlikeFor}
 use Rattle.dcc_order.specs.Laws.{LeaveTheSame}
 use Rattle.dcc_order.specs.Verdicts.{IsVerdict}
-use Rattle.dcc_tool.specs.declared.fault.ToolFault.{ToolFault}
-use Rattle.dcc_tool.specs.declared.fault.ToolFault.TheVariants.{Usage, Number, Line, Read, Write, NoMemory, TooMuch}
-use Rattle.dcc_tool.specs.Failures.{HasRisen}
+use Rattle.dcc_io.specs.declared.fault.ToolFault.{ToolFault}
+use Rattle.dcc_io.specs.declared.fault.ToolFault.TheVariants.{Usage, Number, Line, Read, Write, NoMemory, TooMuch}
+use Rattle.dcc_io.specs.Failures.{HasRisen}
 use Rattle.dcc_tool.specs.Gathered.{Gathered, GatherFails}
-use Rattle.dcc_tool.specs.InputState.{InputState}
+use Rattle.dcc_io.specs.InputState.{InputState}
 use Rattle.dcc_tool.specs.VerdictLine.{verdict_line}
-use Rattle.dcc_tool.specs.Written.{AppendsFront}
+use Rattle.dcc_io.specs.Written.{AppendsFront}
 
 -- two captures were read to their ends, and this is the verdict on their packets. Where it is Alike, and only there, they are
 -- alike for the decoder, and then they leave it the same in each register, whatever it held at the start

@@ -1,9 +1,9 @@
 -- The station of an `encode`.
 use Rattle.std.specs.Prelude.{ℕ, Bool, true, false, not, Option, None, Some, Result, Ok, Err}
 use Rattle.dcc_station.specs.Limits.{is_within_limits}
-use Rattle.dcc_tool.specs.declared.fault.ToolFault.{ToolFault}
-use Rattle.dcc_tool.specs.declared.fault.ToolFault.TheVariants.{Usage, Number, Line, Read, Write, NoMemory, TooMuch}
-use Rattle.dcc_tool.specs.declared.fault.Usage.TheVariants.{Words, BadWho, BadStation}
+use Rattle.dcc_io.specs.declared.fault.ToolFault.{ToolFault}
+use Rattle.dcc_io.specs.declared.fault.ToolFault.TheVariants.{Usage, Number, Line, Read, Write, NoMemory, TooMuch}
+use Rattle.dcc_io.specs.declared.fault.Usage.TheVariants.{Words, BadWho, BadStation}
 
 -- a station is asked for whose queue, slots or repeats are past their limits
 abbrev pub is_past_limits : Option (ℕ × ℕ × ℕ) → Bool

@@ -7,16 +7,16 @@ use Rattle.dcc_wire.specs.declared.timing.Timing.{Timing}
 use Rattle.dcc_wire.specs.Sending.{sent}
 use Rattle.dcc_wire.specs.NominalTimings.{main_timing, service_timing}
 use Rattle.dcc_tool.specs.declared.encoding.Encode.{Encode}
-use Rattle.dcc_tool.specs.declared.fault.KeptFault.{KeptFault}
-use Rattle.dcc_tool.specs.declared.fault.KeptFault.TheVariants as kept
-use Rattle.dcc_tool.specs.declared.fault.ToolFault.{ToolFault}
-use Rattle.dcc_tool.specs.declared.fault.ToolFault.TheVariants.{Usage, Number, Line, Read, Write, NoMemory, TooMuch}
-use Rattle.dcc_tool.specs.Failures.{HasRisen}
-use Rattle.dcc_tool.specs.Told.{IsAtEnd}
-use Rattle.dcc_tool.specs.InputState.{InputState, UsesAllLines}
-use Rattle.dcc_tool.specs.Written.{AppendsFront}
-use Rattle.dcc_tool.specs.Items.{ReadsUpTo}
-use Rattle.dcc_tool.specs.PacketLines.{packet_lines, frames_in}
+use Rattle.dcc_io.specs.declared.fault.KeptFault.{KeptFault}
+use Rattle.dcc_io.specs.declared.fault.KeptFault.TheVariants as kept
+use Rattle.dcc_io.specs.declared.fault.ToolFault.{ToolFault}
+use Rattle.dcc_io.specs.declared.fault.ToolFault.TheVariants.{Usage, Number, Line, Read, Write, NoMemory, TooMuch}
+use Rattle.dcc_io.specs.Failures.{HasRisen}
+use Rattle.dcc_io.specs.Told.{IsAtEnd}
+use Rattle.dcc_io.specs.InputState.{InputState, UsesAllLines}
+use Rattle.dcc_io.specs.Written.{AppendsFront}
+use Rattle.dcc_io.specs.Items.{ReadsUpTo}
+use Rattle.dcc_io.specs.PacketLines.{packet_lines, frames_in}
 
 abbrev pub behind_space : ℕ → List ℕ
 behind_space n = codes " " ++ decimal n

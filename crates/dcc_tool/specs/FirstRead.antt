@@ -1,12 +1,12 @@
 -- What was read of the first of two captures.
 use Rattle.std.specs.Prelude.{◌≡◌, ◌⊎◌, ℕ, ◌+◌, ◌<◌, ◌≤◌, ◌∷◌, ◌++◌, List, [], Bool, true, false, Option, None, Some, Result, Ok, Err, length, replicate, IfSome, IsSomeAnd}
-use Rattle.dcc_tool.specs.declared.fault.KeptFault.{KeptFault}
-use Rattle.dcc_tool.specs.declared.fault.KeptFault.TheVariants.{Number, Line, Read, TooMuch}
-use Rattle.dcc_tool.specs.declared.word.Run.{Run}
-use Rattle.dcc_tool.specs.Failures.{one_more}
-use Rattle.dcc_tool.specs.InputState.{InputState, all_lines}
-use Rattle.dcc_tool.specs.Words.{ended_words}
-use Rattle.dcc_tool.specs.Passed.{Passed, AnswersWord}
+use Rattle.dcc_io.specs.declared.fault.KeptFault.{KeptFault}
+use Rattle.dcc_io.specs.declared.fault.KeptFault.TheVariants.{Number, Line, Read, TooMuch}
+use Rattle.dcc_io.specs.declared.word.Run.{Run}
+use Rattle.dcc_io.specs.Failures.{one_more}
+use Rattle.dcc_io.specs.InputState.{InputState, all_lines}
+use Rattle.dcc_io.specs.Words.{ended_words}
+use Rattle.dcc_io.specs.Passed.{Passed, AnswersWord}
 use Rattle.dcc_tool.specs.BothCaptures.{Said, stopped, in_front, behind_mark, both_from, in_limit}
 
 -- bytes were used, behind which this is said, whatever follows them

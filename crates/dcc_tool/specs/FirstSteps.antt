@@ -1,10 +1,10 @@
 -- Steps within the first of two captures.
 use Rattle.std.specs.Prelude.{◌≡◌, ◌≢◌, true, false, ◌⊎◌, ℕ, ◌-◌, ◌<◌, ◌≤◌, List, Option, None, Some, Result, Ok, Err}
-use Rattle.dcc_tool.specs.declared.fault.KeptFault.{KeptFault}
-use Rattle.dcc_tool.specs.declared.fault.KeptFault.TheVariants.{Number, TooMuch}
-use Rattle.dcc_tool.specs.declared.word.Run.{Run}
-use Rattle.dcc_tool.specs.InputState.{InputState}
-use Rattle.dcc_tool.specs.Words.{run_of}
+use Rattle.dcc_io.specs.declared.fault.KeptFault.{KeptFault}
+use Rattle.dcc_io.specs.declared.fault.KeptFault.TheVariants.{Number, TooMuch}
+use Rattle.dcc_io.specs.declared.word.Run.{Run}
+use Rattle.dcc_io.specs.InputState.{InputState}
+use Rattle.dcc_io.specs.Words.{run_of}
 use Rattle.dcc_tool.specs.FirstRead.{EndsLine}
 
 -- the word on this line spells a run that is counted, or is refused

@@ -5,16 +5,16 @@ use Rattle.std.specs.Io.KnownBytes.{Appends}
 use Rattle.dcc_regs.specs.declared.register.Who.{Who}
 use Rattle.dcc_regs.specs.Result.{RegisterMap}
 use Rattle.dcc_order.specs.Hearing.{HasHeardHalves}
-use Rattle.dcc_tool.specs.declared.fault.ToolFault.{ToolFault}
-use Rattle.dcc_tool.specs.declared.fault.ToolFault.TheVariants.{Usage, Number, Line, Read, Write, NoMemory, TooMuch}
-use Rattle.dcc_tool.specs.declared.fault.KeptFault.{KeptFault}
-use Rattle.dcc_tool.specs.declared.fault.KeptFault.TheVariants as kept
-use Rattle.dcc_tool.specs.Failures.{HasRisen}
-use Rattle.dcc_tool.specs.Told.{IsAtEnd}
-use Rattle.dcc_tool.specs.InputState.{InputState, UsesAllLines}
-use Rattle.dcc_tool.specs.Items.{ReadsUpTo}
-use Rattle.dcc_tool.specs.Capture.{captures}
-use Rattle.dcc_tool.specs.Written.{AppendsFront}
+use Rattle.dcc_io.specs.declared.fault.ToolFault.{ToolFault}
+use Rattle.dcc_io.specs.declared.fault.ToolFault.TheVariants.{Usage, Number, Line, Read, Write, NoMemory, TooMuch}
+use Rattle.dcc_io.specs.declared.fault.KeptFault.{KeptFault}
+use Rattle.dcc_io.specs.declared.fault.KeptFault.TheVariants as kept
+use Rattle.dcc_io.specs.Failures.{HasRisen}
+use Rattle.dcc_io.specs.Told.{IsAtEnd}
+use Rattle.dcc_io.specs.InputState.{InputState, UsesAllLines}
+use Rattle.dcc_io.specs.Items.{ReadsUpTo}
+use Rattle.dcc_io.specs.Capture.{captures}
+use Rattle.dcc_io.specs.Written.{AppendsFront}
 use Rattle.dcc_tool.specs.FleetText.{fleet_text}
 
 -- a fleet, from who each member is and what its registers hold

@@ -2,14 +2,14 @@
 use Rattle.std.specs.Prelude.{◌≡◌, ◌⊎◌, List, None, Some}
 use Rattle.dcc_packet.specs.declared.packet.Packet.{Packet}
 use Rattle.dcc_order.specs.Hearing.{ArePackets}
-use Rattle.dcc_tool.specs.declared.fault.KeptFault.{KeptFault}
-use Rattle.dcc_tool.specs.declared.fault.KeptFault.TheVariants as kept
-use Rattle.dcc_tool.specs.declared.fault.ToolFault.{ToolFault}
-use Rattle.dcc_tool.specs.declared.fault.ToolFault.TheVariants.{Usage, Number, Line, Read, Write, NoMemory, TooMuch}
-use Rattle.dcc_tool.specs.Told.{IsAtEnd}
-use Rattle.dcc_tool.specs.InputState.{InputState, UsesAllLines, HasCause}
-use Rattle.dcc_tool.specs.Items.{ReadsUpTo}
-use Rattle.dcc_tool.specs.Capture.{captures}
+use Rattle.dcc_io.specs.declared.fault.KeptFault.{KeptFault}
+use Rattle.dcc_io.specs.declared.fault.KeptFault.TheVariants as kept
+use Rattle.dcc_io.specs.declared.fault.ToolFault.{ToolFault}
+use Rattle.dcc_io.specs.declared.fault.ToolFault.TheVariants.{Usage, Number, Line, Read, Write, NoMemory, TooMuch}
+use Rattle.dcc_io.specs.Told.{IsAtEnd}
+use Rattle.dcc_io.specs.InputState.{InputState, UsesAllLines, HasCause}
+use Rattle.dcc_io.specs.Items.{ReadsUpTo}
+use Rattle.dcc_io.specs.Capture.{captures}
 
 -- the capture of an input was read to its end without a fault, and its halves hold these packets
 pub record Gathered (old : InputState) (packets : List Packet) (new : InputState) : Type 0 where

@@ -2,13 +2,13 @@
 use Rattle.std.specs.Prelude.{◌≡◌, ◌⊎◌, ℕ, List, [], ◌++◌, None, Some, IfSome, IsSomeAnd}
 use Rattle.dcc_packet.specs.declared.packet.Packet.{Packet}
 use Rattle.dcc_order.specs.Hearing.{ArePackets}
-use Rattle.dcc_tool.specs.declared.fault.KeptFault.{KeptFault}
-use Rattle.dcc_tool.specs.declared.fault.KeptFault.TheVariants as kept
-use Rattle.dcc_tool.specs.declared.fault.ToolFault.{ToolFault}
-use Rattle.dcc_tool.specs.declared.fault.ToolFault.TheVariants.{Usage, Number, Line, Read, Write, NoMemory, TooMuch}
-use Rattle.dcc_tool.specs.Failures.{HasRisen}
-use Rattle.dcc_tool.specs.Told.{IsAtEnd}
-use Rattle.dcc_tool.specs.InputState.{InputState, UsesAllLines, HasCause}
+use Rattle.dcc_io.specs.declared.fault.KeptFault.{KeptFault}
+use Rattle.dcc_io.specs.declared.fault.KeptFault.TheVariants as kept
+use Rattle.dcc_io.specs.declared.fault.ToolFault.{ToolFault}
+use Rattle.dcc_io.specs.declared.fault.ToolFault.TheVariants.{Usage, Number, Line, Read, Write, NoMemory, TooMuch}
+use Rattle.dcc_io.specs.Failures.{HasRisen}
+use Rattle.dcc_io.specs.Told.{IsAtEnd}
+use Rattle.dcc_io.specs.InputState.{InputState, UsesAllLines, HasCause}
 use Rattle.dcc_tool.specs.BothCaptures.{Both, both_from, in_limit}
 use Rattle.dcc_tool.specs.FirstRead.{EndsFirst}
 

@@ -10,9 +10,9 @@ use Rattle.dcc_regs.specs.Loco.{loco_registers}
 use Rattle.dcc_regs.specs.Board.{board_registers}
 use Rattle.dcc_regs.specs.Possible.{IsPossible}
 use Rattle.dcc_regs.specs.Result.{RegisterMap}
-use Rattle.dcc_tool.specs.declared.saved.Saved.{Saved}
-use Rattle.dcc_tool.specs.declared.saved.Saved.TheVariants as saved
-use Rattle.dcc_tool.specs.DecoderText.{decoder_text}
+use Rattle.dcc_io.specs.declared.saved.Saved.{Saved}
+use Rattle.dcc_io.specs.declared.saved.Saved.TheVariants as saved
+use Rattle.dcc_io.specs.DecoderText.{decoder_text}
 use Rattle.dcc_tool.specs.FleetText.{fleet_text}
 
 -- two maps agree in every register

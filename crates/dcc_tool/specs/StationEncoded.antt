@@ -8,18 +8,18 @@ use Rattle.dcc_station.specs.declared.fault.Refused.TheVariants.{NotSendable, Qu
 use Rattle.dcc_station.specs.Commands.{is_sendable}
 use Rattle.dcc_station.specs.Sending as sending
 use Rattle.dcc_tool.specs.declared.encoding.Encode.{Encode}
-use Rattle.dcc_tool.specs.declared.stream.Failed.{Failed}
-use Rattle.dcc_tool.specs.declared.fault.KeptFault.{KeptFault}
-use Rattle.dcc_tool.specs.declared.fault.KeptFault.TheVariants as kept
-use Rattle.dcc_tool.specs.declared.fault.ToolFault.{ToolFault}
-use Rattle.dcc_tool.specs.declared.fault.ToolFault.TheVariants.{Usage, Number, Line, Read, Write, NoMemory, TooMuch}
-use Rattle.dcc_tool.specs.Failures.{HasRisen}
-use Rattle.dcc_tool.specs.Told.{IsAtEnd}
-use Rattle.dcc_tool.specs.InputState.{InputState, UsesAllLines}
-use Rattle.dcc_tool.specs.Written.{AppendsFront}
+use Rattle.dcc_io.specs.declared.stream.Failed.{Failed}
+use Rattle.dcc_io.specs.declared.fault.KeptFault.{KeptFault}
+use Rattle.dcc_io.specs.declared.fault.KeptFault.TheVariants as kept
+use Rattle.dcc_io.specs.declared.fault.ToolFault.{ToolFault}
+use Rattle.dcc_io.specs.declared.fault.ToolFault.TheVariants.{Usage, Number, Line, Read, Write, NoMemory, TooMuch}
+use Rattle.dcc_io.specs.Failures.{HasRisen}
+use Rattle.dcc_io.specs.Told.{IsAtEnd}
+use Rattle.dcc_io.specs.InputState.{InputState, UsesAllLines}
+use Rattle.dcc_io.specs.Written.{AppendsFront}
 use Rattle.dcc_tool.specs.Encoded.{frame_line}
-use Rattle.dcc_tool.specs.Items.{ReadsUpTo}
-use Rattle.dcc_tool.specs.PacketLines.{items_in}
+use Rattle.dcc_io.specs.Items.{ReadsUpTo}
+use Rattle.dcc_io.specs.PacketLines.{items_in}
 use Rattle.dcc_tool.specs.StationLines.{Asked, Command, Next, station_lines, station_words}
 
 -- why a station refuses a command: first that it is none to be sent, then that its queue is full

@@ -8,8 +8,8 @@ use Rattle.dcc_packet.specs.LineWords.{◌>>=◌, number}
 use Rattle.dcc_packet.specs.Line.{taken, ended, said}
 use Rattle.dcc_tool.specs.declared.station_line.StationLine.{StationLine}
 use Rattle.dcc_tool.specs.declared.station_line.StationLine.TheVariants as lines
-use Rattle.dcc_tool.specs.Items.{Reading}
-use Rattle.dcc_tool.specs.PacketLines.{Saying, lines_by}
+use Rattle.dcc_io.specs.Items.{Reading}
+use Rattle.dcc_io.specs.PacketLines.{Saying, lines_by}
 
 -- what is asked of a station: to take the command with this frame, or to hand out one packet
 pub data Asked : Type 0 where

@@ -4,12 +4,12 @@ use Rattle.std.specs.Io.KnownBytes.{Appends}
 use Rattle.dcc_service.specs.declared.reader.Reading.{Reading}
 use Rattle.dcc_service.specs.CvAnswers.{CvAnswers, question_frame}
 use Rattle.dcc_service.specs.Readings.{Comes}
-use Rattle.dcc_tool.specs.declared.stream.Failed.{Failed}
-use Rattle.dcc_tool.specs.declared.fault.ToolFault.{ToolFault}
-use Rattle.dcc_tool.specs.declared.fault.ToolFault.TheVariants.{Write}
-use Rattle.dcc_tool.specs.Failures.{HasRisen}
+use Rattle.dcc_io.specs.declared.stream.Failed.{Failed}
+use Rattle.dcc_io.specs.declared.fault.ToolFault.{ToolFault}
+use Rattle.dcc_io.specs.declared.fault.ToolFault.TheVariants.{Write}
+use Rattle.dcc_io.specs.Failures.{HasRisen}
 use Rattle.dcc_tool.specs.TrackReading.{answered_line, value_line}
-use Rattle.dcc_tool.specs.Written.{AppendsFront}
+use Rattle.dcc_io.specs.Written.{AppendsFront}
 
 -- the line of an answer was written and the answer was taken, or a write failed or took no byte
 abbrev pub TakesAnswer : CvAnswers → Bool → Option (List ℕ) → ℕ → Result Reading Failed → Option (List ℕ) → ℕ → Type 0

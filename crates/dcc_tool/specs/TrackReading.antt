@@ -8,10 +8,10 @@ use Rattle.dcc_service.specs.declared.packet.ServicePacket.TheVariants.{Verify}
 use Rattle.dcc_service.specs.Cvs.{cv_value}
 use Rattle.dcc_service.specs.Machine.{ServiceState}
 use Rattle.dcc_service.specs.ReadingLaws.{true_answers}
-use Rattle.dcc_tool.specs.declared.fault.ToolFault.{ToolFault}
-use Rattle.dcc_tool.specs.declared.fault.ToolFault.TheVariants.{Write}
-use Rattle.dcc_tool.specs.Failures.{HasRisen}
-use Rattle.dcc_tool.specs.Written.{AppendsFront}
+use Rattle.dcc_io.specs.declared.fault.ToolFault.{ToolFault}
+use Rattle.dcc_io.specs.declared.fault.ToolFault.TheVariants.{Write}
+use Rattle.dcc_io.specs.Failures.{HasRisen}
+use Rattle.dcc_io.specs.Written.{AppendsFront}
 
 -- the value of a CV on a track that has a decoder with these CVs, or none
 abbrev pub value_on : Option (List ℕ) → CvNumber → Option ℕ

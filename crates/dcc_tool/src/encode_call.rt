@@ -1,18 +1,16 @@
 //! The halves of the packets that lines say, with or without a station.
 ghost use Rattle.std.specs.Prelude.{◌≡◌, ◌↔◌, None, true, false, IfSome};
 ghost use Rattle.dcc_station.specs.Sending.{idle_sending};
-ghost use Rattle.dcc_tool.specs.Faults.{as_tool_fault};
-ghost use Rattle.dcc_tool.specs.InputState.{HasCause};
+ghost use Rattle.dcc_io.specs.Faults.{as_tool_fault};
+ghost use Rattle.dcc_io.specs.InputState.{HasCause};
 ghost use Rattle.dcc_tool.specs.Encoded.{EncodesText};
 ghost use Rattle.dcc_tool.specs.EncodeStation.{is_past_limits, has_begun};
 ghost use Rattle.dcc_tool.specs.StationEncoded.{StationText};
 
 use crate::encoded_line::write_frame;
 use crate::encoding::Encode;
-use crate::fault::{ToolFault, Usage};
-use crate::input::Input;
 use crate::station_encoding::encode_by_station;
-use crate::stream::{Sink, Source};
+use dcc_io::{Input, Sink, Source, ToolFault, Usage};
 use dcc_station::{Station, StationFault};
 use std::alloc::Global;
 

@@ -2,14 +2,13 @@
 ghost use Rattle.std.specs.Prelude.{◌≡◌, ◌≤◌, ◌+◌, ◌++◌, [], length, decimal};
 ghost use Rattle.arrayvec.specs.ArrayVec.{array_vec_len};
 ghost use Rattle.dcc_wire.specs.Sending.{sent};
-ghost use Rattle.dcc_tool.specs.Written.{Writes};
+ghost use Rattle.dcc_io.specs.Written.{Writes};
 ghost use Rattle.dcc_tool.specs.Encoded.{frame_line, timing_of, spaced};
 
 use crate::encoding::Encode;
-use crate::listing::write_all;
-use crate::stream::{Failed, Sink};
 use crate::text::{append_decimal, append_hex};
 use arrayvec::ArrayVec;
+use dcc_io::{Failed, Sink, write_all};
 use dcc_wire::{Frame, Halves, Timing};
 
 /// Room for the 150 halves of six bytes in service mode, each of up to five digits and a space.

@@ -1,7 +1,7 @@
 //! Captures, readers and writers for the tests.
 ghost use Rattle.std.specs.Prelude.{None};
 
-use crate::stream::{Failed, Sink, Source};
+use dcc_io::{Failed, Sink, Source};
 use std::alloc::{AllocError, Global};
 use std::cell::Cell;
 

@@ -1,16 +1,13 @@
 //! The packets of the first of two captures in one input, all held.
 ghost use Rattle.std.specs.Prelude.{◌≡◌, ◌==◌, ◌&&◌, not, ◌<◌, ◌^◌, ℕ, List, None, IfOk, IfErr, length};
-ghost use Rattle.dcc_tool.specs.Words.{is_mark};
-ghost use Rattle.dcc_tool.specs.Spells.{Spells};
+ghost use Rattle.dcc_io.specs.Words.{is_mark};
+ghost use Rattle.dcc_io.specs.Spells.{Spells};
 ghost use Rattle.dcc_tool.specs.FirstRead.{AnswersFirst, EndsLine};
 ghost use Rattle.dcc_tool.specs.FirstSteps.{CountsWord, EndsMark};
 ghost use Rattle.dcc_tool.specs.GatheredBoth.{BothFail, GatheredFirst};
 
-use crate::fault::{KeptFault, ToolFault};
 use crate::gathering::hold_seen;
-use crate::input::Input;
-use crate::stream::Source;
-use crate::word::{Run, RunWord};
+use dcc_io::{Input, KeptFault, Run, RunWord, Source, ToolFault};
 use dcc_packet::{Packet, PacketFault};
 use dcc_wire::Framer;
 use std::alloc::Global;

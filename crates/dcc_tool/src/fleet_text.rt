@@ -1,12 +1,11 @@
 //! The decoder text of a fleet.
 ghost use Rattle.std.specs.Prelude.{◌≡◌, map};
 ghost use Rattle.dcc_regs.specs.Loco.{cv_of};
-ghost use Rattle.dcc_tool.specs.Written.{Writes};
+ghost use Rattle.dcc_io.specs.Written.{Writes};
 ghost use Rattle.dcc_tool.specs.FleetText.{cvs_text, decoder_text, fleet_text};
 
 use crate::decoder_rows::{board_rows, cv_line, cv_value, loco_front};
-use crate::listing::write_all;
-use crate::stream::{Failed, Sink};
+use dcc_io::{Failed, Sink, write_all};
 use dcc_regs::{Decoder, Who};
 
 /// Writes the decoder text of the fleet, in its order.

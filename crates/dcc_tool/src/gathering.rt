@@ -4,9 +4,7 @@ ghost use Rattle.dcc_packet.specs.declared.packet.Packet.{Packet};
 ghost use Rattle.dcc_order.specs.Hearing.{AreSpelled, frames_of};
 ghost use Rattle.dcc_tool.specs.Gathered.{GatherFails, Gathered};
 
-use crate::fault::ToolFault;
-use crate::input::Input;
-use crate::stream::Source;
+use dcc_io::{Input, Source, ToolFault};
 use dcc_packet::Packet;
 use dcc_wire::{Framer, Seen};
 use std::alloc::{AllocError, Global};

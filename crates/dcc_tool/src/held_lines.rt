@@ -1,11 +1,10 @@
 //! Lines that are finished and not yet written.
 ghost use Rattle.std.specs.Prelude.{◌≡◌, ◌≤◌, ◌++◌, [], ◌↔◌, IsTrue, OnOk, length};
-ghost use Rattle.dcc_tool.specs.Written.{Writes};
+ghost use Rattle.dcc_io.specs.Written.{Writes};
 ghost use Rattle.dcc_tool.specs.Held.{HoldsOrFails};
 
-use crate::listing::write_all;
-use crate::stream::{Failed, Sink};
 use arrayvec::ArrayVec;
+use dcc_io::{Failed, Sink, write_all};
 use std::marker::Model;
 
 /// Finished lines, which one call of the writer is to take together.

@@ -1,6 +1,5 @@
-//! Laws of listings and of lines.
+//! Laws of listings and of decoder texts.
 
-ghost use Rattle.dcc_tool.specs.LineLaws.{LinesAreCounted};
 ghost use Rattle.dcc_tool.specs.ListingLaws.{OneListing, ListsInHex};
 ghost use Rattle.dcc_tool.specs.ReadBack.{FleetsAreReadBack};
 
@@ -14,11 +13,6 @@ pub fn outcomes_have_one_listing()
 #[tactic(auto, using(crate::proofs::ListingLaws::lists_in_hex))]
 pub fn without_words_the_listing_is_in_hex()
     ensures { ListsInHex }
-{}
-
-/// An input that is used up has given a line for each line feed, and one for what stands behind the last.
-pub fn lines_are_counted_by_line_feeds()
-    ensures { LinesAreCounted }
 {}
 
 /// The text that is written for at most 64 decoders is read back as the same decoders.

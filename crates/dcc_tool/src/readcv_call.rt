@@ -6,10 +6,8 @@ ghost use Rattle.dcc_tool.specs.Loan.{left_in};
 ghost use Rattle.dcc_tool.specs.TrackAnswers.{TakesAnswer, Tells};
 ghost use Rattle.dcc_tool.specs.TrackReading.{ReadsCv, after_reading};
 
-use crate::fault::ToolFault;
-use crate::listing::write_all;
-use crate::stream::{Failed, Sink};
 use crate::track_line::{answered_line, value_line};
+use dcc_io::{Failed, Sink, ToolFault, write_all};
 use dcc_packet::CvNumber;
 use dcc_service::{CvReader, Reading, ServiceDecoder, ServicePacket, ask};
 

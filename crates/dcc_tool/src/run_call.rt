@@ -1,13 +1,11 @@
 //! A fleet that hears a capture.
 ghost use Rattle.std.specs.Prelude.{◌≡◌, None, IfSome, map};
-ghost use Rattle.dcc_tool.specs.Faults.{as_tool_fault};
+ghost use Rattle.dcc_io.specs.Faults.{as_tool_fault};
 ghost use Rattle.dcc_tool.specs.FleetRun.{Runs};
-ghost use Rattle.dcc_tool.specs.InputState.{HasCause};
+ghost use Rattle.dcc_io.specs.InputState.{HasCause};
 
-use crate::fault::ToolFault;
 use crate::fleet_text::write_fleet;
-use crate::input::Input;
-use crate::stream::{Sink, Source};
+use dcc_io::{Input, Sink, Source, ToolFault};
 use dcc_order::hear_run;
 use dcc_regs::Decoder;
 use dcc_wire::Framer;

@@ -2,14 +2,11 @@
 ghost use Rattle.std.specs.Prelude.{◌≡◌};
 ghost use Rattle.dcc_tool.specs.Compared.{Compares};
 ghost use Rattle.dcc_tool.specs.VerdictLine.{verdict_line as line_of};
-ghost use Rattle.dcc_tool.specs.Written.{Writes};
+ghost use Rattle.dcc_io.specs.Written.{Writes};
 
-use crate::fault::ToolFault;
 use crate::gathering::gather;
-use crate::input::Input;
-use crate::listing::write_all;
-use crate::stream::{Failed, Sink, Source};
 use crate::verdict_line::verdict_line;
+use dcc_io::{Failed, Input, Sink, Source, ToolFault, write_all};
 use dcc_order::{Verdict, compare};
 use dcc_regs::Who;
 use std::alloc::Global;

@@ -3,12 +3,10 @@ ghost use Rattle.std.specs.Prelude.{◌<◌, ◌^◌, IfOk, IfErr, length};
 ghost use Rattle.dcc_tool.specs.ComparedBoth.{ComparesBoth};
 ghost use Rattle.dcc_tool.specs.GatheredBoth.{BothFail, GatheredBoth};
 
-use crate::fault::ToolFault;
 use crate::first_capture::gather_first;
 use crate::gathering::gather;
-use crate::input::Input;
 use crate::same_call::write_verdict;
-use crate::stream::{Sink, Source};
+use dcc_io::{Input, Sink, Source, ToolFault};
 use dcc_order::{Verdict, compare};
 use dcc_packet::Packet;
 use dcc_regs::Who;

@@ -1,19 +1,16 @@
 //! What a station writes for the lines that drive it.
 ghost use Rattle.std.specs.Prelude.{◌≡◌, None, Some, [], ◌∷◌, replicate, IfSome};
 ghost use Rattle.dcc_packet.specs.Spelling.{spelling};
-ghost use Rattle.dcc_tool.specs.Faults.{as_tool_fault};
-ghost use Rattle.dcc_tool.specs.InputState.{HasCause};
+ghost use Rattle.dcc_io.specs.Faults.{as_tool_fault};
+ghost use Rattle.dcc_io.specs.InputState.{HasCause};
 ghost use Rattle.dcc_tool.specs.declared.encoding.Encode.{Encode};
 ghost use Rattle.dcc_tool.specs.StationLines.{asked_by, Command, Next};
 ghost use Rattle.dcc_tool.specs.StationEncoded.{StationText, WritesAnswers, refusal_line};
 
 use crate::encoded_line::write_frame;
 use crate::encoding::Encode;
-use crate::fault::ToolFault;
-use crate::input::Input;
-use crate::listing::write_all;
-use crate::station_line::StationLine;
-use crate::stream::{Failed, Sink, Source};
+use crate::station_line::{StationLine, next_station_line};
+use dcc_io::{Failed, Input, Sink, Source, ToolFault, write_all};
 use dcc_packet::Packet;
 use dcc_station::{Refused, Station};
 
@@ -34,7 +31,7 @@ pub(crate) fn encode_by_station<R: Source, W: Sink>(
         return Err(fault.told());
     }
     'lines: loop {
-        match input.next_station_line() {
+        match next_station_line(input) {
             Ok(Some(line)) => match answer(station, writer, how, line) {
                 Ok(()) => (),
                 Err(_) => return Err(ToolFault::Write),

@@ -2,12 +2,9 @@
 ghost use Rattle.std.specs.Prelude.{◌≡◌, None};
 ghost use Rattle.dcc_packet.specs.Words.{words};
 ghost use Rattle.dcc_tool.specs.StationLines.{asked, asked_by, asked_or_fault, send, send_count, station_words};
-ghost use Rattle.dcc_tool.specs.PacketRead.{AnswersSaid, ReadsSaid};
+ghost use Rattle.dcc_io.specs.PacketRead.{AnswersSaid, ReadsSaid};
 
-use crate::fault::KeptFault;
-use crate::input::Input;
-use crate::stream::Source;
-use crate::text_line::TextLine;
+use dcc_io::{Input, KeptFault, Source, TextLine};
 use dcc_packet::numeral::number;
 use dcc_packet::words::Words;
 use dcc_packet::{Packet, PacketFault};
@@ -69,35 +66,38 @@ fn send_count(word: &[u8]) -> Result<u16, PacketFault>
     }
 }
 
-impl<R: Source> Input<R> {
-    /// What the next line asks that asks anything, or none at the end. A fault is kept.
-    pub(crate) fn next_station_line(&mut self) -> Result<Option<StationLine>, KeptFault>
-        requires { self.old.fault ≡ None }
-        ensures { AnswersSaid station_words asked_by self.old result self.new }
-    {
-        'lines: loop {
-            match self.next_line() {
-                Ok(Some(line)) => {
-                    if !line.is_skipped() {
-                        return self.read_station_line(&line);
-                    }
+/// What the next line asks that asks anything, or none at the end. A fault is kept.
+pub(crate) fn next_station_line<R: Source>(
+    input: &mut Input<R>,
+) -> Result<Option<StationLine>, KeptFault>
+    requires { input.old.fault ≡ None }
+    ensures { AnswersSaid station_words asked_by input.old result input.new }
+{
+    'lines: loop {
+        match input.next_line() {
+            Ok(Some(line)) => {
+                if !line.is_skipped() {
+                    return read_station_line(input, &line);
                 }
-                Ok(None) => return Ok(None),
-                Err(fault) => return Err(fault),
             }
+            Ok(None) => return Ok(None),
+            Err(fault) => return Err(fault),
         }
     }
+}
 
-    /// What the words of a line ask, or the fault, which is kept.
-    fn read_station_line(&mut self, line: &TextLine) -> Result<Option<StationLine>, KeptFault>
-        ensures { ReadsSaid station_words asked_by self.old line.now result self.new }
-    {
-        match StationLine::from_line(line.text.as_str()) {
-            Ok(asks) => Ok(Some(asks)),
-            Err(fault) => Err(self.refuse(KeptFault::Line {
-                line: line.number,
-                fault,
-            })),
-        }
+/// What the words of a line ask, or the fault, which is kept.
+fn read_station_line<R: Source>(
+    input: &mut Input<R>,
+    line: &TextLine,
+) -> Result<Option<StationLine>, KeptFault>
+    ensures { ReadsSaid station_words asked_by input.old line.now result input.new }
+{
+    match StationLine::from_line(line.text.as_str()) {
+        Ok(asks) => Ok(Some(asks)),
+        Err(fault) => Err(input.refuse(KeptFault::Line {
+            line: line.number,
+            fault,
+        })),
     }
 }

@@ -2,8 +2,7 @@
 ghost use Rattle.std.specs.Prelude.{◌≡◌, None, Some, MatchResult, false};
 ghost use Rattle.dcc_tool.specs.Track.{first_cvs};
 
-use crate::fault::ToolFault;
-use crate::saved::Saved;
+use dcc_io::{Saved, ToolFault};
 use dcc_packet::PacketFault;
 use dcc_service::ServiceDecoder;
 

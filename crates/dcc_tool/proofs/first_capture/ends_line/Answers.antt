@@ -1,6 +1,6 @@
 use Rattle.std.proofs.Common.{sym, ◌∙◌}
 use Rattle.dcc_tool.proofs.FirstLemmas.{OpensHere-word, OpensHere-gap, ends_here, ends_in_word}
-use Rattle.dcc_tool.proofs.PassedLemmas.{answers_err, takes_noted, from_not_true, from_not_false}
+use Rattle.dcc_io.proofs.PassedLemmas.{answers_err, takes_noted, from_not_true, from_not_false}
 use Rattle.dcc_tool.proofs.first_capture.ends_line.Goals as goal
 
 pub returns-in-Err : goal.returns-in-Err

@@ -1,9 +1,9 @@
 use Rattle.std.proofs.Common.{◌≡◌, Err, ap, sym, ◌∙◌, subst, refl, List, ℕ, eqb, true, false, ◌+◌}
 use Rattle.std.proofs.lemmas.Bool.{ne_eqb, eq-eqb}
 use Rattle.dcc_regs.specs.Loco.{cv_of}
-use Rattle.dcc_tool.specs.Written.{Writes}
+use Rattle.dcc_io.specs.Written.{Writes}
 use Rattle.dcc_tool.specs.FleetText.{cv_line, cvs_text}
-use Rattle.dcc_tool.proofs.WrittenLemmas.{Appends-none, Appends-append}
+use Rattle.dcc_io.proofs.WrittenLemmas.{Appends-none, Appends-append}
 use Rattle.dcc_tool.proofs.RowsLemmas.{cvs_none, cvs_some, cvs_zero}
 use Rattle.dcc_tool.proofs.FleetLemmas.{cvs_stopped}
 use Rattle.dcc_tool.proofs.fleet_text.write_cvs.Goals as goal

@@ -1,5 +1,5 @@
 use Rattle.std.proofs.Common.{Ok, Err, List, ℕ, sym, ◌∙◌, subst}
-use Rattle.dcc_tool.specs.Written.{Writes}
+use Rattle.dcc_io.specs.Written.{Writes}
 use Rattle.dcc_tool.proofs.FleetLemmas.{loco_then, loco_first}
 use Rattle.dcc_tool.proofs.fleet_text.write_decoder.Goals as goal
 

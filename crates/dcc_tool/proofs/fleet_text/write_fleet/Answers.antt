@@ -1,6 +1,6 @@
 use Rattle.std.proofs.Common.{Ok, Err, arith, codes, ◌++◌, map, ◌∙◌, subst}
 use Rattle.std.specs.List.{flat_map}
-use Rattle.dcc_tool.specs.Written.{Writes}
+use Rattle.dcc_io.specs.Written.{Writes}
 use Rattle.dcc_tool.specs.FleetText.{decoder_text, member_text}
 use Rattle.dcc_tool.proofs.FleetLemmas.{Writes-first, texts_more, texts_stopped, texts_ended}
 use Rattle.dcc_tool.proofs.fleet_text.write_fleet.Goals as goal

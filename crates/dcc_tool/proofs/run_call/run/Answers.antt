@@ -3,8 +3,8 @@ use Rattle.dcc_regs.specs.declared.register.Who.{Who}
 use Rattle.dcc_regs.specs.Result.{RegisterMap}
 use Rattle.dcc_order.specs.Hearing.{HasHeardHalves}
 use Rattle.dcc_order.proofs.HearingLemmas.{no_halves_heard}
-use Rattle.dcc_tool.specs.Capture.{captures}
-use Rattle.dcc_tool.proofs.ItemsLemmas.{Gave-none, Gave-append}
+use Rattle.dcc_io.specs.Capture.{captures}
+use Rattle.dcc_io.proofs.ItemsLemmas.{Gave-none, Gave-append}
 use Rattle.dcc_tool.proofs.RunLemmas.{AllZip-start, AllZip-views, hears_up_to, hears_all, ran, stopped}
 use Rattle.dcc_tool.proofs.run_call.run.Goals as goal
 

@@ -1,0 +1,235 @@
+-- A word at the front of the bytes at hand is the next word of the input.
+use Rattle.std.proofs.Common.{◌≡◌, ◌≢◌, ℕ, ◌+◌, ◌-◌, ◌*◌, ◌<◌, ◌≤◌, List, [], ◌∷◌, ◌++◌, take, get_or, length, Bool, true, false, cond, eqb, nat_lt, nat_le, ◌||◌, ◌&&◌, min, Option, None, Some, Ok, IfSome, IsSomeAnd, refl, sym, ap, ◌∙◌, subst, arith, append_assoc, length-append, length-take}
+use Rattle.std.proofs.lemmas.List.{append-nil, take_more}
+use Rattle.std.proofs.lemmas.List.Folds.{list_all_more}
+use Rattle.std.proofs.lemmas.Bool.{ne_eqb}
+use Rattle.std.proofs.lemmas.Bool.Decides.{nat_tests}
+use Rattle.std.specs.Io.KnownBytes.{Consumes}
+use Rattle.std.specs.List.{list_all}
+use Rattle.std.specs.Char.{is_ascii_digit}
+use Rattle.std.specs.Str.Parse.{digits_value}
+use Rattle.dcc_io.specs.declared.word.FrontWord.{FrontWord}
+use Rattle.dcc_io.specs.Place.{Place, line_behind, lines_with, lines_through}
+use Rattle.dcc_io.specs.Words.{Word, is_gap, comments, ended_words, duration_of, Passes}
+use Rattle.dcc_io.specs.Front.{IsFrontWord}
+use Rattle.dcc_io.specs.declared.fault.KeptFault.{KeptFault}
+use Rattle.dcc_io.specs.Told.{Told}
+use Rattle.dcc_io.specs.InputState.{InputState, closed_text, closing}
+use Rattle.dcc_io.specs.Passed.{Uses}
+use Rattle.dcc_io.specs.Capture.{AnswersRun}
+use Rattle.dcc_io.proofs.WordsLemmas.{behind, opened, opened-none, opened-word, opened-gap, ended}
+use Rattle.dcc_io.proofs.HandLemmas.{outside}
+use Rattle.dcc_io.proofs.RunWordLemmas.{run_of_duration}
+use Rattle.dcc_io.proofs.CaptureLemmas.{Gave-word}
+use Rattle.dcc_io.proofs.SpellsLemmas.{digit_value-digit, is_ascii_digit-digit, digits_value_after-push}
+
+digit_bounds : (byte : ℕ) → is_ascii_digit byte ≡ true → (48 ≤ byte) × (byte ≤ 57)
+digit_bounds byte digit = (grind (arith, nat_tests), grind (arith, nat_tests))
+
+-- a digit is no gap, begins no comment and ends no line
+record IsPlain (byte : ℕ) : Type 0 where
+  no_comment : comments false byte ≡ false
+  no_gap : is_gap byte ≡ false
+  no_line : eqb byte 10 ≡ false
+
+plain_digit : (byte : ℕ) → is_ascii_digit byte ≡ true → IsPlain byte
+unfolding comments is_gap
+plain_digit byte digit =
+    let bounds = digit_bounds byte digit in
+    let not_32 = ne_eqb byte 32 (λ same. omega (arith, bounds)) in
+    let not_9 = ne_eqb byte 9 (λ same. omega (arith, bounds)) in
+    let not_13 = ne_eqb byte 13 (λ same. omega (arith, bounds)) in
+    let not_10 = ne_eqb byte 10 (λ same. omega (arith, bounds)) in
+    let not_35 = ne_eqb byte 35 (λ same. omega (arith, bounds)) in
+    record {
+      no_comment = rw (not_10, not_35) refl;
+      no_gap = rw (not_32, not_9, not_13, not_10) refl;
+      no_line = not_10;
+    }
+
+both : (a b : Bool) → (a && b) ≡ true → (a ≡ true) × (b ≡ true)
+both true b all = (refl, all)
+both false b all = cc
+
+opened-digits : (line : ℕ) (front word more : List ℕ) → list_all is_ascii_digit word ≡ true → opened (outside line) front (word ++ more) ≡ opened (outside line) (front ++ word) more
+opened-digits line front [] more digits = ap (λ (xs : List ℕ). opened (outside line) xs more) (sym (append-nil front))
+opened-digits line front (byte ∷ word) more digits =
+    let parts = both (is_ascii_digit byte) (list_all is_ascii_digit word) digits in
+    let plain = plain_digit byte parts.0 in
+    opened-word (outside line) front byte (word ++ more) plain.no_comment plain.no_gap
+    ∙ ap (λ (place : Place). opened place (front ++ byte ∷ []) (word ++ more)) (stays plain)
+    ∙ opened-digits line (front ++ byte ∷ []) word more parts.1
+    ∙ ap (λ (xs : List ℕ). opened (outside line) xs more) (append_assoc front (byte ∷ []) word)
+  where
+    stays : IsPlain byte → behind (outside line) byte ≡ outside line
+    stays plain = rw (plain.no_comment, plain.no_line) refl
+
+-- a gap begins no comment
+gap_outside : (gap : ℕ) → is_gap gap ≡ true → comments false gap ≡ false
+unfolding comments is_gap
+gap_outside gap is = go (eqb gap 35) refl
+  where
+    go : (hash : Bool) → eqb gap 35 ≡ hash → cond (eqb gap 10) false (false || eqb gap 35) ≡ false
+    go true h = absurd (no_gap (hash_is h))
+      where
+        hash_is : eqb gap 35 ≡ true → gap ≡ 35
+        hash_is h = grind (arith, nat_tests)
+
+        no_gap : gap ≡ 35 → ⊥
+        no_gap same = let clash : false ≡ true = rw same at is in cc
+    go false h = rw h (pick (eqb gap 10))
+      where
+        pick : (b : Bool) → cond b false false ≡ false
+        pick true = refl
+        pick false = refl
+
+ends_word_of : (line : ℕ) (word : List ℕ) → 0 < length word → ended line word ≡ record { line = line; bytes = word } ∷ []
+ends_word_of line [] some = absurd (omega arith)
+ends_word_of line (byte ∷ word) some = refl
+
+-- digits and a gap hold one word
+passes_front : (line gap : ℕ) (word : List ℕ) → list_all is_ascii_digit word ≡ true → 0 < length word → is_gap gap ≡ true
+    → Passes (outside line) (word ++ gap ∷ []) (record { line = line; bytes = word } ∷ []) (outside (line_behind line gap))
+passes_front line gap word digits some is = λ more.
+    ap (ended_words (outside line)) (append_assoc word (gap ∷ []) more) ∙ sym (opened-none (outside line) (word ++ gap ∷ more))
+    ∙ opened-digits line [] word (gap ∷ more) digits
+    ∙ opened-gap (outside line) word gap more (or_gap (comments false gap) is)
+    ∙ ap (λ (words : List Word). words ++ ended_words (behind (outside line) gap) more) (ends_word_of line word some)
+    ∙ ap (λ (in_comment : Bool). record { line = line; bytes = word } ∷ ended_words (record { line = line_behind line gap; in_comment = in_comment }) more) (gap_outside gap is)
+  where
+    or_gap : (a : Bool) → is_gap gap ≡ true → (a || is_gap gap) ≡ true
+    or_gap true is = refl
+    or_gap false is = is
+
+-- digits and a gap stand on one line
+lines_of_front : (lines line gap : ℕ) (word rest : List ℕ) → list_all is_ascii_digit word ≡ true
+    → lines_through lines line ((word ++ gap ∷ []) ++ (rest ++ 10 ∷ [])) ≡ lines_through line (line_behind line gap) (rest ++ 10 ∷ [])
+lines_of_front lines line gap [] rest digits = ap (λ n. lines_through n (line_behind line gap) (rest ++ 10 ∷ [])) (some rest)
+  where
+    some : (rest : List ℕ) → lines_with lines line (rest ++ 10 ∷ []) ≡ line
+    some [] = refl
+    some (byte ∷ rest) = refl
+lines_of_front lines line gap (byte ∷ word) rest digits =
+    let parts = both (is_ascii_digit byte) (list_all is_ascii_digit word) digits in
+    let plain = plain_digit byte parts.0 in
+    ap (λ n. lines_through n (line_behind line byte) ((word ++ gap ∷ []) ++ (rest ++ 10 ∷ []))) (some word)
+    ∙ rw plain.no_line (lines_of_front line line gap word rest parts.1)
+  where
+    some : (word : List ℕ) → lines_with lines line ((word ++ gap ∷ []) ++ (rest ++ 10 ∷ [])) ≡ line
+    some [] = refl
+    some (first ∷ word) = refl
+
+-- what a word that spells a duration is made of
+record IsDuration (word : List ℕ) : Type 0 where
+  some : 0 < length word
+  digits : list_all is_ascii_digit word ≡ true
+
+duration_parts : (word : List ℕ) (us : ℕ) → duration_of word ≡ Some us → IsDuration word
+duration_parts word us spells = go (nat_lt 0 (length word)) refl (nat_le (length word) 10) (list_all is_ascii_digit word) refl spells
+  where
+    go : (a : Bool) → nat_lt 0 (length word) ≡ a → (b c : Bool) → list_all is_ascii_digit word ≡ c
+        → cond (a && (b && c)) (Some (min (digits_value 10 word) 65535)) None ≡ Some us → IsDuration word
+    go true some true true digits is = record { some = grind (arith, nat_tests); digits = digits }
+    go true some true false digits is = cc
+    go true some false c digits is = cc
+    go false some b c digits is = cc
+
+-- a half was taken from the duration at the front
+pub takes_front : (old new : InputState) (whole rest : Option (List ℕ)) (ahead : List ℕ) (front : FrontWord)
+    → old.text ≡ closed_text false whole → new.text ≡ closed_text false rest → Consumes whole rest (take (front.len + 1) ahead)
+    → IsFrontWord ahead front → old.place.in_comment ≡ false → new.place ≡ outside (line_behind old.place.line (get_or ahead front.len 0)) → new.lines ≡ old.place.line
+    → new.bytes + (front.len + 1) ≡ old.bytes → 0 < new.bytes → 0 < old.halves → new.halves ≡ old.halves - 1 → new.fault ≡ None → new.failures ≡ old.failures
+    → AnswersRun old (Ok (Some (record { us = front.us; n = 1 }))) new
+takes_front old new whole rest ahead front old_text new_text consumed is_front no_comment place lines bytes some_bytes some halves fault failures =
+    let parts = duration_parts (take front.len ahead) front.us is_front.spells in
+    let used : take (front.len + 1) ahead ≡ take front.len ahead ++ get_or ahead front.len 0 ∷ [] = take_more ahead front.len 0 is_front.inside in
+    let count : length (take front.len ahead) ≡ front.len = let inside = is_front.inside in simp length-take (omega arith) in (
+      Gave-word old mid new old.place.line (record { us = front.us; n = 1 }) (take front.len ahead)
+          record {
+            text = subst (λ (xs : Option (List ℕ)). IfSome xs (λ text. IsSomeAnd new.text (λ left. Uses old mid words text left))) (sym old_text)
+                (subst (λ (xs : Option (List ℕ)). IfSome (closed_text false whole) (λ text. IsSomeAnd xs (λ left. Uses old mid words text left))) (sym new_text)
+                (go parts used count whole rest consumed));
+            halves = refl;
+            bytes = omega (arith, bytes);
+            fault = fault;
+            failures = failures;
+          }
+          (run_of_duration (take front.len ahead) front.us parts.digits is_front.spells) (omega arith) (ap (λ (n : ℕ). record { text = new.text; ahead = new.ahead; place = new.place; lines = new.lines; halves = n; bytes = new.bytes; fault = new.fault; failures = new.failures }) halves),
+      omega arith,
+      omega (arith, bytes),
+    )
+  where
+    mid : InputState
+    mid = record { text = new.text; ahead = new.ahead; place = new.place; lines = new.lines; halves = old.halves; bytes = new.bytes; fault = new.fault; failures = new.failures }
+
+    words : List Word
+    words = record { line = old.place.line; bytes = take front.len ahead } ∷ []
+
+    go : IsDuration (take front.len ahead) → take (front.len + 1) ahead ≡ take front.len ahead ++ get_or ahead front.len 0 ∷ [] → length (take front.len ahead) ≡ front.len
+        → (xs ys : Option (List ℕ)) → Consumes xs ys (take (front.len + 1) ahead)
+        → IfSome (closed_text false xs) (λ text. IsSomeAnd (closed_text false ys) (λ left. Uses old mid words text left))
+    go parts used count None ys taken = tt
+    go parts used count (Some xs) None taken = absurd taken
+    go parts used count (Some xs) (Some ys) taken = record {
+      used = take front.len ahead ++ get_or ahead front.len 0 ∷ [];
+      whole = ap (λ (zs : List ℕ). zs ++ 10 ∷ []) (taken ∙ ap (λ (zs : List ℕ). zs ++ ys) used)
+          ∙ append_assoc (take front.len ahead ++ get_or ahead front.len 0 ∷ []) ys (10 ∷ []);
+      passes = λ more. ap (λ (in_comment : Bool). ended_words (record { line = old.place.line; in_comment = in_comment }) ((take front.len ahead ++ get_or ahead front.len 0 ∷ []) ++ more)) no_comment
+          ∙ passes_front old.place.line (get_or ahead front.len 0) (take front.len ahead) parts.digits parts.some is_front.gap more
+          ∙ ap (λ (at : Place). words ++ ended_words at more) (sym place);
+      bytes = simp length-append (omega (arith, bytes, count));
+      room = λ one none. absurd (omega arith);
+      lines = ap (λ n. lines_through n new.place.line (ys ++ 10 ∷ [])) lines
+          ∙ ap (λ (at : Place). lines_through old.place.line at.line (ys ++ 10 ∷ [])) place
+          ∙ sym (lines_of_front old.lines old.place.line (get_or ahead front.len 0) (take front.len ahead) ys parts.digits)
+          ∙ ap (λ (zs : List ℕ). lines_through old.lines old.place.line zs)
+          (sym (append_assoc (take front.len ahead ++ get_or ahead front.len 0 ∷ []) ys (10 ∷ [])) ∙ ap (λ (zs : List ℕ). zs ++ 10 ∷ []) (sym (taken ∙ ap (λ (zs : List ℕ). zs ++ ys) used)));
+    }
+
+-- what an input with these fields is
+abbrev state_of : Told → ℕ → ℕ → Bool → Bool → ℕ → ℕ → Option KeptFault → InputState
+state_of source line lines in_comment closed halves bytes fault = record {
+  text = closed_text closed source.text;
+  ahead = source.ahead;
+  place = record { line = line; in_comment = in_comment };
+  lines = lines;
+  halves = halves;
+  bytes = bytes + closing closed;
+  fault = fault;
+  failures = source.failures;
+}
+
+pub takes_front_at : (source later : Told) (line next lines halves bytes : ℕ) (in_comment closed : Bool) (fault : Option KeptFault) (front : FrontWord)
+    → closed ≡ false → in_comment ≡ false → halves ≢ 0 → front.len < bytes → IsFrontWord source.ahead front
+    → Consumes source.text later.text (take (front.len + 1) source.ahead) → later.failures ≡ source.failures → fault ≡ None
+    → next ≡ line_behind line (get_or source.ahead front.len 0)
+    → AnswersRun (state_of source line lines in_comment closed halves bytes fault) (Ok (Some (record { us = front.us; n = 1 })))
+    (state_of later next line in_comment closed (halves - 1) (bytes - (front.len + 1)) fault)
+takes_front_at source later line next lines halves bytes in_comment closed fault front is_open no_comment some fits is_front consumed failures none behind_gap =
+    takes_front (state_of source line lines in_comment closed halves bytes fault) (state_of later next line in_comment closed (halves - 1) (bytes - (front.len + 1)) fault)
+    source.text later.text source.ahead front
+    (ap (λ (b : Bool). closed_text b source.text) is_open) (ap (λ (b : Bool). closed_text b later.text) is_open) consumed is_front no_comment
+    (rw (no_comment, behind_gap) refl) refl (omega arith) (rw is_open (omega arith)) (omega arith) refl none failures
+
+pub line_of_gap : (line gap : ℕ) (ends_line : Bool) → ends_line ≡ eqb gap 10 → ends_line ≡ true → line + 1 ≡ line_behind line gap
+line_of_gap line gap ends_line is ends = rw (sym is ∙ ends) refl
+
+pub same_line_of_gap : (line gap : ℕ) (ends_line : Bool) → ends_line ≡ eqb gap 10 → ends_line ≡ false → line ≡ line_behind line gap
+same_line_of_gap line gap ends_line is ends = rw (sym is ∙ ends) refl
+
+-- digits that spell this number
+pub record SpellsNumber (number : ℕ) (word : List ℕ) : Type 0 where
+  pub digits : list_all is_ascii_digit word ≡ true
+  pub value : number ≡ digits_value 10 word
+  pub small : number < 100000
+
+pub SpellsNumber-digit : (number : ℕ) (bytes : List ℕ) (len : ℕ) → len < length bytes → SpellsNumber number (take len bytes) → number < 10000
+    → 48 ≤ get_or bytes len 0 → get_or bytes len 0 ≤ 57 → SpellsNumber (number * 10 + (get_or bytes len 0 - 48)) (take (len + 1) bytes)
+SpellsNumber-digit number bytes len inside spells few low high = record {
+  digits = list_all_more is_ascii_digit bytes len 0 inside ∙ rw (spells.digits, is_ascii_digit-digit (get_or bytes len 0) low high) refl;
+  value = ap (λ n. n * 10 + (get_or bytes len 0 - 48)) spells.value
+      ∙ ap (λ n. digits_value 10 (take len bytes) * 10 + n) (sym (digit_value-digit (get_or bytes len 0) low high))
+      ∙ sym (digits_value_after-push 0 (take len bytes) (get_or bytes len 0))
+      ∙ ap (digits_value 10) (sym (take_more bytes len 0 inside));
+  small = omega arith;
+}

@@ -1,0 +1,45 @@
+-- The line feed that closes an input.
+use Rattle.std.proofs.Common.{◌≡◌, ℕ, List, [], ◌∷◌, ◌++◌, Bool, true, false, Option, None, Some, IfSome, refl}
+use Rattle.std.specs.Io.KnownBytes.{Keeps}
+use Rattle.dcc_io.specs.Place.{lines_with}
+use Rattle.dcc_io.specs.Told.{BeginsWith, IsAtEnd}
+use Rattle.dcc_io.specs.InputState.{closed_text}
+
+-- at the end of what a reader has, the line feed is what is left
+pub begins_with_close : (closed : Bool) (old new : Option (List ℕ)) → closed ≡ false → IsAtEnd old → Keeps old new
+    → BeginsWith (closed_text closed old) 10 (closed_text true new)
+begins_with_close closed None new is_open at_end kept = tt
+begins_with_close closed (Some xs) None is_open at_end kept = kept
+begins_with_close closed (Some xs) (Some ys) is_open at_end kept = rw (is_open, at_end) refl
+
+-- nothing comes behind that line feed
+pub ends_behind_close : (text : Option (List ℕ)) → IsAtEnd (closed_text true text)
+ends_behind_close None = tt
+ends_behind_close (Some xs) = refl
+
+pub line_feed_is_last : (byte : ℕ) (text : Option (List ℕ)) → byte ≡ 10 → IfSome text (λ rest. rest ≡ [] → byte ≡ 10)
+line_feed_is_last byte None is_last = tt
+line_feed_is_last byte (Some rest) is_last = λ none. is_last
+
+-- the line feed that closes a text stands on no line
+pub no_line_of_close : (lines line : ℕ) (text : Option (List ℕ)) → IfSome (closed_text true text) (λ rest. lines ≡ lines_with lines line rest)
+no_line_of_close lines line None = tt
+no_line_of_close lines line (Some xs) = refl
+
+-- any other byte stands on its line
+pub line_of_byte : (closed : Bool) (lines line : ℕ) (text : Option (List ℕ)) → closed ≡ false → IfSome (closed_text closed text) (λ rest. line ≡ lines_with lines line rest)
+line_of_byte closed lines line None is_open = tt
+line_of_byte closed lines line (Some xs) is_open = rw is_open (go xs)
+  where
+    go : (xs : List ℕ) → line ≡ lines_with lines line (xs ++ 10 ∷ [])
+    go [] = refl
+    go (x ∷ xs) = refl
+
+-- behind any other byte the line feed is still to come
+pub more_behind : (closed : Bool) (byte : ℕ) (text : Option (List ℕ)) → closed ≡ false → IfSome (closed_text closed text) (λ rest. rest ≡ [] → byte ≡ 10)
+more_behind closed byte None is_open = tt
+more_behind closed byte (Some xs) is_open = rw is_open (λ none. go xs none)
+  where
+    go : (xs : List ℕ) → xs ++ 10 ∷ [] ≡ [] → byte ≡ 10
+    go [] none = cc
+    go (x ∷ xs) none = cc

@@ -1,0 +1,74 @@
+-- One write after another.
+use Rattle.std.proofs.Common.{zero, suc, if◌then◌else◌, ◌≡◌, ℕ, ◌+◌, ◌-◌, ◌≤◌, List, [], ◌++◌, length, take, drop, true, nat_lt, Option, None, Some, refl, sym, ap, ◌∙◌, subst, arith, append_assoc}
+use Rattle.std.proofs.lemmas.List.{append-nil, take-append-drop, take_rest, length-take}
+use Rattle.std.proofs.Math.Seq.{take-append-add}
+use Rattle.std.proofs.lemmas.Bool.Decides.{nat_tests}
+use Rattle.std.specs.Io.KnownBytes.{Appends, Keeps}
+use Rattle.dcc_io.specs.Failures.{one_more, HasRisen}
+use Rattle.dcc_io.specs.Written.{AppendsFront}
+
+pub Appends-none : (before : Option (List ℕ)) → Appends before before []
+Appends-none None = tt
+Appends-none (Some xs) = sym (append-nil xs)
+
+pub Appends-append : (before mid after : Option (List ℕ)) (xs ys : List ℕ) → Appends before mid xs → Appends mid after ys → Appends before after (xs ++ ys)
+Appends-append None mid after xs ys first second = tt
+Appends-append (Some bs) None after xs ys first second = absurd first
+Appends-append (Some bs) (Some cs) None xs ys first second = absurd second
+Appends-append (Some bs) (Some cs) (Some ds) xs ys first second = second ∙ ap (λ (zs : List ℕ). zs ++ ys) first ∙ append_assoc bs xs ys
+
+pub Appends-keeps : (before mid after : Option (List ℕ)) (xs : List ℕ) → Appends before mid xs → Keeps mid after → Appends before after xs
+Appends-keeps None mid after xs first second = tt
+Appends-keeps (Some bs) None after xs first second = absurd first
+Appends-keeps (Some bs) (Some cs) None xs first second = absurd second
+Appends-keeps (Some bs) (Some cs) (Some ds) xs first second = second ∙ first
+
+pub HasRisen-one_more : (n : ℕ) → HasRisen n (one_more n)
+HasRisen-one_more n = λ below. grind (arith, nat_tests)
+
+pub stops_writing : (before mid after : Option (List ℕ)) (bytes : List ℕ) (done : ℕ) → Appends before mid (take done bytes) → Keeps mid after → AppendsFront before after bytes
+stops_writing before mid after bytes done first kept = record {
+  front = take done bytes;
+  rest = drop done bytes;
+  whole = sym (take-append-drop done bytes);
+  written = Appends-keeps before mid after (take done bytes) first kept;
+}
+
+-- what a further call takes
+next_taken : (bytes : List ℕ) (done count : ℕ) → done ≤ length bytes → count ≤ length (take (length bytes - done) (drop done bytes))
+    → take (done + count) bytes ≡ take done bytes ++ take count (take (length bytes - done) (drop done bytes))
+next_taken bytes done count within fits =
+    let len : length (take done bytes) ≡ done = simp length-take (omega arith) in
+    rw (take_rest bytes done)
+    (ap (take (done + count)) (sym (take-append-drop done bytes)) ∙ ap (λ n. take (n + count) (take done bytes ++ drop done bytes)) (sym len)
+    ∙ take-append-add (take done bytes) (drop done bytes) count)
+
+pub taken_some : (n count : ℕ) → (count ≡ 0 → ⊥) → (if nat_lt 0 count then n else one_more n) ≡ n
+taken_some n zero some = absurd (some refl)
+taken_some n (suc count) some = rw (positive count) refl
+  where
+    positive : (k : ℕ) → nat_lt 0 (suc k) ≡ true
+    positive k = grind (arith, nat_tests)
+
+pub goes_on_writing : (before mid after : Option (List ℕ)) (bytes : List ℕ) (done count : ℕ) → done ≤ length bytes → count ≤ length (take (length bytes - done) (drop done bytes))
+    → Appends before mid (take done bytes) → Appends mid after (take count (take (length bytes - done) (drop done bytes))) → Appends before after (take (done + count) bytes)
+goes_on_writing before mid after bytes done count within fits first second =
+    subst (λ (front : List ℕ). Appends before after front) (sym (next_taken bytes done count within fits)) (Appends-append before mid after _ _ first second)
+
+-- a write that took no byte
+pub stops_at_none : (before mid after : Option (List ℕ)) (bytes : List ℕ) (done : ℕ) → Appends before mid (take done bytes) → Appends mid after [] → AppendsFront before after bytes
+stops_at_none before mid after bytes done first none = record {
+  front = take done bytes;
+  rest = drop done bytes;
+  whole = sym (take-append-drop done bytes);
+  written = subst (λ (front : List ℕ). Appends before after front) (append-nil (take done bytes)) (Appends-append before mid after (take done bytes) [] first none);
+}
+
+-- what was written, and a front of what comes
+pub front_behind : (before mid after : Option (List ℕ)) (bytes more : List ℕ) → Appends before mid bytes → AppendsFront mid after more → AppendsFront before after (bytes ++ more)
+front_behind before mid after bytes more first second = record {
+  front = bytes ++ second.front;
+  rest = second.rest;
+  whole = ap (λ (xs : List ℕ). bytes ++ xs) second.whole ∙ sym (append_assoc bytes second.front second.rest);
+  written = Appends-append before mid after bytes second.front first second.written;
+}

@@ -1,0 +1,55 @@
+-- What a capture gives: its halves up to the first fault.
+use Rattle.std.specs.Prelude.{◌≡◌, ℕ, ◌+◌, ◌-◌, ◌<◌, ◌≤◌, ◌∷◌, List, [], Option, None, Some, Result, Ok, Err, nat_le, length, take, replicate, IfSome, if◌then◌else◌}
+use Rattle.dcc_io.specs.declared.fault.KeptFault.{KeptFault}
+use Rattle.dcc_io.specs.declared.fault.KeptFault.TheVariants.{Number, Line, Read, TooMuch}
+use Rattle.dcc_io.specs.declared.word.Run.{Run}
+use Rattle.dcc_io.specs.Told.{IsAtEnd}
+use Rattle.dcc_io.specs.InputState.{InputState}
+use Rattle.dcc_io.specs.Items.{Items, Reading, preceded, only_fault, Gave, StopsAt}
+use Rattle.dcc_io.specs.Words.{Word, ended_words, run_of}
+
+-- a run, where at most so many halves may be taken, and what comes behind it where so many are left
+abbrev pub counted : ℕ → Run → (ℕ → Items ℕ) → Items ℕ
+counted most run rest =
+    if nat_le run.n most then preceded (replicate run.n run.us) (rest (most - run.n)) else only_fault (Some TooMuch)
+
+-- a word on this line that spells a run, or does not, and what comes behind it
+abbrev pub behind_word : ℕ → ℕ → Option Run → (ℕ → Items ℕ) → Items ℕ
+behind_word most line None rest = only_fault (Some (Number line))
+behind_word most line (Some run) rest = counted most run rest
+
+-- the halves of these words, where at most so many may be taken, and the fault behind the last word
+abbrev pub halves_of : ℕ → List Word → Option KeptFault → Items ℕ
+halves_of most [] last = only_fault last
+halves_of most (word ∷ words) last = behind_word most word.line (run_of word.bytes) (λ left. halves_of left words last)
+
+-- the capture in an input with this text
+abbrev pub capture_in : InputState → List ℕ → Items ℕ
+capture_in input text =
+    if nat_le (length text) input.bytes then halves_of input.halves (ended_words input.place text) None
+    else halves_of input.halves (ended_words input.place (take (input.bytes - 1) text)) (Some TooMuch)
+
+-- the capture in an input whose reader fails behind these bytes
+abbrev pub capture_before_failure : InputState → List ℕ → Items ℕ
+capture_before_failure input used = halves_of input.halves (ended_words input.place used) (Some Read)
+
+abbrev pub captures : Reading ℕ
+captures = record { in_text = capture_in; before_failure = capture_before_failure }
+
+-- these halves were taken, and nothing went wrong
+pub record GaveHalves (old : InputState) (halves : List ℕ) (new : InputState) : Type 0 where
+  pub items : Gave captures old halves new
+  pub left : new.halves + length halves ≡ old.halves
+
+-- the halves of the next run were taken, or the end or a fault is next
+abbrev pub AnswersRun : InputState → Result (Option Run) KeptFault → InputState → Type 0
+AnswersRun old (Ok (Some run)) new = GaveHalves old (replicate run.n run.us) new × (0 < run.n) × (new.bytes < old.bytes)
+AnswersRun old (Ok None) new = GaveHalves old [] new × IsAtEnd new.text × IfSome old.text (λ text. capture_in old text ≡ only_fault None)
+AnswersRun old (Err (Line line fault)) new = ⊥
+AnswersRun old (Err fault) new = StopsAt captures old fault new × (new.fault ≡ Some fault)
+
+-- a run is counted, unless fewer halves may be taken
+abbrev pub CountsRun : InputState → Run → Result (Option Run) KeptFault → InputState → Type 0
+CountsRun old run (Ok (Some taken)) new = (taken ≡ run) × (run.n ≤ old.halves) × (new ≡ record old { halves = old.halves - run.n })
+CountsRun old run (Ok None) new = ⊥
+CountsRun old run (Err fault) new = (fault ≡ TooMuch) × (old.halves < run.n) × (new ≡ record old { fault = Some TooMuch })

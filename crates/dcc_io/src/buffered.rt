@@ -1,0 +1,108 @@
+//! A reader whose bytes are taken one at a time.
+ghost use Rattle.std.specs.Prelude.{◌≡◌, ◌≤◌, ◌↔◌, ℕ, IsTrue, List, [], length, take, drop, slice_range};
+ghost use Rattle.std.specs.Io.KnownBytes.{prepend_known, Consumes};
+ghost use Rattle.dcc_io.specs.Told.{Told, IsFront, AnswersNext, Fills, TakesFirst};
+
+use crate::stream::{Failed, Source};
+use std::marker::Model;
+
+const SIZE: usize = 512;
+
+/// A reader, read by 512 bytes at a time.
+#[derive(Drop)]
+pub struct Buffered<R: Source> {
+    reader: R,
+    buffer: [u8; SIZE],
+    start: usize,
+    end: usize,
+}
+
+impl<R: Source> Model for Buffered<R> {
+    ghost Value = { Told };
+
+    ghost view = { λ b. record {
+      ahead = slice_range b.buffer b.start b.end;
+      text = prepend_known (slice_range b.buffer b.start b.end) (R.remaining b.reader);
+      failures = R.failures b.reader;
+    } };
+
+    ghost invariant = { λ b. (b.start ≤ b.end) × (b.end ≤ 512) };
+}
+
+impl<R: Source> Buffered<R> {
+    pub fn new(reader: R) -> Buffered<R>
+        ensures { result ≡ record { ahead = []; text = R.remaining reader; failures = R.failures reader } }
+    {
+        Buffered {
+            reader,
+            buffer: [0; SIZE],
+            start: 0,
+            end: 0,
+        }
+    }
+
+    /// The bytes that were read and not yet used.
+    pub fn ahead(&self) -> &[u8]
+        ensures bytes { result.now ≡ self.now.ahead }
+        ensures front { IsFront self.now.ahead self.now.text }
+    {
+        &self.buffer[self.start..self.end]
+    }
+
+    /// Passes over bytes that were read.
+    pub fn skip(&mut self, count: usize)
+        requires { count ≤ length self.old.ahead }
+        ensures ahead { self.new.ahead ≡ drop count self.old.ahead }
+        ensures text { Consumes self.old.text self.new.text (take count self.old.ahead) }
+        ensures failures { self.new.failures ≡ self.old.failures }
+    {
+        self.start += count;
+    }
+
+    /// The next byte, or none at the end.
+    pub fn next(&mut self) -> Result<Option<u8>, Failed>
+        ensures { AnswersNext self.old result self.new }
+    {
+        if self.is_used_up() {
+            match self.fill() {
+                Ok(()) => (),
+                Err(failed) => return Err(failed),
+            }
+        }
+        Ok(self.take_first())
+    }
+
+    /// Whether no byte is ahead.
+    fn is_used_up(&self) -> bool
+        ensures { IsTrue result ↔ (self.now.ahead ≡ []) }
+    {
+        self.ahead().is_empty()
+    }
+
+    /// Reads once, where no byte is ahead.
+    fn fill(&mut self) -> Result<(), Failed>
+        requires { self.old.ahead ≡ [] }
+        ensures { Fills self.old result self.new }
+    {
+        match self.reader.read(&mut self.buffer) {
+            Ok(count) => {
+                self.start = 0;
+                self.end = count;
+                Ok(())
+            }
+            Err(failed) => Err(failed),
+        }
+    }
+
+    /// The first byte ahead, if there is one.
+    fn take_first(&mut self) -> Option<u8>
+        ensures { TakesFirst self.old result self.new }
+    {
+        if self.start == self.end {
+            return None;
+        }
+        let byte = self.buffer[self.start];
+        self.start += 1;
+        Some(byte)
+    }
+}

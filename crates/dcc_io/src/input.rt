@@ -1,0 +1,362 @@
+//! What a call of the program reads from.
+ghost use Rattle.std.specs.Prelude.{◌≡◌, ◌≢◌, ◌+◌, ◌≤◌, ◌^◌, ℕ, [], None, Some, true, false, IsTrue, IfSome, IfNone, if◌then◌else◌, ◌||◌};
+ghost use Rattle.dcc_io.specs.Told.{IsFront};
+ghost use Rattle.dcc_io.specs.Words.{comments, is_gap, ended_words};
+ghost use Rattle.dcc_io.specs.Passed.{AnswersWord};
+ghost use Rattle.dcc_io.specs.LineRead.{AnswersLine};
+ghost use Rattle.dcc_io.specs.PacketRead.{AnswersPacket, ReadsPacket};
+ghost use Rattle.dcc_io.specs.Capture.{AnswersRun, CountsRun};
+ghost use Rattle.dcc_io.specs.InputState.{InputState, closed_text, closing, AnswersByte, HasCause, fresh};
+
+use crate::buffered::Buffered;
+use crate::fault::KeptFault;
+use crate::stream::Source;
+use crate::text_line::TextLine;
+use crate::word::{Run, RunWord, front_word, is_separator};
+use dcc_packet::{Packet, PacketFault};
+use std::marker::Model;
+
+/// How much of one input is taken at most. What would pass a limit is U7.
+#[derive(Clone, Copy, Debug, PartialEq, Eq)]
+pub struct Limits {
+    /// How many halves; a word of a capture is one or more.
+    pub halves: u32,
+
+    /// How many bytes, gaps and comments too.
+    pub bytes: u32,
+}
+
+impl Limits {
+    /// 2^24 halves and 2^26 bytes.
+    pub fn full() -> Limits
+        ensures { result ≡ record { halves = 16777216; bytes = 67108864 } }
+    {
+        Limits {
+            halves: 16_777_216,
+            bytes: 67_108_864,
+        }
+    }
+}
+
+/// A reader, what was taken from it, and how much may still be taken.
+///
+/// It keeps its first U2, U3, U4 or U7 and answers it to every later call that would read it. A reader
+/// that has answered its end is not read again.
+#[derive(Drop)]
+pub struct Input<R: Source> {
+    source: Buffered<R>,
+    line: u64,
+    lines: u32,
+    in_comment: bool,
+    closed: bool,
+    halves_left: u32,
+    bytes_left: u32,
+    fault: Option<KeptFault>,
+}
+
+impl<R: Source> Model for Input<R> {
+    ghost Value = { InputState };
+
+    ghost view = { λ i. record {
+      text = closed_text i.closed i.source.text;
+      ahead = i.source.ahead;
+      place = record { line = i.line; in_comment = i.in_comment };
+      lines = i.lines;
+      halves = i.halves_left;
+      bytes = i.bytes_left + closing i.closed;
+      fault = i.fault;
+      failures = i.source.failures;
+    } };
+
+    // The lines fit a number, a failed read is kept only where one has failed, and a reader at its
+    // end has nothing ahead.
+    ghost invariant = { λ i. (i.line + (i.bytes_left + closing i.closed) ≤ 2 ^ 32 + 1) × HasCause i.fault i.source.failures
+        × (i.closed ≡ true → i.source.ahead ≡ []) };
+}
+
+impl<R: Source> Input<R> {
+    /// An input of which nothing was read.
+    pub fn new(reader: R, limits: Limits) -> Input<R>
+        ensures { result ≡ fresh (R.remaining reader) (R.failures reader) limits.halves limits.bytes }
+    {
+        Input {
+            source: Buffered::new(reader),
+            line: 1,
+            lines: 0,
+            in_comment: false,
+            closed: false,
+            halves_left: limits.halves,
+            bytes_left: limits.bytes,
+            fault: None,
+        }
+    }
+
+    #[tactic(auto, using(crate::proofs::InputLemmas::more_behind, crate::proofs::InputLemmas::line_of_byte))]
+    /// The next byte. A line feed closes the input at its end, and then there is none.
+    pub fn next_byte(&mut self) -> Result<Option<u8>, KeptFault>
+        requires { self.old.fault ≡ None }
+        ensures { AnswersByte self.old result self.new }
+    {
+        if self.closed {
+            return Ok(None);
+        }
+        match self.source.next() {
+            Ok(Some(byte)) => {
+                if self.bytes_left == 0 {
+                    self.fault = Some(KeptFault::TooMuch);
+                    return Err(KeptFault::TooMuch);
+                }
+                self.bytes_left -= 1;
+                self.lines = self.line as u32;
+                if byte == b'\n' {
+                    self.line += 1;
+                }
+                Ok(Some(byte))
+            }
+            Ok(None) => {
+                self.closed = true;
+                self.line += 1;
+                Ok(Some(b'\n'))
+            }
+            Err(_) => {
+                self.fault = Some(KeptFault::Read);
+                Err(KeptFault::Read)
+            }
+        }
+    }
+
+    /// How many lines were used so far: those that have begun, so a last one that no line feed ends is
+    /// one of them. The line behind the last is one more.
+    pub fn lines(&self) -> u32
+        ensures { result ≡ self.now.lines }
+    {
+        self.lines
+    }
+
+    /// The fault that every call answers.
+    pub fn fault(&self) -> Option<KeptFault>
+        ensures fault { result ≡ self.now.fault }
+        ensures cause { HasCause self.now.fault self.now.failures }
+    {
+        self.fault
+    }
+
+    /// How many halves may still be taken.
+    pub fn halves_left(&self) -> u32
+        ensures { result ≡ self.now.halves }
+    {
+        self.halves_left
+    }
+
+    /// Whether the bytes that were read hold a whole word, so that the next half takes no read.
+    pub fn has_word_at_hand(&self) -> bool
+        ensures word { IsTrue result → ended_words self.now.place self.now.ahead ≢ [] }
+        ensures front { IsFront self.now.ahead self.now.text }
+    {
+        let ahead = self.source.ahead();
+        !self.in_comment && has_ended_word(ahead)
+    }
+
+    pub fn line(&self) -> u64
+        ensures { result ≡ self.now.place.line }
+    {
+        self.line
+    }
+
+    /// Whether the byte counts as a gap between words, as each byte of a comment does.
+    pub fn passes_gap(&mut self, byte: u8) -> bool
+        ensures gap { result ≡ (comments self.old.place.in_comment byte || is_gap byte) }
+        ensures place { self.new ≡ record self.old {
+          place = record {
+            line = self.old.place.line;
+            in_comment = comments self.old.place.in_comment byte;
+          };
+        } }
+    {
+        let comment = is_comment(self.in_comment, byte);
+        self.in_comment = comment;
+        comment || is_separator(byte)
+    }
+
+    /// The next word and its line, or none at the end.
+    pub fn next_word(&mut self) -> Result<Option<(u64, RunWord)>, KeptFault>
+        requires { self.old.fault ≡ None }
+        ensures { AnswersWord self.old result self.new }
+    {
+        let mut word = RunWord::new();
+        'bytes: loop {
+            let line = self.line();
+            match self.next_byte() {
+                Ok(Some(byte)) => {
+                    if !self.passes_gap(byte) {
+                        word.push(byte);
+                    } else if !word.is_empty() {
+                        return Ok(Some((line, word)));
+                    }
+                }
+                Ok(None) => return Ok(None),
+                Err(fault) => return Err(fault),
+            }
+        }
+    }
+
+    /// The next run of halves, or none at the end. A fault is kept.
+    pub fn next_run(&mut self) -> Result<Option<Run>, KeptFault>
+        requires { self.old.fault ≡ None }
+        ensures { AnswersRun self.old result self.new }
+    {
+        match self.half_at_hand() {
+            Some(us) => Ok(Some(Run { us, n: 1 })),
+            None => self.read_run(),
+        }
+    }
+
+    /// The run that the next word spells, or none at the end. A fault is kept.
+    pub fn read_run(&mut self) -> Result<Option<Run>, KeptFault>
+        requires { self.old.fault ≡ None }
+        ensures { AnswersRun self.old result self.new }
+    {
+        match self.next_word() {
+            Ok(Some((line, word))) => match word.run() {
+                Some(run) => self.count_run(run),
+                None => Err(self.refuse(KeptFault::Number { line })),
+            },
+            Ok(None) => Ok(None),
+            Err(fault) => Err(fault),
+        }
+    }
+
+    /// The next half, where its word is a duration alone that stands at the front of the bytes that were read and has ended.
+    /// So most halves cost one look at each byte.
+    pub fn half_at_hand(&mut self) -> Option<u16>
+        requires { self.old.fault ≡ None }
+        ensures some { IfSome result (λ us. AnswersRun self.old (Ok (Some (record { us = us; n = 1 }))) self.new) }
+        ensures none { IfNone result (self.new ≡ self.old) }
+    {
+        if self.in_comment || self.closed || self.halves_left == 0 {
+            return None;
+        }
+        let front = front_word(self.source.ahead())?;
+        if self.bytes_left as usize <= front.len {
+            return None;
+        }
+        self.source.skip(front.len + 1);
+        self.bytes_left -= front.len as u32 + 1;
+        self.halves_left -= 1;
+        self.lines = self.line as u32;
+        if front.ends_line {
+            self.line += 1;
+        }
+        Some(front.us)
+    }
+
+    /// Takes the halves of a run, unless they are too many: then none of them counts.
+    pub fn count_run(&mut self, run: Run) -> Result<Option<Run>, KeptFault>
+        ensures { CountsRun self.old run result self.new }
+    {
+        if self.halves_left < run.n {
+            return Err(self.refuse(KeptFault::TooMuch));
+        }
+        self.halves_left -= run.n;
+        Ok(Some(run))
+    }
+
+    /// The next line and its number, or none at the end. A fault is kept.
+    pub fn next_line(&mut self) -> Result<Option<TextLine>, KeptFault>
+        requires { self.old.fault ≡ None }
+        ensures { AnswersLine self.old result self.new }
+    {
+        let mut line = TextLine::new(self.line());
+        'bytes: loop {
+            match self.next_byte() {
+                Ok(Some(byte)) => {
+                    if byte == b'\n' {
+                        return Ok(Some(line));
+                    }
+                    if !line.has_room_for(byte) {
+                        return Err(self.refuse(KeptFault::Line {
+                            line: line.number,
+                            fault: PacketFault::Word,
+                        }));
+                    }
+                    line.push(byte);
+                }
+                Ok(None) => return Ok(None),
+                Err(fault) => return Err(fault),
+            }
+        }
+    }
+
+    /// The packet of the next line that says one, or none at the end. A fault is kept.
+    pub fn next_packet(&mut self) -> Result<Option<Packet>, KeptFault>
+        requires { self.old.fault ≡ None }
+        ensures { AnswersPacket self.old result self.new }
+    {
+        'lines: loop {
+            match self.next_line() {
+                Ok(Some(line)) => {
+                    if !line.is_skipped() {
+                        return self.read_packet(&line);
+                    }
+                }
+                Ok(None) => return Ok(None),
+                Err(fault) => return Err(fault),
+            }
+        }
+    }
+
+    /// The packet that the words of a line say, or the fault, which is kept.
+    fn read_packet(&mut self, line: &TextLine) -> Result<Option<Packet>, KeptFault>
+        ensures { ReadsPacket self.old line.now result self.new }
+    {
+        match Packet::from_line(line.text.as_str()) {
+            Ok(packet) => Ok(Some(packet)),
+            Err(fault) => Err(self.refuse(KeptFault::Line {
+                line: line.number,
+                fault,
+            })),
+        }
+    }
+
+    /// Keeps the fault, for this call and every later one.
+    pub fn refuse(&mut self, fault: KeptFault) -> KeptFault
+        requires { fault ≢ KeptFault.Read }
+        ensures answer { result ≡ fault }
+        ensures kept { self.new ≡ record self.old { fault = Some fault } }
+    {
+        self.fault = Some(fault);
+        fault
+    }
+}
+
+/// Whether a word has ended in these bytes, the first of which stand in no comment. It looks no
+/// further than the first comment.
+fn has_ended_word(bytes: &[u8]) -> bool
+    ensures { (line : ℕ) → IsTrue result → ended_words (record { line = line; in_comment = false }) bytes.now ≢ [] }
+{
+    let mut in_word = false;
+    for byte in bytes {
+        if !ends_word(*byte) {
+            in_word = true;
+        } else if in_word {
+            return true;
+        } else if *byte == b'#' {
+            return false;
+        }
+    }
+    false
+}
+
+/// Whether a byte outside of comments ends the word before it.
+fn ends_word(byte: u8) -> bool
+    ensures { result ≡ (comments false byte || is_gap byte) }
+{
+    is_comment(false, byte) || is_separator(byte)
+}
+
+#[tactic(auto, unfolding(crate::specs::Words::comments))]
+fn is_comment(in_comment: bool, byte: u8) -> bool
+    ensures { result ≡ comments in_comment byte }
+{
+    byte != b'\n' && (in_comment || byte == b'#')
+}

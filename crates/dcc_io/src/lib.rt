@@ -1,0 +1,33 @@
+//! What the calls of the program `dcc` read and write: readers and writers, and what an input gives, be it
+//! words and runs of a capture, lines, packets, or the decoders of a decoder text.
+#![tactic(auto)]
+
+mod buffered;
+mod decoder_line;
+mod decoder_text;
+#[cfg(test)]
+mod decoder_text_tests;
+mod decoder_words;
+mod digits;
+mod fault;
+mod input;
+pub mod laws;
+mod saved;
+mod saved_decoders;
+mod stream;
+mod text_line;
+#[cfg(test)]
+mod who_tests;
+mod who_word;
+mod word;
+mod writing;
+
+pub use fault::{KeptFault, ToolFault, Usage};
+pub use input::{Input, Limits};
+pub use saved::Saved;
+pub use saved_decoders::read_decoders;
+pub use stream::{Counted, Failed, Sink, Source};
+pub use text_line::TextLine;
+pub use who_word::read_who;
+pub use word::{Run, RunWord};
+pub use writing::write_all;

@@ -1,0 +1,67 @@
+//! A line of a text.
+ghost use Rattle.std.specs.Prelude.{◌≡◌, ◌<◌, ◌&&◌, ◌∷◌, ◌++◌, [], nat_lt, true};
+ghost use Rattle.std.specs.Char.{is_ascii};
+ghost use Rattle.std.specs.List.{list_all};
+ghost use Rattle.dcc_packet.specs.Words.{is_separator};
+ghost use Rattle.arrayvec.specs.ArrayString.{array_string_len};
+ghost use Rattle.dcc_io.specs.PacketLines.{is_comment_line, is_skipped};
+
+use arrayvec::ArrayString;
+
+/// A line with its number, from 1, without the line feed that ends it.
+#[derive(Drop)]
+pub struct TextLine {
+    pub number: u64,
+    pub text: ArrayString<512>,
+}
+
+impl TextLine {
+    /// A line of no bytes.
+    pub fn new(number: u64) -> TextLine
+        ensures number { result.number ≡ number }
+        ensures text { result.text.bytes ≡ [] }
+    {
+        TextLine {
+            number,
+            text: ArrayString::new(),
+        }
+    }
+
+    /// Whether the line stays good with this byte.
+    pub fn has_room_for(&self, byte: u8) -> bool
+        ensures { result ≡ (nat_lt (array_string_len self.now.text) 512 && is_ascii byte) }
+    {
+        self.text.len() < 512 && byte.is_ascii()
+    }
+
+    /// Adds a byte with which the line stays good.
+    pub fn push(&mut self, byte: u8)
+        requires { (nat_lt (array_string_len self.old.text) 512 && is_ascii byte) ≡ true }
+        ensures number { self.new.number ≡ self.old.number }
+        ensures text { self.new.text.bytes ≡ self.old.text.bytes ++ byte ∷ [] }
+    {
+        self.text.push(char::from(byte));
+    }
+
+    /// Whether the line says nothing: a blank one, or one that begins with `#`.
+    pub fn is_skipped(&self) -> bool
+        ensures { result ≡ is_skipped self.now.text.bytes }
+    {
+        let bytes = self.text.as_bytes();
+        is_comment(bytes) || is_blank(bytes)
+    }
+}
+
+fn is_comment(bytes: &[u8]) -> bool
+    ensures { result ≡ is_comment_line bytes.now }
+{
+    matches!(bytes, [b'#', ..])
+}
+
+fn is_blank(bytes: &[u8]) -> bool
+    ensures { result ≡ list_all is_separator bytes.now }
+{
+    bytes
+        .iter()
+        .all(|byte| *byte == b' ' || *byte == b'\t' || *byte == b'\r')
+}

@@ -1,0 +1,144 @@
+//! A word of a capture, taken byte by byte.
+ghost use Rattle.std.specs.Prelude.{◌≡◌, ◌<◌, min, ℕ, List, [], ◌∷◌, ◌++◌, not, ◌==◌, ◌&&◌, IfSome};
+ghost use Rattle.dcc_io.specs.Words.{is_gap, is_mark, is_some_byte, run_of};
+ghost use Rattle.dcc_io.specs.Front.{IsFrontWord, EndedWord};
+
+use crate::digits::Digits;
+
+/// Halves of one duration, as a word of a capture spells them.
+#[derive(Clone, Copy, Debug, PartialEq, Eq)]
+pub struct Run {
+    /// The duration of each half, in microseconds.
+    pub us: u16,
+
+    /// How many halves.
+    pub n: u32,
+}
+
+/// The run that a word spells so far.
+#[derive(Clone, Copy, Debug)]
+pub struct RunWord {
+    /// The bytes before the first `*`.
+    duration: Digits,
+
+    /// The bytes behind it, where there is one.
+    count: Option<Digits>,
+
+    all_dashes: bool,
+}
+
+impl RunWord {
+    ghost use Rattle.dcc_io.specs.Spells.{Spells};
+
+    pub fn new() -> RunWord
+        ensures { Spells result [] }
+    {
+        RunWord {
+            duration: Digits::new(),
+            count: None,
+            all_dashes: true,
+        }
+    }
+
+    /// Adds a byte.
+    pub fn push(&mut self, byte: u8)
+        ensures { (word : List ℕ) → Spells self.old word → Spells self.new (word ++ byte ∷ []) }
+    {
+        self.all_dashes = still_dashes(self.all_dashes, byte);
+        match self.count {
+            Some(mut count) => {
+                count.push(byte);
+                self.count = Some(count);
+            }
+            None => {
+                if byte == b'*' {
+                    self.count = Some(Digits::new());
+                } else {
+                    self.duration.push(byte);
+                }
+            }
+        }
+    }
+
+    pub fn is_empty(&self) -> bool
+        ensures { (word : List ℕ) → Spells self.now word → result ≡ not (is_some_byte word) }
+    {
+        self.duration.len() == 0 && self.count.is_none()
+    }
+
+    /// Whether this is the word `---`.
+    pub fn is_mark(&self) -> bool
+        ensures { (word : List ℕ) → Spells self.now word → result ≡ is_mark word }
+    {
+        self.all_dashes && self.duration.len() == 3
+    }
+
+    /// The run, unless the word spells none.
+    pub fn run(&self) -> Option<Run>
+        ensures { (word : List ℕ) → Spells self.now word → result ≡ run_of word }
+    {
+        let us = self.duration.duration()?;
+        let n = match self.count {
+            Some(count) => count.count()?,
+            None => 1,
+        };
+        Some(Run { us, n })
+    }
+}
+
+/// A word at the front of some bytes, and the gap behind it.
+#[derive(Clone, Copy, Debug)]
+pub struct FrontWord {
+    /// The duration that the word spells.
+    pub us: u16,
+
+    /// How many bytes the word has.
+    pub len: usize,
+
+    /// Whether the gap is a line feed.
+    pub ends_line: bool,
+}
+
+/// The word at the front of these bytes, if it spells a duration and a gap ends it there.
+pub fn front_word(bytes: &[u8]) -> Option<FrontWord>
+    ensures { IfSome result (λ front. IsFrontWord bytes.now front) }
+{
+    let mut us = 0u32;
+    for (len, byte) in bytes.iter().enumerate() {
+        if b'0' <= *byte && *byte <= b'9' && us < 10_000 {
+            us = us * 10 + u32::from(*byte - b'0');
+        } else {
+            return ended_word(us, len, *byte);
+        }
+    }
+    None
+}
+
+/// The word of so many digits that spell this number, if the byte behind them is a gap.
+fn ended_word(number: u32, len: usize, behind: u8) -> Option<FrontWord>
+    ensures { IfSome result (λ front. EndedWord number len behind front) }
+{
+    if len == 0 || len > 10 || !is_separator(behind) {
+        return None;
+    }
+    Some(FrontWord {
+        us: number.min(65535) as u16,
+        len,
+        ends_line: behind == b'\n',
+    })
+}
+
+/// Whether a byte is a gap between words: a space, a tab, CR or LF.
+#[tactic(auto, unfolding(crate::specs::Words::is_gap))]
+pub fn is_separator(byte: u8) -> bool
+    ensures { result ≡ is_gap byte }
+{
+    byte == b' ' || byte == b'\t' || byte == b'\r' || byte == b'\n'
+}
+
+/// Whether bytes that were all dashes, or not, are so with one more.
+fn still_dashes(all_dashes: bool, byte: u8) -> bool
+    ensures { result ≡ (all_dashes && byte == 45) }
+{
+    all_dashes && byte == b'-'
+}

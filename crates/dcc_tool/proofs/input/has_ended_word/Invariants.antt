@@ -1,5 +1,0 @@
-use Rattle.dcc_tool.proofs.HandLemmas.{LooksBehind}
-use Rattle.dcc_tool.proofs.input.has_ended_word.Given as goal
-
-abbrev pub invariant-loop-byte : goal.invariant-loop-byte
-invariant-loop-byte l = LooksBehind l.bytes l.byte-index l.in_word

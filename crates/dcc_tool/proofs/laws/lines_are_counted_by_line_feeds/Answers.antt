@@ -1,5 +1,0 @@
-use Rattle.dcc_tool.proofs.LineCounts.{lines_counted}
-use Rattle.dcc_tool.proofs.laws.lines_are_counted_by_line_feeds.Goals as goal
-
-pub returns : goal.returns
-returns c = lines_counted
