@@ -12,3 +12,4 @@ pub mod TurnLaws
 pub mod MemberLaws
 pub mod NumberLaws
 pub mod OrderLaws
+pub mod TrackLemmas

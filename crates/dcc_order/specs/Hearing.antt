@@ -1,5 +1,7 @@
 -- The packets that halves show, and decoders that hear them.
 use Rattle.std.specs.Prelude.{◌≡◌, ℕ, List, [], ◌∷◌, ◌++◌, map}
+use Rattle.std.specs.List.{concat}
+use denote.Bor.{Bor}
 use Rattle.dcc_wire.specs.declared.fault.Seen.{Seen}
 use Rattle.dcc_wire.specs.declared.fault.Seen.TheVariants.{Nothing, Packet as PacketSeen, Refused}
 use Rattle.dcc_wire.specs.Framing.{seen}
@@ -32,3 +34,7 @@ pub record HasHeardHalves (halves : List ℕ) (who : Who) (start : RegisterMap) 
   pub packets : List Packet
   pub seen : ArePackets packets halves
   pub heard : HasHeard packets who start who' now
+
+-- the halves of a track that comes in pieces
+abbrev pub joined : List (Bor (List ℕ)) → List ℕ
+joined pieces = concat (map (λ piece. piece.now) pieces)

@@ -1,0 +1,24 @@
+use Rattle.std.proofs.Common.{ℕ, List, take, sym}
+use Rattle.dcc_order.specs.Hearing.{joined}
+use Rattle.dcc_order.proofs.HearingLemmas.{no_halves_heard}
+use Rattle.dcc_order.proofs.TrackLemmas.{piece_more, pieces_all, AllZip-viewed, AllZip-own_view}
+use Rattle.dcc_order.proofs.tracks.hear_track.Goals as goal
+
+pub loop-piece-init : goal.loop-piece-init
+loop-piece-init g c = record {
+  stands = c.new-framer.ensures;
+  since = AllZip-own_view _ _ (λ decoder. no_halves_heard (g.D.Decoder.who decoder) (g.D.Decoder.registers decoder)) c.args.decoders.now;
+}
+
+pub loop-piece-preserved : goal.loop-piece-preserved
+loop-piece-preserved g c =
+    let before = c.loop-piece.invariant in
+    let so_far : List ℕ = joined (take c.loop-piece.piece-index c.args.pieces.now) in
+    let more = piece_more c.args.pieces.now c.loop-piece.piece-index _ c.loop-piece-test.true in
+    record {
+      stands = rw more (c.hear_piece.ensures.stands so_far before.stands);
+      since = rw more (c.hear_piece.ensures.since so_far before.stands _ before.since);
+    }
+
+pub returns : goal.returns
+returns g c = rw (sym (pieces_all c.args.pieces.now c.loop-piece.piece-index c.loop-piece-test.false)) (AllZip-viewed _ _ c.args.decoders.now c.loop-piece.decoders c.loop-piece.invariant.since)
