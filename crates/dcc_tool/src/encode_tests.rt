@@ -40,7 +40,7 @@ const SERVICE_HALVES: &[u8] =
     100 100 100 58 58 58 58 100 100 100 100 100 100 100 100 58 58 58 58\n";
 
 /// Encodes lines, and compares the answer and what was written.
-fn expect(
+pub fn expect(
     rt: &impl Abort,
     alloc: Global,
     how: Encode,

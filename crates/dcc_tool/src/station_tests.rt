@@ -1,10 +1,9 @@
 //! What a station writes for lines: worked examples, its sizes, and lines that it does not take.
 
+use crate::encode_tests::expect;
 use crate::fakes::Taking;
 use crate::{Counted, Encode, Input, Limits, ToolFault, Usage, encode};
 use dcc_packet::PacketFault;
-use std::alloc::Global;
-use std::process::Abort;
 
 /// The bytes of the packets of a station of these sizes.
 fn of(queue: usize, slots: usize, repeats: u8) -> Encode {
@@ -13,23 +12,6 @@ fn of(queue: usize, slots: usize, repeats: u8) -> Encode {
         service: false,
         station: Some((queue, slots, repeats)),
     }
-}
-
-/// Encodes lines, and compares the answer and what was written.
-fn expect(
-    rt: &impl Abort,
-    alloc: Global,
-    how: Encode,
-    lines: &[u8],
-    answer: Result<(), ToolFault>,
-    written: &[u8],
-) {
-    let mut input = Input::new(Counted::new(lines), Limits::full());
-    let mut writer = Counted::new(Vec::new(alloc));
-    assert_eq!(rt; encode(alloc, &mut input, &mut writer, how), answer);
-    assert_eq!(rt; writer.inner.as_slice(), written);
-    assert_eq!(rt; encode(alloc, &mut input, &mut writer, how), answer);
-    assert_eq!(rt; writer.inner.as_slice(), written);
 }
 
 #[test]
