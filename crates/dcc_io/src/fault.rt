@@ -75,9 +75,13 @@ impl ToolFault {
 /// A type of its own, so that no input can keep a fault that is not its own, as a failed write.
 #[derive(Clone, Copy, Debug, PartialEq, Eq)]
 pub enum KeptFault {
+    /// U2: a word on this line is no duration and no run.
     Number { line: u64 },
+    /// U3: this line is refused for this.
     Line { line: u64, fault: PacketFault },
+    /// U4: a read failed.
     Read,
+    /// U7: there are more halves or bytes than may be taken.
     TooMuch,
 }
 

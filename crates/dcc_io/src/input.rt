@@ -157,6 +157,7 @@ impl<R: Source> Input<R> {
         !self.in_comment && has_ended_word(ahead)
     }
 
+    /// The line of the next byte, from 1.
     pub fn line(&self) -> u64
         ensures { result ≡ self.now.place.line }
     {

@@ -11,7 +11,9 @@ use arrayvec::ArrayString;
 /// A line with its number, from 1, without the line feed that ends it.
 #[derive(Drop)]
 pub struct TextLine {
+    /// Its number, from 1.
     pub number: u64,
+    /// Its bytes, all ASCII.
     pub text: ArrayString<512>,
 }
 

@@ -30,6 +30,7 @@ pub struct RunWord {
 impl RunWord {
     ghost use Rattle.dcc_io.specs.Spells.{Spells};
 
+    /// A word of no bytes.
     pub fn new() -> RunWord
         ensures { Spells result [] }
     {
@@ -60,6 +61,7 @@ impl RunWord {
         }
     }
 
+    /// Whether it has no bytes.
     pub fn is_empty(&self) -> bool
         ensures { (word : List ℕ) → Spells self.now word → result ≡ not (is_some_byte word) }
     {

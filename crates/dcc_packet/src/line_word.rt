@@ -33,12 +33,14 @@ pub fn direction(word: &[u8]) -> Result<bool, PacketFault>
     }
 }
 
+/// The five bits of a speed in 28 steps, as a number.
 pub fn speed28_bits(word: &[u8]) -> Result<SpeedBits28, PacketFault>
     ensures { result ≡ speed28_bits word.now }
 {
     SpeedBits28::new(small_number(word)?)
 }
 
+/// The seven bits of a speed in 128 steps, as a number.
 pub fn speed128_bits(word: &[u8]) -> Result<SpeedBits128, PacketFault>
     ensures { result ≡ speed128_bits word.now }
 {
@@ -64,18 +66,21 @@ pub fn group(word: &[u8]) -> Result<Group, PacketFault>
     }
 }
 
+/// The bits of a function group, as a number.
 pub fn group_bits(group: Group, word: &[u8]) -> Result<GroupBits, PacketFault>
     ensures { result ≡ group_bits group word.now }
 {
     GroupBits::new(group, small_number(word)?)
 }
 
+/// The number of a CV.
 pub fn cv_number(word: &[u8]) -> Result<CvNumber, PacketFault>
     ensures { result ≡ cv_number word.now }
 {
     CvNumber::new(number(word)?)
 }
 
+/// The place of a bit in a CV.
 pub fn bit_place(word: &[u8]) -> Result<BitPlace, PacketFault>
     ensures { result ≡ bit_place word.now }
 {
@@ -93,12 +98,14 @@ pub fn bit_state(word: &[u8]) -> Result<bool, PacketFault>
     }
 }
 
+/// The number of an accessory decoder.
 pub fn board_number(word: &[u8]) -> Result<Board, PacketFault>
     ensures { result ≡ board_number word.now }
 {
     Board::new(number(word)?)
 }
 
+/// The number of an output.
 pub fn output_number(word: &[u8]) -> Result<Output, PacketFault>
     ensures { result ≡ output_number word.now }
 {
@@ -116,6 +123,7 @@ pub fn switch(word: &[u8]) -> Result<bool, PacketFault>
     }
 }
 
+/// The number of a signal.
 pub fn signal_number(word: &[u8]) -> Result<SignalAddress, PacketFault>
     ensures { result ≡ signal_number word.now }
 {
