@@ -1,7 +1,29 @@
-//! The command line.
+//! The command line: which words are taken, and what they ask for.
 
-use clap::{Arg, ArgAction, Command, value_parser};
+use clap::{Arg, ArgAction, ArgMatches, Command, value_parser};
+use dcc_packet::CvNumber;
+use dcc_regs::Who;
+use dcc_tool::{Encode, ToolFault, Usage, read_who};
 use std::alloc::{AllocError, Global};
+
+/// What the words of a command line ask for.
+#[derive(Clone, Copy, Debug, PartialEq, Eq)]
+pub enum Request {
+    /// The listing of a capture, with packets as lines where `words` is set.
+    Show { words: bool },
+
+    /// The halves or the bytes of the packets of packet lines.
+    Encode(Encode),
+
+    /// A capture is played to the decoders of a decoder text.
+    Run,
+
+    /// Two captures are compared for this decoder.
+    Same(Who),
+
+    /// A CV is read on a programming track: an empty one, or that of a decoder text.
+    ReadCv { cv: CvNumber, empty: bool },
+}
 
 /// A flag of a subcommand.
 fn flag<'a>(alloc: Global, name: &'a str, help: &'a str) -> Arg<'a> {
@@ -85,4 +107,57 @@ pub fn command<'a>(alloc: Global) -> Result<Command<'a>, AllocError> {
         .subcommand(run)?
         .subcommand(same)?
         .subcommand(readcv)
+}
+
+/// The request of words that clap has taken. A word for `--who` that names no decoder is U1.
+pub fn request_of(matches: &ArgMatches) -> Result<Request, ToolFault> {
+    match matches.subcommand() {
+        Some(("show", found)) => Ok(Request::Show {
+            words: found.get_flag("words"),
+        }),
+        Some(("encode", found)) => Ok(Request::Encode(encoding_of(found))),
+        Some(("run", _)) => Ok(Request::Run),
+        Some(("same", found)) => Ok(Request::Same(who_of(found)?)),
+        Some(("readcv", found)) => Ok(Request::ReadCv {
+            cv: cv_of(found)?,
+            empty: found.get_flag("empty"),
+        }),
+        _ => Err(ToolFault::Usage(Usage::Words)),
+    }
+}
+
+/// How `encode` writes packets. Where no station is asked for, its sizes are passed over.
+fn encoding_of(matches: &ArgMatches) -> Encode {
+    let station = if matches.get_flag("station") {
+        Some(station_of(matches))
+    } else {
+        None
+    };
+    Encode {
+        hex: matches.get_flag("hex"),
+        service: matches.get_flag("service"),
+        station,
+    }
+}
+
+/// The sizes of a station: queue, slots and repeats. clap has refused what is no number of 0 to 255.
+fn station_of(matches: &ArgMatches) -> (usize, usize, u8) {
+    let queue: u8 = matches.get_one("queue").unwrap_or(16);
+    let slots: u8 = matches.get_one("slots").unwrap_or(32);
+    let repeats: u8 = matches.get_one("repeats").unwrap_or(2);
+    (usize::from(queue), usize::from(slots), repeats)
+}
+
+/// The decoder that the words name.
+fn who_of(matches: &ArgMatches) -> Result<Who, ToolFault> {
+    match matches.get_str("who") {
+        Some(word) => read_who(word),
+        None => Err(ToolFault::Usage(Usage::Words)),
+    }
+}
+
+/// The number of a CV. clap has refused what is no number of 1 to 1024.
+fn cv_of(matches: &ArgMatches) -> Result<CvNumber, ToolFault> {
+    let number = matches.get_one::<u16>("cv").unwrap_or(0);
+    CvNumber::new(number).map_err(|_| ToolFault::Usage(Usage::Words))
 }
