@@ -1,5 +1,7 @@
-//! A runtime for the tests, which keeps what it is told.
+//! A runtime for the tests, which keeps what it is told, and streams that fail.
+ghost use Rattle.std.specs.Prelude.{None};
 
+use dcc_tool::{Failed, Sink, Source};
 use std::alloc::Global;
 use std::cell::RefCell;
 use std::env::{Env, FillError};
@@ -110,5 +112,39 @@ impl<'a> Env for Terminal<'a> {
 
     fn var_at(&self, _i: usize, _buf: &mut [u8]) -> Result<usize, FillError> {
         Err(FillError::NotPresent)
+    }
+}
+
+/// A reader and writer of which each call fails.
+#[derive(Drop)]
+pub struct Broken {
+    failures: u64,
+}
+
+impl Broken {
+    pub fn new() -> Broken {
+        Broken { failures: 0 }
+    }
+}
+
+impl Source for Broken {
+    ghost remaining = { λ _. None };
+
+    ghost failures = { λ reader. reader.failures };
+
+    fn read(&mut self, _buffer: &mut [u8]) -> Result<usize, Failed> {
+        self.failures = self.failures.saturating_add(1);
+        Err(Failed)
+    }
+}
+
+impl Sink for Broken {
+    ghost contents = { λ _. None };
+
+    ghost failures = { λ writer. writer.failures };
+
+    fn write(&mut self, _bytes: &[u8]) -> Result<usize, Failed> {
+        self.failures = self.failures.saturating_add(1);
+        Err(Failed)
     }
 }

@@ -1,6 +1,6 @@
 //! Calls of the program: which work the words reach, on which stream a text goes, and the exit status.
 
-use crate::fakes::Terminal;
+use crate::fakes::{Broken, Terminal};
 use crate::program::run;
 use dcc_tool::{Counted, Input, Limits};
 use std::alloc::Global;
@@ -235,6 +235,35 @@ fn help_and_version_go_to_standard_output(rt: HostRuntime) {
         assert_eq!(rt; terminal.error.into_inner().as_str(), "", "{words:?}");
         assert!(rt; terminal.out.into_inner().as_str().starts_with(text));
     }
+}
+
+#[test]
+fn streams_that_fail_are_told(rt: HostRuntime) {
+    let rows: [&[&str]; 4] = [
+        &["dcc", "show"],
+        &["dcc", "encode"],
+        &["dcc", "same", "--who", "s3"],
+        &["dcc", "run"],
+    ];
+    for words in rows {
+        let terminal = Terminal::new(rt.alloc(), words);
+        let mut input = Input::new(Broken::new(), Limits::full());
+        let mut writer = Counted::new(Vec::new(rt.alloc()));
+        assert_eq!(rt; run(&terminal, &mut input, &mut writer), 3, "{words:?}");
+        assert_eq!(rt;
+            terminal.error.into_inner().as_str(),
+            "dcc: U4 read failed\n",
+            "{words:?}"
+        );
+    }
+    let words = ["dcc", "readcv", "--cv", "29", "--empty"];
+    let terminal = Terminal::new(rt.alloc(), &words);
+    let mut input = Input::new(Broken::new(), Limits::full());
+    assert_eq!(rt; run(&terminal, &mut input, &mut Broken::new()), 3);
+    assert_eq!(rt;
+        terminal.error.into_inner().as_str(),
+        "dcc: U5 write failed\n"
+    );
 }
 
 #[test]

@@ -1,5 +1,6 @@
 //! What is told of a call, and on which stream.
-ghost use Rattle.std.specs.Prelude.{◌≡◌};
+ghost use Rattle.std.specs.Prelude.{◌≡◌, ◌≢◌, ◌⊎◌, Ok, Err};
+ghost use Rattle.clap.specs.Words.{kind_of};
 ghost use Rattle.dcc_tool.specs.ExitStatus.{status_of};
 
 use clap::Error;
@@ -7,8 +8,14 @@ use clap::error::ErrorKind;
 use dcc_tool::{Ending, ToolFault, Usage, exit_status};
 
 /// What comes of a command line that asks for no subcommand: clap's own text, which for `--help` and `--version` was
-/// asked for and goes to standard output.
-pub fn tell_words<R: Print + Eprint>(rt: &R, error: &Error) -> Result<Ending, ToolFault> {
+/// asked for and goes to standard output. That fails only where the text cannot be written.
+pub fn tell_words<R: Print + Eprint>(rt: &R, error: &Error) -> Result<Ending, ToolFault>
+    ensures no_memory { kind_of error.now ≡ ErrorKind.OutOfMemory → result ≡ Err ToolFault.NoMemory }
+    ensures asked_for { (kind_of error.now ≡ ErrorKind.DisplayHelp) ⊎ (kind_of error.now ≡ ErrorKind.DisplayVersion)
+        → (result ≡ Ok Ending.Done) ⊎ (result ≡ Err ToolFault.Write) }
+    ensures wrong { kind_of error.now ≢ ErrorKind.OutOfMemory → kind_of error.now ≢ ErrorKind.DisplayHelp
+        → kind_of error.now ≢ ErrorKind.DisplayVersion → result ≡ Err (ToolFault.Usage Usage.Words) }
+{
     if error.kind() == ErrorKind::OutOfMemory {
         return Err(ToolFault::NoMemory);
     }
