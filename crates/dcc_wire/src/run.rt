@@ -34,6 +34,7 @@ impl Framer {
         ensures nothing { result.seen ≡ Seen.Nothing → result.at ≡ n }
         ensures something { result.seen ≢ Seen.Nothing → (1 ≤ result.at) × (result.at ≤ n) }
     {
+        // (the prover knows a type's invariant where one of its fields is named)
         let _ = &self.state;
         let half = Half::of(us);
         let mut at = 0;
