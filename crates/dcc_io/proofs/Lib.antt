@@ -17,3 +17,4 @@ pub mod BitsLemmas
 pub mod PendingLemmas
 pub mod ReadLemmas
 pub mod DecoderTextLemmas
+pub mod ListingLemmas

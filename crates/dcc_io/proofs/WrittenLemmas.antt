@@ -72,3 +72,12 @@ front_behind before mid after bytes more first second = record {
   whole = ap (λ (xs : List ℕ). bytes ++ xs) second.whole ∙ sym (append_assoc bytes second.front second.rest);
   written = Appends-append before mid after bytes second.front first second.written;
 }
+
+-- a front of these bytes is one of more bytes too
+pub AppendsFront-more : (before after : Option (List ℕ)) (bytes more : List ℕ) → AppendsFront before after bytes → AppendsFront before after (bytes ++ more)
+AppendsFront-more before after bytes more front = record {
+  front = front.front;
+  rest = front.rest ++ more;
+  whole = ap (λ (xs : List ℕ). xs ++ more) front.whole ∙ append_assoc front.front front.rest more;
+  written = front.written;
+}

@@ -25,3 +25,4 @@ pub mod LineTaken
 pub mod SoundLines
 pub mod TextReadOrNoMemory
 pub mod WhoWord
+pub mod Spaced

@@ -15,6 +15,7 @@ pub mod laws;
 mod saved;
 mod saved_decoders;
 mod stream;
+mod text;
 mod text_line;
 #[cfg(test)]
 mod who_tests;
@@ -27,6 +28,7 @@ pub use input::{Input, Limits};
 pub use saved::Saved;
 pub use saved_decoders::read_decoders;
 pub use stream::{Counted, Failed, Sink, Source};
+pub use text::{Line, append, append_decimal, append_hex};
 pub use text_line::TextLine;
 pub use who_word::read_who;
 pub use word::{Run, RunWord};

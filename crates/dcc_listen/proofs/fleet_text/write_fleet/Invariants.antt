@@ -1,0 +1,11 @@
+use Rattle.std.proofs.Common.{◌≡◌, ◌++◌, codes, map, take}
+use Rattle.std.specs.Io.KnownBytes.{Appends}
+use Rattle.std.specs.List.{flat_map}
+use Rattle.dcc_listen.specs.FleetText.{member_text}
+use Rattle.dcc_listen.proofs.fleet_text.write_fleet.Given as goal
+
+abbrev pub invariant-loop-decoder : goal.invariant-loop-decoder
+invariant-loop-decoder g l =
+    Appends (g.W.Sink.contents l.fn.writer) (g.W.Sink.contents l.writer)
+    (codes "dcc-decoders 1\n" ++ flat_map member_text (map (λ decoder. let is = goal.Decoder-dyn g (decoder.vtable, decoder.value) in (is.who decoder.value, is.registers decoder.value)) (take l.decoder-index l.decoders)))
+    × (g.W.Sink.failures l.writer ≡ g.W.Sink.failures l.fn.writer)

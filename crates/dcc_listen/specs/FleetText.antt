@@ -1,0 +1,113 @@
+-- The decoder text that is written for a fleet, from what each member is and what its registers hold.
+use Rattle.std.specs.Prelude.{zero, suc, ℕ, ◌==◌, Bool, true, List, [], ◌∷◌, ◌++◌, codes, Option, None, Some, if◌then◌else◌}
+use Rattle.std.specs.List.{flat_map}
+use Rattle.hex.specs.Hex.{encode_lower}
+use Rattle.dcc_packet.specs.declared.address.Address.{Address}
+use Rattle.dcc_packet.specs.declared.accessory.Board.{Board}
+use Rattle.dcc_packet.specs.declared.packet.Packet.{Packet}
+use Rattle.dcc_packet.specs.Spelling.{spelling}
+use Rattle.dcc_packet.specs.Words.{Word}
+use Rattle.dcc_packet.specs.Written.{address_word, direction_word}
+use Rattle.dcc_regs.specs.declared.register.Who.{Who}
+use Rattle.dcc_regs.specs.declared.register.Who.TheVariants as who
+use Rattle.dcc_regs.specs.declared.register.Speed.{Speed}
+use Rattle.dcc_regs.specs.declared.register.Speed.TheVariants.{Stop, Emergency, Step14, Step28, Step126}
+use Rattle.dcc_regs.specs.declared.register.Register.TheVariants as registers
+use Rattle.dcc_regs.specs.declared.register.Value.{Value}
+use Rattle.dcc_regs.specs.declared.register.Value.TheVariants as values
+use Rattle.dcc_regs.specs.Loco.{holds_one, cv_of}
+use Rattle.dcc_regs.specs.Result.{RegisterMap}
+use Rattle.dcc_io.specs.Spaced.{behind_space}
+
+-- what a register of a decoder holds, and where it has no such register what a new decoder holds
+abbrev pub speed_held : Option Value → Speed
+speed_held (Some (values.Speed speed)) = speed
+speed_held held = Stop
+
+abbrev pub forward_held : Option Value → Bool
+forward_held (Some (values.Forward forward)) = forward
+forward_held held = true
+
+abbrev pub pending_held : Option Value → Option Packet
+pending_held (Some (values.Pending pending)) = pending
+pending_held held = None
+
+abbrev pub number_held : Option Value → ℕ
+number_held (Some (values.Number n)) = n
+number_held held = 0
+
+-- the numbers below this one that are on, ascending, each behind a space
+unfoldable pub numbers_below : (ℕ → Bool) → ℕ → List ℕ
+numbers_below on zero = []
+numbers_below on (suc n) = numbers_below on n ++ (if on n then behind_space n else [])
+
+-- the active address
+abbrev pub own_address_word : Option Address → Word
+own_address_word None = codes "none"
+own_address_word (Some address) = address_word address
+
+abbrev pub speed_text : Speed → List ℕ
+speed_text Stop = codes "stop"
+speed_text Emergency = codes "emergency"
+speed_text (Step14 n) = codes "14" ++ behind_space n
+speed_text (Step28 n) = codes "28" ++ behind_space n
+speed_text (Step126 n) = codes "126" ++ behind_space n
+
+abbrev pub pending_text : Option Packet → List ℕ
+pending_text None = codes "none"
+pending_text (Some packet) = encode_lower (spelling packet)
+
+-- the lines of CVs up to this one, but for those that are 0
+abbrev pub cv_line : ℕ → ℕ → List ℕ
+cv_line cv value = (codes "cv" ++ behind_space cv) ++ (behind_space value ++ codes "\n")
+
+unfoldable pub cvs_text : (ℕ → ℕ) → ℕ → List ℕ
+cvs_text cvs zero = []
+cvs_text cvs (suc n) = cvs_text cvs n ++ (if cvs (suc n) == 0 then [] else cv_line (suc n) (cvs (suc n)))
+
+-- the lines of a locomotive decoder before its CVs
+abbrev pub loco_address_line : Option Address → List ℕ
+loco_address_line address = (codes "loco " ++ own_address_word address) ++ codes "\n"
+
+abbrev pub speed_line : RegisterMap → List ℕ
+speed_line m = (codes "speed " ++ speed_text (speed_held (m registers.Speed))) ++ (32 ∷ direction_word (forward_held (m registers.Direction)) ++ codes "\n")
+
+abbrev pub functions_line : RegisterMap → List ℕ
+functions_line m = (codes "on" ++ numbers_below (λ n. holds_one (m (registers.Function n))) 69) ++ codes "\n"
+
+abbrev pub pending_line : RegisterMap → List ℕ
+pending_line m = (codes "pending " ++ pending_text (pending_held (m registers.Pending))) ++ codes "\n"
+
+abbrev pub loco_front : Option Address → RegisterMap → List ℕ
+loco_front address m = loco_address_line address ++ (speed_line m ++ (functions_line m ++ pending_line m))
+
+-- the lines of an accessory decoder
+abbrev pub board_line : Board → List ℕ
+board_line board = (codes "board" ++ behind_space board.number) ++ codes "\n"
+
+abbrev pub outs_line : RegisterMap → List ℕ
+outs_line m = (codes "out" ++ numbers_below (λ n. holds_one (m (registers.Out n))) 8) ++ codes "\n"
+
+abbrev pub four_numbers : (ℕ → ℕ) → List ℕ
+four_numbers numbers = behind_space (numbers 0) ++ (behind_space (numbers 1) ++ (behind_space (numbers 2) ++ (behind_space (numbers 3) ++ codes "\n")))
+
+abbrev pub positions_line : RegisterMap → List ℕ
+positions_line m = codes "position" ++ four_numbers (λ n. number_held (m (registers.Position n)))
+
+abbrev pub aspects_line : RegisterMap → List ℕ
+aspects_line m = codes "aspect" ++ four_numbers (λ n. number_held (m (registers.Aspect n)))
+
+abbrev pub board_text : Board → RegisterMap → List ℕ
+board_text board m = board_line board ++ (outs_line m ++ (positions_line m ++ aspects_line m))
+
+-- the lines of a decoder
+abbrev pub decoder_text : Who → RegisterMap → List ℕ
+decoder_text (who.Loco address) m = loco_front address m ++ cvs_text (cv_of m) 1024
+decoder_text (who.Board board) m = board_text board m
+
+abbrev pub member_text : Who × RegisterMap → List ℕ
+member_text member = decoder_text member.0 member.1
+
+-- the text of a fleet, from its members
+abbrev pub fleet_text : List (Who × RegisterMap) → List ℕ
+fleet_text members = codes "dcc-decoders 1\n" ++ (flat_map member_text members ++ codes "end\n")

@@ -1,0 +1,42 @@
+-- What is held of the bytes that were to be written.
+use Rattle.std.specs.Prelude.{◌≡◌, ℕ, ◌++◌, ◌⊎◌, Bool, List, Option, Result, Ok, Err}
+use Rattle.std.specs.Io.KnownBytes.{Appends}
+use Rattle.dcc_wire.specs.declared.fault.Seen.{Seen}
+use Rattle.dcc_io.specs.declared.stream.Failed.{Failed}
+use Rattle.dcc_io.specs.declared.fault.ToolFault.{ToolFault}
+use Rattle.dcc_io.specs.declared.fault.ToolFault.TheVariants.{Write}
+use Rattle.dcc_io.specs.declared.fault.KeptFault.{KeptFault}
+use Rattle.dcc_io.specs.declared.word.Run.{Run}
+use Rattle.dcc_io.specs.Failures.{HasRisen}
+use Rattle.dcc_io.specs.InputState.{InputState}
+use Rattle.dcc_io.specs.Capture.{AnswersRun}
+use Rattle.dcc_listen.specs.Listing.{IsListing}
+use Rattle.dcc_io.specs.Written.{AppendsFront}
+
+-- these bytes were written, but for the last of them, which are held
+pub record Holds (before after : Option (List ℕ)) (bytes held : List ℕ) : Type 0 where
+  pub written : List ℕ
+  pub whole : bytes ≡ written ++ held
+  pub appended : Appends before after written
+
+-- each of these bytes was written or is held, or a write failed or took no byte
+abbrev pub HoldsOrFails : Option (List ℕ) → ℕ → List ℕ → Result (Unit {0}) Failed → List ℕ → Option (List ℕ) → ℕ → Type 0
+HoldsOrFails before failures bytes (Ok done) held after now = Holds before after bytes held × (now ≡ failures)
+HoldsOrFails before failures bytes (Err failed) held after now = AppendsFront before after bytes × HasRisen failures now
+
+-- each of the bytes that were held and of a listing of these outcomes was written or is held, or a
+-- write failed or took no byte
+abbrev pub HoldsListing : Bool → List (ℕ × Seen) → Option (List ℕ) → ℕ → List ℕ → Result (Unit {0}) Failed → List ℕ → Option (List ℕ) → ℕ → Type 0
+HoldsListing words outcomes before failures held result left after now =
+    (text : List ℕ) × IsListing words outcomes text × HoldsOrFails before failures (held ++ text) result left after now
+
+-- all that was held is written and this is answered, or a write failed or took no byte
+abbrev pub WritesRest : Option (List ℕ) → ℕ → List ℕ → Result (Unit {0}) ToolFault → Result (Unit {0}) ToolFault → Option (List ℕ) → ℕ → Type 0
+WritesRest before failures held answer result after now =
+    ((result ≡ answer) × Appends before after held × (now ≡ failures))
+    ⊎ ((result ≡ Err Write) × AppendsFront before after held × HasRisen failures now)
+
+-- the next run was answered, behind a write of what was held, or that write failed or took no byte
+abbrev pub TakesRun : InputState → Option (List ℕ) → ℕ → List ℕ → Result (Result (Option Run) KeptFault) Failed → InputState → List ℕ → Option (List ℕ) → ℕ → Type 0
+TakesRun old before failures held (Ok answer) new left after now = AnswersRun old answer new × Holds before after held left × (now ≡ failures)
+TakesRun old before failures held (Err failed) new left after now = (new ≡ old) × AppendsFront before after held × HasRisen failures now

@@ -1,0 +1,16 @@
+pub mod FrameText
+pub mod Held
+pub mod Listing
+pub mod ListingLaws
+pub mod Gathered
+pub mod VerdictLine
+pub mod Compared
+pub mod Shown
+pub mod FleetText
+pub mod FleetRun
+pub mod BothCaptures
+pub mod FirstRead
+pub mod FirstSteps
+pub mod GatheredBoth
+pub mod ComparedBoth
+pub mod ReadBack

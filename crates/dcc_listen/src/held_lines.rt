@@ -1,0 +1,68 @@
+//! Lines that are finished and not yet written.
+ghost use Rattle.std.specs.Prelude.{◌≡◌, ◌≤◌, ◌++◌, [], ◌↔◌, IsTrue, OnOk, length};
+ghost use Rattle.dcc_io.specs.Written.{Writes};
+ghost use Rattle.dcc_listen.specs.Held.{HoldsOrFails};
+
+use arrayvec::ArrayVec;
+use dcc_io::{Failed, Sink, write_all};
+use std::marker::Model;
+
+/// Finished lines, which one call of the writer is to take together.
+#[derive(Drop)]
+pub struct HeldLines {
+    lines: ArrayVec<u8, 4096>,
+}
+
+impl Model for HeldLines {
+    ghost use Rattle.std.specs.Prelude.{ℕ, List};
+
+    ghost Value = { List ℕ };
+
+    ghost view = { λ h. h.lines.items };
+}
+
+impl HeldLines {
+    pub fn new() -> HeldLines
+        ensures { result ≡ [] }
+    {
+        HeldLines {
+            lines: ArrayVec::new(),
+        }
+    }
+
+    pub fn is_empty(&self) -> bool
+        ensures { IsTrue result ↔ (self.now ≡ []) }
+    {
+        self.lines.is_empty()
+    }
+
+    /// Holds a line. Where there is no room for it, what was held is written first.
+    pub fn hold<W: Sink>(&mut self, line: &[u8], writer: &mut W) -> Result<(), Failed>
+        requires { length line.now ≤ 4096 }
+        ensures { HoldsOrFails (W.contents writer.old) (W.failures writer.old) (self.old ++ line.now) result self.new
+            (W.contents writer.new) (W.failures writer.new) }
+    {
+        if self.lines.remaining_capacity() < line.len() {
+            match self.write_out(writer) {
+                Ok(()) => (),
+                Err(failed) => return Err(failed),
+            }
+        }
+        let _ = self.lines.try_extend_from_slice(line);
+        Ok(())
+    }
+
+    /// Writes all that is held, and then holds nothing.
+    pub fn write_out<W: Sink>(&mut self, writer: &mut W) -> Result<(), Failed>
+        ensures writes { Writes (W.contents writer.old) (W.failures writer.old) self.old result (W.contents writer.new) (W.failures writer.new) }
+        ensures empty { OnOk result (self.new ≡ []) }
+    {
+        match write_all(writer, self.lines.as_slice()) {
+            Ok(()) => {
+                self.lines.clear();
+                Ok(())
+            }
+            Err(failed) => Err(failed),
+        }
+    }
+}

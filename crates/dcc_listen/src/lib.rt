@@ -1,0 +1,20 @@
+//! What is made of captures: their listings, fleets that hear them, and whether two are alike for a decoder.
+#![tactic(auto)]
+
+mod decoder_rows;
+mod first_capture;
+mod fleet_text;
+mod gathering;
+mod held_lines;
+pub mod laws;
+mod listing;
+mod run_call;
+mod same_call;
+mod same_input_call;
+mod show_call;
+mod verdict_line;
+
+pub use run_call::run;
+pub use same_call::same;
+pub use same_input_call::same_input;
+pub use show_call::show;

@@ -1,0 +1,52 @@
+//! Whether two captures hold packets that are alike for a decoder.
+ghost use Rattle.std.specs.Prelude.{◌≡◌};
+ghost use Rattle.dcc_listen.specs.Compared.{Compares};
+ghost use Rattle.dcc_listen.specs.VerdictLine.{verdict_line as line_of};
+ghost use Rattle.dcc_io.specs.Written.{Writes};
+
+use crate::gathering::gather;
+use crate::verdict_line::verdict_line;
+use dcc_io::{Failed, Input, Sink, Source, ToolFault, write_all};
+use dcc_order::{Verdict, compare};
+use dcc_regs::Who;
+use std::alloc::Global;
+
+/// Reads two captures to their ends, and writes and answers the first difference of their packets for a decoder:
+/// `alike`, `writes`, `members k` or `order k`.
+///
+/// Both are read before anything is written, so that a fault behind the first difference is still answered: U2, U4 or
+/// U7 of the first capture, else of the second. U6 where there is no memory for the packets.
+pub fn same<L: Source, R: Source, W: Sink>(
+    alloc: Global,
+    left: &mut Input<L>,
+    right: &mut Input<R>,
+    writer: &mut W,
+    who: Who,
+) -> Result<Verdict, ToolFault>
+    ensures compares { Compares who left.old right.old (W.contents writer.old) (W.failures writer.old) result
+        left.new right.new (W.contents writer.new) (W.failures writer.new) }
+{
+    let packets = match gather(alloc, left) {
+        Ok(packets) => packets,
+        Err(fault) => return Err(fault),
+    };
+    let others = match gather(alloc, right) {
+        Ok(packets) => packets,
+        Err(fault) => return Err(fault),
+    };
+    let verdict = match compare(alloc, who, packets.as_slice(), others.as_slice()) {
+        Ok(verdict) => verdict,
+        Err(_) => return Err(ToolFault::NoMemory),
+    };
+    match write_verdict(writer, verdict) {
+        Ok(()) => Ok(verdict),
+        Err(_) => Err(ToolFault::Write),
+    }
+}
+
+/// Writes the line of a verdict.
+pub(crate) fn write_verdict<W: Sink>(writer: &mut W, verdict: Verdict) -> Result<(), Failed>
+    ensures { Writes (W.contents writer.old) (W.failures writer.old) (line_of verdict) result (W.contents writer.new) (W.failures writer.new) }
+{
+    write_all(writer, verdict_line(verdict).as_slice())
+}

@@ -1,0 +1,3 @@
+pub mod EncodeLemmas
+pub mod TrackLemmas
+pub mod StationLemmas

@@ -1,0 +1,14 @@
+use Rattle.std.proofs.Common.{sym, ap, ◌∙◌}
+use Rattle.dcc_send.proofs.StationLemmas.{refused_by, refused_is, answers_accepted, answers_refused}
+use Rattle.dcc_send.proofs.station_encoding.take_command.Goals as goal
+
+pub returns-in-Ok : goal.returns-in-Ok
+returns-in-Ok g c how =
+    let is = sym (ap refused_by c.in-Ok.is) ∙ refused_is c.args.station.now c.args.packet c.command.result c.command.ensures.not_sendable c.command.ensures.full c.command.ensures.comes_back in
+    answers_accepted how c.args.station.now c.command.new.self c.args.packet _ _ is (rw c.in-Ok.is at c.command.ensures.ok)
+
+pub returns-in-Err : goal.returns-in-Err
+returns-in-Err g c how =
+    let is = sym (ap refused_by c.in-Err.is) ∙ refused_is c.args.station.now c.args.packet c.command.result c.command.ensures.not_sendable c.command.ensures.full c.command.ensures.comes_back in
+    answers_refused how c.args.station.now c.command.new.self c.args.packet c.in-Err.refused _ _ _ _ c.write_all.result is (rw c.in-Err.is at c.command.ensures.err)
+    (rw c.refusal_line.ensures at c.write_all.ensures)

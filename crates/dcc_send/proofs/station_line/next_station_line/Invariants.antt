@@ -1,0 +1,10 @@
+use Rattle.std.proofs.Common.{[]}
+use Rattle.dcc_io.specs.Items.{Gave}
+use Rattle.dcc_send.specs.StationLines.{station_lines}
+use Rattle.dcc_send.proofs.station_line.next_station_line.Given as goal
+
+abbrev pub invariant-lines : goal.invariant-lines
+invariant-lines g l = Gave station_lines l.initial.input [] l.input
+
+abbrev pub decreases-lines : goal.decreases-lines
+decreases-lines g l = l.input.bytes

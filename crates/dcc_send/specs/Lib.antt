@@ -1,0 +1,8 @@
+pub mod Track
+pub mod Encoded
+pub mod TrackReading
+pub mod TrackAnswers
+pub mod Loan
+pub mod StationLines
+pub mod StationEncoded
+pub mod EncodeStation

@@ -1,0 +1,103 @@
+//! The lines that a station is driven by.
+ghost use Rattle.std.specs.Prelude.{◌≡◌, None};
+ghost use Rattle.dcc_packet.specs.Words.{words};
+ghost use Rattle.dcc_send.specs.StationLines.{asked, asked_by, asked_or_fault, send, send_count, station_words};
+ghost use Rattle.dcc_io.specs.PacketRead.{AnswersSaid, ReadsSaid};
+
+use dcc_io::{Input, KeptFault, Source, TextLine};
+use dcc_packet::numeral::number;
+use dcc_packet::words::Words;
+use dcc_packet::{Packet, PacketFault};
+
+/// What a line asks of a station.
+#[derive(Clone, Copy)]
+pub(crate) enum StationLine {
+    /// To take this command.
+    Command(Packet),
+    /// To send so many packets.
+    Send(u16),
+}
+
+impl StationLine {
+    /// `send N` with N from 1 to 1000, or a packet line. The first fault of the words from left to right decides: P11
+    /// for a wrong N, P10 for a word too many.
+    #[tactic(auto, unfolding(crate::specs::StationLines::asked))]
+    pub fn from_line(line: &str) -> Result<StationLine, PacketFault>
+        ensures { asked_or_fault result ≡ asked (words line.now) }
+    {
+        let mut words = Words::new(line.as_bytes());
+        match words.next() {
+            Some(word) => {
+                if word == b"send".as_slice() {
+                    return match send(&mut words) {
+                        Ok(count) => Ok(StationLine::Send(count)),
+                        Err(fault) => Err(fault),
+                    };
+                }
+            }
+            None => (),
+        }
+        match Packet::from_line(line) {
+            Ok(packet) => Ok(StationLine::Command(packet)),
+            Err(fault) => Err(fault),
+        }
+    }
+}
+
+/// The words after `send`.
+#[tactic(auto, unfolding(crate::specs::StationLines::send))]
+fn send(words: &mut Words) -> Result<u16, PacketFault>
+    ensures { result ≡ send words.old }
+{
+    let count = send_count(words.word()?)?;
+    words.end()?;
+    Ok(count)
+}
+
+/// How many packets are sent.
+fn send_count(word: &[u8]) -> Result<u16, PacketFault>
+    ensures { result ≡ send_count word.now }
+{
+    let count = number(word)?;
+    if 1 <= count && count <= 1000 {
+        Ok(count)
+    } else {
+        Err(PacketFault::Number)
+    }
+}
+
+/// What the next line asks that asks anything, or none at the end. A fault is kept.
+pub(crate) fn next_station_line<R: Source>(
+    input: &mut Input<R>,
+) -> Result<Option<StationLine>, KeptFault>
+    requires { input.old.fault ≡ None }
+    ensures { AnswersSaid station_words asked_by input.old result input.new }
+{
+    'lines: loop {
+        match input.next_line() {
+            Ok(Some(line)) => {
+                if !line.is_skipped() {
+                    return read_station_line(input, &line);
+                }
+            }
+            Ok(None) => return Ok(None),
+            Err(fault) => return Err(fault),
+        }
+    }
+}
+
+/// What the words of a line ask, or the fault, which is kept.
+fn read_station_line<R: Source>(
+    input: &mut Input<R>,
+    line: &TextLine,
+) -> Result<Option<StationLine>, KeptFault>
+    ensures { ReadsSaid station_words asked_by input.old line.now result input.new }
+{
+    match StationLine::from_line(line.text.as_str()) {
+        Ok(asks) => Ok(Some(asks)),
+        Err(fault) => Err(input.refuse(KeptFault::Line {
+            line: line.number,
+            fault,
+        })),
+    }
+}

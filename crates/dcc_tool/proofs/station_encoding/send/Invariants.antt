@@ -1,8 +1,0 @@
-use Rattle.std.proofs.Common.{◌≡◌, replicate}
-use Rattle.dcc_tool.specs.StationLines.{Next}
-use Rattle.dcc_tool.specs.StationEncoded.{Wrote}
-use Rattle.dcc_tool.proofs.station_encoding.send.Given as goal
-
-abbrev pub invariant-loop : goal.invariant-loop
-invariant-loop g l = Wrote l.how l.initial.station (replicate l.counter Next) l.station (g.W.Sink.contents l.initial.writer) (g.W.Sink.contents l.writer)
-    × (g.W.Sink.failures l.writer ≡ g.W.Sink.failures l.initial.writer)
