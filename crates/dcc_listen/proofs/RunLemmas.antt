@@ -29,10 +29,6 @@ AllZip-views R view [] (y ∷ ys) h = h
 AllZip-views R view (x ∷ xs) [] h = h
 AllZip-views R view (x ∷ xs) (y ∷ ys) h = (h.0, AllZip-views R view xs ys h.1)
 
-pub AllZip-start : {A B : Type 0} (R : A → B → Type 0) (view : B → A) (ys : List B) → ((y : B) → R (view y) y) → AllZip R (map view ys) ys
-AllZip-start R view [] each = tt
-AllZip-start R view (y ∷ ys) each = (each y, AllZip-start R view ys each)
-
 -- a fault ends the capture
 pub hears_up_to : (starts ends : Members) (old now new : InputState) (before : Option (List ℕ)) (writes : ℕ) (halves : List ℕ) (fault : KeptFault) → Gave captures old halves now → HaveHeard starts ends halves
     → AnswersRun now (Err fault) new → Runs starts old before writes (Err (as_tool_fault fault)) ends new before writes

@@ -35,9 +35,9 @@ AllZip-viewed v R (x ∷ xs) [] r = r
 AllZip-viewed v R (x ∷ xs) (y ∷ ys) r = (r.0, AllZip-viewed v R xs ys r.1)
 
 -- each member beside its own view
-pub AllZip-own_view : {A B : Type 0} → (v : A → B) (R : B → A → Type 0) → ((x : A) → R (v x) x) → (xs : List A) → AllZip R (map v xs) xs
-AllZip-own_view v R own [] = tt
-AllZip-own_view v R own (x ∷ xs) = (own x, AllZip-own_view v R own xs)
+pub AllZip-start : {A B : Type 0} (R : A → B → Type 0) (view : B → A) (ys : List B) → ((y : B) → R (view y) y) → AllZip R (map view ys) ys
+AllZip-start R view [] each = tt
+AllZip-start R view (y ∷ ys) each = (each y, AllZip-start R view ys each)
 
 -- two lists that change beside each other, each element as P and Q say
 pub AllZip-both : {A B C D : Type 0} → (P : A → C → Type 0) (Q : B → D → Type 0) (E : A → B → Type 0) (F : C → D → Type 0)

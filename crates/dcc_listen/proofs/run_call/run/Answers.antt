@@ -5,7 +5,8 @@ use Rattle.dcc_order.specs.Hearing.{HasHeardHalves}
 use Rattle.dcc_order.proofs.HearingLemmas.{no_halves_heard}
 use Rattle.dcc_io.specs.Capture.{captures}
 use Rattle.dcc_io.proofs.ItemsLemmas.{Gave-none, Gave-append}
-use Rattle.dcc_listen.proofs.RunLemmas.{AllZip-start, AllZip-views, hears_up_to, hears_all, ran, stopped}
+use Rattle.dcc_order.proofs.TrackLemmas.{AllZip-start}
+use Rattle.dcc_listen.proofs.RunLemmas.{AllZip-views, hears_up_to, hears_all, ran, stopped}
 use Rattle.dcc_listen.proofs.run_call.run.Goals as goal
 
 pub runs-init : goal.runs-init

@@ -1,13 +1,13 @@
 use Rattle.std.proofs.Common.{ℕ, List, take, sym}
 use Rattle.dcc_order.specs.Hearing.{joined}
 use Rattle.dcc_order.proofs.HearingLemmas.{no_halves_heard}
-use Rattle.dcc_order.proofs.TrackLemmas.{piece_more, pieces_all, AllZip-viewed, AllZip-own_view}
+use Rattle.dcc_order.proofs.TrackLemmas.{piece_more, pieces_all, AllZip-viewed, AllZip-start}
 use Rattle.dcc_order.proofs.tracks.hear_track.Goals as goal
 
 pub loop-piece-init : goal.loop-piece-init
 loop-piece-init g c = record {
   stands = c.new-framer.ensures;
-  since = AllZip-own_view _ _ (λ decoder. no_halves_heard (g.D.Decoder.who decoder) (g.D.Decoder.registers decoder)) c.args.decoders.now;
+  since = AllZip-start _ _ c.args.decoders.now (λ decoder. no_halves_heard (g.D.Decoder.who decoder) (g.D.Decoder.registers decoder));
 }
 
 pub loop-piece-preserved : goal.loop-piece-preserved
