@@ -319,7 +319,8 @@ impl<R: Source> Input<R> {
         }
     }
 
-    /// Keeps the fault, for this call and every later one.
+    /// Keeps the fault, for this call and every later one, in the place of one that was kept before. For calls
+    /// that read an input themselves and find what is wrong in it.
     pub fn refuse(&mut self, fault: KeptFault) -> KeptFault
         requires { fault ≢ KeptFault.Read }
         ensures answer { result ≡ fault }
