@@ -233,3 +233,8 @@ SpellsNumber-digit number bytes len inside spells few low high = record {
       ∙ ap (digits_value 10) (sym (take_more bytes len 0 inside));
   small = omega arith;
 }
+
+-- where a byte is ahead, the reader has not answered its end
+pub open_with : (closed : Bool) (ahead : List ℕ) (len : ℕ) → (closed ≡ true → ahead ≡ []) → len < length ahead → closed ≡ false
+open_with true ahead len at_end inside = let clash : len < length {A = ℕ} [] = subst (λ (xs : List ℕ). len < length xs) (at_end refl) inside in absurd (omega (arith, clash))
+open_with false ahead len at_end inside = refl

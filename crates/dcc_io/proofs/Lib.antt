@@ -18,3 +18,4 @@ pub mod PendingLemmas
 pub mod ReadLemmas
 pub mod DecoderTextLemmas
 pub mod ListingLemmas
+mod BlankLines

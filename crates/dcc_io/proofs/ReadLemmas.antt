@@ -8,11 +8,11 @@ use Rattle.dcc_packet.specs.Words.{Word, words}
 use Rattle.dcc_io.specs.declared.fault.KeptFault.{KeptFault}
 use Rattle.dcc_io.specs.declared.fault.KeptFault.TheVariants.{Number, Line, Read, TooMuch}
 use Rattle.dcc_io.specs.Failures.{one_more}
-use Rattle.dcc_io.specs.Place.{Place}
+use Rattle.dcc_io.specs.Place.{Place, lines_with}
 use Rattle.dcc_io.specs.Told.{IsAtEnd}
 use Rattle.dcc_io.specs.InputState.{InputState}
 use Rattle.dcc_io.specs.Lines.{is_good}
-use Rattle.dcc_io.specs.LineRead.{has_line_feed, IsOneLine, EndsLine, IsBadAt, FailsWithin}
+use Rattle.dcc_io.specs.LineRead.{has_line_feed, lines_within, IsOneLine, EndsLine, IsBadAt, FailsWithin}
 use Rattle.dcc_io.specs.LineTaken.{TakesLine, Judges}
 use Rattle.dcc_io.specs.TextReader.{Text, Stop, Reader, read_on, ◌>>=◌, done, stop_at, first_line, behind_line, judged, line_by}
 use Rattle.dcc_io.specs.TextReader.Stop.{refused, cut, too_many}
@@ -59,7 +59,7 @@ module _ {A : Type 0} where
     where
       go : (text : Option (List ℕ)) → IfSome text (λ whole. IsSomeAnd text (λ rest. LeadsIn read input read input whole rest))
       go None = tt
-      go (Some text) = record { used = []; whole = refl; goes_on = λ more. refl; bytes = omega arith; room = λ some. absurd (omega arith) }
+      go (Some text) = record { used = []; whole = refl; goes_on = λ more. refl; bytes = omega arith; room = λ some. absurd (omega arith); lines = λ some. absurd (omega arith); still = λ none. (refl, refl) }
 
   leads_on : (one two three : Reader A) (old mid new : InputState) (text between rest : List ℕ) → LeadsIn one old two mid text between → LeadsIn two mid three new between rest → LeadsIn one old three new text rest
   leads_on one two three old mid new text between rest a b = record {
@@ -68,8 +68,22 @@ module _ {A : Type 0} where
     goes_on = λ more. ap (λ (bytes : List ℕ). one (at old bytes)) (append_assoc a.used b.used more) ∙ a.goes_on (b.used ++ more) ∙ b.goes_on more;
     bytes = simp length-append (omega (arith, a.bytes, b.bytes));
     room = room_of b.used b.whole b.bytes b.room;
+    lines = lines_of b.used b.lines b.still;
+    still = λ none.
+        let lengths : length a.used + length b.used ≡ 0 = sym (length-append a.used b.used) ∙ none in
+        let first : length a.used ≡ 0 = omega (arith, lengths) in
+        let second : length b.used ≡ 0 = omega (arith, lengths) in
+        ((b.still second).0 ∙ (a.still first).0, (b.still second).1 ∙ (a.still first).1);
   }
     where
+      lines_of : (used : List ℕ) → (0 < length used → new.lines + 1 ≡ new.place.line) → (length used ≡ 0 → (new.lines ≡ mid.lines) × (new.place.line ≡ mid.place.line)) → 0 < length (a.used ++ used) → new.lines + 1 ≡ new.place.line
+      lines_of [] seen still some =
+          let some_first : 0 < length a.used = subst (λ (bytes : List ℕ). 0 < length bytes) (append-nil a.used) some in
+          let same = still refl in
+          let before = a.lines some_first in
+          omega (arith, same.0, same.1, before)
+      lines_of (byte ∷ used) seen still some = seen (omega arith)
+
       room_of : (used : List ℕ) → between ≡ used ++ rest → new.bytes + length used ≡ mid.bytes → (0 < length used → new.bytes ≡ 0 → rest ≡ []) → 0 < length (a.used ++ used) → new.bytes ≡ 0 → rest ≡ []
       room_of [] whole count room some none =
           let some_first : 0 < length a.used = subst (λ (bytes : List ℕ). 0 < length bytes) (append-nil a.used) some in
@@ -153,6 +167,8 @@ module _ {A B : Type 0} (first : Reader A) (next : A → Reader B) where
           goes_on = λ more. ap (λ read. read_on read next) (leads.goes_on more);
           bytes = leads.bytes;
           room = leads.room;
+          lines = leads.lines;
+          still = leads.still;
         })
         a.text;
     in_comment = a.in_comment;
@@ -264,24 +280,37 @@ module _ {A : Type 0} (rule : List Word → Result A PacketFault) where
   line-missed old new (Number n) h = absurd h
 
   -- a line that was taken and judged
-  pub line-judged : (old mid new : InputState) (n : ℕ) (line : List ℕ) (result : Result A KeptFault) → EndsLine old n line mid → Judges mid n (rule (words line)) result new → Answers (line_by rule) old result new
-  line-judged old mid new n line result ends judges = go (rule (words line)) refl judges
+  pub line-judged : ((x : A) → rule (words []) ≡ Ok x → ⊥) → (old mid new : InputState) (n : ℕ) (line : List ℕ) (result : Result A KeptFault) → EndsLine old n line mid → Judges mid n (rule (words line)) result new → Answers (line_by rule) old result new
+  line-judged blank old mid new n line result ends judges = go (rule (words line)) refl judges
     where
-      leads : (x : A) → rule (words line) ≡ Ok x → (text rest : List ℕ) → text ≡ line ++ 10 ∷ rest → (mid.bytes ≡ 0 → rest ≡ []) → LeadsIn (line_by rule) old (done x) mid text rest
-      leads x is text rest whole room = record {
+      used_line : (x : A) (front rest : List ℕ) → rule (words front) ≡ Ok x → lines_with (lines_within old.lines old.place.line front) old.place.line rest ≡ old.place.line
+      used_line x [] rest is = absurd (blank x is)
+      used_line x (byte ∷ front) [] is = refl
+      used_line x (byte ∷ front) (next ∷ rest) is = refl
+
+      leads : (x : A) → rule (words line) ≡ Ok x → (text rest : List ℕ) → text ≡ line ++ 10 ∷ rest → (mid.bytes ≡ 0 → rest ≡ []) → mid.lines ≡ lines_with (lines_within old.lines old.place.line line) old.place.line rest → LeadsIn (line_by rule) old (done x) mid text rest
+      leads x is text rest whole room lines = record {
         used = line ++ 10 ∷ [];
         whole = whole ∙ sym (append_assoc line (10 ∷ []) rest);
         goes_on = λ more. ap (λ (bytes : List ℕ). line_by rule (at old bytes)) (append_assoc line (10 ∷ []) more) ∙ line-given old.place.line line more ends.is_line
             ∙ ap (λ read. judged old.place.line read more) is ∙ ap (λ (place : Place). Ok (x, record { line = place.line; bytes = more })) (sym ends.next);
         bytes = simp length-append (omega (arith, ends.bytes));
         room = λ some. room;
+        lines = λ some.
+            let used = used_line x line rest is in
+            let next = ap (λ (place : Place). place.line) ends.next in
+            omega (arith, lines, used, next);
+        still = λ none.
+            let lengths = length-append line (10 ∷ []) in
+            absurd (omega (arith, none, lengths));
       }
 
       read_text : (x : A) → rule (words line) ≡ Ok x → (text rest : Option (List ℕ)) → IfSome text (λ bytes. IsSomeAnd rest (λ more. bytes ≡ line ++ 10 ∷ more)) → (mid.bytes ≡ 0 → IsAtEnd rest)
+          → IfSome text (λ bytes. IsSomeAnd rest (λ more. mid.lines ≡ lines_with (lines_within old.lines old.place.line line) old.place.line more))
           → IfSome text (λ bytes. IsSomeAnd rest (λ more. LeadsIn (line_by rule) old (done x) mid bytes more))
-      read_text x is None rest whole room = tt
-      read_text x is (Some text) None whole room = absurd whole
-      read_text x is (Some text) (Some rest) whole room = leads x is text rest whole room
+      read_text x is None rest whole room lines = tt
+      read_text x is (Some text) None whole room lines = absurd whole
+      read_text x is (Some text) (Some rest) whole room lines = leads x is text rest whole room lines
 
       -- a text that begins with this line
       refused_text : (why : PacketFault) → rule (words line) ≡ Err why → (text rest : List ℕ) → text ≡ line ++ 10 ∷ rest → (mid.bytes ≡ 0 → rest ≡ []) → answer_in (line_by rule) old text ≡ Err (Line old.place.line why)
@@ -315,7 +344,7 @@ module _ {A : Type 0} (rule : List Word → Result A PacketFault) where
 
       go : (read : Result A PacketFault) → rule (words line) ≡ read → Judges mid n read result new → Answers (line_by rule) old result new
       go (Ok x) is h = rw (h.0, h.1) record {
-        text = read_text x is old.text mid.text ends.text ends.room;
+        text = read_text x is old.text mid.text ends.text ends.room ends.lines;
         in_comment = ap (λ (place : Place). place.in_comment) ends.next;
         halves = ends.halves;
         bytes = omega (arith, ends.bytes);

@@ -41,6 +41,9 @@ pub record LeadsIn {A : Type 0} (read : Reader A) (old : InputState) (rest_read 
   pub goes_on : (more : List ℕ) → read (at old (used ++ more)) ≡ rest_read (at new more)
   pub bytes : new.bytes + length used ≡ old.bytes
   pub room : 0 < length used → new.bytes ≡ 0 → rest ≡ []
+  -- the last line that was used is the one before the next byte's
+  pub lines : 0 < length used → new.lines + 1 ≡ new.place.line
+  pub still : length used ≡ 0 → (new.lines ≡ old.lines) × (new.place.line ≡ old.place.line)
 
 -- the input was read up to where the one reader goes on as the other, and nothing went wrong
 pub record Leads {A : Type 0} (read : Reader A) (old : InputState) (rest_read : Reader A) (new : InputState) : Type 0 where

@@ -1,7 +1,8 @@
 //! What a call of the program reads from.
-ghost use Rattle.std.specs.Prelude.{◌≡◌, ◌≢◌, ◌+◌, ◌≤◌, ◌^◌, ℕ, [], None, Some, true, false, IsTrue, IfSome, IfNone, if◌then◌else◌, ◌||◌};
+ghost use Rattle.std.specs.Prelude.{◌≡◌, ◌≢◌, ◌+◌, ◌<◌, ◌≤◌, ◌^◌, ℕ, [], None, Some, true, false, IsTrue, IfSome, IfNone, if◌then◌else◌, ◌||◌};
 ghost use Rattle.dcc_io.specs.Told.{IsFront};
 ghost use Rattle.dcc_io.specs.Words.{comments, is_gap, ended_words};
+ghost use Rattle.dcc_io.specs.Front.{IsFrontWord};
 ghost use Rattle.dcc_io.specs.Passed.{AnswersWord};
 ghost use Rattle.dcc_io.specs.LineRead.{AnswersLine};
 ghost use Rattle.dcc_io.specs.PacketRead.{AnswersPacket, ReadsPacket};
@@ -12,7 +13,7 @@ use crate::buffered::Buffered;
 use crate::fault::KeptFault;
 use crate::stream::Source;
 use crate::text_line::TextLine;
-use crate::word::{Run, RunWord, front_word, is_separator};
+use crate::word::{FrontWord, Run, RunWord, front_word, is_separator, short_front_word};
 use dcc_packet::{Packet, PacketFault};
 use std::marker::Model;
 
@@ -229,15 +230,44 @@ impl<R: Source> Input<R> {
 
     /// The next half, where its word is a duration alone that stands at the front of the bytes that were read and has ended.
     /// So most halves cost one look at each byte.
+    #[inline(always)]
     pub fn half_at_hand(&mut self) -> Option<u16>
         requires { self.old.fault ≡ None }
         ensures some { IfSome result (λ us. AnswersRun self.old (Ok (Some (record { us = us; n = 1 }))) self.new) }
         ensures none { IfNone result (self.new ≡ self.old) }
     {
-        if self.in_comment || self.closed || self.halves_left == 0 {
+        if self.in_comment || self.halves_left == 0 {
             return None;
         }
+        match short_front_word(self.source.ahead()) {
+            Some(front) => self.take_front(front),
+            None => self.any_half_at_hand(),
+        }
+    }
+
+    /// The same for words of any length.
+    #[inline(never)]
+    fn any_half_at_hand(&mut self) -> Option<u16>
+        requires fault { self.old.fault ≡ None }
+        requires no_comment { self.old.place.in_comment ≡ false }
+        requires left { 0 < self.old.halves }
+        ensures some { IfSome result (λ us. AnswersRun self.old (Ok (Some (record { us = us; n = 1 }))) self.new) }
+        ensures none { IfNone result (self.new ≡ self.old) }
+    {
         let front = front_word(self.source.ahead())?;
+        self.take_front(front)
+    }
+
+    /// Takes the half of the word at the front, unless its bytes are too many.
+    #[inline(always)]
+    fn take_front(&mut self, front: FrontWord) -> Option<u16>
+        requires fault { self.old.fault ≡ None }
+        requires no_comment { self.old.place.in_comment ≡ false }
+        requires left { 0 < self.old.halves }
+        requires front { IsFrontWord self.old.ahead front }
+        ensures some { IfSome result (λ us. AnswersRun self.old (Ok (Some (record { us = us; n = 1 }))) self.new) }
+        ensures none { IfNone result (self.new ≡ self.old) }
+    {
         if self.bytes_left as usize <= front.len {
             return None;
         }

@@ -1,5 +1,5 @@
 //! A word of a capture, taken byte by byte.
-ghost use Rattle.std.specs.Prelude.{◌≡◌, ◌<◌, min, ℕ, List, [], ◌∷◌, ◌++◌, not, ◌==◌, ◌&&◌, IfSome};
+ghost use Rattle.std.specs.Prelude.{◌≡◌, ◌↔◌, ◌<◌, ◌≤◌, min, ℕ, List, [], ◌∷◌, ◌++◌, not, true, ◌==◌, ◌&&◌, IfSome, IsTrue};
 ghost use Rattle.dcc_io.specs.Words.{is_gap, is_mark, is_some_byte, run_of};
 ghost use Rattle.dcc_io.specs.Front.{IsFrontWord, EndedWord};
 
@@ -99,6 +99,48 @@ pub struct FrontWord {
 
     /// Whether the gap is a line feed.
     pub ends_line: bool,
+}
+
+/// The word at the front of these bytes, if it has two or three digits and a space or a line feed ends it. Most words are such.
+#[inline(always)]
+pub fn short_front_word(bytes: &[u8]) -> Option<FrontWord>
+    ensures { IfSome result (λ front. IsFrontWord bytes.now front) }
+{
+    if bytes.len() < 4 || !is_digit(bytes[0]) || !is_digit(bytes[1]) {
+        return None;
+    }
+    let tens = u16::from(bytes[0] - b'0') * 10 + u16::from(bytes[1] - b'0');
+    if ends_most_words(bytes[2]) {
+        return Some(FrontWord {
+            us: tens,
+            len: 2,
+            ends_line: bytes[2] == b'\n',
+        });
+    }
+    if is_digit(bytes[2]) && ends_most_words(bytes[3]) {
+        return Some(FrontWord {
+            us: tens * 10 + u16::from(bytes[2] - b'0'),
+            len: 3,
+            ends_line: bytes[3] == b'\n',
+        });
+    }
+    None
+}
+
+#[inline(always)]
+fn is_digit(byte: u8) -> bool
+    ensures { IsTrue result ↔ ((48 ≤ byte) × (byte ≤ 57)) }
+{
+    b'0' <= byte && byte <= b'9'
+}
+
+/// Whether a byte is a space or a line feed.
+#[inline(always)]
+#[tactic(auto, unfolding(crate::specs::Words::is_gap))]
+fn ends_most_words(byte: u8) -> bool
+    ensures { IsTrue result → is_gap byte ≡ true }
+{
+    byte == b' ' || byte == b'\n'
 }
 
 /// The word at the front of these bytes, if it spells a duration and a gap ends it there.

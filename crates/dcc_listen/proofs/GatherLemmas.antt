@@ -14,16 +14,9 @@ use Rattle.dcc_io.specs.Faults.{as_tool_fault}
 use Rattle.dcc_io.specs.InputState.{InputState, HasCause}
 use Rattle.dcc_io.specs.Capture.{captures, GaveHalves, AnswersRun}
 use Rattle.dcc_listen.specs.Gathered.{Gathered, GatherFails}
+use Rattle.dcc_listen.specs.Taking.{Gathering, ReadsOn}
 use Rattle.dcc_io.proofs.ItemsLemmas.{Gave-append, up_to_fault, reads_up_to, uses_all_lines}
 use Rattle.dcc_listen.proofs.ShowLemmas.{Answers, GaveHalves-none, GaveHalves-append}
-
--- so far these halves were read, and their packets are held
-pub record Gathering (start now : InputState) (framer : Framer) (packets : List Packet) : Type 0 where
-  pub halves : List ℕ
-  pub gave : GaveHalves start halves now
-  pub stands : StandsFor framer halves
-  pub hold : ArePackets packets halves
-  pub few : length packets ≤ length halves
 
 pub Gathering-start : (input : InputState) (framer : Framer) → input.fault ≡ None → StandsFor framer [] → Gathering input input framer []
 Gathering-start input framer fault stands = record { halves = []; gave = GaveHalves-none input fault; stands = stands; hold = no_packets; few = omega arith }
@@ -73,3 +66,16 @@ kept_already input (Number line) e cause = inl (e, cause, refl)
 kept_already input (Line line fault) e cause = inl (e, cause, refl)
 kept_already input Read e cause = inl (e, cause, refl)
 kept_already input TooMuch e cause = inl (e, cause, refl)
+
+-- more was read, and it showed no packet or one
+pub Gathering-shown : (start now new : InputState) (framer next : Framer) (packets : List Packet) (run : Run) (answer : RunSeen) (so_far : Gathering start now framer packets) (shown : List Packet)
+    → GaveHalves now (replicate run.n run.us) new → 0 < run.n → StandsFor next (so_far.halves ++ replicate run.n run.us) → Answers so_far.halves run answer → AreSpelled shown (frames_of answer.seen)
+    → length shown ≤ 1 → Gathering start new next (packets ++ shown)
+Gathering-shown start now new framer next packets run answer so_far shown gave some stands answers spelled one =
+    Gathering-run start now new framer next packets (packets ++ shown) run answer so_far shown gave some stands answers spelled refl one
+
+pub reads_on : (start now : InputState) (framer : Framer) (packets : List Packet) → start.fault ≡ None → Gathering start now framer packets → ReadsOn start now
+reads_on start now framer packets none so_far = record { none_kept = none; fault = so_far.gave.items.fault; failures = so_far.gave.items.failures }
+
+pub all_read_on : (start now : InputState) (packets : List Packet) → Gathered start packets now → ReadsOn start now
+all_read_on start now packets all = record { none_kept = all.none_kept; fault = all.fault; failures = all.hold.1 }

@@ -20,3 +20,4 @@ pub mod BoardMapsBack
 pub mod LinesKept
 pub mod DecodersBack
 pub mod ReadBackLaws
+pub mod InStepLemmas

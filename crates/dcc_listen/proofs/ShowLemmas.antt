@@ -1,5 +1,5 @@
 -- How a listing grows.
-use Rattle.std.proofs.Common.{◌≡◌, ◌≢◌, ℕ, ◌+◌, ◌-◌, ◌<◌, ◌≤◌, Bool, List, [], ◌++◌, length, replicate, Option, None, Some, Result, Ok, Err, inl, inr, refl, sym, ap, ◌∙◌, subst, arith, length-append, IfSome, IsSomeAnd}
+use Rattle.std.proofs.Common.{◌≡◌, ◌≢◌, ℕ, ◌+◌, ◌-◌, ◌<◌, ◌≤◌, Bool, List, [], ◌∷◌, ◌++◌, length, replicate, Option, None, Some, Result, Ok, Err, inl, inr, refl, sym, ap, ◌∙◌, subst, arith, length-append, IfSome, IsSomeAnd}
 use Rattle.std.proofs.lemmas.List.{append-nil, length-replicate}
 use Rattle.dcc_wire.specs.declared.framer.Framer.{Framer}
 use Rattle.dcc_wire.specs.declared.fault.Seen.{Seen}
@@ -215,3 +215,14 @@ stops_at_end words start now new framer held before after then writes count late
     subst (λ (r : Result (Unit {0}) ToolFault). Shows words start before writes r new then later) (sym failed.0)
     (stops_writing_at words start now new showing.halves showing.text before then writes count later showing.gave answer.0.items.fault answer.0.items.failures showing.failures
     showing.lists (Holds-fails before after then showing.text held showing.holds failed.1) failed.2)
+
+-- one half is a run of one
+
+pub answers_one : (halves : List ℕ) (us : ℕ) (answer : Seen) → seen (halves ++ us ∷ []) ≡ seen halves ++ reported (length halves) answer
+    → Answers halves (record { us = us; n = 1 }) (record { seen = answer; at = 1 })
+answers_one halves us answer sees =
+    let place : length halves ≡ length halves + 1 - 1 = omega arith in
+    sees ∙ ap (λ n. seen halves ++ reported n answer) place
+
+pub counted_one : (most left all rest place : ℕ) → most ≡ all → left ≡ rest → all - rest ≡ place + 1 → most - left ≡ (place + 1 - 1) + 1
+counted_one most left all rest place before behind taken = omega arith

@@ -12,6 +12,7 @@ use Rattle.dcc_io.specs.declared.fault.ToolFault.{ToolFault}
 use Rattle.dcc_io.specs.declared.fault.ToolFault.TheVariants.{Usage, Number, Line, Read, Write, NoMemory, TooMuch}
 use Rattle.dcc_io.specs.Failures.{HasRisen}
 use Rattle.dcc_listen.specs.Gathered.{Gathered, GatherFails}
+use Rattle.dcc_listen.specs.Taking.{ReadsOn}
 use Rattle.dcc_io.specs.InputState.{InputState}
 use Rattle.dcc_listen.specs.VerdictLine.{verdict_line}
 use Rattle.dcc_io.specs.Written.{AppendsFront}
@@ -27,10 +28,13 @@ pub record Compared (who : Who) (left right left' right' : InputState) (verdict 
   pub alike_is : (verdict ≡ Alike) ↔ AlikeFor who packets others
   pub alike : verdict ≡ Alike → LeaveTheSame who packets others
 
--- one of two captures could not be read: the first, and nothing of the second was; or the second
+-- of a capture nothing was read, or some of it and no fault was met
+abbrev pub ReadsSome : InputState → InputState → Type 0
+ReadsSome old new = (new ≡ old) ⊎ ReadsOn old new
+
+-- one of two captures could not be read, and of the other no fault was met
 abbrev pub OneFails : InputState → InputState → ToolFault → InputState → InputState → Type 0
-OneFails left right fault left' right' =
-    (GatherFails left fault left' × (right' ≡ right)) ⊎ ((packets : List Packet) × Gathered left packets left' × GatherFails right fault right')
+OneFails left right fault left' right' = (GatherFails left fault left' × ReadsSome right right') ⊎ (ReadsSome left left' × GatherFails right fault right')
 
 -- a capture's fault is answered where it stands, or there is no memory, and then nothing is written
 abbrev pub StopsComparing : InputState → InputState → Option (List ℕ) → ℕ → ToolFault → InputState → InputState → Option (List ℕ) → ℕ → Type 0

@@ -14,3 +14,5 @@ pub mod FirstSteps
 pub mod GatheredBoth
 pub mod ComparedBoth
 pub mod ReadBack
+pub mod Taking
+pub mod InStep

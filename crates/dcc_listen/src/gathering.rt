@@ -22,21 +22,31 @@ pub fn gather<R: Source>(alloc: Global, input: &mut Input<R>) -> Result<Vec<Pack
     let mut framer = Framer::new();
     let mut packets = Vec::new(alloc);
     'runs: loop {
-        match input.next_run() {
-            Ok(Some(run)) => {
-                let shown = framer.push_run(run.us, run.n);
-                match hold_seen(&mut packets, &shown.seen) {
+        match input.half_at_hand() {
+            Some(us) => {
+                let seen = framer.push(us);
+                match hold_seen(&mut packets, &seen) {
                     Ok(()) => (),
                     Err(_) => return Err(ToolFault::NoMemory),
                 }
             }
-            Ok(None) => return Ok(packets),
-            Err(fault) => return Err(fault.told()),
+            None => match input.read_run() {
+                Ok(Some(run)) => {
+                    let shown = framer.push_run(run.us, run.n);
+                    match hold_seen(&mut packets, &shown.seen) {
+                        Ok(()) => (),
+                        Err(_) => return Err(ToolFault::NoMemory),
+                    }
+                }
+                Ok(None) => return Ok(packets),
+                Err(fault) => return Err(fault.told()),
+            },
         }
     }
 }
 
 /// Holds the packet that some halves showed, if they showed one.
+#[inline(always)]
 pub(crate) fn hold_seen(packets: &mut Vec<Packet>, seen: &Seen) -> Result<(), AllocError>
     ensures { OnOk result ((shown : List Packet) × AreSpelled shown (frames_of seen.now) × (packets.new.items ≡ packets.old.items ++ shown) × (length shown ≤ 1)) }
 {

@@ -6,12 +6,14 @@ mod first_capture;
 mod fleet_text;
 mod gathering;
 mod held_lines;
+mod in_step;
 pub mod laws;
 mod listing;
 mod run_call;
 mod same_call;
 mod same_input_call;
 mod show_call;
+mod taking;
 mod verdict_line;
 
 pub use run_call::run;

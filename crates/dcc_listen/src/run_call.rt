@@ -6,7 +6,7 @@ ghost use Rattle.dcc_io.specs.InputState.{HasCause};
 
 use crate::fleet_text::write_fleet;
 use dcc_io::{Input, Sink, Source, ToolFault};
-use dcc_order::hear_run;
+use dcc_order::{hear, hear_run};
 use dcc_regs::Decoder;
 use dcc_wire::Framer;
 
@@ -33,12 +33,17 @@ pub fn run<R: Source, W: Sink>(
     }
     let mut framer = Framer::new();
     'runs: loop {
-        match input.next_run() {
-            Ok(Some(run)) => {
-                let _ = hear_run(decoders, &mut framer, run.us, run.n);
+        match input.half_at_hand() {
+            Some(us) => {
+                let _ = hear(decoders, &mut framer, us);
             }
-            Ok(None) => break,
-            Err(fault) => return Err(fault.told()),
+            None => match input.read_run() {
+                Ok(Some(run)) => {
+                    let _ = hear_run(decoders, &mut framer, run.us, run.n);
+                }
+                Ok(None) => break,
+                Err(fault) => return Err(fault.told()),
+            },
         }
     }
     match write_fleet(decoders, writer) {

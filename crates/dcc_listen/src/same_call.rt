@@ -4,10 +4,10 @@ ghost use Rattle.dcc_listen.specs.Compared.{Compares};
 ghost use Rattle.dcc_listen.specs.VerdictLine.{verdict_line as line_of};
 ghost use Rattle.dcc_io.specs.Written.{Writes};
 
-use crate::gathering::gather;
+use crate::in_step::compare_in_step;
 use crate::verdict_line::verdict_line;
 use dcc_io::{Failed, Input, Sink, Source, ToolFault, write_all};
-use dcc_order::{Verdict, compare};
+use dcc_order::Verdict;
 use dcc_regs::Who;
 use std::alloc::Global;
 
@@ -26,17 +26,9 @@ pub fn same<L: Source, R: Source, W: Sink>(
     ensures compares { Compares who left.old right.old (W.contents writer.old) (W.failures writer.old) result
         left.new right.new (W.contents writer.new) (W.failures writer.new) }
 {
-    let packets = match gather(alloc, left) {
-        Ok(packets) => packets,
-        Err(fault) => return Err(fault),
-    };
-    let others = match gather(alloc, right) {
-        Ok(packets) => packets,
-        Err(fault) => return Err(fault),
-    };
-    let verdict = match compare(alloc, who, packets.as_slice(), others.as_slice()) {
+    let verdict = match compare_in_step(alloc, left, right, who) {
         Ok(verdict) => verdict,
-        Err(_) => return Err(ToolFault::NoMemory),
+        Err(fault) => return Err(fault),
     };
     match write_verdict(writer, verdict) {
         Ok(()) => Ok(verdict),

@@ -1,14 +1,15 @@
 //! Whether the two captures of one input hold packets that are alike for a decoder.
-ghost use Rattle.std.specs.Prelude.{◌<◌, ◌^◌, IfOk, IfErr, length};
+ghost use Rattle.std.specs.Prelude.{List, IfOk, IfErr};
+ghost use Rattle.dcc_packet.specs.declared.packet.Packet.{Packet};
+ghost use Rattle.dcc_order.specs.Verdicts.{IsVerdict};
 ghost use Rattle.dcc_listen.specs.ComparedBoth.{ComparesBoth};
 ghost use Rattle.dcc_listen.specs.GatheredBoth.{BothFail, GatheredBoth};
 
 use crate::first_capture::gather_first;
-use crate::gathering::gather;
+use crate::in_step::compare_beside;
 use crate::same_call::write_verdict;
 use dcc_io::{Input, Sink, Source, ToolFault};
-use dcc_order::{Verdict, compare};
-use dcc_packet::Packet;
+use dcc_order::Verdict;
 use dcc_regs::Who;
 use std::alloc::Global;
 
@@ -27,13 +28,9 @@ pub fn same_input<R: Source, W: Sink>(
     ensures compares { ComparesBoth who input.old (W.contents writer.old) (W.failures writer.old) result
         input.new (W.contents writer.new) (W.failures writer.new) }
 {
-    let (packets, others) = match gather_both(alloc, input) {
-        Ok(both) => both,
-        Err(fault) => return Err(fault),
-    };
-    let verdict = match compare(alloc, who, packets.as_slice(), others.as_slice()) {
+    let verdict = match compare_both(alloc, input, who) {
         Ok(verdict) => verdict,
-        Err(_) => return Err(ToolFault::NoMemory),
+        Err(fault) => return Err(fault),
     };
     match write_verdict(writer, verdict) {
         Ok(()) => Ok(verdict),
@@ -41,21 +38,22 @@ pub fn same_input<R: Source, W: Sink>(
     }
 }
 
-/// Reads both captures to their ends, and holds their packets.
-fn gather_both<R: Source>(
+/// Reads both captures to their ends, and answers the verdict on their packets. Those of the first are held, since it comes
+/// before the second.
+fn compare_both<R: Source>(
     alloc: Global,
     input: &mut Input<R>,
-) -> Result<(Vec<Packet>, Vec<Packet>), ToolFault>
-    ensures gathers { IfOk result (λ both. GatheredBoth input.old both.0.items both.1.items input.new) }
-    ensures few { IfOk result (λ both. (length both.0.items < 2 ^ 32) × (length both.1.items < 2 ^ 32)) }
+    who: Who,
+) -> Result<Verdict, ToolFault>
+    ensures compared { IfOk result (λ verdict. (packets others : List Packet) × GatheredBoth input.old packets others input.new × IsVerdict who packets others verdict) }
     ensures fails { IfErr result (λ fault. BothFail input.old fault input.new) }
 {
     let packets = match gather_first(alloc, input) {
         Ok(packets) => packets,
         Err(fault) => return Err(fault),
     };
-    match gather(alloc, input) {
-        Ok(others) => Ok((packets, others)),
+    match compare_beside(alloc, packets.as_slice(), input, who) {
+        Ok(verdict) => Ok(verdict),
         Err(fault) => Err(fault),
     }
 }

@@ -1,11 +1,12 @@
 //! The listing of a capture.
-ghost use Rattle.std.specs.Prelude.{◌≡◌, ◌≢◌, ◌<◌, ◌+◌, ◌++◌, ◌⊎◌, ℕ, [], None, IfSome, OnOk};
+ghost use Rattle.std.specs.Prelude.{◌≡◌, ◌≢◌, ◌<◌, ◌+◌, ◌++◌, ◌⊎◌, ℕ, List, [], None, IfSome, OnOk};
 ghost use Rattle.dcc_wire.specs.Framing.{reported};
 ghost use Rattle.dcc_listen.specs.Held.{HoldsOrFails, HoldsListing, TakesRun, WritesRest};
 ghost use Rattle.dcc_io.specs.Faults.{as_tool_fault};
 ghost use Rattle.dcc_io.specs.InputState.{HasCause};
-ghost use Rattle.dcc_listen.specs.Shown.{Shows};
 ghost use Rattle.dcc_io.specs.Words.{ended_words};
+ghost use Rattle.dcc_listen.specs.Listing.{IsLine};
+ghost use Rattle.dcc_listen.specs.Shown.{Shows};
 
 use crate::held_lines::HeldLines;
 use crate::listing::outcome_line;
@@ -41,18 +42,28 @@ pub fn show<R: Source, W: Sink>(
     let mut framer = Framer::new();
     let mut held = HeldLines::new();
     'runs: loop {
-        match next_run(input, &mut held, writer) {
-            Ok(Ok(Some(run))) => {
-                let shown = framer.push_run(run.us, run.n);
-                let half = most - input.halves_left() - run.n + shown.at;
-                match hold_seen(&mut held, half, &shown.seen, words, writer) {
+        match input.half_at_hand() {
+            Some(us) => {
+                let seen = framer.push(us);
+                let half = most - input.halves_left();
+                match hold_seen(&mut held, half, &seen, words, writer) {
                     Ok(()) => (),
                     Err(_) => return Err(ToolFault::Write),
                 }
             }
-            Ok(Ok(None)) => return write_rest(&mut held, writer, Ok(())),
-            Ok(Err(fault)) => return write_rest(&mut held, writer, Err(fault.told())),
-            Err(_) => return Err(ToolFault::Write),
+            None => match next_run(input, &mut held, writer) {
+                Ok(Ok(Some(run))) => {
+                    let shown = framer.push_run(run.us, run.n);
+                    let half = most - input.halves_left() - run.n + shown.at;
+                    match hold_seen(&mut held, half, &shown.seen, words, writer) {
+                        Ok(()) => (),
+                        Err(_) => return Err(ToolFault::Write),
+                    }
+                }
+                Ok(Ok(None)) => return write_rest(&mut held, writer, Ok(())),
+                Ok(Err(fault)) => return write_rest(&mut held, writer, Err(fault.told())),
+                Err(_) => return Err(ToolFault::Write),
+            },
         }
     }
 }
@@ -67,9 +78,6 @@ fn next_run<R: Source, W: Sink>(
     ensures { TakesRun input.old (W.contents writer.old) (W.failures writer.old) held.old result input.new held.new
         (W.contents writer.new) (W.failures writer.new) }
 {
-    if let Some(us) = input.half_at_hand() {
-        return Ok(Ok(Some(Run { us, n: 1 })));
-    }
     match write_before_read(held, input, writer) {
         Ok(()) => Ok(input.read_run()),
         Err(failed) => Err(failed),
@@ -94,6 +102,7 @@ fn write_before_read<R: Source, W: Sink>(
 }
 
 /// Holds the line of what this half showed, if anything.
+#[inline(always)]
 #[tactic(auto, unfolding(dcc_wire::specs::Framing::reported))]
 fn hold_seen<W: Sink>(
     held: &mut HeldLines,
@@ -108,11 +117,23 @@ fn hold_seen<W: Sink>(
 {
     match seen {
         Seen::Nothing => Ok(()),
-        Seen::Packet(_) | Seen::Refused(_) => held.hold(
-            outcome_line(half, seen, words).as_slice(),
-            writer,
-        ),
+        Seen::Packet(_) | Seen::Refused(_) => hold_outcome(held, half, seen, words, writer),
     }
+}
+
+/// Holds the line of an outcome that this half showed.
+#[inline(never)]
+fn hold_outcome<W: Sink>(
+    held: &mut HeldLines,
+    half: u32,
+    seen: &Seen,
+    words: bool,
+    writer: &mut W,
+) -> Result<(), Failed>
+    ensures { (text : List ℕ) × IsLine words half seen.now text × HoldsOrFails (W.contents writer.old) (W.failures writer.old) (held.old ++ text) result held.new
+        (W.contents writer.new) (W.failures writer.new) }
+{
+    held.hold(outcome_line(half, seen, words).as_slice(), writer)
 }
 
 /// Writes what is still held, and then gives this answer, or that the write failed.

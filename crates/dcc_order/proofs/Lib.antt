@@ -13,3 +13,7 @@ pub mod MemberLaws
 pub mod NumberLaws
 pub mod OrderLaws
 pub mod TrackLemmas
+pub mod OneMorePacket
+pub mod SettledVerdicts
+pub mod HeldLaws
+pub mod ComparisonLaws

@@ -34,7 +34,7 @@ number-within (m ∷ members) p = by_case (not (same p m)) (number-within member
 pub stands_at : (members : List Packet) (p d : Packet) → number_of members p < length members → p ≡ get_or members (number_of members p) d
 stands_at members p d inside = (Decides-same p (get_or members (number_of members p) d)).0 (passes_at_first (same p) members d inside)
 
-place_contains : (members : List Packet) (p : Packet) → number_of members p < length members → Contains members p
+pub place_contains : (members : List Packet) (p : Packet) → number_of members p < length members → Contains members p
 place_contains members p inside = (number_of members p, inside, sym (stands_at members p p inside))
 
 -- one more packet that is a member already
@@ -50,12 +50,12 @@ known_member members block x are inside = record {
   once = are.once;
 }
 
-get-push_old : (members : List Packet) (x d : Packet) (k : ℕ) → k < length members → get_or (members ++ x ∷ []) k d ≡ get_or members k d
+pub get-push_old : (members : List Packet) (x d : Packet) (k : ℕ) → k < length members → get_or (members ++ x ∷ []) k d ≡ get_or members k d
 get-push_old [] x d k h = absurd (omega arith)
 get-push_old (m ∷ members) x d zero h = refl
 get-push_old (m ∷ members) x d (suc k) h = get-push_old members x d k (omega arith)
 
-get-push_new : (members : List Packet) (x d : Packet) (k : ℕ) → k ≡ length members → get_or (members ++ x ∷ []) k d ≡ x
+pub get-push_new : (members : List Packet) (x d : Packet) (k : ℕ) → k ≡ length members → get_or (members ++ x ∷ []) k d ≡ x
 get-push_new [] x d zero h = refl
 get-push_new [] x d (suc k) h = absurd (omega arith)
 get-push_new (m ∷ members) x d zero h = absurd (omega arith)

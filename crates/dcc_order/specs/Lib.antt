@@ -5,3 +5,9 @@ pub mod Laws
 pub mod Verdicts
 pub mod Members
 pub mod Turns
+pub mod OneMore
+pub mod GivenLists
+pub mod Held
+pub mod HeldPlaces
+pub mod Comparisons
+pub mod ComparisonSteps

@@ -1,5 +1,5 @@
 -- How two packets take turns in a block, in short: how many turns they take, and which has the last.
-use Rattle.std.specs.Prelude.{ℕ, ◌+◌, ◌||◌, ◌==◌, true, false, List, [], ◌∷◌, Option, Some, None, filter, fold, length, if◌then◌else◌}
+use Rattle.std.specs.Prelude.{ℕ, ◌+◌, ◌≡◌, ◌<◌, slice_index_or, ◌||◌, ◌==◌, true, false, List, [], ◌∷◌, Option, Some, None, filter, fold, length, if◌then◌else◌}
 use Rattle.dcc_packet.specs.declared.packet.Packet.{Packet}
 use Rattle.dcc_regs.specs.Result.{is_repeated}
 use Rattle.dcc_order.specs.declared.turns.Turns.{Turns}
@@ -40,3 +40,13 @@ with_turn own rival taken number =
 -- the packets of these numbers come in turn
 abbrev pub turns_of : ℕ → ℕ → List ℕ → Turns
 turns_of own rival numbers = fold (with_turn own rival) no_turns numbers
+
+-- one entry for each rival, before any turn
+pub record Started (turns : List Turns) (count : ℕ) : Type 0 where
+  pub each : length turns ≡ count
+  pub none : (rival : ℕ) (d : Turns) → rival < length turns → slice_index_or turns rival d ≡ no_turns
+
+-- one entry for each rival, with the turns of these numbers
+pub record Counted (turns : List Turns) (own count : ℕ) (numbers : List ℕ) : Type 0 where
+  pub each : length turns ≡ count
+  pub told : (rival : ℕ) (d : Turns) → rival < length turns → slice_index_or turns rival d ≡ turns_of own rival numbers

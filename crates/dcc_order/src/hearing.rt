@@ -2,7 +2,8 @@
 
 ghost use Rattle.std.specs.List.{AllZip};
 ghost use Rattle.std.specs.Prelude.{◌≡◌, ◌≢◌, ◌≤◌, ◌+◌, ◌-◌, ◌++◌, ◌∷◌, [], ℕ, List, length, replicate};
-ghost use Rattle.dcc_wire.specs.Framing.{StandsFor, reported, seen as seen_in};
+ghost use Rattle.dcc_wire.specs.Framing.{Hunting, StandsFor, reported, seen as seen_in};
+ghost use Rattle.dcc_wire.specs.Outcomes.{ones_left};
 ghost use Rattle.dcc_packet.specs.declared.packet.Packet.{Packet};
 ghost use Rattle.dcc_regs.specs.Result.{HasHeard, RegisterMap};
 ghost use Rattle.dcc_regs.specs.declared.register.Who.{Who};
@@ -14,6 +15,7 @@ use dcc_regs::Decoder;
 use dcc_wire::{Framer, RunSeen, Seen};
 
 /// Each member hears the packet that was seen, if one was.
+#[inline(always)]
 fn hear_seen<D: Decoder>(decoders: &mut [D], seen: &Seen)
     ensures hears { (packets : List Packet) → AreSpelled packets (frames_of seen.now) →
         AllZip (λ old now. HasHeard packets (D.who old) (D.registers old) (D.who now) (D.registers now)) decoders.old decoders.new }
@@ -28,7 +30,10 @@ fn hear_seen<D: Decoder>(decoders: &mut [D], seen: &Seen)
 
 /// A fleet hears a half of this many microseconds. Where a packet ends with it, each member hears
 /// that packet, and otherwise each stays as it is. The answer is that of the framer.
+#[inline(always)]
 pub fn hear<D: Decoder>(decoders: &mut [D], framer: &mut Framer, us: u16) -> Seen
+    ensures history { (halves : List ℕ) × StandsFor framer.old halves }
+    ensures hunts { result ≢ Seen.Nothing → framer.new ≡ Hunting (ones_left result) }
     ensures stands { (halves : List ℕ) → StandsFor framer.old halves → StandsFor framer.new (halves ++ us ∷ []) }
     ensures sees { (halves : List ℕ) → StandsFor framer.old halves →
         seen_in (halves ++ us ∷ []) ≡ seen_in halves ++ reported (length halves) result }
@@ -52,6 +57,7 @@ pub fn hear<D: Decoder>(decoders: &mut [D], framer: &mut Framer, us: u16) -> See
 /// A fleet hears n halves of this many microseconds, as n calls of [`hear`] would. At most one packet ends in them: where one
 /// does, each member hears it, and otherwise each stays as it is. The answer is that of the framer.
 pub fn hear_run<D: Decoder>(decoders: &mut [D], framer: &mut Framer, us: u16, n: u32) -> RunSeen
+    ensures history { (halves : List ℕ) × StandsFor framer.old halves }
     ensures stands { (halves : List ℕ) → StandsFor framer.old halves → StandsFor framer.new (halves ++ replicate n us) }
     ensures sees { (halves : List ℕ) → StandsFor framer.old halves →
         seen_in (halves ++ replicate n us) ≡ seen_in halves ++ reported (length halves + result.at - 1) result.seen }

@@ -5,6 +5,7 @@ ghost use Rattle.dcc_regs.specs.Result.{RegisterMap};
 ghost use Rattle.dcc_regs.specs.declared.register.Who.{Who};
 ghost use Rattle.dcc_order.specs.Hearing.{HasHeardHalves};
 ghost use Rattle.dcc_order.specs.HearingLaws.{AlikeHalves, AlikeHalvesLeaveTheSame, NoHalvesHeard, OneListOfPackets};
+ghost use Rattle.dcc_order.specs.OneMore.{FinishedBlocksStay, OneMorePacket};
 ghost use Rattle.dcc_order.specs.Laws.{AlikeListsAgreeAfterEachBlock, AlikeListsLeaveTheSame};
 
 use dcc_regs::Decoder;
@@ -43,4 +44,15 @@ pub fn decoders_that_heard_alike_halves_are_equal(left: &dyn Decoder, right: &dy
         HasHeardHalves halves own start (who left.now) (registers left.now) →
         HasHeardHalves others own start (who right.now) (registers right.now) →
         registers left.now ≡ registers right.now }
+{}
+
+/// One more packet that a decoder does not hear changes no block, nor does a write behind two copies of it. Any other write
+/// ends the last block, and any other packet joins it.
+pub fn one_more_packet()
+    ensures { OneMorePacket }
+{}
+
+/// Whatever packets follow, the blocks that a write has ended stay as they are.
+pub fn finished_blocks_stay()
+    ensures { FinishedBlocksStay }
 {}

@@ -3,24 +3,34 @@
 #![tactic(auto)]
 
 mod blocks;
+mod comparer;
 mod comparing;
+mod comparison;
 mod fleet;
 mod hearing;
+mod held_blocks;
+mod last_heard;
 pub mod laws;
 mod lists;
 mod members;
 mod no_memory;
 mod order;
+mod places;
 mod tracks;
 mod turns;
 mod verdict;
+mod wants;
 
+pub use comparer::Comparer;
 pub use comparing::compare;
 pub use hearing::{hear, hear_piece, hear_run};
 pub use no_memory::NoMemory;
 pub use tracks::{hear_track, hear_two_tracks};
 pub use verdict::Verdict;
+pub use wants::Wants;
 
+#[cfg(test)]
+mod comparer_tests;
 #[cfg(test)]
 mod hearing_tests;
 #[cfg(test)]

@@ -16,7 +16,7 @@ pub struct Turns {
 
 impl Turns {
     /// Before any turn.
-    fn none() -> Turns
+    pub fn none() -> Turns
         ensures { result ≡ no_turns }
     {
         Turns {
@@ -93,7 +93,7 @@ fn take_own_turn(turns: &mut [Turns])
 }
 
 /// The packet of this number comes.
-fn take_turn(turns: &mut [Turns], own: usize, number: usize)
+pub fn take_turn(turns: &mut [Turns], own: usize, number: usize)
     requires { (rival : ℕ) (d : Turns) → rival < length turns.old → (slice_index_or turns.old rival d).count < 2 ^ 64 - 1 }
     ensures { (rival : ℕ) (d : Turns) → rival < length turns.old → slice_index_or turns.new rival d ≡ with_turn own rival (slice_index_or turns.old rival d) number }
 {

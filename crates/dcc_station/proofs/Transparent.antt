@@ -13,6 +13,7 @@ use Rattle.dcc_regs.specs.declared.register.Register.TheVariants as Register'
 use Rattle.dcc_regs.specs.declared.register.Value.{Value}
 use Rattle.dcc_regs.specs.declared.register.Value.TheVariants.{Pending as PendingValue}
 use Rattle.dcc_regs.specs.declared.register.Who.{Who}
+use Rattle.dcc_regs.specs.declared.register.Who.TheVariants.{Loco}
 use Rattle.dcc_regs.specs.Writes.{is_own_write}
 use Rattle.dcc_regs.specs.Result.{RegisterMap}
 use Rattle.dcc_regs.specs.Heard.{hears, heard}
@@ -27,7 +28,7 @@ use Rattle.dcc_regs.proofs.Runs.{read, after-run, State, step, run, start, run-a
 use Rattle.dcc_station.specs.Sending.{Sending, copies, Displaces, Leaves, with_entry, Refreshes, HandsOut}
 use Rattle.dcc_station.specs.Commands.{is_refreshed}
 use Rattle.dcc_regs.specs.Writes.{writes_cv29}
-use Rattle.dcc_station.specs.Refresh.{StandsFor, made, accepts, hands_out, intended, RefreshIsTransparent, TransparentWhereNothingWaits}
+use Rattle.dcc_station.specs.Refresh.{StandsFor, made, accepts, hands_out, intended, RefreshIsTransparent, TransparentWhereNothingWaits, WaitingIsTheEnd}
 use Rattle.dcc_station.proofs.Tables.{refreshed_address, refreshed_is_no_write, mode_stays}
 use Rattle.dcc_regs.proofs.LawLemmas.{idle_is_unheard}
 use Rattle.dcc_station.proofs.Effects.{Core, core, same_core, effect, effects, effects-append, step_plain, step_pending, effect_after_first, effect_twice, effect_plain_own}
@@ -436,3 +437,9 @@ refresh_all s commands packets from none who m r other =
     none_sent zero waiting e progress = refl
     none_sent (suc sent) [] e progress = absurd progress
     none_sent (suc sent) (p ∷ rest) e progress = cc
+
+pub waiting_is_the_end : WaitingIsTheEnd
+waiting_is_the_end s commands packets from = (inv.done, inv.split)
+  where
+    inv : Invariant (Loco None) (λ r. None) s commands packets
+    inv = stands (Loco None) (λ r. None) s commands packets from

@@ -38,3 +38,7 @@ TransparentWhereNothingWaits = (s : Sending) (commands packets : List Packet) �
 -- where nothing waits, as many packets as there are entries are the entries in order, each once, and the station is as before
 abbrev pub EntriesAreHandedOutInTurn : Type 0
 EntriesAreHandedOutInTurn = (s new : Sending) (packets : List Packet) → s.waiting ≡ [] → length packets ≡ length s.entries → NextAll s packets new → (packets ≡ s.entries) × (new ≡ s)
+
+-- the commands that wait are the last of those that were accepted
+abbrev pub WaitingIsTheEnd : Type 0
+WaitingIsTheEnd = (s : Sending) (commands packets : List Packet) → StandsFor s commands packets → (done : List Packet) × (commands ≡ done ++ s.waiting)

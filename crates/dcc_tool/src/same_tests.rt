@@ -204,3 +204,19 @@ fn statuses(rt: HostRuntime) {
         assert_eq!(rt; exit_status(&Ok(Ending::Verdict(verdict))), status);
     }
 }
+
+#[test]
+fn packets_that_are_not_heard_take_no_memory(rt: HostRuntime) -> Result<(), Fail> {
+    let alloc = rt.alloc();
+    let written = Vec::with_capacity(alloc, 16)?;
+    let packet: &[u8] = b"58*28 100*14 58*4 100*4 58*4 100*6 58*2 100*6 58*4 100*8 58*4\n";
+    let mut first = Input::new(Counted::new(packet), Limits::full());
+    let mut second = Input::new(Counted::new(packet), Limits::full());
+    let mut writer = Counted::new(written);
+    let b13 = Who::Board(Board::new(13)?);
+    assert_eq!(rt;
+        same(alloc, &mut first, &mut second, &mut writer, b13),
+        Ok(Verdict::Alike)
+    );
+    Ok(())
+}

@@ -58,6 +58,7 @@ impl Framer {
     /// After an outcome the framer hunts, and the two halves of an end bit count towards the next
     /// preamble.
     #[tactic(auto, unfolding(crate::specs::Framing::StandsFor), using(crate::proofs::FramerSteps::pushes))]
+    #[inline(always)]
     pub fn push(&mut self, us: u16) -> Seen
         // For every list of halves that the framer stands for, of which there is at least one,
         ensures history { (durations : List ℕ) × StandsFor self.old durations }
@@ -73,6 +74,7 @@ impl Framer {
     }
 
     #[tactic(auto, unfolding(crate::specs::Steps::rest_after, crate::specs::Steps::answer_to, crate::specs::Steps::left_of, crate::specs::Steps::answer_of))]
+    #[inline(always)]
     fn take_half(&mut self, half: Half) -> Seen
         ensures history { (durations : List ℕ) × StandsFor self.old durations }
         ensures after { self.new ≡ rest_after self.old half }
@@ -81,7 +83,11 @@ impl Framer {
     {
         match &mut self.state {
             State::Hunting(ones) => {
-                self.state = hunt(*ones, half);
+                if begins_body(*ones, half) {
+                    self.state = State::InBody(OpenBody::new());
+                } else {
+                    *ones = counted(*ones, half);
+                }
                 Seen::Nothing
             }
             State::InBody(body) => {
@@ -116,21 +122,32 @@ impl Framer {
     }
 }
 
-ghost use Rattle.std.specs.Prelude.{◌≡◌};
-ghost use Rattle.dcc_wire.specs.Framing.{Hunting};
-ghost use Rattle.dcc_wire.specs.FramerState.{rest_of};
+ghost use Rattle.std.specs.Prelude.{◌≡◌, ◌∷◌, [], false, IsTrue};
+ghost use Rattle.dcc_wire.specs.Framing.{Hunting, InBody};
 ghost use Rattle.dcc_wire.specs.Steps.{rest_after};
-ghost use Rattle.dcc_wire.specs.Runs.{ones_after};
+ghost use Rattle.dcc_wire.specs.Runs.{IsQuiet, ones_after};
 
-/// Counts a half between bodies.
+/// Whether a half is the first one of a start bit, behind so many ones.
+#[inline(always)]
 #[tactic(auto, unfolding(crate::specs::Steps::rest_after))]
-fn hunt(ones: u8, half: Half) -> State
-    ensures { rest_of result ≡ rest_after (Hunting ones) half }
+fn begins_body(ones: u8, half: Half) -> bool
+    ensures yes { IsTrue result → rest_after (Hunting ones) half ≡ InBody (Half.Zero ∷ []) }
+    ensures no { (result ≡ false) → IsQuiet ones half }
 {
-    match half {
-        Half::One => State::Hunting(ones.saturating_add(1).min(20)),
-        Half::Zero if ones >= 20 => State::InBody(OpenBody::new()),
-        Half::Zero | Half::Bad => State::Hunting(0),
+    half == Half::Zero && ones >= 20
+}
+
+/// Counts a half that begins no body.
+#[inline(always)]
+#[tactic(auto, unfolding(crate::specs::Steps::rest_after))]
+fn counted(ones: u8, half: Half) -> u8
+    requires { IsQuiet ones half }
+    ensures { Hunting result ≡ rest_after (Hunting ones) half }
+{
+    if half == Half::One {
+        ones.saturating_add(1).min(20)
+    } else {
+        0
     }
 }
 

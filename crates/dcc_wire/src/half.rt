@@ -28,13 +28,14 @@ impl Half {
     }
 
     /// The bit that it is half of.
+    #[inline(always)]
     pub(crate) fn bit(self) -> Option<bool>
         ensures { result ≡ bit_of self }
     {
-        match self {
-            Half::One => Some(true),
-            Half::Zero => Some(false),
-            Half::Bad => None,
+        if self == Half::Bad {
+            None
+        } else {
+            Some(self == Half::One)
         }
     }
 }

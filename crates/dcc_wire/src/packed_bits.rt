@@ -50,6 +50,7 @@ impl PackedBits {
     }
 
     /// Adds a bit, unless it closes the bytes.
+    #[inline(always)]
     pub fn push(&mut self, bit: bool) -> Seen
         ensures answer { result ≡ answer_of (option_map by_bits (bytes_in 6 (self.old ++ bit ∷ []))) }
         ensures added { result ≡ Seen.Nothing → self.new ≡ self.old ++ bit ∷ [] }

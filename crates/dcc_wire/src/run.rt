@@ -20,6 +20,7 @@ impl Framer {
     ///
     /// However many halves there are, only those of one body are taken one by one, 110 at most: where
     /// no such half begins a body, the rest changes but the number of ones.
+    #[inline(always)]
     pub fn push_run(&mut self, us: u16, n: u32) -> RunSeen
         // For every list of halves that the framer stands for, of which there is at least one,
         ensures history { (durations : List ℕ) × StandsFor self.old durations }

@@ -1,4 +1,4 @@
-use Rattle.dcc_listen.proofs.GatherLemmas.{Gathering}
+use Rattle.dcc_listen.specs.Taking.{Gathering}
 use Rattle.dcc_listen.proofs.gathering.gather.Given as goal
 
 abbrev pub invariant-runs : goal.invariant-runs

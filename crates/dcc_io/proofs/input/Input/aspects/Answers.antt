@@ -1,13 +1,14 @@
 use Rattle.std.proofs.Common.{ap, ◌∙◌}
 use Rattle.dcc_packet.specs.Words.{words}
 use Rattle.dcc_io.specs.DecoderLines.{aspects_line}
+use Rattle.dcc_io.proofs.BlankLines.{blank_aspects}
 use Rattle.dcc_io.proofs.ReadLemmas.{line-judged, line-missed}
 use Rattle.dcc_io.proofs.input.Input.aspects.Goals as goal
 
 pub returns-in-Ok : goal.returns-in-Ok
 returns-in-Ok g c =
     let read = c.aspects_line.ensures ∙ ap (λ bytes. aspects_line (words bytes)) (c.as_bytes.ensures.value ∙ c.deref.ensures.0) in
-    line-judged aspects_line c.args.self.now c.line_in_place.new.self c.judge.new.self c.in-Ok.line.number c.in-Ok.line.text.bytes c.judge.result c.in-Ok.ensures (rw read at c.judge.ensures)
+    line-judged aspects_line blank_aspects c.args.self.now c.line_in_place.new.self c.judge.new.self c.in-Ok.line.number c.in-Ok.line.text.bytes c.judge.result c.in-Ok.ensures (rw read at c.judge.ensures)
 
 pub returns-in-Err : goal.returns-in-Err
 returns-in-Err g c = line-missed aspects_line c.args.self.now c.line_in_place.new.self c.in-Err.fault c.in-Err.ensures

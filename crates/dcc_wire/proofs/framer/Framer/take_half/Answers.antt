@@ -11,7 +11,12 @@ use Rattle.dcc_wire.proofs.framer.Framer.take_half.Goals as goal
 pub invariant_of-self : goal.invariant_of-self
 invariant_of-self c =
     let before : HasHistory (Hunting c.in-Hunting.ones) = subst HasHistory (ap rest_of c.in-Hunting.is) c.self.invariant in
-    subst HasHistory (sym c.hunt-self-inside.ensures) (history_more (Hunting c.in-Hunting.ones) c.args.half before)
+    subst HasHistory (c.begins_body.ensures.yes c.if-begins_body.true ∙ ap InBody (sym c.new.ensures)) (history_more (Hunting c.in-Hunting.ones) c.args.half before)
+
+pub invariant_of-self-else-begins_body : goal.invariant_of-self-else-begins_body
+invariant_of-self-else-begins_body c =
+    let before : HasHistory (Hunting c.in-Hunting.ones) = subst HasHistory (ap rest_of c.in-Hunting.is) c.self.invariant in
+    subst HasHistory (sym c.counted.ensures) (history_more (Hunting c.in-Hunting.ones) c.args.half before)
 
 pub invariant_of-self-then-not-is_nothing : goal.invariant_of-self-then-not-is_nothing
 unfolding rest_after

@@ -1,0 +1,64 @@
+//! The packets of a capture, taken one by one.
+ghost use Rattle.std.specs.Prelude.{◌≡◌, ◌<◌, ◌≤◌, ◌+◌, List, None, IfOk, length};
+ghost use Rattle.std.specs.Option.{option_to_list};
+ghost use Rattle.dcc_packet.specs.declared.packet.Packet.{Packet};
+ghost use Rattle.dcc_order.specs.Hearing.{AreSpelled, frames_of};
+ghost use Rattle.dcc_io.specs.InputState.{InputState};
+ghost use Rattle.dcc_listen.specs.Taking.{Gathering, PassesRest, TakesPacket};
+
+use dcc_io::{Input, KeptFault, Source};
+use dcc_packet::Packet;
+use dcc_wire::{Framer, Seen};
+
+/// Reads on up to the next packet, or to the end.
+pub(crate) fn next_packet<R: Source>(
+    input: &mut Input<R>,
+    framer: &mut Framer,
+) -> Result<Option<Packet>, KeptFault>
+    requires { input.old.fault ≡ None }
+    ensures takes { (start : InputState) (packets : List Packet) → start.fault ≡ None → Gathering start input.old framer.old packets → TakesPacket start packets result input.new framer.new }
+    ensures fault { IfOk result (λ _. input.new.fault ≡ None) }
+    ensures bytes { IfOk result (λ item. input.new.bytes + length (option_to_list item) ≤ input.old.bytes) }
+{
+    'runs: loop {
+        match input.next_run() {
+            Ok(Some(run)) => {
+                let shown = framer.push_run(run.us, run.n);
+                match packet_in(&shown.seen) {
+                    Some(packet) => return Ok(Some(packet)),
+                    None => (),
+                }
+            }
+            Ok(None) => return Ok(None),
+            Err(fault) => return Err(fault),
+        }
+    }
+}
+
+/// The packet that some halves showed, if they showed one.
+fn packet_in(seen: &Seen) -> Option<Packet>
+    ensures { AreSpelled (option_to_list result) (frames_of seen.now) }
+{
+    match seen {
+        Seen::Packet(frame) => Some(Packet::read(frame)),
+        Seen::Nothing => None,
+        Seen::Refused(_) => None,
+    }
+}
+
+/// Reads the rest of a capture.
+pub(crate) fn pass_rest<R: Source>(
+    input: &mut Input<R>,
+    framer: &mut Framer,
+) -> Result<(), KeptFault>
+    requires { input.old.fault ≡ None }
+    ensures { (start : InputState) (packets : List Packet) → start.fault ≡ None → Gathering start input.old framer.old packets → PassesRest start packets result input.new }
+{
+    'packets: loop {
+        match next_packet(input, framer) {
+            Ok(Some(_)) => (),
+            Ok(None) => return Ok(()),
+            Err(fault) => return Err(fault),
+        }
+    }
+}
