@@ -5,8 +5,6 @@
 mod buffered;
 mod decoder_line;
 mod decoder_text;
-#[cfg(test)]
-mod decoder_text_tests;
 mod decoder_words;
 mod digits;
 mod fault;
@@ -17,8 +15,6 @@ mod saved_decoders;
 mod stream;
 mod text;
 mod text_line;
-#[cfg(test)]
-mod who_tests;
 mod who_word;
 mod word;
 mod writing;

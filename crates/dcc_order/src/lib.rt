@@ -28,12 +28,3 @@ pub use no_memory::NoMemory;
 pub use tracks::{hear_track, hear_two_tracks};
 pub use verdict::Verdict;
 pub use wants::Wants;
-
-#[cfg(test)]
-mod comparer_tests;
-#[cfg(test)]
-mod hearing_tests;
-#[cfg(test)]
-mod tests;
-#[cfg(test)]
-mod track_tests;

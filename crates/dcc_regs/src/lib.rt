@@ -39,18 +39,3 @@ pub use packed_loco::PackedLoco;
 pub use register::{Register, Speed, SpeedMode, Value, Who};
 pub use same::same_registers;
 pub use writes::is_own_write;
-
-#[cfg(test)]
-mod address_tests;
-#[cfg(test)]
-mod board_tests;
-#[cfg(test)]
-mod examples;
-#[cfg(test)]
-mod loco_tests;
-#[cfg(test)]
-mod packed_tests;
-#[cfg(test)]
-mod restore_tests;
-#[cfg(test)]
-mod tests;

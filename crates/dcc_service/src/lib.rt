@@ -17,6 +17,3 @@ pub use decoder::ServiceDecoder;
 pub use packet::ServicePacket;
 pub use question::{ask, question_frames};
 pub use reader::{CvReader, Reading};
-
-#[cfg(test)]
-mod tests;

@@ -9,6 +9,3 @@ mod station;
 
 pub use fault::{Refused, StationFault};
 pub use station::Station;
-
-#[cfg(test)]
-mod tests;

@@ -16,7 +16,4 @@ pub mod FramerSteps
 pub mod RunLemmas
 pub mod ErrorByte
 pub mod SeenLemmas
-pub mod PlainHalves
-pub mod PlainBytes
-pub mod PlainFraming
 pub mod Rows

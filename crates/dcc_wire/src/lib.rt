@@ -5,10 +5,6 @@
 #![tactic(auto)]
 
 mod bytes;
-#[cfg(test)]
-mod collected;
-#[cfg(test)]
-mod collected_tests;
 mod fault;
 mod frame;
 mod framer;
@@ -17,13 +13,7 @@ mod halves;
 pub mod laws;
 mod open_body;
 mod packed_bits;
-#[cfg(test)]
-mod plain;
 mod run;
-#[cfg(test)]
-mod run_tests;
-#[cfg(test)]
-mod tests;
 mod timing;
 
 pub use fault::{Body, Fault, Seen};

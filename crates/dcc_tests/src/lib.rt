@@ -1,0 +1,43 @@
+//! Worked examples and hostile tracks: tests of what the crates below `dcc_tool` give out. It has no items of its own.
+#![tactic(auto)]
+
+#[cfg(test)]
+mod io_decoder_text_tests;
+#[cfg(test)]
+mod io_who_tests;
+#[cfg(test)]
+mod order_comparer_tests;
+#[cfg(test)]
+mod order_hearing_tests;
+#[cfg(test)]
+mod order_track_tests;
+#[cfg(test)]
+mod order_verdict_tests;
+#[cfg(test)]
+mod packet_tests;
+#[cfg(test)]
+mod plain;
+#[cfg(test)]
+mod regs_address_tests;
+#[cfg(test)]
+mod regs_board_tests;
+#[cfg(test)]
+mod regs_examples;
+#[cfg(test)]
+mod regs_loco_tests;
+#[cfg(test)]
+mod regs_packed_tests;
+#[cfg(test)]
+mod regs_restore_tests;
+#[cfg(test)]
+mod regs_tests;
+#[cfg(test)]
+mod service_tests;
+#[cfg(test)]
+mod station_tests;
+#[cfg(test)]
+mod wire_noise_tests;
+#[cfg(test)]
+mod wire_run_tests;
+#[cfg(test)]
+mod wire_tests;

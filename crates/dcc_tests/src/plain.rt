@@ -1,0 +1,154 @@
+//! What a list of halves shows, by a plain and slow program over the whole list, to compare the framer with.
+
+use dcc_wire::{Fault, Half, Seen};
+use std::alloc::{AllocError, Global};
+
+/// An outcome: the number of its refusal, 0 for a packet, and the bytes that are told with it.
+#[derive(Clone, Copy, Debug, PartialEq, Eq)]
+pub struct Outcome {
+    refusal: u8,
+    bytes: [u8; 6],
+    len: usize,
+}
+
+impl Outcome {
+    /// The outcome that a framer answered.
+    pub fn of(seen: &Seen) -> Option<Outcome> {
+        match seen {
+            Seen::Nothing => None,
+            Seen::Packet(frame) => Some(Outcome::with_bytes(0, frame.bytes())),
+            Seen::Refused(Fault::ErrorByte(body)) => Some(Outcome::with_bytes(5, body.bytes())),
+            Seen::Refused(fault) => Some(Outcome::refused(fault.number())),
+        }
+    }
+
+    fn refused(refusal: u8) -> Outcome {
+        Outcome {
+            refusal,
+            bytes: [0; 6],
+            len: 0,
+        }
+    }
+
+    fn with_bytes(refusal: u8, told: &[u8]) -> Outcome {
+        let mut bytes = [0; 6];
+        for (byte, from) in bytes.iter_mut().zip(told) {
+            *byte = *from;
+        }
+        Outcome {
+            refusal,
+            bytes,
+            len: told.len(),
+        }
+    }
+
+    /// What so many bytes come to where an end bit follows them.
+    fn closed(bytes: [u8; 6], len: usize) -> Outcome {
+        if len < 3 {
+            return Outcome::refused(3);
+        }
+        let mut xor = 0;
+        for byte in bytes {
+            xor ^= byte;
+        }
+        Outcome {
+            refusal: if xor == 0 { 0 } else { 5 },
+            bytes,
+            len,
+        }
+    }
+
+    /// The halves of its end bit, which count for the next preamble too.
+    fn end_halves(&self) -> usize {
+        match self.refusal {
+            0 | 3 | 5 => 2,
+            _ => 0,
+        }
+    }
+}
+
+/// The outcomes in a list of durations, each with the number of its last half, from 1.
+pub fn outcomes(
+    alloc: Global,
+    durations: &[u16],
+) -> Result<Vec<(usize, Outcome)>, AllocError> {
+    let mut outcomes = Vec::new(alloc);
+    let mut unused = 0;
+    for place in 0..durations.len() {
+        if place >= unused && begins_body(&durations[unused..place], durations[place]) {
+            match body(&durations[place..]) {
+                None => unused = durations.len(),
+                Some((n, outcome)) => {
+                    let number = place.saturating_add(n);
+                    unused = number.saturating_sub(outcome.end_halves());
+                    outcomes.push((number, outcome))?;
+                }
+            }
+        }
+    }
+    Ok(outcomes)
+}
+
+/// Whether a half is a zero directly behind twenty ones.
+fn begins_body(before: &[u16], us: u16) -> bool {
+    let ones = before
+        .iter()
+        .rev()
+        .take_while(|us| Half::of(**us) == Half::One)
+        .count();
+    Half::of(us) == Half::Zero && ones >= 20
+}
+
+/// What stands where a bit is wanted.
+enum Pair {
+    Bit(bool),
+    /// The first or the second half is bad.
+    Bad(usize),
+    Split,
+    Cut,
+}
+
+fn pair(halves: &[u16], at: usize) -> Pair {
+    let first = match halves.get(at) {
+        None => return Pair::Cut,
+        Some(us) => Half::of(*us),
+    };
+    if first == Half::Bad {
+        return Pair::Bad(1);
+    }
+    let second = match halves.get(at.saturating_add(1)) {
+        None => return Pair::Cut,
+        Some(us) => Half::of(*us),
+    };
+    if second == Half::Bad {
+        return Pair::Bad(2);
+    }
+    if first == second {
+        Pair::Bit(first == Half::One)
+    } else {
+        Pair::Split
+    }
+}
+
+/// The outcome of a body that begins with the first of these halves, and how many of them it takes.
+fn body(halves: &[u16]) -> Option<(usize, Outcome)> {
+    let mut bytes = [0u8; 6];
+    for number in 0..55usize {
+        let at = 2 * number;
+        let bit = match pair(halves, at) {
+            Pair::Bit(bit) => bit,
+            Pair::Bad(n) => return Some((at.saturating_add(n), Outcome::refused(1))),
+            Pair::Split => return Some((at + 2, Outcome::refused(2))),
+            Pair::Cut => return None,
+        };
+        let len = number / 9;
+        if number % 9 == 0 {
+            if bit {
+                return Some((at + 2, Outcome::closed(bytes, len)));
+            }
+        } else if let Some(byte) = bytes.get_mut(len) {
+            *byte = byte.wrapping_mul(2) | u8::from(bit);
+        }
+    }
+    Some((110, Outcome::refused(4)))
+}

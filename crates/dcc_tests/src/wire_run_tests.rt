@@ -1,0 +1,163 @@
+//! Runs of halves: worked rows, and runs compared with their halves one by one.
+
+use dcc_wire::{Fault, Frame, Framer, Halves, RunSeen, Seen, Timing};
+use std::process::Abort;
+use std::test::Fail;
+
+/// A framer that was given these runs, each as a duration and a number of halves.
+fn framer_behind(runs: &[(u16, u32)]) -> Framer {
+    let mut framer = Framer::new();
+    for (us, n) in runs {
+        framer.push_run(*us, *n);
+    }
+    framer
+}
+
+/// Asserts what a framer answers to a run behind these runs.
+fn shows(rt: &impl Abort, runs: &[(u16, u32)], us: u16, n: u32, want: &RunSeen) {
+    let mut framer = framer_behind(runs);
+    assert_eq!(rt; framer.push_run(us, n), *want, "{us} {n}");
+}
+
+/// A run that shows nothing.
+fn nothing(n: u32) -> RunSeen {
+    RunSeen {
+        seen: Seen::Nothing,
+        at: n,
+    }
+}
+
+/// A run that shows a refusal.
+fn refused(fault: Fault, at: u32) -> RunSeen {
+    RunSeen {
+        seen: Seen::Refused(fault),
+        at,
+    }
+}
+
+#[test]
+fn a_run_that_ends_no_body_shows_nothing(rt: HostRuntime) {
+    shows(&rt, &[], 58, 4_294_967_295, &nothing(4_294_967_295));
+    shows(&rt, &[], 100, 4_294_967_295, &nothing(4_294_967_295));
+    shows(&rt, &[], 58, 0, &nothing(0));
+    shows(&rt, &[(58, 28)], 100, 0, &nothing(0));
+    shows(&rt, &[(58, 28)], 100, 109, &nothing(109));
+}
+
+#[test]
+fn a_run_shows_a_refusal_at_the_number_of_its_half(rt: HostRuntime) {
+    let too_long = refused(Fault::TooLong, 110);
+    shows(&rt, &[(58, 28)], 100, 110, &too_long);
+    shows(&rt, &[(58, 28)], 100, 1000, &too_long);
+    shows(&rt, &[(58, 28)], 100, 4_294_967_295, &too_long);
+    shows(
+        &rt,
+        &[(58, 28), (100, 2)],
+        70,
+        3,
+        &refused(Fault::BadHalf, 1),
+    );
+    shows(
+        &rt,
+        &[(58, 28), (100, 1)],
+        58,
+        50,
+        &refused(Fault::SplitBit, 1),
+    );
+    shows(
+        &rt,
+        &[(58, 28), (100, 18)],
+        58,
+        50,
+        &refused(Fault::TooShort, 2),
+    );
+}
+
+/// The runs of `03 62 61` in the timing of the main track.
+const SPEED_STEP_1: [(u16, u32); 11] = [
+    (58, 28),
+    (100, 14),
+    (58, 4),
+    (100, 4),
+    (58, 4),
+    (100, 6),
+    (58, 2),
+    (100, 6),
+    (58, 4),
+    (100, 8),
+    (58, 4),
+];
+
+#[test]
+fn a_packet_may_come_in_runs(rt: HostRuntime) -> Result<(), Fail> {
+    let mut framer = Framer::new();
+    let mut last = RunSeen {
+        seen: Seen::Nothing,
+        at: 0,
+    };
+    for (us, n) in SPEED_STEP_1 {
+        assert!(rt; last.seen.is_nothing());
+        last = framer.push_run(us, n);
+    }
+    let seen = Seen::Packet(Frame::of(&[3, 0x62, 0x61])?);
+    assert_eq!(rt; last, RunSeen { seen, at: 4 });
+    Ok(())
+}
+
+#[test]
+fn ones_behind_the_end_bit_of_a_run_are_counted(rt: HostRuntime) -> Result<(), Fail> {
+    for (n, last) in [(21, false), (22, true), (1000, true)] {
+        let mut framer = framer_behind(&SPEED_STEP_1[..10]);
+        // four ones end the packet, two of them its end bit
+        let run = framer.push_run(58, n);
+        assert_eq!(rt; run.at, 4);
+        assert!(rt; !run.seen.is_nothing());
+        framer.push_run(100, 1);
+        let split = framer.push_run(58, 1);
+        assert_eq!(rt; !split.seen.is_nothing(), last, "{n}");
+    }
+    Ok(())
+}
+
+/// A run as single halves.
+fn push_one_by_one(rt: &impl Abort, framer: &mut Framer, us: u16, n: u32) -> RunSeen {
+    let mut shown = RunSeen {
+        seen: Seen::Nothing,
+        at: n,
+    };
+    for i in 0..n {
+        let seen = framer.push(us);
+        if !seen.is_nothing() {
+            assert!(rt; shown.seen.is_nothing());
+            shown = RunSeen { seen, at: i + 1 };
+        }
+    }
+    shown
+}
+
+#[test]
+fn a_run_shows_what_its_halves_show_one_by_one(rt: HostRuntime) -> Result<(), Fail> {
+    let frame = Frame::of(&[3, 0x62, 0x61])?;
+    for cut in [0, 1, 19, 20, 27, 28, 29, 30, 45, 46, 47, 81, 82, 83, 84] {
+        for us in [58, 100, 70] {
+            for n in [0, 1, 2, 3, 18, 20, 75, 140] {
+                let mut in_runs = Framer::new();
+                let mut one_by_one = Framer::new();
+                for half in Halves::new(frame, Timing::main()).take(cut) {
+                    in_runs.push(half);
+                    one_by_one.push(half);
+                }
+                assert_eq!(rt;
+                    in_runs.push_run(us, n),
+                    push_one_by_one(&rt, &mut one_by_one, us, n),
+                    "{n} of {us} behind {cut}"
+                );
+                // a packet behind the run is seen by both or by none
+                for half in Halves::new(frame, Timing::main()) {
+                    assert_eq!(rt; in_runs.push(half), one_by_one.push(half));
+                }
+            }
+        }
+    }
+    Ok(())
+}
