@@ -7,14 +7,14 @@ use Rattle.dcc_packet.specs.declared.cv.BitPlace.{BitPlace}
 use Rattle.dcc_packet.specs.declared.functions.Group.{Group}
 use Rattle.dcc_packet.specs.declared.functions.Group.TheVariants.{F0, F5, F9}
 use Rattle.dcc_packet.specs.declared.instruction.What.{What}
-use Rattle.dcc_packet.specs.declared.instruction.What.TheVariants.{Reset, Speed28, Speed128, Functions, CvWrite, CvVerify, CvBitWrite, CvBitVerify}
+use Rattle.dcc_packet.specs.declared.instruction.What.TheVariants.{Reset, Speed28, Speed128, Functions, BinaryState, CvWrite, CvVerify, CvBitWrite, CvBitVerify}
 use Rattle.dcc_packet.specs.Group.{group_max}
 use Rattle.dcc_packet.specs.Rows.{bit, function_bytes, cv_bytes, instruction_bytes, loco_bytes, idle_bytes, accessory_bytes, signal_bytes}
 use Rattle.dcc_packet.specs.declared.packet.Packet.{Packet}
 use Rattle.dcc_packet.specs.declared.packet.Packet.TheVariants.{Idle, Loco, Accessory, Signal, Other}
 use Rattle.dcc_packet.specs.Spelling.{spelling}
 use Rattle.dcc_packet.proofs.FrameParts.{same_bytes}
-use Rattle.dcc_packet.proofs.Same.{bit_below, same_bit, same_short, same_long, same_board, same_output, same_signal, same_cv, same_place, same_speed28, same_speed128, same_functions, same_other}
+use Rattle.dcc_packet.proofs.Same.{bit_below, same_bit, same_short, same_long, same_board, same_output, same_signal, same_cv, same_place, same_speed28, same_speed128, same_functions, same_state, same_other}
 
 one_group : (g k : Group) (a b : ℕ) → a ≤ group_max g → b ≤ group_max k → function_bytes g a ≡ function_bytes k b → (g ≡ k) × (a ≡ b)
 one_group g k a b fits_a fits_b e = grind arith
@@ -41,6 +41,7 @@ from Reset = 0
 from (Speed28 f b) = 64
 from (Speed128 f b) = 63
 from (Functions b) = 128
+from (BinaryState n b) = 221
 from (CvWrite c x) = 236
 from (CvVerify c x) = 228
 from (CvBitWrite c p b) = 232
@@ -51,6 +52,7 @@ to Reset = 1
 to (Speed28 f b) = 128
 to (Speed128 f b) = 64
 to (Functions b) = 224
+to (BinaryState n b) = 222
 to (CvWrite c x) = 240
 to (CvVerify c x) = 232
 to (CvBitWrite c p b) = 236
@@ -62,9 +64,17 @@ leads_group F5 b h = (omega arith, omega arith)
 leads_group F9 b h = (omega arith, omega arith)
 leads_group g b h = (omega arith, omega arith)
 
+-- 221 is the byte of binary states, and of no group
+no_group_leads_states : (g : Group) (b : ℕ) → b ≤ group_max g → ¬ (head (function_bytes g b) ≡ 221)
+no_group_leads_states F0 b h e = absurd (omega arith)
+no_group_leads_states F5 b h e = absurd (omega arith)
+no_group_leads_states F9 b h e = absurd (omega arith)
+no_group_leads_states g b h e = absurd (grind arith)
+
 leads : (w : What) → (from w ≤ head (instruction_bytes w)) × (head (instruction_bytes w) < to w)
 leads (Functions b) = leads_group b.group b.bits b.in_range
 leads (Speed28 f b) = (omega arith, omega (arith, bit_below f))
+leads (BinaryState n b) = (omega arith, omega arith)
 leads Reset = (omega arith, omega arith)
 leads (Speed128 f b) = (omega arith, omega arith)
 leads (CvWrite c x) = (omega arith, omega arith)
@@ -91,6 +101,15 @@ one_what (Speed128 f b) (Speed128 g c) e =
 one_what (Functions a) (Functions b) e =
     let same = one_group a.group b.group a.bits b.bits a.in_range b.in_range e in
     ap Functions (same_functions a b same.0 same.1)
+one_what (BinaryState n a) (BinaryState m b) e =
+    let byte : 128 * bit a + n.number ≡ 128 * bit b + m.number = cc in
+    let below_a = bit_below a in
+    let below_b = bit_below b in
+    let on : a ≡ b = same_bit a b (omega arith) in
+    let number : n ≡ m = same_state n m (omega arith) in
+    cc
+one_what (Functions f) (BinaryState n a) e = absurd (no_group_leads_states f.group f.bits f.in_range (ap head e))
+one_what (BinaryState n a) (Functions f) e = absurd (no_group_leads_states f.group f.bits f.in_range (sym (ap head e)))
 one_what (CvWrite c x) (CvWrite d y) e = let same = one_cv 0xEC c d x y e in cc
 one_what (CvVerify c x) (CvVerify d y) e = let same = one_cv 0xE4 c d x y e in cc
 one_what (CvBitWrite c p a) (CvBitWrite d q b) e =

@@ -7,8 +7,9 @@ use Rattle.dcc_packet.specs.declared.fault.PacketFault.{PacketFault}
 use Rattle.dcc_packet.specs.Words.{words}
 use Rattle.dcc_packet.specs.declared.address.Address.{Address}
 use Rattle.dcc_packet.specs.declared.instruction.What.{What}
-use Rattle.dcc_packet.specs.declared.instruction.What.TheVariants.{Reset, Speed28, Speed128, Functions, CvWrite, CvVerify, CvBitWrite, CvBitVerify}
+use Rattle.dcc_packet.specs.declared.instruction.What.TheVariants.{Reset, Speed28, Speed128, Functions, BinaryState, CvWrite, CvVerify, CvBitWrite, CvBitVerify}
 use Rattle.dcc_packet.specs.declared.functions.GroupBits.{GroupBits}
+use Rattle.dcc_packet.specs.declared.state.StateNumber.{StateNumber}
 use Rattle.dcc_packet.specs.declared.cv.CvNumber.{CvNumber}
 use Rattle.dcc_packet.specs.declared.cv.BitPlace.{BitPlace}
 use Rattle.dcc_packet.specs.declared.speed.SpeedBits128.{SpeedBits128}
@@ -20,11 +21,11 @@ use Rattle.dcc_packet.specs.declared.packet.Packet.TheVariants.{Idle, Loco, Acce
 use Rattle.dcc_packet.specs.declared.speed.SpeedBits28.{SpeedBits28}
 use Rattle.dcc_packet.specs.Written.{written_line, written_words, address_word, switch_word, instruction_words}
 use Rattle.dcc_packet.specs.Spelling.{BytesFit, ValueFits}
-use Rattle.dcc_packet.specs.Line.{idle, accessory, signal, frame, reset, speed28, speed128, functions, cv_value, cv_bit, cv_access, cv_write, cv_verify, cv_bit_write, cv_bit_verify, instruction, loco, spelled, said, Says}
+use Rattle.dcc_packet.specs.Line.{idle, accessory, signal, frame, reset, speed28, speed128, functions, binary_state, cv_value, cv_bit, cv_access, cv_write, cv_verify, cv_bit_write, cv_bit_verify, instruction, loco, spelled, said, Says}
 use Rattle.dcc_packet.specs.Spelling.{spelling}
 use Rattle.dcc_packet.proofs.OneSpelling.{one_packet}
 use Rattle.dcc_packet.proofs.WrittenWords.{written_are_words}
-use Rattle.dcc_packet.proofs.WordsBack.{address_back, direction_back, speed28_bits_back, speed128_bits_back, group_back, group_bits_back, cv_back, place_back, state_back, switch_back, board_back, output_back, signal_back, hex_back, small_number-decimal}
+use Rattle.dcc_packet.proofs.WordsBack.{address_back, direction_back, speed28_bits_back, speed128_bits_back, group_back, group_bits_back, state_number_back, cv_back, place_back, state_back, switch_back, board_back, output_back, signal_back, hex_back, small_number-decimal}
 
 reset_back : instruction (instruction_words Reset) ≡ Ok Reset
 unfolding instruction reset
@@ -41,6 +42,10 @@ speed128_back forward speed = rw (direction_back forward, speed128_bits_back spe
 functions_back : (f : GroupBits) → instruction (instruction_words (Functions f)) ≡ Ok (Functions f)
 unfolding instruction functions
 functions_back f = rw (group_back f.group, group_bits_back f) refl
+
+binary_state_back : (n : StateNumber) (on : Bool) → instruction (instruction_words (BinaryState n on)) ≡ Ok (BinaryState n on)
+unfolding instruction binary_state
+binary_state_back n on = rw (state_number_back n, switch_back on) refl
 
 cv_write_back : (cv : CvNumber) (value : ℕ) → value < 256 → instruction (instruction_words (CvWrite cv value)) ≡ Ok (CvWrite cv value)
 unfolding instruction cv_access cv_write cv_value
@@ -64,6 +69,7 @@ what_back Reset h = reset_back
 what_back (Speed28 f b) h = speed28_back f b
 what_back (Speed128 f b) h = speed128_back f b
 what_back (Functions b) h = functions_back b
+what_back (BinaryState n b) h = binary_state_back n b
 what_back (CvWrite c v) h = cv_write_back c v h
 what_back (CvVerify c v) h = cv_verify_back c v h
 what_back (CvBitWrite c p b) h = cv_bit_write_back c p b

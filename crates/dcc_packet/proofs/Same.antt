@@ -13,6 +13,7 @@ use Rattle.dcc_packet.specs.declared.speed.SpeedBits28.{SpeedBits28}
 use Rattle.dcc_packet.specs.declared.speed.SpeedBits128.{SpeedBits128}
 use Rattle.dcc_packet.specs.declared.functions.Group.{Group}
 use Rattle.dcc_packet.specs.declared.functions.GroupBits.{GroupBits}
+use Rattle.dcc_packet.specs.declared.state.StateNumber.{StateNumber}
 use Rattle.dcc_packet.specs.declared.packet.OtherFrame.{OtherFrame}
 use Rattle.dcc_packet.specs.Group.{group_max}
 use Rattle.dcc_packet.specs.Rows.{bit, HasRow}
@@ -80,6 +81,12 @@ same_speed128 a b e =
     let one : (n : ℕ) → IsProp (n ≤ 127) = λ n. hlevel props in
     let P : ℕ → Type 0 = λ n. (h : n ≤ 127) → a ≡ record { bits = n; in_range = h } in
     subst P e (λ h i. record { bits = a.bits; in_range = one a.bits a.in_range h i }) b.in_range
+
+pub same_state : (a b : StateNumber) → a.number ≡ b.number → a ≡ b
+same_state a b e =
+    let one : (n : ℕ) → IsProp (n ≤ 127) = λ n. hlevel props in
+    let P : ℕ → Type 0 = λ n. (h : n ≤ 127) → a ≡ record { number = n; in_range = h } in
+    subst P e (λ h i. record { number = a.number; in_range = one a.number a.in_range h i }) b.in_range
 
 pub same_functions : (a b : GroupBits) → a.group ≡ b.group → a.bits ≡ b.bits → a ≡ b
 same_functions a b g e =

@@ -14,6 +14,7 @@ use Rattle.dcc_packet.specs.declared.address.Address.TheVariants.{Broadcast, Sho
 use Rattle.dcc_packet.specs.declared.functions.Group.{Group}
 use Rattle.dcc_packet.specs.declared.functions.Group.TheVariants.{F0, F5, F9, F13, F21, F29, F37, F45, F53, F61}
 use Rattle.dcc_packet.specs.declared.functions.GroupBits.{GroupBits}
+use Rattle.dcc_packet.specs.declared.state.StateNumber.{StateNumber}
 use Rattle.dcc_packet.specs.declared.cv.CvNumber.{CvNumber}
 use Rattle.dcc_packet.specs.declared.cv.BitPlace.{BitPlace}
 use Rattle.dcc_packet.specs.Group.{group_max}
@@ -23,7 +24,7 @@ use Rattle.dcc_packet.specs.declared.accessory.Output.{Output}
 use Rattle.dcc_packet.specs.declared.accessory.SignalAddress.{SignalAddress}
 use Rattle.dcc_packet.specs.declared.speed.SpeedBits28.{SpeedBits28}
 use Rattle.dcc_packet.specs.Written.{address_word, direction_word, group_word, state_word, switch_word}
-use Rattle.dcc_packet.specs.LineWords.{number, small_number, address, direction, speed28_bits, speed128_bits, group, group_bits, cv_number, bit_place, bit_state, switch, board_number, output_number, signal_number, framed, hex_frame}
+use Rattle.dcc_packet.specs.LineWords.{number, small_number, address, direction, speed28_bits, speed128_bits, group, group_bits, state_number, cv_number, bit_place, bit_state, switch, board_number, output_number, signal_number, framed, hex_frame}
 use Rattle.dcc_packet.proofs.UpTo.{up_to_ok, from_one_to_ok}
 use Rattle.dcc_packet.proofs.Decimal.{short}
 use Rattle.dcc_packet.proofs.WrittenWords.{test_from_digits, group_is_byte}
@@ -72,6 +73,9 @@ group_back F61 = refl
 pub group_bits_back : (f : GroupBits) → group_bits f.group (decimal f.bits) ≡ Ok f
 group_bits_back f =
     rw (small_number-decimal f.bits (omega (arith, group_is_byte f.group, f.in_range))) (up_to_ok (group_max f.group) f.bits faults.GroupBits (λ h. record { group = f.group; bits = f.bits; in_range = h }) f.in_range)
+
+pub state_number_back : (n : StateNumber) → state_number (decimal n.number) ≡ Ok n
+state_number_back n = rw (small_number-decimal n.number (omega arith)) (up_to_ok 127 n.number faults.StateNumber (λ h. record { number = n.number; in_range = h }) n.in_range)
 
 pub cv_back : (cv : CvNumber) → cv_number (decimal cv.number) ≡ Ok cv
 cv_back cv = rw (number-decimal cv.number (omega arith)) (from_one_to_ok 1024 cv.number faults.CvNumber (λ h. record { number = cv.number; in_range = h }) cv.in_range)

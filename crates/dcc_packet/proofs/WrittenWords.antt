@@ -17,7 +17,7 @@ use Rattle.dcc_packet.specs.Words.{is_separator, words}
 use Rattle.dcc_packet.specs.declared.address.Address.{Address}
 use Rattle.dcc_packet.specs.declared.address.Address.TheVariants.{Broadcast, Short, Long}
 use Rattle.dcc_packet.specs.declared.instruction.What.{What}
-use Rattle.dcc_packet.specs.declared.instruction.What.TheVariants.{Reset, Speed28, Speed128, Functions, CvWrite, CvVerify, CvBitWrite, CvBitVerify}
+use Rattle.dcc_packet.specs.declared.instruction.What.TheVariants.{Reset, Speed28, Speed128, Functions, BinaryState, CvWrite, CvVerify, CvBitWrite, CvBitVerify}
 use Rattle.dcc_packet.specs.declared.functions.Group.{Group}
 use Rattle.dcc_packet.specs.declared.functions.Group.TheVariants.{F0, F5, F9, F13, F21, F29, F37, F45, F53, F61}
 use Rattle.dcc_packet.specs.Group.{group_max}
@@ -115,6 +115,7 @@ instruction_is_words Reset h = (literal (codes "reset") (omega arith) refl, tt)
 instruction_is_words (Speed28 f b) h = (literal (codes "speed28") (omega arith) refl, (IsWord-direction f, (IsWord-decimal b.bits (omega arith), tt)))
 instruction_is_words (Speed128 f b) h = (literal (codes "speed128") (omega arith) refl, (IsWord-direction f, (IsWord-decimal b.bits (omega arith), tt)))
 instruction_is_words (Functions f) h = (literal (codes "functions") (omega arith) refl, (IsWord-group f.group, (IsWord-decimal f.bits (omega (arith, group_is_byte f.group, f.in_range)), tt)))
+instruction_is_words (BinaryState n on) h = (literal (codes "state") (omega arith) refl, (IsWord-decimal n.number (omega arith), (IsWord-switch on, tt)))
 instruction_is_words (CvWrite c v) h = (literal (codes "cv") (omega arith) refl, (literal (codes "write") (omega arith) refl, (IsWord-decimal c.number (omega arith), (IsWord-decimal v (omega arith), tt))))
 instruction_is_words (CvVerify c v) h = (literal (codes "cv") (omega arith) refl, (literal (codes "verify") (omega arith) refl, (IsWord-decimal c.number (omega arith), (IsWord-decimal v (omega arith), tt))))
 instruction_is_words (CvBitWrite c p b) h = (literal (codes "cv") (omega arith) refl, (literal (codes "bitwrite") (omega arith) refl, (IsWord-decimal c.number (omega arith), (IsWord-decimal p.place (omega arith), (IsWord-state b, tt)))))

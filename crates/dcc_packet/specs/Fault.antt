@@ -1,7 +1,7 @@
 -- The numbers of the refusals.
 use Rattle.std.specs.Prelude.{ℕ}
 use Rattle.dcc_packet.specs.declared.fault.PacketFault.{PacketFault}
-use Rattle.dcc_packet.specs.declared.fault.PacketFault.TheVariants.{Short, Long, Board, Output, Signal, CvNumber, BitPlace, SpeedBits, GroupBits, Word, Number, Frame, State}
+use Rattle.dcc_packet.specs.declared.fault.PacketFault.TheVariants.{Short, Long, Board, Output, Signal, CvNumber, BitPlace, SpeedBits, GroupBits, Word, Number, Frame, State, StateNumber}
 
 -- the number behind the letter P
 abbrev pub number_of : PacketFault → ℕ
@@ -18,3 +18,4 @@ number_of Word = 10
 number_of Number = 11
 number_of Frame = 12
 number_of State = 13
+number_of StateNumber = 14

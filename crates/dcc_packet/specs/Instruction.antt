@@ -1,7 +1,7 @@
 -- Kinds of instructions.
 use Rattle.std.specs.Prelude.{Bool, true, false}
 use Rattle.dcc_packet.specs.declared.instruction.What.{What}
-use Rattle.dcc_packet.specs.declared.instruction.What.TheVariants.{Reset, Speed28, Speed128, Functions, CvWrite, CvVerify, CvBitWrite, CvBitVerify}
+use Rattle.dcc_packet.specs.declared.instruction.What.TheVariants.{Reset, Speed28, Speed128, Functions, BinaryState, CvWrite, CvVerify, CvBitWrite, CvBitVerify}
 
 -- an instruction of the CV access of RCN-214
 abbrev pub is_cv_access : What → Bool
@@ -9,6 +9,7 @@ is_cv_access Reset = false
 is_cv_access (Speed28 forward bits) = false
 is_cv_access (Speed128 forward bits) = false
 is_cv_access (Functions bits) = false
+is_cv_access (BinaryState number on) = false
 is_cv_access (CvWrite cv value) = true
 is_cv_access (CvVerify cv value) = true
 is_cv_access (CvBitWrite cv place one) = true

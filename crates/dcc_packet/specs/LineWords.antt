@@ -15,6 +15,7 @@ use Rattle.dcc_packet.specs.declared.functions.Group.TheVariants.{F0, F5, F9, F1
 use Rattle.dcc_packet.specs.declared.functions.GroupBits.{GroupBits}
 use Rattle.dcc_packet.specs.declared.speed.SpeedBits28.{SpeedBits28}
 use Rattle.dcc_packet.specs.declared.speed.SpeedBits128.{SpeedBits128}
+use Rattle.dcc_packet.specs.declared.state.StateNumber.{StateNumber}
 use Rattle.dcc_packet.specs.declared.fault.PacketFault.{PacketFault}
 use Rattle.dcc_packet.specs.declared.fault.PacketFault.TheVariants as faults
 use Rattle.dcc_wire.specs.declared.frame.Frame.{Frame}
@@ -22,7 +23,7 @@ use Rattle.dcc_wire.specs.declared.frame.FrameFault.{FrameFault}
 use Rattle.dcc_wire.specs.FrameOf.{frame_of}
 use Rattle.hex.specs.declared.error.FromHexError.{FromHexError}
 use Rattle.hex.specs.Hex.{decode_of}
-use Rattle.dcc_packet.specs.Values.{short_of, long_of, speed28_of, speed128_of, functions_of, cv_of, place_of, board_of, output_of, signal_of}
+use Rattle.dcc_packet.specs.Values.{short_of, long_of, speed28_of, speed128_of, functions_of, state_of, cv_of, place_of, board_of, output_of, signal_of}
 use Rattle.dcc_packet.specs.Words.{Word, is_word}
 
 -- the second step, where the first gave a value
@@ -88,6 +89,10 @@ group word =
 -- BITS of a group
 abbrev pub group_bits : Group → Word → Result GroupBits PacketFault
 group_bits g word = small_number word >>= functions_of g
+
+-- NUMBER of a binary state
+abbrev pub state_number : Word → Result StateNumber PacketFault
+state_number word = small_number word >>= state_of
 
 -- CV
 abbrev pub cv_number : Word → Result CvNumber PacketFault

@@ -10,7 +10,7 @@ use Rattle.dcc_packet.specs.declared.accessory.SignalAddress.{SignalAddress}
 use Rattle.dcc_packet.specs.declared.functions.Group.{Group}
 use Rattle.dcc_packet.specs.declared.functions.Group.TheVariants.{F0, F5, F9, F13, F21, F29, F37, F45, F53, F61}
 use Rattle.dcc_packet.specs.declared.instruction.What.{What}
-use Rattle.dcc_packet.specs.declared.instruction.What.TheVariants.{Reset, Speed28, Speed128, Functions, CvWrite, CvVerify, CvBitWrite, CvBitVerify}
+use Rattle.dcc_packet.specs.declared.instruction.What.TheVariants.{Reset, Speed28, Speed128, Functions, BinaryState, CvWrite, CvVerify, CvBitWrite, CvBitVerify}
 
 -- a bit as a number
 abbrev pub bit : Bool → ℕ
@@ -64,6 +64,8 @@ instruction_bytes (Speed28 forward speed) = (0x40 + 32 * bit forward + 16 * (spe
 instruction_bytes (Speed128 forward speed) = 0x3F ∷ (128 * bit forward + speed.bits) ∷ []
 -- function groups: the table above
 instruction_bytes (Functions functions) = function_bytes functions.group functions.bits
+-- binary state, short form (RCN-212): 11011101 DLLLLLLL, D is 1 for on, L the state's number, 0 for all of them
+instruction_bytes (BinaryState state on) = 0xDD ∷ (128 * bit on + state.number) ∷ []
 -- CV access, long form (S-9.2.1; RCN-214), write byte: 111011VV VVVVVVVV DDDDDDDD
 instruction_bytes (CvWrite cv value) = cv_bytes 0xEC cv.number value
 -- verify byte: 111001VV VVVVVVVV DDDDDDDD

@@ -3,7 +3,7 @@ use Rattle.std.specs.Prelude.{List, ℕ, ◌<◌}
 use Rattle.hex.specs.Hex.{IsBytes}
 use Rattle.dcc_wire.specs.Frames.{with_error_byte}
 use Rattle.dcc_packet.specs.declared.instruction.What.{What}
-use Rattle.dcc_packet.specs.declared.instruction.What.TheVariants.{Reset, Speed28, Speed128, Functions, CvWrite, CvVerify, CvBitWrite, CvBitVerify}
+use Rattle.dcc_packet.specs.declared.instruction.What.TheVariants.{Reset, Speed28, Speed128, Functions, BinaryState, CvWrite, CvVerify, CvBitWrite, CvBitVerify}
 use Rattle.dcc_packet.specs.declared.packet.Packet.{Packet}
 use Rattle.dcc_packet.specs.declared.packet.Packet.TheVariants.{Idle, Loco, Accessory, Signal, Other}
 use Rattle.dcc_packet.specs.Rows.{idle_bytes, loco_bytes, accessory_bytes, signal_bytes}
@@ -22,6 +22,7 @@ ValueFits Reset = Unit {0}
 ValueFits (Speed28 forward bits) = Unit {0}
 ValueFits (Speed128 forward bits) = Unit {0}
 ValueFits (Functions bits) = Unit {0}
+ValueFits (BinaryState number on) = Unit {0}
 ValueFits (CvWrite cv value) = value < 256
 ValueFits (CvVerify cv value) = value < 256
 ValueFits (CvBitWrite cv place one) = Unit {0}

@@ -4,7 +4,7 @@ ghost use Rattle.dcc_packet.specs.Rows.{instruction_bytes, cv_bytes};
 ghost use Rattle.dcc_packet.specs.declared.instruction.What.{What};
 
 use crate::bits::is_set;
-use crate::{BitPlace, CvNumber, Group, GroupBits, SpeedBits28, SpeedBits128, What};
+use crate::{BitPlace, CvNumber, Group, GroupBits, SpeedBits28, SpeedBits128, StateNumber, What};
 
 /// The instruction of these bytes, where there is one.
 pub(crate) fn instruction(bytes: &[u8]) -> Option<What>
@@ -39,7 +39,7 @@ fn two_bytes(first: u8, second: u8) -> Option<What>
 {
     match first {
         0x3F => Some(speed128(second)),
-        0xD8..=0xDF => wide_group(first, second),
+        0xD8..=0xDF => Some(two_byte_functions(first, second)),
         _ => None,
     }
 }
@@ -101,12 +101,11 @@ fn speed128(byte: u8) -> What
     }
 }
 
-/// A group whose bits stand in the second byte.
-fn wide_group(first: u8, bits: u8) -> Option<What>
+/// A group whose bits stand in the second byte, or a binary state, DLLLLLLL.
+fn two_byte_functions(first: u8, bits: u8) -> What
     requires low { 0xD8 ≤ first }
     requires high { first < 0xE0 }
-    ensures found { IfSome result (λ what. instruction_bytes what ≡ first ∷ bits ∷ []) }
-    ensures none { IfNone result ((what : What) → instruction_bytes what ≢ first ∷ bits ∷ []) }
+    ensures { instruction_bytes result ≡ first ∷ bits ∷ [] }
 {
     let group = match first {
         0xDE => Group::F13,
@@ -116,9 +115,19 @@ fn wide_group(first: u8, bits: u8) -> Option<What>
         0xDA => Group::F45,
         0xDB => Group::F53,
         0xDC => Group::F61,
-        _ => return None,
+        _ => return binary_state(bits),
     };
-    Some(What::Functions(GroupBits { group, bits }))
+    What::Functions(GroupBits { group, bits })
+}
+
+/// A binary state in the short form, DLLLLLLL.
+fn binary_state(byte: u8) -> What
+    ensures { instruction_bytes result ≡ 0xDD ∷ byte ∷ [] }
+{
+    What::BinaryState {
+        number: StateNumber { number: byte & 0x7F },
+        on: is_set(byte, 7),
+    }
 }
 
 /// A write of a byte, a verify of a byte, or a bit access to a CV: 1110KKVV VVVVVVVV and a last byte.

@@ -1,12 +1,12 @@
 //! What single words of packet lines say.
 ghost use Rattle.std.specs.Prelude.{◌≡◌};
 ghost use Rattle.dcc_wire.specs.FrameOf.{frame_of};
-ghost use Rattle.dcc_packet.specs.LineWords.{address, direction, speed28_bits, speed128_bits, group, group_bits, cv_number, bit_place, bit_state, board_number, output_number, switch, signal_number, framed, hex_frame};
+ghost use Rattle.dcc_packet.specs.LineWords.{address, direction, speed28_bits, speed128_bits, group, group_bits, state_number, cv_number, bit_place, bit_state, board_number, output_number, switch, signal_number, framed, hex_frame};
 
 use crate::numeral::{number, small_number};
 use crate::{
     Address, BitPlace, Board, CvNumber, Group, GroupBits, Output, PacketFault, SignalAddress,
-    SpeedBits28, SpeedBits128,
+    SpeedBits28, SpeedBits128, StateNumber,
 };
 use dcc_wire::Frame;
 
@@ -71,6 +71,13 @@ pub fn group_bits(group: Group, word: &[u8]) -> Result<GroupBits, PacketFault>
     ensures { result ≡ group_bits group word.now }
 {
     GroupBits::new(group, small_number(word)?)
+}
+
+/// The number of a binary state.
+pub fn state_number(word: &[u8]) -> Result<StateNumber, PacketFault>
+    ensures { result ≡ state_number word.now }
+{
+    StateNumber::new(small_number(word)?)
 }
 
 /// The number of a CV.

@@ -1,10 +1,10 @@
 //! Packet lines to locomotives, behind the word `loco`.
 ghost use Rattle.std.specs.Prelude.{◌≡◌};
-ghost use Rattle.dcc_packet.specs.Line.{loco, instruction, reset, speed28, speed128, functions, cv_access, cv_write, cv_verify, cv_bit_write, cv_bit_verify, cv_value, cv_bit};
+ghost use Rattle.dcc_packet.specs.Line.{loco, instruction, reset, speed28, speed128, functions, binary_state, cv_access, cv_write, cv_verify, cv_bit_write, cv_bit_verify, cv_value, cv_bit};
 
 use crate::line_word::{
     address, bit_place, bit_state, cv_number, direction, group, group_bits, speed28_bits,
-    speed128_bits,
+    speed128_bits, state_number, switch,
 };
 use crate::numeral::small_number;
 use crate::words::Words;
@@ -33,6 +33,8 @@ impl<'a> Words<'a> {
             self.speed128()
         } else if word == b"functions".as_slice() {
             self.functions()
+        } else if word == b"state".as_slice() {
+            self.binary_state()
         } else if word == b"cv".as_slice() {
             self.cv_access()
         } else {
@@ -76,6 +78,16 @@ impl<'a> Words<'a> {
         let bits = group_bits(group, self.word()?)?;
         self.end()?;
         Ok(What::Functions(bits))
+    }
+
+    #[tactic(auto, unfolding(crate::specs::Line::binary_state))]
+    fn binary_state(&mut self) -> Result<What, PacketFault>
+        ensures { result ≡ binary_state self.old }
+    {
+        let number = state_number(self.word()?)?;
+        let on = switch(self.word()?)?;
+        self.end()?;
+        Ok(What::BinaryState { number, on })
     }
 
     #[tactic(auto, unfolding(crate::specs::Line::cv_access))]

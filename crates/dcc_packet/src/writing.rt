@@ -88,6 +88,7 @@ fn put_instruction(bytes: &mut Bytes, what: &What)
         What::Speed28 { forward, bits } => put(bytes, &[speed28_byte(*forward, bits)]),
         What::Speed128 { forward, bits } => put(bytes, &[0x3F, bits.bits | bit(*forward) << 7]),
         What::Functions(functions) => put_functions(bytes, functions),
+        What::BinaryState { number, on } => put(bytes, &[0xDD, number.number | bit(*on) << 7]),
         What::CvWrite { cv, value } => put(bytes, &cv_bytes(0xEC, cv, *value)),
         What::CvVerify { cv, value } => put(bytes, &cv_bytes(0xE4, cv, *value)),
         What::CvBitWrite { cv, place, one } => {
