@@ -9,7 +9,7 @@ use Rattle.dcc_regs.specs.declared.register.Who.{Who}
 use Rattle.dcc_packet.specs.declared.accessory.Board.{Board as OwnBoard}
 use Rattle.dcc_regs.specs.declared.register.Who.TheVariants.{Board as BoardWho}
 use Rattle.dcc_regs.specs.declared.register.Register.{Register}
-use Rattle.dcc_regs.specs.declared.register.Register.TheVariants.{Speed as SpeedRegister, Direction, Function, CvBit, Pending as PendingRegister, Out, Position, Aspect}
+use Rattle.dcc_regs.specs.declared.register.Register.TheVariants.{Speed as SpeedRegister, Direction, Function, State as StateRegister, CvBit, Pending as PendingRegister, Out, Position, Aspect}
 use Rattle.dcc_regs.specs.declared.register.Value.TheVariants.{Flag, Number}
 use Rattle.dcc_regs.specs.Heard.{hears}
 use Rattle.dcc_regs.specs.Outputs.{out_set, position_set, aspect_set}
@@ -41,6 +41,7 @@ at_register p d d' o (Aspect n) =
 at_register p d d' o SpeedRegister = refl
 at_register p d d' o Direction = refl
 at_register p d d' o (Function n) = refl
+at_register p d d' o (StateRegister n) = refl
 at_register p d d' o (CvBit cv place) = refl
 at_register p d d' o PendingRegister = refl
 
@@ -73,6 +74,7 @@ held own d bytes (Aspect n) = held_aspect own n (d.aspects n) (nat_le n 3) (byte
 held own d bytes SpeedRegister = refl
 held own d bytes Direction = refl
 held own d bytes (Function n) = refl
+held own d bytes (StateRegister n) = refl
 held own d bytes (CvBit cv place) = refl
 held own d bytes PendingRegister = refl
 

@@ -9,7 +9,7 @@ use Rattle.dcc_packet.specs.declared.packet.Packet.TheVariants.{Loco as ToLoco, 
 use Rattle.dcc_regs.specs.declared.register.SpeedMode.{SpeedMode}
 use Rattle.dcc_regs.specs.declared.register.SpeedMode.TheVariants.{Steps14, Steps28}
 use Rattle.dcc_regs.specs.declared.register.Register.{Register}
-use Rattle.dcc_regs.specs.declared.register.Register.TheVariants.{Speed as SpeedRegister, Direction, Function, CvBit, Pending as PendingRegister, Out, Position, Aspect}
+use Rattle.dcc_regs.specs.declared.register.Register.TheVariants.{Speed as SpeedRegister, Direction, Function, State as StateRegister, CvBit, Pending as PendingRegister, Out, Position, Aspect}
 use Rattle.dcc_regs.specs.declared.register.Value.{Value}
 use Rattle.dcc_regs.specs.declared.register.Value.TheVariants.{Flag}
 use Rattle.dcc_packet.specs.declared.accessory.Board.{Board}
@@ -94,7 +94,8 @@ pub by_register : (mode : SpeedMode) (p q : Packet) (C : Type 0) → (DifferInLo
     → (r : Register) → Differ (sets mode p r) (sets mode q r) → C
 by_register mode p q C f g h SpeedRegister d = f (inl d)
 by_register mode p q C f g h Direction d = f (inr (inl d))
-by_register mode p q C f g h (Function n) d = f (inr (inr (n, d)))
+by_register mode p q C f g h (Function n) d = f (inr (inr (inl (n, d))))
+by_register mode p q C f g h (StateRegister n) d = f (inr (inr (inr (n, d))))
 by_register mode p q C f g h (CvBit cv place) d = absurd d
 by_register mode p q C f g h PendingRegister d = absurd d
 by_register mode p q C f g h (Out n) d = g (inl (n, d))
@@ -104,7 +105,8 @@ by_register mode p q C f g h (Aspect n) d = h (n, d)
 pub loco_from : (mode : SpeedMode) (p q : Packet) → DifferInLoco mode p q → DifferIn mode p q
 loco_from mode p q (inl d) = record { register = SpeedRegister; differ = d }
 loco_from mode p q (inr (inl d)) = record { register = Direction; differ = d }
-loco_from mode p q (inr (inr d)) = record { register = Function d.0; differ = d.1 }
+loco_from mode p q (inr (inr (inl d))) = record { register = Function d.0; differ = d.1 }
+loco_from mode p q (inr (inr (inr d))) = record { register = StateRegister d.0; differ = d.1 }
 
 pub outputs_from : (mode : SpeedMode) (p q : Packet) → DifferInOutputs p q → DifferIn mode p q
 outputs_from mode p q (inl d) = record { register = Out d.0; differ = d.1 }

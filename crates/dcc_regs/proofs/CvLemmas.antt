@@ -5,7 +5,7 @@ use Rattle.std.proofs.lemmas.Bool.Decides.{nat_tests, Decides-eqb}
 use Rattle.std.proofs.lemmas.Nat.Bits.{bit_at-zero}
 use mathlib.Core.Path.{fun_ext}
 use Rattle.dcc_regs.specs.declared.register.Register.{Register}
-use Rattle.dcc_regs.specs.declared.register.Register.TheVariants.{Speed as SpeedRegister, Direction, Function, CvBit, Pending as PendingRegister, Out, Position, Aspect}
+use Rattle.dcc_regs.specs.declared.register.Register.TheVariants.{Speed as SpeedRegister, Direction, Function, State as StateRegister, CvBit, Pending as PendingRegister, Out, Position, Aspect}
 use Rattle.dcc_regs.specs.declared.register.Speed.TheVariants.{Stop}
 use Rattle.dcc_regs.specs.declared.register.Value.TheVariants.{Flag}
 use Rattle.dcc_regs.specs.Bits.{is_one, byte_of}
@@ -61,7 +61,7 @@ cv_of-loco d cv a b h =
     same_byte (λ place. holds_one (loco_registers d (CvBit cv place))) (is_one (d.cvs cv)) (λ k le. held_bit (is_cv_bit cv k) (is_one (d.cvs cv) k) (bit_there cv k a b le))
     ∙ byte_of_bits (d.cvs cv) h
 
--- functions that are all off
+-- functions or states that are all off
 pub get_or-off : (n k : ℕ) → get_or (replicate n false) k false ≡ false
 get_or-off zero k = refl
 get_or-off (suc n) zero = refl
@@ -77,15 +77,18 @@ pub off-all : (n : ℕ) → all_off n ≡ off
 off-all n = fun_ext (get_or-off n)
 
 -- a decoder just made
-pub started-off : (n : ℕ) (bytes : List ℕ)
-    → loco_registers (record { speed = Stop; forward = true; functions = all_off n; cvs = cv_in bytes; pending = None }) ≡ loco_registers (started (cv_in bytes))
-started-off n bytes = ap (λ (f : ℕ → Bool). loco_registers (record { speed = Stop; forward = true; functions = f; cvs = cv_in bytes; pending = None })) (off-all n)
+pub started-off : (n k : ℕ) (bytes : List ℕ)
+    → loco_registers (record { speed = Stop; forward = true; functions = all_off n; states = all_off k; cvs = cv_in bytes; pending = None }) ≡ loco_registers (started (cv_in bytes))
+started-off n k bytes =
+    ap (λ (f : ℕ → Bool). loco_registers (record { speed = Stop; forward = true; functions = f; states = all_off k; cvs = cv_in bytes; pending = None })) (off-all n)
+    ∙ ap (λ (f : ℕ → Bool). loco_registers (record { speed = Stop; forward = true; functions = off; states = f; cvs = cv_in bytes; pending = None })) (off-all k)
 
 -- power-up keeps the CVs
 powered_up_at : (d : LocoContent) (r : Register) → loco_registers (started d.cvs) r ≡ powered_up (loco_registers d) r
 powered_up_at d SpeedRegister = refl
 powered_up_at d Direction = refl
 powered_up_at d (Function n) = refl
+powered_up_at d (StateRegister n) = refl
 powered_up_at d (CvBit cv place) = refl
 powered_up_at d PendingRegister = refl
 powered_up_at d (Out n) = refl
@@ -105,10 +108,10 @@ active_address-loco d a b c e =
     (cv_of-loco d 1 (omega arith) (omega arith) a) (cv_of-loco d 17 (omega arith) (omega arith) b)
     (cv_of-loco d 18 (omega arith) (omega arith) c) (cv_of-loco d 29 (omega arith) (omega arith) e))
 
--- the number 0 has no function on
+-- the number 0 has no function and no state on
 pub is_one-zero : (k : ℕ) → is_one 0 k ≡ false
 is_one-zero k = rw (bit_at-zero k) refl
 
 pub started-zero : (bytes : List ℕ)
-    → loco_registers (record { speed = Stop; forward = true; functions = is_one 0; cvs = cv_in bytes; pending = None }) ≡ loco_registers (started (cv_in bytes))
-started-zero bytes = ap (λ (f : ℕ → Bool). loco_registers (record { speed = Stop; forward = true; functions = f; cvs = cv_in bytes; pending = None })) (fun_ext is_one-zero)
+    → loco_registers (record { speed = Stop; forward = true; functions = is_one 0; states = is_one 0; cvs = cv_in bytes; pending = None }) ≡ loco_registers (started (cv_in bytes))
+started-zero bytes = ap (λ (f : ℕ → Bool). loco_registers (record { speed = Stop; forward = true; functions = f; states = f; cvs = cv_in bytes; pending = None })) (fun_ext is_one-zero)

@@ -8,7 +8,7 @@ use mathlib.Core.Path.{fun_ext}
 use Rattle.dcc_packet.specs.declared.packet.Packet.{Packet}
 use Rattle.dcc_regs.specs.declared.register.Who.{Who}
 use Rattle.dcc_regs.specs.declared.register.Register.{Register}
-use Rattle.dcc_regs.specs.declared.register.Register.TheVariants.{Speed as SpeedRegister, Direction, Function, CvBit, Pending as PendingRegister, Out, Position, Aspect}
+use Rattle.dcc_regs.specs.declared.register.Register.TheVariants.{Speed as SpeedRegister, Direction, Function, State as StateRegister, CvBit, Pending as PendingRegister, Out, Position, Aspect}
 use Rattle.dcc_regs.specs.declared.register.Value.{Value}
 use Rattle.dcc_regs.specs.declared.register.Value.TheVariants.{Pending as PendingValue}
 use Rattle.dcc_regs.specs.Heard.{heard, hears}
@@ -77,6 +77,7 @@ result_of_heard-append start l k (CvBit cv place) = cv_bit_after-append start l 
 result_of_heard-append start l k SpeedRegister = plain_after-append start l k SpeedRegister refl
 result_of_heard-append start l k Direction = plain_after-append start l k Direction refl
 result_of_heard-append start l k (Function n) = plain_after-append start l k (Function n) refl
+result_of_heard-append start l k (StateRegister n) = plain_after-append start l k (StateRegister n) refl
 result_of_heard-append start l k (Out n) = plain_after-append start l k (Out n) refl
 result_of_heard-append start l k (Position n) = plain_after-append start l k (Position n) refl
 result_of_heard-append start l k (Aspect n) = plain_after-append start l k (Aspect n) refl
@@ -96,6 +97,7 @@ result_of_nothing start (CvBit cv place) = set_in_turn-nothing (start (CvBit cv 
 result_of_nothing start SpeedRegister = set_in_turn-nothing (start SpeedRegister)
 result_of_nothing start Direction = set_in_turn-nothing (start Direction)
 result_of_nothing start (Function n) = set_in_turn-nothing (start (Function n))
+result_of_nothing start (StateRegister n) = set_in_turn-nothing (start (StateRegister n))
 result_of_nothing start (Out n) = set_in_turn-nothing (start (Out n))
 result_of_nothing start (Position n) = set_in_turn-nothing (start (Position n))
 result_of_nothing start (Aspect n) = set_in_turn-nothing (start (Aspect n))

@@ -8,7 +8,7 @@ use Rattle.dcc_packet.specs.declared.accessory.Board.{Board}
 use Rattle.dcc_packet.specs.declared.address.Address.{Address}
 use Rattle.dcc_packet.specs.declared.address.Address.TheVariants.{Broadcast, Short, Long}
 use Rattle.dcc_packet.specs.declared.instruction.What.{What}
-use Rattle.dcc_packet.specs.declared.instruction.What.TheVariants.{Reset, Speed28, Speed128, Functions, CvWrite, CvVerify, CvBitWrite, CvBitVerify}
+use Rattle.dcc_packet.specs.declared.instruction.What.TheVariants.{Reset, Speed28, Speed128, Functions, BinaryState, CvWrite, CvVerify, CvBitWrite, CvBitVerify}
 use Rattle.dcc_packet.specs.declared.packet.Packet.{Packet}
 use Rattle.dcc_packet.specs.declared.packet.Packet.TheVariants.{Idle, Loco as ToLoco, Accessory, Signal, Other}
 use Rattle.dcc_packet.specs.SamePacket.{same}
@@ -73,6 +73,7 @@ mode_bit_stays Reset e = refl
 mode_bit_stays (Speed28 forward bits) e = refl
 mode_bit_stays (Speed128 forward bits) e = refl
 mode_bit_stays (Functions bits) e = refl
+mode_bit_stays (BinaryState state on) e = refl
 mode_bit_stays (CvVerify cv value) e = refl
 mode_bit_stays (CvBitVerify cv place one) e = refl
 

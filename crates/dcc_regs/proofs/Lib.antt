@@ -8,6 +8,7 @@ pub mod OneStep
 pub mod Stepping
 pub mod BoardStep
 pub mod DifferLemmas
+pub mod StateLemmas
 pub mod ByKind
 pub mod MeetLemmas
 pub mod ConflictLemmas

@@ -1,7 +1,7 @@
 -- A packet is told by its own call alone.
 use Rattle.std.proofs.Common.{◌≡◌, refl}
 use Rattle.dcc_packet.specs.declared.instruction.What.{What}
-use Rattle.dcc_packet.specs.declared.instruction.What.TheVariants.{Reset, Speed28, Speed128, Functions, CvWrite, CvVerify, CvBitWrite, CvBitVerify}
+use Rattle.dcc_packet.specs.declared.instruction.What.TheVariants.{Reset, Speed28, Speed128, Functions, BinaryState, CvWrite, CvVerify, CvBitWrite, CvBitVerify}
 use Rattle.dcc_packet.specs.declared.address.Address.{Address}
 use Rattle.dcc_packet.specs.declared.packet.Packet.{Packet}
 use Rattle.dcc_packet.specs.declared.packet.Packet.TheVariants.{Idle, Loco as ToLoco, Accessory, Signal, Other}
@@ -12,6 +12,7 @@ loco_again to Reset = refl
 loco_again to (Speed28 forward bits) = refl
 loco_again to (Speed128 forward bits) = refl
 loco_again to (Functions bits) = refl
+loco_again to (BinaryState state on) = refl
 loco_again to (CvWrite cv value) = refl
 loco_again to (CvVerify cv value) = refl
 loco_again to (CvBitWrite cv place one) = refl

@@ -10,13 +10,14 @@ use Rattle.dcc_regs.specs.declared.register.Who.TheVariants.{Loco as LocoWho}
 use Rattle.dcc_regs.specs.declared.register.Who.{Who}
 use Rattle.dcc_regs.specs.declared.register.SpeedMode.{SpeedMode}
 use Rattle.dcc_regs.specs.declared.register.Register.{Register}
-use Rattle.dcc_regs.specs.declared.register.Register.TheVariants.{Speed as SpeedRegister, Direction, Function, CvBit, Pending as PendingRegister, Out, Position, Aspect}
+use Rattle.dcc_regs.specs.declared.register.Register.TheVariants.{Speed as SpeedRegister, Direction, Function, State as StateRegister, CvBit, Pending as PendingRegister, Out, Position, Aspect}
 use Rattle.dcc_regs.specs.declared.register.Value.{Value}
 use Rattle.dcc_regs.specs.declared.register.Value.TheVariants.{Speed as SpeedValue, Forward, Flag, Pending as PendingValue}
 use Rattle.dcc_regs.specs.Bits.{is_one}
 use Rattle.dcc_regs.specs.Heard.{heard, hears}
 use Rattle.dcc_regs.specs.Speeds.{speed_set, direction_set}
 use Rattle.dcc_regs.specs.FunctionBits.{function_set}
+use Rattle.dcc_regs.specs.States.{is_binary_state, state_set}
 use Rattle.dcc_regs.specs.Writes.{bit_set, is_own_write}
 use Rattle.dcc_regs.specs.Result.{RegisterMap, set_in_turn, mode_of, is_effective, effective_set, left_pending, result_of_heard, step}
 use Rattle.dcc_regs.specs.Loco.{LocoContent, loco_registers, is_byte_write, is_pending_for, is_function, is_cv_bit}
@@ -32,6 +33,7 @@ pub record Obeys (p : Packet) (mode : SpeedMode) (d d' : LocoContent) : Type 0 w
   pub speed : d'.speed ≡ unwrap_or (speed_set mode p) d.speed
   pub forward : d'.forward ≡ unwrap_or (direction_set p) d.forward
   pub functions : (n : ℕ) → n ≤ 68 → d'.functions n ≡ unwrap_or (function_set mode p n) (d.functions n)
+  pub states : (n : ℕ) → n ≤ 127 → d'.states n ≡ unwrap_or (state_set p n) (d.states n)
   pub cvs : (cv place : ℕ) → 1 ≤ cv → place ≤ 7
       → is_one (d'.cvs cv) place ≡ (if is_effective (Some (PendingValue d.pending)) p then unwrap_or (bit_set p cv place) (is_one (d.cvs cv) place) else is_one (d.cvs cv) place)
   pub pending : d'.pending ≡ left_pending p
@@ -54,6 +56,9 @@ where_there false new old vs h = refl
 function_there : (n : ℕ) → is_function n ≡ true → n ≤ 68
 function_there n t = grind (arith, nat_tests)
 
+state_there : (n : ℕ) → is_binary_state n ≡ true → n ≤ 127
+state_there n t = grind (arith, nat_tests)
+
 cv_there : (cv place : ℕ) → is_cv_bit cv place ≡ true → 1 ≤ cv
 cv_there cv place t = grind (arith, nat_tests)
 
@@ -66,6 +71,9 @@ at_register p mode d d' o Direction = rw o.forward (set_by Forward (direction_se
 at_register p mode d d' o (Function n) =
     where_there (is_function n) (Flag (d'.functions n)) (Flag (d.functions n)) (cons_option (option_map Flag (function_set (mode_held d) p n)) [])
     (λ t. rw (o.functions n (function_there n t), o.reads) (set_by Flag (function_set (mode_held d) p n) (d.functions n)))
+at_register p mode d d' o (StateRegister n) =
+    where_there (is_binary_state n) (Flag (d'.states n)) (Flag (d.states n)) (cons_option (option_map Flag (state_set p n)) [])
+    (λ t. rw (o.states n (state_there n t)) (set_by Flag (state_set p n) (d.states n)))
 at_register p mode d d' o (CvBit cv place) =
     where_there (is_cv_bit cv place) (Flag (is_one (d'.cvs cv) place)) (Flag (is_one (d.cvs cv) place)) (cons_option (effective_set (Some (PendingValue d.pending)) p cv place) [])
     (λ t.

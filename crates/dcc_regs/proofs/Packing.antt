@@ -9,7 +9,7 @@ use Rattle.dcc_regs.specs.Bits.{is_one}
 use Rattle.dcc_regs.proofs.Bits.{same_bit, other_bit}
 
 -- a one that is shifted to its place is not cut off
-pub shifted_one_128 : (n : ℕ) → n ≤ 68 → 1 * 2 ^ n % 340282366920938463463374607431768211456 ≡ 2 ^ n
+pub shifted_one_128 : (n : ℕ) → n ≤ 127 → 1 * 2 ^ n % 340282366920938463463374607431768211456 ≡ 2 ^ n
 shifted_one_128 n h = grind (arith, common_steps)
 
 -- a truth value that is shifted to place n, in numbers below a limit that are wide enough for it

@@ -1,15 +1,15 @@
 -- Worked examples of the definitions, by computation. They hold the definitions themselves, whatever the decoders do.
 use Rattle.std.proofs.Common.{◌≡◌, ◌≤◌, ℕ, Bool, true, false, List, [], ◌∷◌, refl, arith}
-use Rattle.std.specs.Prelude.{Option, Some, ◌==◌, if◌then◌else◌}
+use Rattle.std.specs.Prelude.{Option, None, Some, ◌==◌, if◌then◌else◌}
 use Rattle.dcc_packet.specs.declared.address.Address.{Address}
 use Rattle.dcc_packet.specs.declared.address.Address.TheVariants.{Broadcast, Short}
 use Rattle.dcc_packet.specs.declared.cv.CvNumber.{CvNumber}
 use Rattle.dcc_packet.specs.declared.cv.BitPlace.{BitPlace}
-use Rattle.dcc_packet.specs.declared.instruction.What.TheVariants.{Reset, Speed28, CvWrite, CvBitWrite}
+use Rattle.dcc_packet.specs.declared.instruction.What.TheVariants.{Reset, Speed28, BinaryState, CvWrite, CvBitWrite}
 use Rattle.dcc_packet.specs.declared.packet.Packet.{Packet}
 use Rattle.dcc_packet.specs.declared.packet.Packet.TheVariants.{Idle, Loco as ToLoco, Accessory}
 use Rattle.dcc_regs.specs.declared.register.Register.{Register}
-use Rattle.dcc_regs.specs.declared.register.Register.TheVariants.{Speed as SpeedRegister, Direction, Function, CvBit, Pending as PendingRegister, Out, Position}
+use Rattle.dcc_regs.specs.declared.register.Register.TheVariants.{Speed as SpeedRegister, Direction, Function, State as StateRegister, CvBit, Pending as PendingRegister, Out, Position}
 use Rattle.dcc_regs.specs.declared.register.Speed.TheVariants.{Step14, Step28}
 use Rattle.dcc_regs.specs.declared.register.Value.{Value}
 use Rattle.dcc_regs.specs.declared.register.Value.TheVariants.{Speed as SpeedValue, Forward, Flag, Number, Pending as PendingValue}
@@ -90,7 +90,43 @@ on = Some (Flag true)
 abbrev off : Option Value
 off = Some (Flag false)
 
+-- binary states of short address 3, and of all locomotives
+abbrev state : Address → (n : ℕ) → n ≤ 127 → Bool → Packet
+state to n fits up = ToLoco to (BinaryState (record { number = n; in_range = fits }) up)
+
+abbrev five_up : Packet
+five_up = state short_3 5 (omega arith) true
+
+abbrev five_down : Packet
+five_down = state short_3 5 (omega arith) false
+
+abbrev all_up : Packet
+all_up = state short_3 0 (omega arith) true
+
+abbrev five_up_for_all : Packet
+five_up_for_all = state Broadcast 5 (omega arith) true
+
+abbrev own_reset : Packet
+own_reset = ToLoco short_3 Reset
+
 record Rows : Type 0 where
+  -- binary states: one of them, all of them, none after a reset, in either mode
+  state_up : after 2 (five_up ∷ []) (StateRegister 5) ≡ on
+  state_before : after 2 (five_up ∷ []) (StateRegister 4) ≡ off
+  state_behind : after 2 (five_up ∷ []) (StateRegister 6) ≡ off
+  state_in_14 : after 0 (five_up ∷ []) (StateRegister 5) ≡ on
+  no_function : after 0 (five_up ∷ []) (Function 5) ≡ off
+  first_of_all : after 2 (all_up ∷ []) (StateRegister 1) ≡ on
+  last_of_all : after 2 (all_up ∷ []) (StateRegister 127) ≡ on
+  all_but_one : after 2 (all_up ∷ five_down ∷ []) (StateRegister 5) ≡ off
+  one_of_126 : after 2 (all_up ∷ five_down ∷ []) (StateRegister 127) ≡ on
+  state_reset : after 2 (five_up ∷ own_reset ∷ []) (StateRegister 5) ≡ off
+  last_reset : after 2 (all_up ∷ reset ∷ []) (StateRegister 127) ≡ off
+  state_for_all : after 2 (five_up_for_all ∷ []) (StateRegister 5) ≡ on
+  no_state_0 : after 2 (all_up ∷ []) (StateRegister 0) ≡ None
+  no_state_128 : after 2 (all_up ∷ []) (StateRegister 128) ≡ None
+  state_between : after 2 (w ∷ five_up ∷ w ∷ []) (CvBit 29 2) ≡ off
+  no_state_of_boards : board_after (five_up_for_all ∷ []) (StateRegister 5) ≡ None
   -- one instruction in each mode
   in_28 : after 2 (x ∷ []) SpeedRegister ≡ Some (SpeedValue (Step28 6))
   in_28_f0 : after 2 (x ∷ []) (Function 0) ≡ off
@@ -123,6 +159,22 @@ record Rows : Type 0 where
 rows : Rows
 unfolding same
 rows = record {
+  state_up = refl;
+  state_before = refl;
+  state_behind = refl;
+  state_in_14 = refl;
+  no_function = refl;
+  first_of_all = refl;
+  last_of_all = refl;
+  all_but_one = refl;
+  one_of_126 = refl;
+  state_reset = refl;
+  last_reset = refl;
+  state_for_all = refl;
+  no_state_0 = refl;
+  no_state_128 = refl;
+  state_between = refl;
+  no_state_of_boards = refl;
   in_28 = refl;
   in_28_f0 = refl;
   in_14 = refl;

@@ -3,7 +3,7 @@ use Rattle.std.proofs.Common.{◌≡◌, ◌∙◌, refl, ap, Bool, true, false,
 use Rattle.std.specs.Prelude.{◌&&◌, option_map}
 use Rattle.dcc_packet.specs.declared.packet.Packet.{Packet}
 use Rattle.dcc_regs.specs.declared.register.Register.{Register}
-use Rattle.dcc_regs.specs.declared.register.Register.TheVariants.{Speed as SpeedRegister, Direction, Function, CvBit, Pending as PendingRegister, Out, Position, Aspect}
+use Rattle.dcc_regs.specs.declared.register.Register.TheVariants.{Speed as SpeedRegister, Direction, Function, State as StateRegister, CvBit, Pending as PendingRegister, Out, Position, Aspect}
 use Rattle.dcc_regs.specs.declared.register.Value.{Value}
 use Rattle.dcc_regs.specs.declared.register.Value.TheVariants.{Flag, Pending as PendingValue}
 use Rattle.dcc_regs.specs.declared.register.Who.TheVariants.{Loco}
@@ -118,6 +118,7 @@ start-next m p = same_state (start (next m p)) (step (start m) p) (heard-sets m 
     at_bit SpeedRegister = none_either (is_own_write p && is_pending (m PendingRegister) p)
     at_bit Direction = none_either (is_own_write p && is_pending (m PendingRegister) p)
     at_bit (Function n) = none_either (is_own_write p && is_pending (m PendingRegister) p)
+    at_bit (StateRegister n) = none_either (is_own_write p && is_pending (m PendingRegister) p)
     at_bit PendingRegister = none_either (is_own_write p && is_pending (m PendingRegister) p)
     at_bit (Out n) = none_either (is_own_write p && is_pending (m PendingRegister) p)
     at_bit (Position n) = none_either (is_own_write p && is_pending (m PendingRegister) p)
@@ -129,6 +130,7 @@ start-next m p = same_state (start (next m p)) (step (start m) p) (heard-sets m 
     at_plain SpeedRegister = heard-sets m p SpeedRegister
     at_plain Direction = heard-sets m p Direction
     at_plain (Function n) = heard-sets m p (Function n)
+    at_plain (StateRegister n) = heard-sets m p (StateRegister n)
     at_plain (Out n) = heard-sets m p (Out n)
     at_plain (Position n) = heard-sets m p (Position n)
     at_plain (Aspect n) = heard-sets m p (Aspect n)
@@ -139,6 +141,7 @@ read-start m PendingRegister = refl
 read-start m SpeedRegister = refl
 read-start m Direction = refl
 read-start m (Function n) = refl
+read-start m (StateRegister n) = refl
 read-start m (Out n) = refl
 read-start m (Position n) = refl
 read-start m (Aspect n) = refl

@@ -5,7 +5,7 @@ use Rattle.std.specs.List.{cons_option}
 use Rattle.dcc_packet.specs.declared.packet.Packet.{Packet}
 use Rattle.dcc_regs.specs.declared.register.Who.{Who}
 use Rattle.dcc_regs.specs.declared.register.Register.{Register}
-use Rattle.dcc_regs.specs.declared.register.Register.TheVariants.{Speed as SpeedRegister, Direction, Function, CvBit, Pending as PendingRegister, Out, Position, Aspect}
+use Rattle.dcc_regs.specs.declared.register.Register.TheVariants.{Speed as SpeedRegister, Direction, Function, State as StateRegister, CvBit, Pending as PendingRegister, Out, Position, Aspect}
 use Rattle.dcc_regs.specs.declared.register.Value.{Value}
 use Rattle.dcc_regs.specs.declared.register.Value.TheVariants.{Pending as PendingValue}
 use Rattle.dcc_regs.specs.Heard.{hears}
@@ -44,6 +44,7 @@ heard-sets m p (CvBit cv place) =
 heard-sets m p SpeedRegister = plain m p SpeedRegister
 heard-sets m p Direction = plain m p Direction
 heard-sets m p (Function n) = plain m p (Function n)
+heard-sets m p (StateRegister n) = plain m p (StateRegister n)
 heard-sets m p (Out n) = plain m p (Out n)
 heard-sets m p (Position n) = plain m p (Position n)
 heard-sets m p (Aspect n) = plain m p (Aspect n)

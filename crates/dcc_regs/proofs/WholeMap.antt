@@ -7,11 +7,12 @@ use Rattle.dcc_packet.specs.declared.address.Address.{Address}
 use Rattle.dcc_packet.specs.declared.accessory.Board.{Board as OwnBoard}
 use Rattle.dcc_regs.specs.declared.register.Who.TheVariants.{Loco as LocoWho, Board as BoardWho}
 use Rattle.dcc_regs.specs.declared.register.Register.{Register}
-use Rattle.dcc_regs.specs.declared.register.Register.TheVariants.{Speed as SpeedRegister, Direction, Function, CvBit, Pending as PendingRegister, Out, Position, Aspect}
+use Rattle.dcc_regs.specs.declared.register.Register.TheVariants.{Speed as SpeedRegister, Direction, Function, State as StateRegister, CvBit, Pending as PendingRegister, Out, Position, Aspect}
 use Rattle.dcc_regs.specs.declared.register.Value.{Value}
 use Rattle.dcc_regs.specs.declared.register.Value.TheVariants.{Flag, Number}
 use Rattle.dcc_regs.specs.Result.{RegisterMap}
 use Rattle.dcc_regs.specs.Loco.{is_function, is_cv_bit}
+use Rattle.dcc_regs.specs.States.{is_binary_state}
 use Rattle.dcc_regs.specs.Possible.{IsPossible, may_hold}
 use Rattle.dcc_regs.specs.Same.{SameLoco, SameBoard}
 
@@ -23,6 +24,11 @@ no_function : (active : Option Address) (k : ℕ) (o : Option Value) → may_hol
 no_function active k None h t = refl
 no_function active k (Some (Flag on)) h t = absurd (cc)
 no_function active k (Some v) h t = absurd (cc)
+
+no_state : (active : Option Address) (k : ℕ) (o : Option Value) → may_hold (LocoWho active) (StateRegister k) o ≡ true → is_binary_state k ≡ false → o ≡ None
+no_state active k None h t = refl
+no_state active k (Some (Flag on)) h t = absurd (cc)
+no_state active k (Some v) h t = absurd (cc)
 
 no_cv_bit : (active : Option Address) (cv place : ℕ) (o : Option Value) → may_hold (LocoWho active) (CvBit cv place) o ≡ true → is_cv_bit cv place ≡ false → o ≡ None
 no_cv_bit active cv place None h t = refl
@@ -68,6 +74,10 @@ board_lacks_function : (own : OwnBoard) (k : ℕ) (o : Option Value) → may_hol
 board_lacks_function own k None h = refl
 board_lacks_function own k (Some v) h = absurd (cc)
 
+board_lacks_state : (own : OwnBoard) (k : ℕ) (o : Option Value) → may_hold (BoardWho own) (StateRegister k) o ≡ true → o ≡ None
+board_lacks_state own k None h = refl
+board_lacks_state own k (Some v) h = absurd (cc)
+
 board_lacks_cv_bit : (own : OwnBoard) (cv place : ℕ) (o : Option Value) → may_hold (BoardWho own) (CvBit cv place) o ≡ true → o ≡ None
 board_lacks_cv_bit own cv place None h = refl
 board_lacks_cv_bit own cv place (Some v) h = absurd (cc)
@@ -88,6 +98,12 @@ by_case false f g = g refl
 at_most : (k last : ℕ) → nat_le k last ≡ true → k ≤ last
 at_most k last t = grind (arith, nat_tests)
 
+state_low : (k : ℕ) → is_binary_state k ≡ true → 1 ≤ k
+state_low k t = grind (arith, nat_tests)
+
+state_high : (k : ℕ) → is_binary_state k ≡ true → k ≤ 127
+state_high k t = grind (arith, nat_tests)
+
 cv_low : (cv place : ℕ) → is_cv_bit cv place ≡ true → 1 ≤ cv
 cv_low cv place t = grind (arith, nat_tests)
 
@@ -104,6 +120,9 @@ loco_at a b m n p q s PendingRegister = s.pending
 loco_at a b m n p q s (Function k) =
     by_case (is_function k) (λ t. s.functions k (at_most k 68 t))
     (λ t. none_both (no_function a k (m (Function k)) (p.registers (Function k)) t) (no_function b k (n (Function k)) (q.registers (Function k)) t))
+loco_at a b m n p q s (StateRegister k) =
+    by_case (is_binary_state k) (λ t. s.states k (state_low k t) (state_high k t))
+    (λ t. none_both (no_state a k (m (StateRegister k)) (p.registers (StateRegister k)) t) (no_state b k (n (StateRegister k)) (q.registers (StateRegister k)) t))
 loco_at a b m n p q s (CvBit cv place) =
     by_case (is_cv_bit cv place) (λ t. s.cv_bits cv place (cv_low cv place t) (cv_high cv place t) (place_high cv place t))
     (λ t. none_both (no_cv_bit a cv place (m (CvBit cv place)) (p.registers (CvBit cv place)) t) (no_cv_bit b cv place (n (CvBit cv place)) (q.registers (CvBit cv place)) t))
@@ -124,6 +143,7 @@ board_at a b m n p q s (Aspect k) =
 board_at a b m n p q s SpeedRegister = none_both (board_lacks_speed a (m SpeedRegister) (p.registers SpeedRegister)) (board_lacks_speed b (n SpeedRegister) (q.registers SpeedRegister))
 board_at a b m n p q s Direction = none_both (board_lacks_direction a (m Direction) (p.registers Direction)) (board_lacks_direction b (n Direction) (q.registers Direction))
 board_at a b m n p q s (Function k) = none_both (board_lacks_function a k (m (Function k)) (p.registers (Function k))) (board_lacks_function b k (n (Function k)) (q.registers (Function k)))
+board_at a b m n p q s (StateRegister k) = none_both (board_lacks_state a k (m (StateRegister k)) (p.registers (StateRegister k))) (board_lacks_state b k (n (StateRegister k)) (q.registers (StateRegister k)))
 board_at a b m n p q s (CvBit cv place) = none_both (board_lacks_cv_bit a cv place (m (CvBit cv place)) (p.registers (CvBit cv place))) (board_lacks_cv_bit b cv place (n (CvBit cv place)) (q.registers (CvBit cv place)))
 board_at a b m n p q s PendingRegister = none_both (board_lacks_pending a (m PendingRegister) (p.registers PendingRegister)) (board_lacks_pending b (n PendingRegister) (q.registers PendingRegister))
 
@@ -136,6 +156,7 @@ whole_loco a b m n p q = (
     direction = ap (λ f. f Direction) e;
     pending = ap (λ f. f PendingRegister) e;
     functions = λ k h. ap (λ f. f (Function k)) e;
+    states = λ k i h. ap (λ f. f (StateRegister k)) e;
     cv_bits = λ cv place i j h. ap (λ f. f (CvBit cv place)) e;
   },
 )

@@ -1,6 +1,6 @@
 -- The registers of an accessory decoder and their start values.
 use Rattle.std.specs.Prelude.{ℕ, Bool, false, nat_le, None, Some, if◌then◌else◌}
-use Rattle.dcc_regs.specs.declared.register.Register.TheVariants.{Speed as SpeedRegister, Direction, Function, CvBit, Pending as PendingRegister, Out, Position, Aspect}
+use Rattle.dcc_regs.specs.declared.register.Register.TheVariants.{Speed as SpeedRegister, Direction, Function, State as StateRegister, CvBit, Pending as PendingRegister, Out, Position, Aspect}
 use Rattle.dcc_regs.specs.declared.register.Value.TheVariants.{Flag, Number}
 use Rattle.dcc_regs.specs.Sets.{side}
 use Rattle.dcc_regs.specs.Result.{RegisterMap}
@@ -19,6 +19,7 @@ board_registers d (Aspect n) = if nat_le n 3 then Some (Number (d.aspects n)) el
 board_registers d SpeedRegister = None
 board_registers d Direction = None
 board_registers d (Function n) = None
+board_registers d (StateRegister n) = None
 board_registers d (CvBit cv place) = None
 board_registers d PendingRegister = None
 

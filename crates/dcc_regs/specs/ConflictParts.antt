@@ -3,14 +3,14 @@ use Rattle.std.specs.Prelude.{ℕ, Bool, true, false, ◌||◌, ◌==◌, nat_lt
 use Rattle.dcc_packet.specs.declared.address.Address.{Address}
 use Rattle.dcc_packet.specs.declared.functions.Group.{Group}
 use Rattle.dcc_packet.specs.declared.instruction.What.{What}
-use Rattle.dcc_packet.specs.declared.instruction.What.TheVariants.{Reset, Speed28, Speed128, Functions, CvWrite, CvVerify, CvBitWrite, CvBitVerify}
+use Rattle.dcc_packet.specs.declared.instruction.What.TheVariants.{Reset, Speed28, Speed128, Functions, BinaryState, CvWrite, CvVerify, CvBitWrite, CvBitVerify}
 use Rattle.dcc_packet.specs.declared.packet.Packet.{Packet}
 use Rattle.dcc_packet.specs.declared.packet.Packet.TheVariants.{Idle, Loco as ToLoco, Accessory, Signal, Other}
 use Rattle.dcc_regs.specs.declared.register.Who.{Who}
 use Rattle.dcc_regs.specs.declared.register.SpeedMode.{SpeedMode}
 use Rattle.dcc_regs.specs.declared.register.SpeedMode.TheVariants.{Steps28}
 use Rattle.dcc_regs.specs.declared.register.Register.{Register}
-use Rattle.dcc_regs.specs.declared.register.Register.TheVariants.{Speed as SpeedRegister, Direction, Function, Out, Position, Aspect}
+use Rattle.dcc_regs.specs.declared.register.Register.TheVariants.{Speed as SpeedRegister, Direction, Function, State as StateRegister, Out, Position, Aspect}
 use Rattle.dcc_regs.specs.declared.register.Value.{Value}
 use Rattle.dcc_regs.specs.Heard.{hears, is_for, is_full_reset, address_of}
 use Rattle.dcc_regs.specs.Sets.{sets}
@@ -66,6 +66,7 @@ group_in (Functions bits) = Some bits.group
 group_in Reset = None
 group_in (Speed28 forward bits) = None
 group_in (Speed128 forward bits) = None
+group_in (BinaryState state on) = None
 group_in (CvWrite cv value) = None
 group_in (CvVerify cv value) = None
 group_in (CvBitWrite cv place one) = None
@@ -100,7 +101,8 @@ abbrev pub DifferInLoco : SpeedMode → Packet → Packet → Type 0
 DifferInLoco mode p q =
     Differ (sets mode p SpeedRegister) (sets mode q SpeedRegister)
     ⊎ (Differ (sets mode p Direction) (sets mode q Direction)
-    ⊎ ((n : ℕ) × Differ (sets mode p (Function n)) (sets mode q (Function n))))
+    ⊎ (((n : ℕ) × Differ (sets mode p (Function n)) (sets mode q (Function n)))
+    ⊎ ((n : ℕ) × Differ (sets mode p (StateRegister n)) (sets mode q (StateRegister n)))))
 
 -- they set an output or its pair to two values, which is so in both modes
 abbrev pub DifferAtOutput : Packet → Packet → ℕ → Type 0

@@ -4,7 +4,7 @@ use Rattle.dcc_packet.specs.declared.address.Address.TheVariants.{Broadcast}
 use Rattle.dcc_packet.specs.declared.functions.GroupBits.{GroupBits}
 use Rattle.dcc_packet.specs.declared.functions.Group.{Group}
 use Rattle.dcc_packet.specs.declared.functions.Group.TheVariants.{F0, F5, F9, F13, F21, F29, F37, F45, F53, F61}
-use Rattle.dcc_packet.specs.declared.instruction.What.TheVariants.{Reset, Speed28, Speed128, Functions, CvWrite, CvVerify, CvBitWrite, CvBitVerify}
+use Rattle.dcc_packet.specs.declared.instruction.What.TheVariants.{Reset, Speed28, Speed128, Functions, BinaryState, CvWrite, CvVerify, CvBitWrite, CvBitVerify}
 use Rattle.dcc_packet.specs.declared.packet.Packet.{Packet}
 use Rattle.dcc_packet.specs.declared.packet.Packet.TheVariants.{Idle, Loco as ToLoco, Accessory, Signal, Other}
 use Rattle.dcc_regs.specs.declared.register.SpeedMode.{SpeedMode}
@@ -61,6 +61,7 @@ function_set Steps14 (ToLoco to (Speed28 forward bits)) n = if n == 0 then Some 
 function_set Steps28 (ToLoco to (Speed28 forward bits)) n = None
 function_set mode (ToLoco to (Speed128 forward bits)) n = None
 function_set mode (ToLoco to (Functions bits)) n = group_bit mode bits n
+function_set mode (ToLoco to (BinaryState state on)) n = None
 function_set mode (ToLoco to (CvWrite cv value)) n = None
 function_set mode (ToLoco to (CvVerify cv value)) n = None
 function_set mode (ToLoco to (CvBitWrite cv place one)) n = None

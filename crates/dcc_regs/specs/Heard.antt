@@ -7,7 +7,7 @@ use Rattle.dcc_packet.specs.Values.{long_of, short_of}
 use Rattle.dcc_packet.specs.declared.address.Address.{Address}
 use Rattle.dcc_packet.specs.declared.address.Address.TheVariants.{Broadcast, Short, Long}
 use Rattle.dcc_packet.specs.declared.instruction.What.{What}
-use Rattle.dcc_packet.specs.declared.instruction.What.TheVariants.{Reset, Speed28, Speed128, Functions, CvWrite, CvVerify, CvBitWrite, CvBitVerify}
+use Rattle.dcc_packet.specs.declared.instruction.What.TheVariants.{Reset, Speed28, Speed128, Functions, BinaryState, CvWrite, CvVerify, CvBitWrite, CvBitVerify}
 use Rattle.dcc_packet.specs.declared.packet.Packet.{Packet}
 use Rattle.dcc_packet.specs.declared.packet.Packet.TheVariants.{Idle, Loco as ToLoco, Accessory, Signal, Other}
 use Rattle.dcc_regs.specs.declared.register.Who.{Who}
@@ -44,6 +44,7 @@ is_full_reset Broadcast Reset = true
 is_full_reset Broadcast (Speed28 forward bits) = false
 is_full_reset Broadcast (Speed128 forward bits) = false
 is_full_reset Broadcast (Functions bits) = false
+is_full_reset Broadcast (BinaryState state on) = false
 is_full_reset Broadcast (CvWrite cv value) = false
 is_full_reset Broadcast (CvVerify cv value) = false
 is_full_reset Broadcast (CvBitWrite cv place one) = false

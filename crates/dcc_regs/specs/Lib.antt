@@ -2,6 +2,7 @@ pub mod Bits
 pub mod Heard
 pub mod Speeds
 pub mod FunctionBits
+pub mod States
 pub mod Outputs
 pub mod Sets
 pub mod Writes

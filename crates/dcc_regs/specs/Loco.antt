@@ -2,25 +2,27 @@
 use Rattle.std.specs.Prelude.{ℕ, Bool, true, false, ◌&&◌, nat_le, ◌-◌, Option, None, Some, List, slice_index, if◌then◌else◌}
 use Rattle.dcc_packet.specs.declared.address.Address.{Address}
 use Rattle.dcc_packet.specs.declared.instruction.What.{What}
-use Rattle.dcc_packet.specs.declared.instruction.What.TheVariants.{Reset, Speed28, Speed128, Functions, CvWrite, CvVerify, CvBitWrite, CvBitVerify}
+use Rattle.dcc_packet.specs.declared.instruction.What.TheVariants.{Reset, Speed28, Speed128, Functions, BinaryState, CvWrite, CvVerify, CvBitWrite, CvBitVerify}
 use Rattle.dcc_packet.specs.declared.packet.Packet.{Packet}
 use Rattle.dcc_packet.specs.declared.packet.Packet.TheVariants.{Idle, Loco as ToLoco, Accessory, Signal, Other}
 use Rattle.dcc_regs.specs.declared.register.Who.TheVariants.{Loco as LocoWho}
 use Rattle.dcc_regs.specs.declared.register.Speed.{Speed}
 use Rattle.dcc_regs.specs.declared.register.Speed.TheVariants.{Stop, Emergency, Step14, Step28, Step126}
-use Rattle.dcc_regs.specs.declared.register.Register.TheVariants.{Speed as SpeedRegister, Direction, Function, CvBit, Pending as PendingRegister, Out, Position, Aspect}
+use Rattle.dcc_regs.specs.declared.register.Register.TheVariants.{Speed as SpeedRegister, Direction, Function, State as StateRegister, CvBit, Pending as PendingRegister, Out, Position, Aspect}
 use Rattle.dcc_regs.specs.declared.register.Value.{Value}
 use Rattle.dcc_regs.specs.declared.register.Value.TheVariants.{Speed as SpeedValue, Forward, Flag, Pending as PendingValue}
 use Rattle.dcc_regs.specs.Bits.{is_one, byte_of}
 use Rattle.dcc_regs.specs.Heard.{hears}
+use Rattle.dcc_regs.specs.States.{is_binary_state}
 use Rattle.dcc_regs.specs.Writes.{is_own_write}
 use Rattle.dcc_regs.specs.Result.{RegisterMap}
 
--- what a locomotive decoder holds: its functions by number, its CVs by number
+-- what a locomotive decoder holds: its functions, its binary states and its CVs by number
 pub record LocoContent : Type 0 where
   pub speed : Speed
   pub forward : Bool
   pub functions : ℕ → Bool
+  pub states : ℕ → Bool
   pub cvs : ℕ → ℕ
   pub pending : Option Packet
 
@@ -37,6 +39,7 @@ abbrev pub loco_registers : LocoContent → RegisterMap
 loco_registers d SpeedRegister = Some (SpeedValue d.speed)
 loco_registers d Direction = Some (Forward d.forward)
 loco_registers d (Function n) = if is_function n then Some (Flag (d.functions n)) else None
+loco_registers d (StateRegister n) = if is_binary_state n then Some (Flag (d.states n)) else None
 loco_registers d (CvBit cv place) = if is_cv_bit cv place then Some (Flag (is_one (d.cvs cv) place)) else None
 loco_registers d PendingRegister = Some (PendingValue d.pending)
 loco_registers d (Out n) = None
@@ -47,9 +50,9 @@ loco_registers d (Aspect n) = None
 abbrev pub cv_in : List ℕ → ℕ → ℕ
 cv_in cvs cv = slice_index cvs (cv - 1)
 
--- a locomotive decoder just made or powered up: stopped, forward, all functions off, nothing pending
+-- a locomotive decoder just made or powered up: stopped, forward, all functions and binary states off, nothing pending
 abbrev pub started : (ℕ → ℕ) → LocoContent
-started cvs = record { speed = Stop; forward = true; functions = λ n. false; cvs = cvs; pending = None }
+started cvs = record { speed = Stop; forward = true; functions = λ n. false; states = λ n. false; cvs = cvs; pending = None }
 
 -- the steps of each speed mode
 abbrev pub is_speed : Speed → Bool
@@ -65,6 +68,7 @@ writes_byte Reset = true
 writes_byte (Speed28 forward bits) = true
 writes_byte (Speed128 forward bits) = true
 writes_byte (Functions bits) = true
+writes_byte (BinaryState state on) = true
 writes_byte (CvWrite cv value) = nat_le value 255
 writes_byte (CvVerify cv value) = true
 writes_byte (CvBitWrite cv place one) = true

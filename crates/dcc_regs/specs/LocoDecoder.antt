@@ -8,6 +8,7 @@ content d = record {
   speed = d.speed;
   forward = d.forward;
   functions = λ n. slice_index_or d.functions n false;
+  states = λ n. slice_index_or d.states n false;
   cvs = cv_in d.cvs.bytes;
   pending = d.pending;
 }

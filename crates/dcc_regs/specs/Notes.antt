@@ -5,8 +5,9 @@ use Rattle.dcc_packet.specs.declared.accessory.Output.{Output}
 use Rattle.dcc_packet.specs.declared.accessory.SignalAddress.{SignalAddress}
 use Rattle.dcc_packet.specs.declared.address.Address.{Address}
 use Rattle.dcc_packet.specs.declared.functions.GroupBits.{GroupBits}
+use Rattle.dcc_packet.specs.declared.state.StateNumber.{StateNumber}
 use Rattle.dcc_packet.specs.declared.instruction.What.{What}
-use Rattle.dcc_packet.specs.declared.instruction.What.TheVariants.{Reset, Speed28, Speed128, Functions, CvWrite, CvVerify, CvBitWrite, CvBitVerify}
+use Rattle.dcc_packet.specs.declared.instruction.What.TheVariants.{Reset, Speed28, Speed128, Functions, BinaryState, CvWrite, CvVerify, CvBitWrite, CvBitVerify}
 use Rattle.dcc_packet.specs.declared.packet.Packet.{Packet}
 use Rattle.dcc_packet.specs.declared.packet.Packet.TheVariants.{Idle, Loco as ToLoco, Accessory, Signal, Other}
 use Rattle.dcc_packet.specs.declared.packet.OtherFrame.{OtherFrame}
@@ -17,6 +18,7 @@ pub data Note : Type 0 where
   ResetCall : Address → Note
   SpeedCall : Address → What → Note
   FunctionsCall : Address → GroupBits → Note
+  StateCall : Address → StateNumber → Bool → Note
   CvAccessCall : Address → What → Note
   TurnoutCall : Board → Output → Bool → Note
   SignalCall : SignalAddress → ℕ → Note
@@ -28,6 +30,7 @@ loco_note to Reset = ResetCall to
 loco_note to (Speed28 forward bits) = SpeedCall to (Speed28 forward bits)
 loco_note to (Speed128 forward bits) = SpeedCall to (Speed128 forward bits)
 loco_note to (Functions bits) = FunctionsCall to bits
+loco_note to (BinaryState state on) = StateCall to state on
 loco_note to (CvWrite cv value) = CvAccessCall to (CvWrite cv value)
 loco_note to (CvVerify cv value) = CvAccessCall to (CvVerify cv value)
 loco_note to (CvBitWrite cv place one) = CvAccessCall to (CvBitWrite cv place one)
@@ -47,6 +50,7 @@ packet_told IdleCall = Idle
 packet_told (ResetCall to) = ToLoco to Reset
 packet_told (SpeedCall to what) = ToLoco to what
 packet_told (FunctionsCall to bits) = ToLoco to (Functions bits)
+packet_told (StateCall to state on) = ToLoco to (BinaryState state on)
 packet_told (CvAccessCall to what) = ToLoco to what
 packet_told (TurnoutCall board output on) = Accessory board output on
 packet_told (SignalCall address aspect) = Signal address aspect

@@ -1,7 +1,7 @@
--- What the packed locomotive decoder holds: bit n of its number is function n.
+-- What the packed locomotive decoder holds: bit n of one number is function n, bit n of the other state n.
 use Rattle.dcc_regs.specs.declared.packed_loco.PackedLoco.{PackedLoco}
 use Rattle.dcc_regs.specs.Bits.{is_one}
 use Rattle.dcc_regs.specs.Loco.{LocoContent, cv_in}
 
 abbrev pub content : PackedLoco → LocoContent
-content d = record { speed = d.speed; forward = d.forward; functions = is_one d.functions; cvs = cv_in d.cvs.bytes; pending = d.pending }
+content d = record { speed = d.speed; forward = d.forward; functions = is_one d.functions; states = is_one d.states; cvs = cv_in d.cvs.bytes; pending = d.pending }

@@ -3,10 +3,11 @@ use Rattle.std.specs.Prelude.{◌≡◌, Bool, true, false, not, ◌&&◌, nat_l
 use Rattle.dcc_regs.specs.declared.register.Who.{Who}
 use Rattle.dcc_regs.specs.declared.register.Who.TheVariants.{Loco as LocoWho, Board as BoardWho}
 use Rattle.dcc_regs.specs.declared.register.Register.{Register}
-use Rattle.dcc_regs.specs.declared.register.Register.TheVariants.{Speed as SpeedRegister, Direction, Function, CvBit, Pending as PendingRegister, Out, Position, Aspect}
+use Rattle.dcc_regs.specs.declared.register.Register.TheVariants.{Speed as SpeedRegister, Direction, Function, State as StateRegister, CvBit, Pending as PendingRegister, Out, Position, Aspect}
 use Rattle.dcc_regs.specs.declared.register.Value.{Value}
 use Rattle.dcc_regs.specs.declared.register.Value.TheVariants.{Speed as SpeedValue, Forward, Flag, Number, Pending as PendingValue}
 use Rattle.dcc_regs.specs.Addresses.{is_active}
+use Rattle.dcc_regs.specs.States.{is_binary_state}
 use Rattle.dcc_regs.specs.Loco.{is_speed, is_pending_for, is_function, is_cv_bit}
 use Rattle.dcc_regs.specs.Result.{RegisterMap}
 
@@ -21,6 +22,8 @@ may_hold (LocoWho active) SpeedRegister (Some (SpeedValue speed)) = is_speed spe
 may_hold (LocoWho active) Direction (Some (Forward forward)) = true
 may_hold (LocoWho active) (Function n) (Some (Flag on)) = is_function n
 may_hold (LocoWho active) (Function n) None = not (is_function n)
+may_hold (LocoWho active) (StateRegister n) (Some (Flag on)) = is_binary_state n
+may_hold (LocoWho active) (StateRegister n) None = not (is_binary_state n)
 may_hold (LocoWho active) (CvBit cv place) (Some (Flag one)) = is_cv_bit cv place
 may_hold (LocoWho active) (CvBit cv place) None = not (is_cv_bit cv place)
 may_hold (LocoWho active) PendingRegister (Some (PendingValue pending)) = is_pending_for active pending
@@ -36,6 +39,7 @@ may_hold (BoardWho own) (Aspect n) None = not (nat_le n 3)
 may_hold (BoardWho own) SpeedRegister None = true
 may_hold (BoardWho own) Direction None = true
 may_hold (BoardWho own) (Function n) None = true
+may_hold (BoardWho own) (StateRegister n) None = true
 may_hold (BoardWho own) (CvBit cv place) None = true
 may_hold (BoardWho own) PendingRegister None = true
 may_hold who r held = false

@@ -3,7 +3,7 @@ use Rattle.std.specs.Prelude.{Option, None, Some, unwrap_or}
 use Rattle.dcc_packet.specs.declared.packet.Packet.{Packet}
 use Rattle.dcc_regs.specs.declared.register.SpeedMode.{SpeedMode}
 use Rattle.dcc_regs.specs.declared.register.Register.{Register}
-use Rattle.dcc_regs.specs.declared.register.Register.TheVariants.{Speed as SpeedRegister, Direction, Function, CvBit, Pending as PendingRegister, Out, Position, Aspect}
+use Rattle.dcc_regs.specs.declared.register.Register.TheVariants.{Speed as SpeedRegister, Direction, Function, State as StateRegister, CvBit, Pending as PendingRegister, Out, Position, Aspect}
 use Rattle.dcc_regs.specs.declared.register.Value.{Value}
 use Rattle.dcc_regs.specs.declared.register.Value.TheVariants.{Pending as PendingValue}
 use Rattle.dcc_regs.specs.Sets.{sets}
@@ -20,6 +20,7 @@ set_from m p (CvBit cv place) = effective_set (m PendingRegister) p cv place
 set_from m p SpeedRegister = sets (mode_in m) p SpeedRegister
 set_from m p Direction = sets (mode_in m) p Direction
 set_from m p (Function n) = sets (mode_in m) p (Function n)
+set_from m p (StateRegister n) = sets (mode_in m) p (StateRegister n)
 set_from m p (Out n) = sets (mode_in m) p (Out n)
 set_from m p (Position n) = sets (mode_in m) p (Position n)
 set_from m p (Aspect n) = sets (mode_in m) p (Aspect n)

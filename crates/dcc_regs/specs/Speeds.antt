@@ -1,7 +1,7 @@
 -- The speed and the direction that a packet sets (RCN-212, NMRA S-9.2.1).
 use Rattle.std.specs.Prelude.{ℕ, Bool, true, ◌||◌, ◌==◌, nat_lt, ◌-◌, ◌/◌, Option, None, Some, if◌then◌else◌}
 use Rattle.dcc_packet.specs.declared.address.Address.TheVariants.{Broadcast}
-use Rattle.dcc_packet.specs.declared.instruction.What.TheVariants.{Reset, Speed28, Speed128, Functions, CvWrite, CvVerify, CvBitWrite, CvBitVerify}
+use Rattle.dcc_packet.specs.declared.instruction.What.TheVariants.{Reset, Speed28, Speed128, Functions, BinaryState, CvWrite, CvVerify, CvBitWrite, CvBitVerify}
 use Rattle.dcc_packet.specs.declared.packet.Packet.{Packet}
 use Rattle.dcc_packet.specs.declared.packet.Packet.TheVariants.{Idle, Loco as ToLoco, Accessory, Signal, Other}
 use Rattle.dcc_regs.specs.declared.register.SpeedMode.{SpeedMode}
@@ -33,6 +33,7 @@ speed_set Steps28 (ToLoco to (Speed28 forward bits)) = Some (speed_of_28 bits.bi
 speed_set Steps14 (ToLoco to (Speed28 forward bits)) = Some (speed_of_14 bits.bits)
 speed_set mode (ToLoco to (Speed128 forward bits)) = Some (speed_of_126 bits.bits)
 speed_set mode (ToLoco to (Functions bits)) = None
+speed_set mode (ToLoco to (BinaryState state on)) = None
 speed_set mode (ToLoco to (CvWrite cv value)) = None
 speed_set mode (ToLoco to (CvVerify cv value)) = None
 speed_set mode (ToLoco to (CvBitWrite cv place one)) = None
@@ -49,6 +50,7 @@ direction_set (ToLoco Broadcast (Speed28 forward bits)) = if bits.bits == 0 || b
 direction_set (ToLoco to (Speed28 forward bits)) = Some forward
 direction_set (ToLoco to (Speed128 forward bits)) = Some forward
 direction_set (ToLoco to (Functions bits)) = None
+direction_set (ToLoco to (BinaryState state on)) = None
 direction_set (ToLoco to (CvWrite cv value)) = None
 direction_set (ToLoco to (CvVerify cv value)) = None
 direction_set (ToLoco to (CvBitWrite cv place one)) = None

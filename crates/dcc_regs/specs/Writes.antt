@@ -2,7 +2,7 @@
 use Rattle.std.specs.Prelude.{ℕ, Bool, true, false, not, ◌&&◌, ◌||◌, ◌==◌, Option, None, Some, if◌then◌else◌}
 use Rattle.dcc_packet.specs.declared.address.Address.TheVariants.{Broadcast, Short, Long}
 use Rattle.dcc_packet.specs.declared.instruction.What.{What}
-use Rattle.dcc_packet.specs.declared.instruction.What.TheVariants.{Reset, Speed28, Speed128, Functions, CvWrite, CvVerify, CvBitWrite, CvBitVerify}
+use Rattle.dcc_packet.specs.declared.instruction.What.TheVariants.{Reset, Speed28, Speed128, Functions, BinaryState, CvWrite, CvVerify, CvBitWrite, CvBitVerify}
 use Rattle.dcc_packet.specs.declared.packet.Packet.{Packet}
 use Rattle.dcc_packet.specs.declared.packet.Packet.TheVariants.{Idle, Loco as ToLoco, Accessory, Signal, Other}
 use Rattle.dcc_regs.specs.Bits.{is_one}
@@ -15,6 +15,7 @@ is_cv_write Reset = false
 is_cv_write (Speed28 forward bits) = false
 is_cv_write (Speed128 forward bits) = false
 is_cv_write (Functions bits) = false
+is_cv_write (BinaryState state on) = false
 is_cv_write (CvVerify cv value) = false
 is_cv_write (CvBitVerify cv place one) = false
 
@@ -40,6 +41,7 @@ cv_bit_set Reset n k = None
 cv_bit_set (Speed28 forward bits) n k = None
 cv_bit_set (Speed128 forward bits) n k = None
 cv_bit_set (Functions bits) n k = None
+cv_bit_set (BinaryState state on) n k = None
 cv_bit_set (CvVerify cv value) n k = None
 cv_bit_set (CvBitVerify cv place one) n k = None
 
@@ -59,6 +61,7 @@ writes_mode Reset = false
 writes_mode (Speed28 forward bits) = false
 writes_mode (Speed128 forward bits) = false
 writes_mode (Functions bits) = false
+writes_mode (BinaryState state on) = false
 writes_mode (CvVerify cv value) = false
 writes_mode (CvBitVerify cv place one) = false
 

@@ -3,7 +3,7 @@
 ghost use Rattle.std.specs.Prelude.{◌≡◌, ◌↔◌, ℕ, ◌%◌, ◌+◌, ◌<◌, ◌≤◌, IsTrue};
 ghost use Rattle.dcc_regs.specs.ConflictParts.{Differ, DifferAtOutput, DifferInAspects, DifferInLoco, DifferInOutputs, group_of as group_of_packet, output_of as output_of_packet, signal_of as signal_of_packet};
 ghost use Rattle.dcc_regs.specs.Sets as table;
-ghost use Rattle.dcc_regs.specs.declared.register.Register.TheVariants.{Aspect, Function};
+ghost use Rattle.dcc_regs.specs.declared.register.Register.TheVariants.{Aspect, Function, State as StateRegister};
 ghost use Rattle.dcc_regs.specs.declared.register.SpeedMode.TheVariants.{Steps28};
 
 use crate::function_bits::{count_of, first_function, function_set};
@@ -11,6 +11,7 @@ use crate::outputs::{aspect_set, out_set, position_set};
 use crate::register::{Register, SpeedMode, Value};
 use crate::same::same_value;
 use crate::speeds::{direction_set, speed_set};
+use crate::states::{looked, state_set};
 use dcc_packet::{Group, Packet, What};
 
 /// The constant that a packet sets a plain register to.
@@ -21,6 +22,7 @@ fn sets(mode: SpeedMode, packet: &Packet, register: Register) -> Option<Value>
         Register::Speed => speed_set(mode, packet).map(Value::Speed),
         Register::Direction => direction_set(packet).map(Value::Forward),
         Register::Function(n) => function_set(mode, packet, n).map(Value::Flag),
+        Register::State(n) => state_set(packet, n).map(Value::Flag),
         Register::Out(n) => out_set(packet, n).map(Value::Flag),
         Register::Position(n) => position_set(packet, n).map(|side| Value::Number(side as u8)),
         Register::Aspect(n) => aspect_set(packet, n).map(Value::Number),
@@ -83,6 +85,13 @@ fn functions_differ(mode: SpeedMode, p: &Packet, q: &Packet) -> bool
     }
 }
 
+/// Whether both packets set some binary state, and not to one value.
+fn states_differ(mode: SpeedMode, p: &Packet, q: &Packet) -> bool
+    ensures { IsTrue result ↔ ((n : ℕ) × Differ (table.sets mode p.now (StateRegister n)) (table.sets mode q.now (StateRegister n))) }
+{
+    differ_at(mode, p, q, Register::State(looked(p, q)))
+}
+
 /// Whether both packets set a register of locomotive decoders, and not to one value.
 pub fn locos_differ_in(mode: SpeedMode, p: &Packet, q: &Packet) -> bool
     ensures { IsTrue result ↔ DifferInLoco mode p.now q.now }
@@ -90,6 +99,7 @@ pub fn locos_differ_in(mode: SpeedMode, p: &Packet, q: &Packet) -> bool
     differ_at(mode, p, q, Register::Speed)
         || differ_at(mode, p, q, Register::Direction)
         || functions_differ(mode, p, q)
+        || states_differ(mode, p, q)
 }
 
 /// Whether both packets set output `n` or its pair, and not to one value.

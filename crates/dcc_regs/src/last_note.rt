@@ -3,7 +3,7 @@
 ghost use Rattle.std.specs.Prelude.{◌≡◌, Some, None};
 
 use crate::notify::Notify;
-use dcc_packet::{Address, Board, GroupBits, OtherFrame, Output, Packet, SignalAddress, What};
+use dcc_packet::{Address, Board, GroupBits, OtherFrame, Output, Packet, SignalAddress, StateNumber, What};
 use std::marker::Model;
 
 /// Keeps the packet that it was told last.
@@ -61,6 +61,13 @@ impl Notify for LastNote {
         self.last = Some(Packet::Loco {
             to,
             what: What::Functions(bits),
+        });
+    }
+
+    fn state(&mut self, to: Address, number: StateNumber, on: bool) {
+        self.last = Some(Packet::Loco {
+            to,
+            what: What::BinaryState { number, on },
         });
     }
 

@@ -23,6 +23,7 @@ mod packed_loco;
 mod register;
 mod same;
 mod speeds;
+mod states;
 mod writes;
 
 pub use board::BoardDecoder;

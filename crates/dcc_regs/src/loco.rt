@@ -1,27 +1,30 @@
 //! The plain locomotive decoder.
-ghost use Rattle.std.specs.Prelude.{◌≡◌, ℕ, ◌<◌, ◌≤◌, IsTrue, Some, unwrap_or, slice_index_or, true, false, ◌↔◌, IsOk, IfOk, IfErr};
+ghost use Rattle.std.specs.Prelude.{◌≡◌, ℕ, ◌<◌, ◌≤◌, IsTrue, Some, None, if◌then◌else◌, unwrap_or, slice_index_or, true, false, ◌↔◌, IsOk, IfOk, IfErr};
 ghost use Rattle.dcc_regs.specs.Addresses.{is_active};
 ghost use Rattle.dcc_regs.specs.FunctionBits.{function_set as function_set_of};
 ghost use Rattle.dcc_regs.specs.Loco.{is_speed, is_pending_for};
 ghost use Rattle.dcc_regs.specs.Speeds as table;
+ghost use Rattle.dcc_regs.specs.States.{is_binary_state, state_set as state_set_of};
 
 use crate::cvs::Cvs;
 use crate::decoder::Decoder;
 use crate::function_bits::function_set;
 use crate::heard::hears;
-use crate::loco_state::{LocoState, functions_of};
+use crate::loco_state::{LocoState, functions_of, states_of};
 use crate::register::{Register, Speed, SpeedMode, Value, Who};
 use crate::speeds::{direction_set, speed_set};
+use crate::states::state_set;
 use crate::writes::own_write;
 use dcc_packet::{Address, CvNumber, Packet, PacketFault};
 
-/// A locomotive decoder: its functions as truth values, its CVs as bytes.
+/// A locomotive decoder: its functions and binary states as truth values, its CVs as bytes.
 #[derive(Drop)]
 pub struct LocoDecoder {
     address: Option<Address>,
     speed: Speed,
     forward: bool,
     functions: [bool; 69],
+    states: [bool; 128],
     cvs: Cvs,
     pending: Option<Packet>,
     ghost is_active: { is_active address ≡ true },
@@ -47,6 +50,7 @@ impl LocoDecoder {
             speed: Speed::Stop,
             forward: true,
             functions: [false; 69],
+            states: [false; 128],
             cvs,
             pending: None,
         }
@@ -65,6 +69,7 @@ impl LocoDecoder {
                 speed: state.speed,
                 forward: state.forward,
                 functions: functions_of(state.functions),
+                states: states_of(state.states),
                 cvs: Cvs { bytes: state.cvs },
                 pending: state.pending,
             })
@@ -93,6 +98,7 @@ impl LocoDecoder {
         ensures speed { self.new.speed ≡ unwrap_or (table.speed_set mode packet.now) self.old.speed }
         ensures forward { self.new.forward ≡ unwrap_or (table.direction_set packet.now) self.old.forward }
         ensures functions { (n : ℕ) → n ≤ 68 → slice_index_or self.new.functions n false ≡ unwrap_or (function_set_of mode packet.now n) (slice_index_or self.old.functions n false) }
+        ensures states { (n : ℕ) → n ≤ 127 → slice_index_or self.new.states n false ≡ unwrap_or (state_set_of packet.now n) (slice_index_or self.old.states n false) }
         ensures address { self.new.address ≡ self.old.address }
         ensures cvs { self.new.cvs ≡ self.old.cvs }
         ensures pending { self.new.pending ≡ self.old.pending }
@@ -100,6 +106,18 @@ impl LocoDecoder {
         self.speed = speed_set(mode, packet).unwrap_or(self.speed);
         self.forward = direction_set(packet).unwrap_or(self.forward);
         set_functions(&mut self.functions, mode, packet);
+        set_states(&mut self.states, packet);
+    }
+
+    /// A binary state, where there is such a state.
+    fn state(&self, n: u8) -> Option<bool>
+        ensures { result ≡ (if is_binary_state n then Some (slice_index_or self.now.states n false) else None) }
+    {
+        if (1..=127).contains(&n) {
+            Some(self.states[n as usize])
+        } else {
+            None
+        }
     }
 }
 
@@ -109,6 +127,15 @@ fn set_functions(functions: &mut [bool; 69], mode: SpeedMode, packet: &Packet)
     for n in 0..69u8 {
         let at = n as usize;
         functions[at] = function_set(mode, packet, n).unwrap_or(functions[at]);
+    }
+}
+
+fn set_states(states: &mut [bool; 128], packet: &Packet)
+    ensures { (n : ℕ) → n ≤ 127 → slice_index_or states.new n false ≡ unwrap_or (state_set_of packet.now n) (slice_index_or states.old n false) }
+{
+    for n in 0..128u8 {
+        let at = n as usize;
+        states[at] = state_set(packet, n).unwrap_or(states[at]);
     }
 }
 
@@ -139,6 +166,7 @@ impl Decoder for LocoDecoder {
             Register::Speed => Some(Value::Speed(self.speed)),
             Register::Direction => Some(Value::Forward(self.forward)),
             Register::Function(n) if n <= 68 => Some(Value::Flag(self.functions[n as usize])),
+            Register::State(n) => self.state(n).map(Value::Flag),
             Register::CvBit(cv, place) => self.cvs.bit(cv, place).map(Value::Flag),
             Register::Pending => Some(Value::Pending(self.pending)),
             _ => None,

@@ -21,6 +21,8 @@ pub struct LocoState {
     pub forward: bool,
     /// Bit n is function n, 0 to 68.
     pub functions: u128,
+    /// Bit n is the binary state n, 1 to 127. Bit 0 is none.
+    pub states: u128,
     /// The CV write to the active address that was heard last, where nothing else was heard since.
     pub pending: Option<Packet>,
     /// CV1 to CV1024.
@@ -37,6 +39,7 @@ impl LocoState {
         is_active(&self.address)
             && is_speed(self.speed)
             && self.functions >> 69 == 0
+            && self.states % 2 == 0
             && is_pending_for(&self.address, &self.pending)
     }
 }
@@ -76,4 +79,15 @@ pub fn functions_of(bits: u128) -> [bool; 69]
         functions[n] = bits >> n & 1 == 1;
     }
     functions
+}
+
+/// The binary states that the bits of a number turn on.
+pub fn states_of(bits: u128) -> [bool; 128]
+    ensures { (n : ℕ) → n ≤ 127 → slice_index_or result n false ≡ is_one bits n }
+{
+    let mut states = [false; 128];
+    for n in 0..128 {
+        states[n] = bits >> n & 1 == 1;
+    }
+    states
 }

@@ -1,9 +1,9 @@
 //! One call for each kind of packet, for those who want to be told what is heard.
 
 ghost use Rattle.std.specs.Prelude.{◌≡◌};
-ghost use Rattle.dcc_regs.specs.Notes.{Note, IdleCall, ResetCall, SpeedCall, FunctionsCall, CvAccessCall, TurnoutCall, SignalCall, OtherCall, note_of};
+ghost use Rattle.dcc_regs.specs.Notes.{Note, IdleCall, ResetCall, SpeedCall, FunctionsCall, StateCall, CvAccessCall, TurnoutCall, SignalCall, OtherCall, note_of};
 
-use dcc_packet::{Address, Board, GroupBits, OtherFrame, Output, Packet, SignalAddress, What};
+use dcc_packet::{Address, Board, GroupBits, OtherFrame, Output, Packet, SignalAddress, StateNumber, What};
 
 /// Is told packets, each by the call of its kind.
 pub trait Notify {
@@ -25,6 +25,10 @@ pub trait Notify {
     /// A group of functions.
     fn functions(&mut self, to: Address, bits: GroupBits)
         ensures { told self.old (FunctionsCall to bits) self.new };
+
+    /// A binary state, 1 to 127, or all of them for 0.
+    fn state(&mut self, to: Address, number: StateNumber, on: bool)
+        ensures { told self.old (StateCall to number on) self.new };
 
     /// A write or a verify of a CV or of a bit of one, once for each copy.
     fn cv_access(&mut self, to: Address, what: What)
@@ -53,6 +57,7 @@ pub fn announce<N: Notify>(packet: &Packet, notify: &mut N)
             What::Reset => notify.reset(*to),
             What::Speed28 { .. } | What::Speed128 { .. } => notify.speed(*to, *what),
             What::Functions(bits) => notify.functions(*to, *bits),
+            What::BinaryState { number, on } => notify.state(*to, *number, *on),
             What::CvWrite { .. }
             | What::CvVerify { .. }
             | What::CvBitWrite { .. }

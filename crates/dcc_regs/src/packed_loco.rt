@@ -1,9 +1,10 @@
-//! A locomotive decoder with its functions packed into one number.
-ghost use Rattle.std.specs.Prelude.{◌≡◌, ℕ, ◌<◌, ◌≤◌, unwrap_or, true, ◌↔◌, IsOk, IfOk, IfErr};
+//! A locomotive decoder with its functions packed into one number, its binary states into another.
+ghost use Rattle.std.specs.Prelude.{◌≡◌, ℕ, ◌<◌, ◌≤◌, Some, None, if◌then◌else◌, unwrap_or, true, ◌↔◌, IsOk, IfOk, IfErr};
 ghost use Rattle.dcc_regs.specs.Addresses.{is_active};
 ghost use Rattle.dcc_regs.specs.Bits.{is_one};
 ghost use Rattle.dcc_regs.specs.FunctionBits.{function_set as function_set_of};
 ghost use Rattle.dcc_regs.specs.Loco.{is_speed, is_pending_for};
+ghost use Rattle.dcc_regs.specs.States.{is_binary_state, state_set as state_set_of};
 
 use crate::cvs::Cvs;
 use crate::decoder::Decoder;
@@ -12,16 +13,19 @@ use crate::heard::hears;
 use crate::loco_state::LocoState;
 use crate::register::{Register, Speed, SpeedMode, Value, Who};
 use crate::speeds::{direction_set, speed_set};
+use crate::states::{state_set, states_told};
 use crate::writes::own_write;
 use dcc_packet::{Address, CvNumber, Packet, PacketFault};
 
-/// A locomotive decoder: bit n of `functions` is function n, its CVs are bytes. It keeps the contracts of `LocoDecoder`.
+/// A locomotive decoder: bit n of `functions` is function n, bit n of `states` state n, its CVs are bytes. It
+/// keeps the contracts of `LocoDecoder`.
 #[derive(Drop)]
 pub struct PackedLoco {
     address: Option<Address>,
     speed: Speed,
     forward: bool,
     functions: u128,
+    states: u128,
     cvs: Cvs,
     pending: Option<Packet>,
     ghost is_active: { is_active address ≡ true },
@@ -47,6 +51,7 @@ impl PackedLoco {
             speed: Speed::Stop,
             forward: true,
             functions: 0,
+            states: 0,
             cvs,
             pending: None,
         }
@@ -65,6 +70,7 @@ impl PackedLoco {
                 speed: state.speed,
                 forward: state.forward,
                 functions: state.functions,
+                states: state.states,
                 cvs: Cvs { bytes: state.cvs },
                 pending: state.pending,
             })
@@ -101,6 +107,32 @@ fn functions_after(functions: u128, mode: SpeedMode, packet: &Packet) -> u128
     after
 }
 
+/// The binary states after a heard packet. Most packets turn none.
+fn states_after(states: u128, packet: &Packet) -> u128
+    ensures { (n : ℕ) → n ≤ 127 → is_one result n ≡ unwrap_or (state_set_of packet.now n) (is_one states n) }
+{
+    if states_told(packet).is_none() {
+        return states;
+    }
+    let mut after = 0;
+    for n in 0..128 {
+        let on = state_set(packet, n).unwrap_or(states >> n & 1 == 1);
+        after |= (on as u128) << n;
+    }
+    after
+}
+
+/// A binary state, where there is such a state.
+fn state(states: u128, n: u8) -> Option<bool>
+    ensures { result ≡ (if is_binary_state n then Some (is_one states n) else None) }
+{
+    if (1..=127).contains(&n) {
+        Some(states >> n & 1 == 1)
+    } else {
+        None
+    }
+}
+
 impl Decoder for PackedLoco {
     ghost use Rattle.dcc_regs.specs.PackedLoco.{content};
     ghost use Rattle.dcc_regs.specs.Loco.{loco_registers};
@@ -121,6 +153,7 @@ impl Decoder for PackedLoco {
             self.speed = speed_set(mode, packet).unwrap_or(self.speed);
             self.forward = direction_set(packet).unwrap_or(self.forward);
             self.functions = functions_after(self.functions, mode, packet);
+            self.states = states_after(self.states, packet);
             self.pending = own_write(packet);
         }
     }
@@ -130,6 +163,7 @@ impl Decoder for PackedLoco {
             Register::Speed => Some(Value::Speed(self.speed)),
             Register::Direction => Some(Value::Forward(self.forward)),
             Register::Function(n) if n <= 68 => Some(Value::Flag(self.functions >> n & 1 == 1)),
+            Register::State(n) => state(self.states, n).map(Value::Flag),
             Register::CvBit(cv, place) => self.cvs.bit(cv, place).map(Value::Flag),
             Register::Pending => Some(Value::Pending(self.pending)),
             _ => None,

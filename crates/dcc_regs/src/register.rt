@@ -26,6 +26,8 @@ pub enum Register {
     Direction,
     /// A function of a locomotive decoder, 0 to 68.
     Function(u8),
+    /// A binary state of a locomotive decoder, 1 to 127.
+    State(u8),
     /// A bit of a configuration variable: CV 1 to 1024, and the place of the bit, 0 to 7, from the lowest.
     CvBit(u16, u8),
     /// The CV write that a locomotive decoder does when it hears it again.
@@ -45,7 +47,7 @@ pub enum Value {
     Speed(Speed),
     /// Of `Direction`: whether it is forward.
     Forward(bool),
-    /// Of `Function`, `CvBit` and `Out`: on or off, one or zero.
+    /// Of `Function`, `State`, `CvBit` and `Out`: on or off, one or zero.
     Flag(bool),
     /// Of `Position`, 0 or 1, and of `Aspect`, 0 to 255.
     Number(u8),

@@ -17,6 +17,7 @@ returns-then-hears-clause-step c =
       speed = c.obey.new.self.speed;
       forward = c.obey.new.self.forward;
       functions = λ n. slice_index_or c.obey.new.self.functions n false;
+      states = λ n. slice_index_or c.obey.new.self.states n false;
       cvs = cv_in c.obey.new.self.cvs.bytes;
       pending = c.own_write-self.result;
     } in
@@ -26,6 +27,7 @@ returns-then-hears-clause-step c =
       speed = c.obey.ensures.speed;
       forward = c.obey.ensures.forward;
       functions = c.obey.ensures.functions;
+      states = c.obey.ensures.states;
       cvs = rw c.obey.ensures.cvs c.hear.ensures;
       pending = c.own_write-self.ensures.pending;
     })

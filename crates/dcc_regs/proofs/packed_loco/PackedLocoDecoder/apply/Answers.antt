@@ -16,6 +16,7 @@ returns-then-hears-clause-step c =
       speed = c.unwrap_or-self.result;
       forward = c.unwrap_or-self-then-hears.result;
       functions = is_one c.functions_after-self.result;
+      states = is_one c.states_after-self.result;
       cvs = cv_in c.hear.new.self.bytes;
       pending = c.own_write-self.result;
     } in
@@ -25,6 +26,7 @@ returns-then-hears-clause-step c =
       speed = rw (← c.speed_set.ensures.speed) c.unwrap_or-self.ensures;
       forward = rw (← c.direction_set.ensures) c.unwrap_or-self-then-hears.ensures;
       functions = c.functions_after-self.ensures;
+      states = c.states_after-self.ensures;
       cvs = c.hear.ensures;
       pending = c.own_write-self.ensures.pending;
     })

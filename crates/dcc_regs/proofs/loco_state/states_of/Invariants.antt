@@ -1,0 +1,9 @@
+use Rattle.std.proofs.Common.{◌≡◌, ℕ, ◌<◌, slice_index_or, false, length}
+use Rattle.dcc_regs.specs.Bits.{is_one}
+use Rattle.dcc_regs.proofs.loco_state.states_of.Given as goal
+
+abbrev pub invariant-loop-n : goal.invariant-loop-n
+invariant-loop-n l = record {
+  long : length l.states ≡ 128;
+  done : (k : ℕ) → k < l.n → slice_index_or l.states k false ≡ is_one l.bits k;
+}

@@ -1,0 +1,16 @@
+use Rattle.std.proofs.Common.{◌≡◌, arith, unwrap_or}
+use Rattle.std.proofs.lemmas.Nat.Bits.{shr_and_one}
+use Rattle.dcc_regs.specs.Bits.{is_one}
+use Rattle.dcc_regs.specs.States.{state_set}
+use Rattle.dcc_regs.proofs.Packing.{shifted_one_128, packed_more, zero_above}
+use Rattle.dcc_regs.proofs.packed_loco.states_after.Goals as goal
+
+pub loop-n-preserved : goal.loop-n-preserved
+loop-n-preserved c =
+    let fits = shifted_one_128 c.loop-n.n (omega arith) in
+    let own : c.unwrap_or-on.result ≡ unwrap_or (state_set c.args.packet.now c.loop-n.n) (is_one c.args.states c.loop-n.n) =
+    rw (shr_and_one c.args.states c.loop-n.n, c.state_set.ensures) at c.unwrap_or-on.ensures in
+    record {
+      done = packed_more c.loop-n.after c.loop-n.n _ c.unwrap_or-on.result _ fits c.loop-n.invariant.done (c.loop-n.invariant.left c.loop-n.n (omega arith)) own;
+      left = zero_above c.loop-n.after c.loop-n.n _ c.unwrap_or-on.result fits c.loop-n.invariant.left;
+    }
