@@ -1,5 +1,5 @@
 -- Laws over the definitions.
-use Rattle.std.specs.Prelude.{◌≡◌, ◌≢◌, ◌⊎◌, true, false, None, List, ◌++◌, if◌then◌else◌}
+use Rattle.std.specs.Prelude.{Some, ◌≡◌, ◌≢◌, ◌⊎◌, true, false, None, List, ◌++◌, if◌then◌else◌}
 use Rattle.dcc_packet.specs.declared.address.Address.{Address}
 use Rattle.dcc_packet.specs.declared.address.Address.TheVariants.{Broadcast}
 use Rattle.dcc_packet.specs.declared.instruction.What.{What}
@@ -14,7 +14,7 @@ use Rattle.dcc_regs.specs.Conflict.{Conflict}
 use Rattle.dcc_regs.specs.Sets.{sets}
 use Rattle.dcc_regs.specs.Writes.{is_own_write, writes_cv29}
 use Rattle.dcc_regs.specs.Result.{RegisterMap, result, step}
-use Rattle.dcc_regs.specs.Notes.{note_of, packet_told}
+use Rattle.dcc_regs.specs.Notes.{Note, note_of, packet_told}
 use Rattle.dcc_regs.specs.Setting.{mode_in, set_from, overwritten}
 
 -- what a list of packets leaves is what its second part leaves, from what its first part left
@@ -27,7 +27,11 @@ StepSets = (who : Who) (start : RegisterMap) (p : Packet) (r : Register) → ste
 
 -- the one call of a packet tells that packet
 abbrev pub NotesTellPackets : Type 0
-NotesTellPackets = (p : Packet) → packet_told (note_of p) ≡ p
+NotesTellPackets = (p : Packet) → packet_told (note_of p) ≡ Some p
+
+-- a call that tells a packet is the one call of that packet
+abbrev pub NoOtherCallTells : Type 0
+NoOtherCallTells = (note : Note) (p : Packet) → packet_told note ≡ Some p → note ≡ note_of p
 
 -- nobody hears Idle
 abbrev pub IdleIsUnheard : Type 0

@@ -1,11 +1,12 @@
 -- What a listener is told of a packet: one call for each kind of packet.
-use Rattle.std.specs.Prelude.{ℕ, Bool}
+use Rattle.std.specs.Prelude.{ℕ, Bool, true, false, Option, Some, None, if◌then◌else◌}
 use Rattle.dcc_packet.specs.declared.accessory.Board.{Board}
 use Rattle.dcc_packet.specs.declared.accessory.Output.{Output}
 use Rattle.dcc_packet.specs.declared.accessory.SignalAddress.{SignalAddress}
 use Rattle.dcc_packet.specs.declared.address.Address.{Address}
 use Rattle.dcc_packet.specs.declared.functions.GroupBits.{GroupBits}
 use Rattle.dcc_packet.specs.declared.state.StateNumber.{StateNumber}
+use Rattle.dcc_packet.specs.Instruction.{is_cv_access}
 use Rattle.dcc_packet.specs.declared.instruction.What.{What}
 use Rattle.dcc_packet.specs.declared.instruction.What.TheVariants.{Reset, Speed28, Speed128, Functions, BinaryState, CvWrite, CvVerify, CvBitWrite, CvBitVerify}
 use Rattle.dcc_packet.specs.declared.packet.Packet.{Packet}
@@ -44,14 +45,30 @@ note_of (Accessory board output on) = TurnoutCall board output on
 note_of (Signal address aspect) = SignalCall address aspect
 note_of (Other frame) = OtherCall frame
 
--- the packet that a call tells
-abbrev pub packet_told : Note → Packet
-packet_told IdleCall = Idle
-packet_told (ResetCall to) = ToLoco to Reset
-packet_told (SpeedCall to what) = ToLoco to what
-packet_told (FunctionsCall to bits) = ToLoco to (Functions bits)
-packet_told (StateCall to state on) = ToLoco to (BinaryState state on)
-packet_told (CvAccessCall to what) = ToLoco to what
-packet_told (TurnoutCall board output on) = Accessory board output on
-packet_told (SignalCall address aspect) = Signal address aspect
-packet_told (OtherCall frame) = Other frame
+-- an instruction of speed and direction
+abbrev pub is_speed_instruction : What → Bool
+is_speed_instruction Reset = false
+is_speed_instruction (Speed28 forward bits) = true
+is_speed_instruction (Speed128 forward bits) = true
+is_speed_instruction (Functions bits) = false
+is_speed_instruction (BinaryState state on) = false
+is_speed_instruction (CvWrite cv value) = false
+is_speed_instruction (CvVerify cv value) = false
+is_speed_instruction (CvBitWrite cv place one) = false
+is_speed_instruction (CvBitVerify cv place one) = false
+
+-- an instruction that is of the kind of its call
+abbrev pub told_if : Bool → Address → What → Option Packet
+told_if of_its_kind to what = if of_its_kind then Some (ToLoco to what) else None
+
+-- the packet that a call tells; none where it is given an instruction of another kind
+abbrev pub packet_told : Note → Option Packet
+packet_told IdleCall = Some Idle
+packet_told (ResetCall to) = Some (ToLoco to Reset)
+packet_told (SpeedCall to what) = told_if (is_speed_instruction what) to what
+packet_told (FunctionsCall to bits) = Some (ToLoco to (Functions bits))
+packet_told (StateCall to state on) = Some (ToLoco to (BinaryState state on))
+packet_told (CvAccessCall to what) = told_if (is_cv_access what) to what
+packet_told (TurnoutCall board output on) = Some (Accessory board output on)
+packet_told (SignalCall address aspect) = Some (Signal address aspect)
+packet_told (OtherCall frame) = Some (Other frame)

@@ -6,7 +6,7 @@ use crate::notify::Notify;
 use dcc_packet::{Address, Board, GroupBits, OtherFrame, Output, Packet, SignalAddress, StateNumber, What};
 use std::marker::Model;
 
-/// Keeps the packet that it was told last.
+/// Keeps the packet that it was told last. A call that is given an instruction of another kind tells none.
 #[derive(Drop)]
 pub struct LastNote {
     last: Option<Packet>,
@@ -38,9 +38,11 @@ impl LastNote {
 }
 
 impl Notify for LastNote {
+    ghost use Rattle.std.specs.Option.{option_or};
     ghost use Rattle.dcc_regs.specs.Notes.{packet_told};
 
-    ghost told = { λ _ note now. now ≡ Some (packet_told note) };
+    // A call with an instruction of another kind tells no packet, and changes nothing.
+    ghost told = { λ old note now. now ≡ option_or (packet_told note) old };
 
     fn idle(&mut self) {
         self.last = Some(Packet::Idle);
@@ -54,7 +56,9 @@ impl Notify for LastNote {
     }
 
     fn speed(&mut self, to: Address, what: What) {
-        self.last = Some(Packet::Loco { to, what });
+        if is_speed_instruction(&what) {
+            self.last = Some(Packet::Loco { to, what });
+        }
     }
 
     fn functions(&mut self, to: Address, bits: GroupBits) {
@@ -72,7 +76,9 @@ impl Notify for LastNote {
     }
 
     fn cv_access(&mut self, to: Address, what: What) {
-        self.last = Some(Packet::Loco { to, what });
+        if what.is_cv_access() {
+            self.last = Some(Packet::Loco { to, what });
+        }
     }
 
     fn turnout(&mut self, board: Board, output: Output, on: bool) {
@@ -85,5 +91,22 @@ impl Notify for LastNote {
 
     fn other(&mut self, frame: OtherFrame) {
         self.last = Some(Packet::Other(frame));
+    }
+}
+
+ghost use Rattle.dcc_regs.specs.Notes.{is_speed_instruction};
+
+fn is_speed_instruction(what: &What) -> bool
+    ensures { result ≡ is_speed_instruction what.now }
+{
+    match what {
+        What::Speed28 { .. } | What::Speed128 { .. } => true,
+        What::Reset
+        | What::Functions(_)
+        | What::BinaryState { .. }
+        | What::CvWrite { .. }
+        | What::CvVerify { .. }
+        | What::CvBitWrite { .. }
+        | What::CvBitVerify { .. } => false,
     }
 }

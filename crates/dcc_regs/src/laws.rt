@@ -1,6 +1,6 @@
 //! Laws of the definitions, for those who build on decoders.
 
-ghost use Rattle.dcc_regs.specs.Laws.{ConflictIsMutual, IdleIsUnheard, ModeStays, NoConflictWithItself, NotesTellPackets, OneAddress, PacketsAreDecided, ResultInParts, StepSets, ValuesAreDecided, WritesSetNoPlain};
+ghost use Rattle.dcc_regs.specs.Laws.{ConflictIsMutual, IdleIsUnheard, ModeStays, NoConflictWithItself, NoOtherCallTells, NotesTellPackets, OneAddress, PacketsAreDecided, ResultInParts, StepSets, ValuesAreDecided, WritesSetNoPlain};
 
 /// What a list of packets leaves is what its second part leaves, from what its first part left.
 pub fn result_in_parts()
@@ -16,6 +16,11 @@ pub fn step_sets()
 /// The one call of a packet tells that packet.
 pub fn notes_tell_packets()
     ensures { NotesTellPackets }
+{}
+
+/// What a call tells is told by no other.
+pub fn no_other_call_tells()
+    ensures { NoOtherCallTells }
 {}
 
 /// Nobody hears Idle.
