@@ -4,3 +4,4 @@ pub mod Transparent
 pub mod Nexts
 pub mod Left
 pub mod Turning
+pub mod StatePackets

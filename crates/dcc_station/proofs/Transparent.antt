@@ -411,6 +411,7 @@ read_core s t Register'.Pending other e = absurd (other refl)
 read_core s t Register'.Speed other e = ap (λ (c : Core). c.plain Register'.Speed) e
 read_core s t Register'.Direction other e = ap (λ (c : Core). c.plain Register'.Direction) e
 read_core s t (Register'.Function n) other e = ap (λ (c : Core). c.plain (Register'.Function n)) e
+read_core s t (Register'.State n) other e = ap (λ (c : Core). c.plain (Register'.State n)) e
 read_core s t (Register'.Out n) other e = ap (λ (c : Core). c.plain (Register'.Out n)) e
 read_core s t (Register'.Position n) other e = ap (λ (c : Core). c.plain (Register'.Position n)) e
 read_core s t (Register'.Aspect n) other e = ap (λ (c : Core). c.plain (Register'.Aspect n)) e

@@ -2,7 +2,7 @@
 use Rattle.std.specs.Prelude.{Bool, true, false, not}
 use Rattle.dcc_packet.specs.declared.address.Address.TheVariants.{Broadcast, Short, Long}
 use Rattle.dcc_packet.specs.declared.instruction.What.{What}
-use Rattle.dcc_packet.specs.declared.instruction.What.TheVariants.{Reset, Speed28, Speed128, Functions, CvWrite, CvVerify, CvBitWrite, CvBitVerify}
+use Rattle.dcc_packet.specs.declared.instruction.What.TheVariants.{Reset, Speed28, Speed128, Functions, BinaryState, CvWrite, CvVerify, CvBitWrite, CvBitVerify}
 use Rattle.dcc_packet.specs.Instruction.{is_cv_access}
 use Rattle.dcc_packet.specs.declared.packet.Packet.{Packet}
 use Rattle.dcc_packet.specs.declared.packet.Packet.TheVariants.{Idle, Loco, Accessory, Signal, Other}
@@ -13,6 +13,7 @@ sets_speed_or_functions Reset = false
 sets_speed_or_functions (Speed28 forward bits) = true
 sets_speed_or_functions (Speed128 forward bits) = true
 sets_speed_or_functions (Functions bits) = true
+sets_speed_or_functions (BinaryState number on) = false
 sets_speed_or_functions (CvWrite cv value) = false
 sets_speed_or_functions (CvVerify cv value) = false
 sets_speed_or_functions (CvBitWrite cv place one) = false

@@ -3,3 +3,4 @@ pub mod Sending
 pub mod Limits
 pub mod Refresh
 pub mod FaultNumbers
+pub mod States

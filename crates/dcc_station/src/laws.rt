@@ -1,6 +1,7 @@
 //! Laws of refreshing.
 
 ghost use Rattle.dcc_station.specs.Refresh.{EntriesAreHandedOutInTurn, RefreshIsTransparent, TransparentWhereNothingWaits, WaitingIsTheEnd};
+ghost use Rattle.dcc_station.specs.States.{StatesAreNoEntries, StatesConflictWithNoEntry};
 
 /// Whenever no command is partly sent, a decoder that heard every packet holds, in each register but its pending
 /// write, what the commands that no longer wait ask for: each taken once, each CV write twice.
@@ -21,4 +22,14 @@ pub fn entries_are_handed_out_in_turn()
 /// The commands that wait are the last of those that were accepted.
 pub fn waiting_is_the_end()
     ensures { WaitingIsTheEnd }
+{}
+
+/// A binary state is sent like any command, and never refreshed.
+pub fn states_are_no_entries()
+    ensures { StatesAreNoEntries }
+{}
+
+/// A binary state conflicts with no packet that is refreshed.
+pub fn states_conflict_with_no_entry()
+    ensures { StatesConflictWithNoEntry }
 {}
