@@ -19,3 +19,5 @@ pub mod ReadLemmas
 pub mod DecoderTextLemmas
 pub mod ListingLemmas
 mod BlankLines
+pub mod FirstLemmas
+pub mod BothLemmas

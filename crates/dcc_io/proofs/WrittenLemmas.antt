@@ -1,10 +1,10 @@
 -- One write after another.
-use Rattle.std.proofs.Common.{zero, suc, if◌then◌else◌, ◌≡◌, ℕ, ◌+◌, ◌-◌, ◌≤◌, List, [], ◌++◌, length, take, drop, true, nat_lt, Option, None, Some, refl, sym, ap, ◌∙◌, subst, arith, append_assoc}
+use Rattle.std.proofs.Common.{zero, suc, if◌then◌else◌, ◌≡◌, ℕ, ◌+◌, ◌-◌, ◌<◌, ◌≤◌, false, eqb, length-drop, List, [], ◌++◌, length, take, drop, true, nat_lt, Option, None, Some, refl, sym, ap, ◌∙◌, subst, arith, append_assoc}
 use Rattle.std.proofs.lemmas.List.{append-nil, take-append-drop, take_rest, length-take}
 use Rattle.std.proofs.Math.Seq.{take-append-add}
 use Rattle.std.proofs.lemmas.Bool.Decides.{nat_tests}
 use Rattle.std.specs.Io.KnownBytes.{Appends, Keeps}
-use Rattle.dcc_io.specs.Failures.{one_more, HasRisen}
+use Rattle.dcc_io.specs.Failures.{one_more, moves_on, HasRisen}
 use Rattle.dcc_io.specs.Written.{AppendsFront}
 
 pub Appends-none : (before : Option (List ℕ)) → Appends before before []
@@ -43,12 +43,24 @@ next_taken bytes done count within fits =
     (ap (take (done + count)) (sym (take-append-drop done bytes)) ∙ ap (λ n. take (n + count) (take done bytes ++ drop done bytes)) (sym len)
     ∙ take-append-add (take done bytes) (drop done bytes) count)
 
-pub taken_some : (n count : ℕ) → (count ≡ 0 → ⊥) → (if nat_lt 0 count then n else one_more n) ≡ n
-taken_some n zero some = absurd (some refl)
-taken_some n (suc count) some = rw (positive count) refl
+-- a write that took a byte is none that counts
+pub taken_some : (n count : ℕ) (bytes : List ℕ) → (count ≡ 0 → ⊥) → (if moves_on count bytes then n else one_more n) ≡ n
+taken_some n zero bytes some = absurd (some refl)
+taken_some n (suc count) bytes some = rw (positive count) refl
   where
     positive : (k : ℕ) → nat_lt 0 (suc k) ≡ true
     positive k = grind (arith, nat_tests)
+
+-- one that took none of some bytes counts
+pub taken_none : (n : ℕ) (bytes : List ℕ) → 0 < length bytes → (if moves_on 0 bytes then n else one_more n) ≡ one_more n
+taken_none n bytes some = rw (not_empty (length bytes) some) refl
+  where
+    not_empty : (k : ℕ) → 0 < k → eqb k 0 ≡ false
+    not_empty k some = grind (arith, nat_tests)
+
+-- what is left to write, while some is
+pub some_left : (bytes : List ℕ) (done : ℕ) → done < length bytes → 0 < length (take (length bytes - done) (drop done bytes))
+some_left bytes done more = simp (length-take, length-drop) (omega arith)
 
 pub goes_on_writing : (before mid after : Option (List ℕ)) (bytes : List ℕ) (done count : ℕ) → done ≤ length bytes → count ≤ length (take (length bytes - done) (drop done bytes))
     → Appends before mid (take done bytes) → Appends mid after (take count (take (length bytes - done) (drop done bytes))) → Appends before after (take (done + count) bytes)

@@ -26,3 +26,8 @@ pub mod SoundLines
 pub mod TextReadOrNoMemory
 pub mod WhoWord
 pub mod Spaced
+pub mod BothCaptures
+pub mod FirstRead
+pub mod FirstSteps
+pub mod StationLines
+pub mod KeptAnswers

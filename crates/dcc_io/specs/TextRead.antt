@@ -54,6 +54,10 @@ pub record Leads {A : Type 0} (read : Reader A) (old : InputState) (rest_read : 
   pub fault : new.fault ≡ None
   pub failures : new.failures ≡ old.failures
 
+-- the lines that were used are those through the last that was read, which is not the line of the next byte
+abbrev pub UsedWholeLines : InputState → InputState → Type 0
+UsedWholeLines old new = IfSome old.text (λ text. new.lines + 1 ≡ new.place.line)
+
 -- the reader answers this fault, whose cause stands
 abbrev pub Refuses : {A : Type 0} → Reader A → InputState → KeptFault → InputState → Type 0
 Refuses read old Read new = (new.failures ≡ one_more old.failures) × (new.ahead ≡ [])

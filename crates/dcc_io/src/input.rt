@@ -4,6 +4,7 @@ ghost use Rattle.dcc_io.specs.Told.{IsFront};
 ghost use Rattle.dcc_io.specs.Words.{comments, is_gap, ended_words};
 ghost use Rattle.dcc_io.specs.Front.{IsFrontWord};
 ghost use Rattle.dcc_io.specs.Passed.{AnswersWord};
+ghost use Rattle.dcc_io.specs.KeptAnswers.{AnswersKept};
 ghost use Rattle.dcc_io.specs.LineRead.{AnswersLine};
 ghost use Rattle.dcc_io.specs.PacketRead.{AnswersPacket, ReadsPacket};
 ghost use Rattle.dcc_io.specs.Capture.{AnswersRun, CountsRun};
@@ -94,7 +95,7 @@ impl<R: Source> Input<R> {
 
     #[tactic(auto, using(crate::proofs::InputLemmas::more_behind, crate::proofs::InputLemmas::line_of_byte))]
     /// The next byte. A line feed closes the input at its end, and then there is none.
-    pub fn next_byte(&mut self) -> Result<Option<u8>, KeptFault>
+    pub(crate) fn next_byte(&mut self) -> Result<Option<u8>, KeptFault>
         requires { self.old.fault ≡ None }
         ensures { AnswersByte self.old result self.new }
     {
@@ -159,14 +160,14 @@ impl<R: Source> Input<R> {
     }
 
     /// The line of the next byte, from 1.
-    pub fn line(&self) -> u64
+    pub(crate) fn line(&self) -> u64
         ensures { result ≡ self.now.place.line }
     {
         self.line
     }
 
     /// Whether the byte counts as a gap between words, as each byte of a comment does.
-    pub fn passes_gap(&mut self, byte: u8) -> bool
+    pub(crate) fn passes_gap(&mut self, byte: u8) -> bool
         ensures gap { result ≡ (comments self.old.place.in_comment byte || is_gap byte) }
         ensures place { self.new ≡ record self.old {
           place = record {
@@ -181,7 +182,7 @@ impl<R: Source> Input<R> {
     }
 
     /// The next word and its line, or none at the end.
-    pub fn next_word(&mut self) -> Result<Option<(u64, RunWord)>, KeptFault>
+    pub(crate) fn next_word(&mut self) -> Result<Option<(u64, RunWord)>, KeptFault>
         requires { self.old.fault ≡ None }
         ensures { AnswersWord self.old result self.new }
     {
@@ -282,7 +283,7 @@ impl<R: Source> Input<R> {
     }
 
     /// Takes the halves of a run, unless they are too many: then none of them counts.
-    pub fn count_run(&mut self, run: Run) -> Result<Option<Run>, KeptFault>
+    pub(crate) fn count_run(&mut self, run: Run) -> Result<Option<Run>, KeptFault>
         ensures { CountsRun self.old run result self.new }
     {
         if self.halves_left < run.n {
@@ -293,7 +294,7 @@ impl<R: Source> Input<R> {
     }
 
     /// The next line and its number, or none at the end. A fault is kept.
-    pub fn next_line(&mut self) -> Result<Option<TextLine>, KeptFault>
+    pub(crate) fn next_line(&mut self) -> Result<Option<TextLine>, KeptFault>
         requires { self.old.fault ≡ None }
         ensures { AnswersLine self.old result self.new }
     {
@@ -320,6 +321,17 @@ impl<R: Source> Input<R> {
 
     /// The packet of the next line that says one, or none at the end. A fault is kept.
     pub fn next_packet(&mut self) -> Result<Option<Packet>, KeptFault>
+        ensures kept { AnswersKept self.old result self.new }
+        ensures reads { self.old.fault ≡ None → AnswersPacket self.old result self.new }
+    {
+        match self.fault {
+            Some(fault) => Err(fault),
+            None => self.next_packet_line(),
+        }
+    }
+
+    /// The packet of the next line that says one, or none at the end.
+    fn next_packet_line(&mut self) -> Result<Option<Packet>, KeptFault>
         requires { self.old.fault ≡ None }
         ensures { AnswersPacket self.old result self.new }
     {
@@ -349,9 +361,8 @@ impl<R: Source> Input<R> {
         }
     }
 
-    /// Keeps the fault, for this call and every later one, in the place of one that was kept before. For calls
-    /// that read an input themselves and find what is wrong in it.
-    pub fn refuse(&mut self, fault: KeptFault) -> KeptFault
+    /// Keeps the fault, for this call and every later one.
+    pub(crate) fn refuse(&mut self, fault: KeptFault) -> KeptFault
         requires { fault ≢ KeptFault.Read }
         ensures answer { result ≡ fault }
         ensures kept { self.new ≡ record self.old { fault = Some fault } }

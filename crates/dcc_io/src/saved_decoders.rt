@@ -4,7 +4,7 @@ ghost use Rattle.dcc_io.specs.Faults.{as_tool_fault};
 ghost use Rattle.dcc_io.specs.InputState.{HasCause};
 ghost use Rattle.dcc_io.specs.DecoderText.{decoder_text, decoders_from};
 ghost use Rattle.dcc_io.specs.SoundLines.{IsPossibleHead, is_possible};
-ghost use Rattle.dcc_io.specs.TextRead.{Answers};
+ghost use Rattle.dcc_io.specs.TextRead.{Answers, UsedWholeLines};
 ghost use Rattle.dcc_io.specs.TextReadOrNoMemory.{ReadFails};
 
 use crate::decoder_line::Head;
@@ -37,6 +37,9 @@ pub fn read_decoders<R: Source>(
         (λ decoders. Answers decoder_text input.old (Ok decoders.items) input.new)
         (λ fault. ReadFails input.old fault input.new) }
 
+    // The lines that were used are then those through the line of `end`.
+    ensures lines { IfOk result (λ decoders. UsedWholeLines input.old input.new) }
+
     // All decoders are such as `restore` takes.
     ensures possible { IfOk result (λ decoders. All (λ decoder. is_possible decoder ≡ true) decoders.items) }
 {
@@ -60,6 +63,7 @@ fn fill<R: Source>(mut decoders: Vec<Saved>, input: &mut Input<R>) -> Result<Vec
     ensures reads { MatchResult result
         (λ decoders. Answers decoder_text input.old (Ok decoders.items) input.new)
         (λ fault. Answers decoder_text input.old (Err fault) input.new) }
+    ensures lines { IfOk result (λ decoders. UsedWholeLines input.old input.new) }
     ensures possible { IfOk result (λ decoders. All (λ decoder. is_possible decoder ≡ true) decoders.items) }
 {
     match input.version() {

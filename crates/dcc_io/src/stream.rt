@@ -31,14 +31,14 @@ pub trait Sink {
     // The bytes that were written, where they are told.
     ghost contents: { Self → Option (List ℕ) };
 
-    // How many writes have failed or taken no byte.
+    // How many writes have failed, or taken none of the bytes that they were handed.
     ghost failures: { Self → ℕ };
 
     /// Takes bytes from the front, and answers how many.
     fn write(&mut self, bytes: &[u8]) -> Result<usize, Failed>
         ensures bound { IfOk result (λ n. n ≤ length bytes.now) }
         ensures bytes { WriteAppends (contents self.old) (contents self.new) result bytes.now }
-        ensures failures { failures self.new ≡ after_write (failures self.old) result };
+        ensures failures { failures self.new ≡ after_write (failures self.old) result bytes.now };
 }
 
 /// A reader or writer of the standard library, with a count of its failures.
@@ -50,7 +50,7 @@ pub struct Counted<T> {
     /// The reader or writer itself.
     pub inner: T,
 
-    /// How many calls have failed or, of a write, taken no byte. At its last value it stays.
+    /// How many calls have failed or, of a write, taken none of some bytes. At its last value it stays.
     pub failures: u64,
 }
 
@@ -96,7 +96,7 @@ impl<W: io::Write> Sink for Counted<W> {
 
     fn write(&mut self, bytes: &[u8]) -> Result<usize, Failed> {
         match self.inner.write(bytes) {
-            Ok(0) => {
+            Ok(0) if !bytes.is_empty() => {
                 self.count_failure();
                 Ok(0)
             }

@@ -5,8 +5,6 @@ pub mod GatherLemmas
 pub mod RowsLemmas
 pub mod FleetLemmas
 pub mod RunLemmas
-pub mod FirstLemmas
-pub mod BothLemmas
 pub mod GatherFirstLemmas
 pub mod LinesBack
 pub mod RulesBack

@@ -8,9 +8,6 @@ pub mod Compared
 pub mod Shown
 pub mod FleetText
 pub mod FleetRun
-pub mod BothCaptures
-pub mod FirstRead
-pub mod FirstSteps
 pub mod GatheredBoth
 pub mod ComparedBoth
 pub mod ReadBack

@@ -10,7 +10,7 @@ use Rattle.dcc_station.specs.declared.fault.Refused.TheVariants.{NotSendable, Qu
 use Rattle.dcc_station.specs.Sending.{Sending, accepted}
 use Rattle.dcc_io.specs.declared.stream.Failed.{Failed}
 use Rattle.dcc_send.specs.declared.encoding.Encode.{Encode}
-use Rattle.dcc_send.specs.declared.station_line.StationLine.{StationLine}
+use Rattle.dcc_io.specs.declared.station_line.StationLine.{StationLine}
 use Rattle.dcc_io.specs.declared.fault.KeptFault.{KeptFault}
 use Rattle.dcc_io.specs.declared.fault.KeptFault.TheVariants.{Number, Line, Read, TooMuch}
 use Rattle.dcc_io.specs.declared.fault.ToolFault.TheVariants.{Write}
@@ -21,7 +21,7 @@ use Rattle.dcc_io.specs.Written.{Writes}
 use Rattle.dcc_io.specs.Items.{Items, Gives, Gave}
 use Rattle.dcc_io.specs.PacketLines.{items_in}
 use Rattle.dcc_io.specs.PacketRead.{AnswersSaid}
-use Rattle.dcc_send.specs.StationLines.{Asked, Command, Next, asked_by, station_words, station_lines}
+use Rattle.dcc_io.specs.StationLines.{Asked, Command, Next, asked_by, station_words, station_lines}
 use Rattle.dcc_send.specs.StationEncoded.{refusal, refusal_line, command_line, after_command, Answers, AnswersAll, Wrote, WroteFront, WritesAnswers, Answered, StationText}
 use Rattle.dcc_io.proofs.WrittenLemmas.{Appends-none, front_behind, Appends-append}
 use Rattle.dcc_io.proofs.ItemsLemmas.{Gave-none, Gave-append, up_to_fault, reads_up_to, uses_all_lines}

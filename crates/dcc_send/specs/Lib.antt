@@ -3,6 +3,5 @@ pub mod Encoded
 pub mod TrackReading
 pub mod TrackAnswers
 pub mod Loan
-pub mod StationLines
 pub mod StationEncoded
 pub mod EncodeStation

@@ -20,7 +20,7 @@ use Rattle.dcc_io.specs.Written.{AppendsFront}
 use Rattle.dcc_send.specs.Encoded.{frame_line}
 use Rattle.dcc_io.specs.Items.{ReadsUpTo}
 use Rattle.dcc_io.specs.PacketLines.{items_in}
-use Rattle.dcc_send.specs.StationLines.{Asked, Command, Next, station_lines, station_words}
+use Rattle.dcc_io.specs.StationLines.{Asked, Command, Next, station_lines, station_words}
 
 -- why a station refuses a command: first that it is none to be sent, then that its queue is full
 abbrev pub refusal : sending.Sending → Packet → Option Refused

@@ -6,7 +6,6 @@ mod encoded_line;
 mod encoding;
 mod readcv_call;
 mod station_encoding;
-mod station_line;
 mod track;
 mod track_line;
 

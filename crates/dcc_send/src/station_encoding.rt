@@ -4,13 +4,12 @@ ghost use Rattle.dcc_packet.specs.Spelling.{spelling};
 ghost use Rattle.dcc_io.specs.Faults.{as_tool_fault};
 ghost use Rattle.dcc_io.specs.InputState.{HasCause};
 ghost use Rattle.dcc_send.specs.declared.encoding.Encode.{Encode};
-ghost use Rattle.dcc_send.specs.StationLines.{asked_by, Command, Next};
+ghost use Rattle.dcc_io.specs.StationLines.{asked_by, Command, Next};
 ghost use Rattle.dcc_send.specs.StationEncoded.{StationText, WritesAnswers, refusal_line};
 
 use crate::encoded_line::write_frame;
 use crate::encoding::Encode;
-use crate::station_line::{StationLine, next_station_line};
-use dcc_io::{Failed, Input, Sink, Source, ToolFault, write_all};
+use dcc_io::{Failed, Input, Sink, Source, StationLine, ToolFault, write_all};
 use dcc_packet::Packet;
 use dcc_station::{Refused, Station};
 
@@ -31,7 +30,7 @@ pub(crate) fn encode_by_station<R: Source, W: Sink>(
         return Err(fault.told());
     }
     'lines: loop {
-        match next_station_line(input) {
+        match input.next_station_line() {
             Ok(Some(line)) => match answer(station, writer, how, line) {
                 Ok(()) => (),
                 Err(_) => return Err(ToolFault::Write),

@@ -29,7 +29,6 @@ fn each_line_is_out_before_the_next_read(rt: HostRuntime) -> Result<(), Fail> {
     );
     let mut writer = Counting {
         track: &track,
-        failures: 0,
     };
     assert_eq!(rt; show(&mut input, &mut writer, false), Ok(()));
     assert!(rt;
@@ -52,7 +51,6 @@ fn lines_of_one_read_go_out_together(rt: HostRuntime) -> Result<(), Fail> {
     let mut input = Input::new(Counted::new(text.bytes.as_slice()), Limits::full());
     let mut writer = Counting {
         track: &track,
-        failures: 0,
     };
     assert_eq!(rt; show(&mut input, &mut writer, false), Ok(()));
     assert_eq!(rt; track.written.get(), 3 * 14 + 27 * 15, "30 lines");

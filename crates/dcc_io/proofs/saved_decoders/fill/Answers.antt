@@ -1,6 +1,6 @@
 use Rattle.std.proofs.Common.{◌≡◌, ◌<◌, true, arith, length, vec_len, vec_capacity}
 use Rattle.dcc_io.specs.SoundLines.{is_possible}
-use Rattle.dcc_io.proofs.DecoderTextLemmas.{no_version, no_head, ReadsDecoders-start, ReadsDecoders-end, ReadsDecoders-full, ReadsDecoders-one, ReadsDecoders-fault, pushed, one_more_possible}
+use Rattle.dcc_io.proofs.DecoderTextLemmas.{no_version, no_head, ReadsDecoders-start, ReadsDecoders-end, ReadsDecoders-full, ReadsDecoders-one, ReadsDecoders-fault, pushed, one_more_possible, through_end}
 use Rattle.dcc_io.proofs.saved_decoders.fill.Goals as goal
 
 pub returns-in-Err-clause-reads : goal.returns-in-Err-clause-reads
@@ -44,3 +44,7 @@ returns-in-Err-decoder-clause-reads g c =
 
 pub returns-in-End-clause-reads : goal.returns-in-End-clause-reads
 returns-in-End-clause-reads g c = ReadsDecoders-end c.args.input.now c.decoders.input c.decoders.decoders.items (rw c.in-End.is at c.decoders.invariant.0)
+
+pub returns-in-End-clause-lines : goal.returns-in-End-clause-lines
+returns-in-End-clause-lines g c =
+    through_end c.args.input.now c.decoders.input c.decoders.decoders.items (ReadsDecoders-end c.args.input.now c.decoders.input c.decoders.decoders.items (rw c.in-End.is at c.decoders.invariant.0))

@@ -8,12 +8,12 @@ packets-init g c =
 
 pub packets-preserved : goal.packets-preserved
 packets-preserved g c =
-    let answer = rw c.in-Ok-Some.field-0-is at c.in-Ok-Some.ensures in
+    let answer = rw c.in-Ok-Some.field-0-is at (c.in-Ok-Some.ensures.reads c.packets.invariant.gave.fault) in
     let wrote = rw c.frame.ensures at c.in-Ok.ensures in
     Encoding-packet c.args.how c.args.input.now c.packets.input c.next_packet.new.self _ _ _ _ _ _ c.in-Ok-Some.packet c.packets.invariant answer wrote.0 wrote.1
 
 pub returns-in-Err-write_frame-clause-encodes : goal.returns-in-Err-write_frame-clause-encodes
 returns-in-Err-write_frame-clause-encodes g c fault =
-    let answer = rw c.in-Ok-Some.field-0-is at c.in-Ok-Some.ensures in
+    let answer = rw c.in-Ok-Some.field-0-is at (c.in-Ok-Some.ensures.reads c.packets.invariant.gave.fault) in
     let wrote = rw c.frame.ensures at c.in-Err-write_frame.ensures in
     stops_at_write c.args.how c.args.input.now c.packets.input c.next_packet.new.self _ _ _ _ _ _ c.in-Ok-Some.packet c.packets.invariant answer wrote.0 wrote.1

@@ -8,12 +8,12 @@ lines-init g c =
 
 pub lines-preserved : goal.lines-preserved
 lines-preserved g c =
-    let asks = rw c.in-Ok-Some.field-0-is at c.in-Ok-Some.ensures in
-    Answering-line c.args.how c.args.station.now c.lines.station c.answer.new.station c.args.input.now c.lines.input c.next_station_line.new.input _ _ _ _ _ _ c.in-Ok-Some.line c.lines.invariant asks
+    let asks = rw c.in-Ok-Some.field-0-is at (c.in-Ok-Some.ensures.reads c.lines.invariant.gave.fault) in
+    Answering-line c.args.how c.args.station.now c.lines.station c.answer.new.station c.args.input.now c.lines.input c.next_station_line.new.self _ _ _ _ _ _ c.in-Ok-Some.line c.lines.invariant asks
     c.in-Ok.ensures.0 c.in-Ok.ensures.1
 
 pub returns-in-Err-answer-clause-answers : goal.returns-in-Err-answer-clause-answers
 returns-in-Err-answer-clause-answers g c fault =
-    let asks = rw c.in-Ok-Some.field-0-is at c.in-Ok-Some.ensures in
-    stops_at_write c.args.how c.args.station.now c.lines.station c.args.input.now c.lines.input c.next_station_line.new.input _ _ _ _ _ _ c.in-Ok-Some.line c.lines.invariant asks
+    let asks = rw c.in-Ok-Some.field-0-is at (c.in-Ok-Some.ensures.reads c.lines.invariant.gave.fault) in
+    stops_at_write c.args.how c.args.station.now c.lines.station c.args.input.now c.lines.input c.next_station_line.new.self _ _ _ _ _ _ c.in-Ok-Some.line c.lines.invariant asks
     c.in-Err-answer.ensures.0 c.in-Err-answer.ensures.1

@@ -1,5 +1,5 @@
 use Rattle.std.proofs.Common.{◌≡◌, replicate}
-use Rattle.dcc_send.specs.StationLines.{Next}
+use Rattle.dcc_io.specs.StationLines.{Next}
 use Rattle.dcc_send.specs.StationEncoded.{Wrote}
 use Rattle.dcc_send.proofs.station_encoding.send.Given as goal
 

@@ -1,5 +1,5 @@
 use Rattle.std.proofs.Common.{refl}
-use Rattle.dcc_send.specs.StationLines.{Next}
+use Rattle.dcc_io.specs.StationLines.{Next}
 use Rattle.dcc_send.proofs.StationLemmas.{writes_answer}
 use Rattle.dcc_send.proofs.station_encoding.send_next.Goals as goal
 

@@ -6,8 +6,8 @@ use Rattle.dcc_packet.specs.Spelling.{spelling}
 use Rattle.dcc_packet.specs.Words.{Word, is_word}
 use Rattle.dcc_packet.specs.LineWords.{◌>>=◌, number}
 use Rattle.dcc_packet.specs.Line.{taken, ended, said}
-use Rattle.dcc_send.specs.declared.station_line.StationLine.{StationLine}
-use Rattle.dcc_send.specs.declared.station_line.StationLine.TheVariants as lines
+use Rattle.dcc_io.specs.declared.station_line.StationLine.{StationLine}
+use Rattle.dcc_io.specs.declared.station_line.StationLine.TheVariants as lines
 use Rattle.dcc_io.specs.Items.{Reading}
 use Rattle.dcc_io.specs.PacketLines.{Saying, lines_by}
 

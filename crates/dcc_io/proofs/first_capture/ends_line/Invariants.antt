@@ -1,5 +1,5 @@
-use Rattle.dcc_listen.proofs.FirstLemmas.{OpensHere}
-use Rattle.dcc_listen.proofs.first_capture.ends_line.Given as goal
+use Rattle.dcc_io.proofs.FirstLemmas.{OpensHere}
+use Rattle.dcc_io.proofs.first_capture.ends_line.Given as goal
 
 abbrev pub invariant-bytes : goal.invariant-bytes
 invariant-bytes g l = OpensHere l.initial.input l.word l.input

@@ -2,7 +2,7 @@ use Rattle.std.proofs.Common.{sym, ◌∙◌}
 use Rattle.dcc_packet.specs.Spelling.{spelling}
 use Rattle.dcc_io.specs.PacketLines.{packet_words}
 use Rattle.dcc_io.proofs.PacketReadLemmas.{Gave-passed, answers_said, answers_fault}
-use Rattle.dcc_io.proofs.input.Input.next_packet.Goals as goal
+use Rattle.dcc_io.proofs.input.Input.next_packet_line.Goals as goal
 
 pub returns-then-not-is_skipped : goal.returns-then-not-is_skipped
 returns-then-not-is_skipped g c =

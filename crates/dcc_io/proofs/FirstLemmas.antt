@@ -8,7 +8,7 @@ use Rattle.dcc_io.specs.Spells.{Spells}
 use Rattle.dcc_io.specs.InputState.{InputState}
 use Rattle.dcc_io.specs.Words.{is_some_byte, is_gap, comments}
 use Rattle.dcc_io.specs.Passed.{Passed}
-use Rattle.dcc_listen.specs.FirstRead.{EndsLine}
+use Rattle.dcc_io.specs.FirstRead.{EndsLine}
 use Rattle.dcc_io.proofs.WordsLemmas.{eqb_line_feed}
 use Rattle.dcc_io.proofs.PassedLemmas.{Opens, TakesNoted, Opens-word, Opens-gap, EndsWord-gap, Passed-gap, Passed-end}
 use Rattle.dcc_io.proofs.CaptureLemmas.{if_some_map}

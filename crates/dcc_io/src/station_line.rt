@@ -1,17 +1,21 @@
 //! The lines that a station is driven by.
 ghost use Rattle.std.specs.Prelude.{◌≡◌, None};
 ghost use Rattle.dcc_packet.specs.Words.{words};
-ghost use Rattle.dcc_send.specs.StationLines.{asked, asked_by, asked_or_fault, send, send_count, station_words};
+ghost use Rattle.dcc_io.specs.StationLines.{asked, asked_by, asked_or_fault, send, send_count, station_words};
+ghost use Rattle.dcc_io.specs.KeptAnswers.{AnswersKept};
 ghost use Rattle.dcc_io.specs.PacketRead.{AnswersSaid, ReadsSaid};
 
-use dcc_io::{Input, KeptFault, Source, TextLine};
+use crate::fault::KeptFault;
+use crate::input::Input;
+use crate::stream::Source;
+use crate::text_line::TextLine;
 use dcc_packet::numeral::number;
 use dcc_packet::words::Words;
 use dcc_packet::{Packet, PacketFault};
 
 /// What a line asks of a station.
 #[derive(Clone, Copy)]
-pub(crate) enum StationLine {
+pub enum StationLine {
     /// To take this command.
     Command(Packet),
     /// To send so many packets.
@@ -22,7 +26,7 @@ impl StationLine {
     /// `send N` with N from 1 to 1000, or a packet line. The first fault of the words from left to right decides: P11
     /// for a wrong N, P10 for a word too many.
     #[tactic(auto, unfolding(crate::specs::StationLines::asked))]
-    pub fn from_line(line: &str) -> Result<StationLine, PacketFault>
+    fn from_line(line: &str) -> Result<StationLine, PacketFault>
         ensures { asked_or_fault result ≡ asked (words line.now) }
     {
         let mut words = Words::new(line.as_bytes());
@@ -66,8 +70,21 @@ fn send_count(word: &[u8]) -> Result<u16, PacketFault>
     }
 }
 
-/// What the next line asks that asks anything, or none at the end. A fault is kept.
-pub(crate) fn next_station_line<R: Source>(
+impl<R: Source> Input<R> {
+    /// What the next line asks of a station that asks anything, or none at the end. A fault is kept.
+    pub fn next_station_line(&mut self) -> Result<Option<StationLine>, KeptFault>
+        ensures kept { AnswersKept self.old result self.new }
+        ensures reads { self.old.fault ≡ None → AnswersSaid station_words asked_by self.old result self.new }
+    {
+        match self.fault() {
+            Some(fault) => Err(fault),
+            None => next_asking_line(self),
+        }
+    }
+}
+
+/// What the next line asks that asks anything, or none at the end.
+fn next_asking_line<R: Source>(
     input: &mut Input<R>,
 ) -> Result<Option<StationLine>, KeptFault>
     requires { input.old.fault ≡ None }

@@ -5,7 +5,7 @@ use Rattle.dcc_io.specs.declared.fault.KeptFault.TheVariants.{Number, TooMuch}
 use Rattle.dcc_io.specs.declared.word.Run.{Run}
 use Rattle.dcc_io.specs.InputState.{InputState}
 use Rattle.dcc_io.specs.Words.{run_of}
-use Rattle.dcc_listen.specs.FirstRead.{EndsLine}
+use Rattle.dcc_io.specs.FirstRead.{EndsLine}
 
 -- the word on this line spells a run that is counted, or is refused
 abbrev pub CountsWord : InputState → ℕ → List ℕ → Result (Option (ℕ × Run)) KeptFault → InputState → Type 0

@@ -1,6 +1,6 @@
 use Rattle.std.proofs.Common.{sym, ◌∙◌}
-use Rattle.dcc_listen.proofs.BothLemmas.{marks, counts}
-use Rattle.dcc_listen.proofs.first_capture.next_of_first.Goals as goal
+use Rattle.dcc_io.proofs.BothLemmas.{marks, counts}
+use Rattle.dcc_io.proofs.first_capture.run_or_mark.Goals as goal
 
 pub returns-then-begins_with_mark : goal.returns-then-begins_with_mark
 returns-then-begins_with_mark g c =

@@ -7,7 +7,7 @@ use Rattle.dcc_io.specs.Failures.{one_more}
 use Rattle.dcc_io.specs.InputState.{InputState, all_lines}
 use Rattle.dcc_io.specs.Words.{ended_words}
 use Rattle.dcc_io.specs.Passed.{Passed, AnswersWord}
-use Rattle.dcc_listen.specs.BothCaptures.{Said, stopped, in_front, behind_mark, both_from, in_limit}
+use Rattle.dcc_io.specs.BothCaptures.{Said, stopped, in_front, behind_mark, both_from, in_limit}
 
 -- bytes were used, behind which this is said, whatever follows them
 pub record LeadsIn (before : ℕ) (old new : InputState) (said : Said) (text rest : List ℕ) : Type 0 where

@@ -14,9 +14,9 @@ use Rattle.dcc_io.specs.InputState.{InputState, all_lines}
 use Rattle.dcc_io.specs.Words.{Word, ended_words, is_gap, uncommented, onto_first, pieces, but_last, has_bytes, is_mark, run_of}
 use Rattle.dcc_io.specs.Passed.{Uses, Passed, FailsBehind, FailsBeforeWord, OverflowsBeforeWord, AnswersWord}
 use Rattle.dcc_io.specs.Capture.{halves_of}
-use Rattle.dcc_listen.specs.BothCaptures.{Both, Said, stopped, in_front, only_second, has_more_words, behind_mark, counted_first, both_of, both_from, in_limit}
-use Rattle.dcc_listen.specs.FirstRead.{LeadsIn, Leads, first_so_far, first_is, IsBehindLine, StopsBoth, AnswersFirst}
-use Rattle.dcc_listen.specs.FirstSteps.{CountsWord, EndsMark}
+use Rattle.dcc_io.specs.BothCaptures.{Both, Said, stopped, in_front, only_second, has_more_words, behind_mark, counted_first, both_of, both_from, in_limit}
+use Rattle.dcc_io.specs.FirstRead.{LeadsIn, Leads, first_so_far, first_is, IsBehindLine, StopsBoth, AnswersFirst}
+use Rattle.dcc_io.specs.FirstSteps.{CountsWord, EndsMark}
 use Rattle.dcc_io.proofs.PassedLemmas.{map_same}
 use Rattle.dcc_io.proofs.CaptureLemmas.{with_left, count_more, above_limit, not_within, zero_fits, same_test, enough}
 use Rattle.dcc_io.proofs.RunWordLemmas.{some_half}

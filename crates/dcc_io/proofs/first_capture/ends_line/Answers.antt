@@ -1,7 +1,7 @@
 use Rattle.std.proofs.Common.{sym, ◌∙◌}
-use Rattle.dcc_listen.proofs.FirstLemmas.{OpensHere-word, OpensHere-gap, ends_here, ends_in_word}
+use Rattle.dcc_io.proofs.FirstLemmas.{OpensHere-word, OpensHere-gap, ends_here, ends_in_word}
 use Rattle.dcc_io.proofs.PassedLemmas.{answers_err, takes_noted, from_not_true, from_not_false}
-use Rattle.dcc_listen.proofs.first_capture.ends_line.Goals as goal
+use Rattle.dcc_io.proofs.first_capture.ends_line.Goals as goal
 
 pub returns-in-Err : goal.returns-in-Err
 returns-in-Err g c = answers_err c.args.input.now c.bytes.input c.next_byte.new.self c.bytes.word c.in-Err.fault c.bytes.invariant.opens c.in-Err.ensures

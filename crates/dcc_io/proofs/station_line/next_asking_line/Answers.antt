@@ -1,7 +1,7 @@
 use Rattle.std.proofs.Common.{sym, ◌∙◌}
-use Rattle.dcc_send.specs.StationLines.{station_words, asked_by}
+use Rattle.dcc_io.specs.StationLines.{station_words, asked_by}
 use Rattle.dcc_io.proofs.PacketReadLemmas.{Gave-passed, answers_said, answers_fault}
-use Rattle.dcc_send.proofs.station_line.next_station_line.Goals as goal
+use Rattle.dcc_io.proofs.station_line.next_asking_line.Goals as goal
 
 pub returns-then-not-is_skipped : goal.returns-then-not-is_skipped
 returns-then-not-is_skipped g c =

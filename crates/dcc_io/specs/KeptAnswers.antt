@@ -1,0 +1,8 @@
+-- A fault that an input keeps.
+use Rattle.std.specs.Prelude.{◌≡◌, Result, Err, IfSome}
+use Rattle.dcc_io.specs.declared.fault.KeptFault.{KeptFault}
+use Rattle.dcc_io.specs.InputState.{InputState}
+
+-- a fault that is kept is answered again, and nothing is read
+abbrev pub AnswersKept : {A : Type 0} → InputState → Result A KeptFault → InputState → Type 0
+AnswersKept old result new = IfSome old.fault (λ fault. (result ≡ Err fault) × (new ≡ old))
