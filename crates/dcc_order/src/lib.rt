@@ -7,6 +7,7 @@ mod comparer;
 mod comparing;
 mod comparison;
 mod fleet;
+mod frame_number;
 mod hearing;
 mod held_blocks;
 mod last_heard;

@@ -55,6 +55,13 @@ impl Turns {
         }
     }
 
+    /// Whether the rival has the last turn.
+    pub fn rival_came_last(&self) -> bool
+        ensures { result ≡ self.now.rival_last }
+    {
+        self.rival_last
+    }
+
     pub fn is(&self, other: &Turns) -> bool
         ensures { IsTrue result ↔ (self.now ≡ other.now) }
     {
