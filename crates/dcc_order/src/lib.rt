@@ -2,7 +2,6 @@
 //! lists.
 #![tactic(auto)]
 
-mod blocks;
 mod comparer;
 mod comparing;
 mod comparison;
@@ -12,10 +11,7 @@ mod hearing;
 mod held_blocks;
 mod last_heard;
 pub mod laws;
-mod lists;
-mod members;
 mod no_memory;
-mod order;
 mod places;
 mod tracks;
 mod turns;
