@@ -20,7 +20,7 @@ mod wants;
 
 pub use comparer::Comparer;
 pub use comparing::compare;
-pub use hearing::{hear, hear_piece, hear_run};
+pub use hearing::{hear, hear_half, hear_half_run, hear_piece, hear_run};
 pub use no_memory::NoMemory;
 pub use tracks::{hear_track, hear_two_tracks};
 pub use verdict::Verdict;

@@ -1,7 +1,7 @@
 use Rattle.std.proofs.Common.{◌++◌, ◌∷◌, [], length}
 use Rattle.dcc_order.proofs.HearingLemmas.{heard_half}
 use Rattle.dcc_order.proofs.Stepped.{AllZip-then}
-use Rattle.dcc_order.proofs.hearing.hear.Goals as goal
+use Rattle.dcc_order.proofs.hearing.hear_half.Goals as goal
 
 pub returns-clause-since : goal.returns-clause-since
 returns-clause-since g c = λ halves stands starts before.
