@@ -6,7 +6,7 @@ ghost use Rattle.dcc_io.specs.InputState.{HasCause};
 
 use crate::fleet_text::write_fleet;
 use dcc_io::{Input, Sink, Source, ToolFault};
-use dcc_order::{hear, hear_run};
+use dcc_order::{hear_half, hear_half_run};
 use dcc_regs::Decoder;
 use dcc_wire::Framer;
 
@@ -35,11 +35,11 @@ pub fn run<R: Source, W: Sink>(
     'runs: loop {
         match input.half_at_hand() {
             Some(us) => {
-                let _ = hear(decoders, &mut framer, us);
+                let _ = hear_half(decoders, &mut framer, us);
             }
             None => match input.read_run() {
                 Ok(Some(run)) => {
-                    let _ = hear_run(decoders, &mut framer, run.us, run.n);
+                    let _ = hear_half_run(decoders, &mut framer, run.us, run.n);
                 }
                 Ok(None) => break,
                 Err(fault) => return Err(fault.told()),

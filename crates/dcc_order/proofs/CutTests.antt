@@ -1,51 +1,12 @@
 -- How a cut list begins, and what that says of the verdict.
-use Rattle.std.proofs.Common.{◌≡◌, ◌∙◌, refl, sym, ap, subst, Bool, true, false, cond, List, [], ◌∷◌, ℕ, ◌+◌, ◌-◌, ◌≤◌, add-one, length-drop, take, drop, suc, Option, Some, None, length, get_or, ◌<◌, arith, inl, inr}
-use Rattle.std.proofs.Math.Numerals.{one-add}
-use Rattle.std.proofs.lemmas.List.{take_all}
-use Rattle.std.specs.Prelude.{not, ◌≢◌, ◌&&◌, filter}
-use Rattle.std.specs.List.{position_or_len}
+use Rattle.std.proofs.Common.{◌≡◌, refl, sym, subst, Bool, true, false, cond, List, [], ◌∷◌, ℕ, ◌+◌, ◌≤◌, suc, Option, Some, None, length, arith, inl, inr}
+use Rattle.std.specs.Prelude.{◌≢◌, ◌&&◌, filter}
 use Rattle.dcc_packet.specs.declared.packet.Packet.{Packet}
 use Rattle.dcc_regs.specs.Writes.{is_own_write}
 use Rattle.dcc_order.specs.declared.verdict.Verdict.{Verdict}
 use Rattle.dcc_order.specs.declared.verdict.Verdict.TheVariants.{Alike, Writes, Members, Order}
-use Rattle.dcc_order.specs.AlikeLists.{Cut, LastBlock, Block, in_first_block, cut, cut_by, SameMembers, SameOrder, AlikeCuts, capped, begins_with_two}
+use Rattle.dcc_order.specs.AlikeLists.{Cut, LastBlock, Block, cut, cut_by, SameMembers, SameOrder, AlikeCuts, capped, begins_with_two}
 use Rattle.dcc_order.specs.Verdicts.{IsVerdictFrom}
-
--- a list with no own write is one block
-pub cut-one_block : (l : List Packet) → position_or_len is_own_write l ≡ length l → cut l ≡ LastBlock l
-cut-one_block [] e = refl
-cut-one_block (p ∷ l) e = by_case (is_own_write p) e (cut-one_block l)
-  where
-    by_case : (t : Bool) → cond (not t) (1 + position_or_len is_own_write l) 0 ≡ suc (length l) → (position_or_len is_own_write l ≡ length l → cut l ≡ LastBlock l) →
-        cond t (Block [] p (cut l)) (in_first_block p (cut l)) ≡ LastBlock (p ∷ l)
-    by_case true e rest = absurd (omega arith)
-    by_case false e rest = ap (in_first_block p) (rest (omega arith))
-
--- a list is cut at its first own write
-pub cut-at : (l : List Packet) (d : Packet) → position_or_len is_own_write l < length l →
-    cut l ≡ Block (take (position_or_len is_own_write l) l) (get_or l (position_or_len is_own_write l) d) (cut (drop (suc (position_or_len is_own_write l)) l))
-cut-at [] d h = absurd (omega arith)
-cut-at (p ∷ l) d h = by_case (is_own_write p) h (cut-at l d)
-  where
-    by_case : (t : Bool) → cond (not t) (1 + position_or_len is_own_write l) 0 < suc (length l) →
-        (position_or_len is_own_write l < length l → cut l ≡ Block (take (position_or_len is_own_write l) l) (get_or l (position_or_len is_own_write l) d) (cut (drop (suc (position_or_len is_own_write l)) l))) →
-        cond t (Block [] p (cut l)) (in_first_block p (cut l))
-        ≡ Block (take (cond (not t) (1 + position_or_len is_own_write l) 0) (p ∷ l)) (get_or (p ∷ l) (cond (not t) (1 + position_or_len is_own_write l) 0) d) (cut (drop (suc (cond (not t) (1 + position_or_len is_own_write l) 0)) (p ∷ l)))
-    by_case true h rest = refl
-    by_case false h rest = rw one-add (ap (in_first_block p) (rest (omega arith)))
-
--- a list is taken whole where it is no longer than what is taken
-pub take-past_end : {A : Type 0} (l : List A) (n : ℕ) → length l ≤ n → take n l ≡ l
-take-past_end l n h = take_all n l h
-
--- the same, as the code takes the parts
-pub cut-at_len : (l : List Packet) (n : ℕ) (d : Packet) → n ≡ position_or_len is_own_write l → n < length l →
-    cut l ≡ Block (take n l) (get_or l n d) (cut (take (length l - (n + 1)) (drop (n + 1) l)))
-cut-at_len l n d place inside =
-    cut-at l d (omega arith)
-    ∙ ap (λ m. Block (take m l) (get_or l m d) (cut (drop (suc m) l))) (sym place)
-    ∙ ap (λ m. Block (take n l) (get_or l n d) (cut (drop m l))) (sym (add-one n))
-    ∙ ap (λ rest. Block (take n l) (get_or l n d) (cut rest)) (sym (take-past_end (drop (n + 1) l) (length l - (n + 1)) (simp length-drop (omega arith))))
 
 pub at_first : (k : ℕ) (x y u w : Cut) (v : Verdict) → x ≡ u → y ≡ w → IsVerdictFrom k u w v → IsVerdictFrom k x y v
 at_first k x y u w v e h is = subst (λ c. IsVerdictFrom k c y v) (sym e) (subst (λ c. IsVerdictFrom k u c v) (sym h) is)

@@ -1,12 +1,9 @@
 -- Two blocks, held by numbers.
-use Rattle.std.proofs.Common.{ℕ, zero, suc, ◌+◌, ◌<◌, ◌≤◌, ◌≡◌, ◌∙◌, refl, sym, ap, subst, List, [], ◌∷◌, ◌++◌, length, arith, get_or, set, map, take}
-use Rattle.std.specs.Prelude.{Contains, ◌↔◌, eqb}
-use Rattle.std.specs.List.{position_or_len}
-use lib.Pointwise.{pointwise}
+use Rattle.std.proofs.Common.{ℕ, zero, suc, ◌+◌, ◌<◌, ◌≤◌, ◌≡◌, ◌∙◌, refl, sym, ap, subst, List, [], ◌∷◌, ◌++◌, length, arith, get_or, set, map, take, cond}
+use Rattle.std.specs.Prelude.{Contains, ◌↔◌, Result, Ok, Err, IsOk, is_ok}
 use Rattle.std.proofs.lemmas.List.{length-append, map-append, length-map, length-take, take-append-le, get_or_default}
 use Rattle.dcc_packet.specs.declared.packet.Packet.{Packet}
 use Rattle.dcc_packet.specs.declared.packet.Packet.TheVariants.{Idle}
-use Rattle.dcc_packet.specs.Spelling.{spelling}
 use Rattle.dcc_regs.specs.Conflict.{Conflict}
 use Rattle.dcc_order.specs.declared.places.Place.{Place}
 use Rattle.dcc_order.specs.AlikeLists.{SameMembers, SameOrder}
@@ -14,8 +11,13 @@ use Rattle.dcc_order.specs.Held.{Held}
 use Rattle.dcc_order.specs.HeldPlaces.{AreHeld, held_at, members_at, numbers_at, packets_of, Numbered, NumberedAlike}
 use Rattle.dcc_order.specs.Members.{number_of, EachOnce, AreMembers}
 use Rattle.dcc_order.specs.Turns.{turns_of}
-use Rattle.dcc_order.proofs.MemberLaws.{number-by_frame, number-within, stands_at, known_member, new_member, get-push_old, get-push_new}
+use Rattle.dcc_order.proofs.MemberLaws.{number-within, stands_at, known_member, new_member, get-push_old, get-push_new}
 use Rattle.dcc_order.proofs.OrderLaws.{CountedAlike, order_from_counts, counts_from_order}
+
+-- what a call gives where it succeeds
+pub on_ok : {A T E : Type 0} (r : Result T E) (got done failed : A) → got ≡ cond (is_ok r) done failed → IsOk r → got ≡ done
+on_ok (Ok x) got done failed e ok = e
+on_ok (Err y) got done failed e ok = absurd (cc)
 
 numbered_push : (members : List Packet) (ns : List ℕ) (n : ℕ) → Numbered members ns → n < length members → Numbered members (ns ++ n ∷ [])
 numbered_push members [] n all here = (here, tt)
@@ -37,9 +39,8 @@ packets-more members x (n ∷ ns) all =
     ap (λ p. p ∷ packets_of (members ++ x ∷ []) ns) (get-push_old members x Idle n all.0)
     ∙ ap (λ l. get_or members n Idle ∷ l) (packets-more members x ns all.1)
 
--- what is kept is of these members, their frames and these numbers
-pub record Kept (members : List Packet) (frames : List (List ℕ)) (ns others : List ℕ) : Type 0 where
-  pub spelled : frames ≡ map spelling members
+-- what is kept is of these members and these numbers
+pub record Kept (members : List Packet) (ns others : List ℕ) : Type 0 where
   pub members_of : AreMembers members (packets_of members ns)
   pub first_numbered : Numbered members ns
   pub second_numbered : Numbered members others
@@ -53,33 +54,28 @@ packets_new members ns x all =
     ∙ ap (λ l. l ++ get_or (members ++ x ∷ []) (length members) Idle ∷ []) (packets-more members x ns all)
     ∙ ap (λ p. packets_of members ns ++ p ∷ []) (get-push_new members x Idle (length members) refl)
 
-kept_known : (members : List Packet) (frames : List (List ℕ)) (ns others : List ℕ) (x : Packet) → Kept members frames ns others → number_of members x < length members →
-    Kept members frames (ns ++ number_of members x ∷ []) others
-kept_known members frames ns others x kept inside = record {
-  spelled = kept.spelled;
+kept_known : (members : List Packet) (ns others : List ℕ) (x : Packet) → Kept members ns others → number_of members x < length members →
+    Kept members (ns ++ number_of members x ∷ []) others
+kept_known members ns others x kept inside = record {
   members_of = subst (AreMembers members) (sym (packets_known members ns x inside)) (known_member members (packets_of members ns) x kept.members_of inside);
   first_numbered = numbered_push members ns (number_of members x) kept.first_numbered inside;
   second_numbered = kept.second_numbered;
 }
 
-kept_new : (members : List Packet) (frames : List (List ℕ)) (ns others : List ℕ) (x : Packet) → Kept members frames ns others → number_of members x ≡ length members →
-    Kept (members ++ x ∷ []) (frames ++ spelling x ∷ []) (ns ++ length members ∷ []) others
-kept_new members frames ns others x kept none = record {
-  spelled = ap (λ fs. fs ++ spelling x ∷ []) kept.spelled ∙ sym (map-append spelling members (x ∷ []));
+kept_new : (members : List Packet) (ns others : List ℕ) (x : Packet) → Kept members ns others → number_of members x ≡ length members →
+    Kept (members ++ x ∷ []) (ns ++ length members ∷ []) others
+kept_new members ns others x kept none = record {
   members_of = subst (AreMembers (members ++ x ∷ [])) (sym (packets_new members ns x kept.first_numbered)) (new_member members (packets_of members ns) x kept.members_of none);
   first_numbered = numbered_push (members ++ x ∷ []) ns (length members) (numbered_more members x ns kept.first_numbered)
       (let total = length-append members (x ∷ []) in omega (arith, total));
   second_numbered = numbered_more members x others kept.second_numbered;
 }
 
-abbrev frames_at : List Place → ℕ → List (List ℕ)
-frames_at places count = map (λ place. place.frame) (take count places)
+kept_of : (places : List Place) (count : ℕ) (others : List ℕ) → AreHeld places count others → Kept (members_at places count) (numbers_at places) others
+kept_of places count others held = record { members_of = held.members; first_numbered = held.first_numbered; second_numbered = held.second_numbered }
 
-kept_of : (places : List Place) (count : ℕ) (others : List ℕ) → AreHeld places count others → Kept (members_at places count) (frames_at places count) (numbers_at places) others
-kept_of places count others held = record { spelled = held.spelled; members_of = held.members; first_numbered = held.first_numbered; second_numbered = held.second_numbered }
-
-held_of : (places : List Place) (count : ℕ) (others : List ℕ) → count ≤ length places → Kept (members_at places count) (frames_at places count) (numbers_at places) others → AreHeld places count others
-held_of places count others inside kept = record { within = inside; spelled = kept.spelled; members = kept.members_of; first_numbered = kept.first_numbered; second_numbered = kept.second_numbered }
+held_of : (places : List Place) (count : ℕ) (others : List ℕ) → count ≤ length places → Kept (members_at places count) (numbers_at places) others → AreHeld places count others
+held_of places count others inside kept = record { within = inside; members = kept.members_of; first_numbered = kept.first_numbered; second_numbered = kept.second_numbered }
 
 pub count_of : (places : List Place) (count : ℕ) → count ≤ length places → length (members_at places count) ≡ count
 count_of places count inside = length-map (take count places) (λ place. place.member) ∙ simp length-take (omega arith)
@@ -99,17 +95,12 @@ length-set_place [] k r = refl
 length-set_place (p ∷ places) zero r = refl
 length-set_place (p ∷ places) (suc k) r = ap suc (length-set_place places k r)
 
--- a packet is found by its frame
-pub number_found : (places : List Place) (count : ℕ) (others : List ℕ) → AreHeld places count others → (x : Packet) →
-    position_or_len (pointwise eqb (spelling x)) (map (λ place. place.frame) (take count places)) ≡ number_of (members_at places count) x
-number_found places count others held x = ap (position_or_len (pointwise eqb (spelling x))) held.spelled ∙ number-by_frame (members_at places count) x
-
 module _ (places : List Place) (count : ℕ) (others : List ℕ) (held : AreHeld places count others) (x : Packet) where
   abbrev members : List Packet
   members = members_at places count
 
   abbrev place : ℕ → Place
-  place n = record { number = n; member = x; frame = spelling x }
+  place n = record { number = n; member = x }
 
   longer : (n : ℕ) → length (places ++ place n ∷ []) ≡ length places + 1
   longer n = length-append places (place n ∷ [])
@@ -130,6 +121,10 @@ module _ (places : List Place) (count : ℕ) (others : List ℕ) (held : AreHeld
   pub is_new : number_of members x ≡ count → number_of members x ≡ length members
   is_new e = e ∙ sym (count_of places count held.within)
 
+  -- the members stay where a known packet comes
+  pub known_members : (n : ℕ) → members_at (places ++ place n ∷ []) count ≡ members
+  known_members n = ap (map (λ place. place.member)) (same_front n)
+
   -- a packet that is no member is not in the first block
   pub is_foreign : number_of members x ≡ count → Contains (held_at places count others).first x → ⊥
   is_foreign e h =
@@ -144,9 +139,9 @@ module _ (places : List Place) (count : ℕ) (others : List ℕ) (held : AreHeld
   known_held inside =
       let n = number_of members x in
       held_of (places ++ place n ∷ []) count others (let more = longer n in let has = held.within in omega (arith, more, has))
-      (subst (λ front. Kept (map (λ place. place.member) front) (map (λ place. place.frame) front) (numbers_at (places ++ place n ∷ [])) others) (sym (same_front n))
-      (subst (λ ns. Kept members (frames_at places count) ns others) (sym (more_numbers n))
-      (kept_known members (frames_at places count) (numbers_at places) others x (kept_of places count others held) inside)))
+      (subst (λ front. Kept (map (λ place. place.member) front) (numbers_at (places ++ place n ∷ [])) others) (sym (same_front n))
+      (subst (λ ns. Kept members ns others) (sym (more_numbers n))
+      (kept_known members (numbers_at places) others x (kept_of places count others held) inside)))
 
   pub known_view : number_of members x < length members → held_at (places ++ place (number_of members x) ∷ []) count others ≡ record (held_at places count others) { first = (held_at places count others).first ++ x ∷ [] }
   known_view inside =
@@ -157,33 +152,29 @@ module _ (places : List Place) (count : ℕ) (others : List ℕ) (held : AreHeld
 
   -- a packet that is no member yet: it is put where its number is
   abbrev now : Place → List Place
-  now d = set (places ++ place count ∷ []) count (record (get_or (places ++ place count ∷ []) count d) { member = x; frame = spelling x })
+  now d = set (places ++ place count ∷ []) count (record (get_or (places ++ place count ∷ []) count d) { member = x })
 
-  new_front : (d : Place) → take (suc count) (now d) ≡ take count places ++ record (get_or (places ++ place count ∷ []) count d) { member = x; frame = spelling x } ∷ []
+  new_front : (d : Place) → take (suc count) (now d) ≡ take count places ++ record (get_or (places ++ place count ∷ []) count d) { member = x } ∷ []
   new_front d =
-      take_set (places ++ place count ∷ []) count (record (get_or (places ++ place count ∷ []) count d) { member = x; frame = spelling x }) (let more = longer count in let has = held.within in omega (arith, more, has))
-      ∙ ap (λ l. l ++ record (get_or (places ++ place count ∷ []) count d) { member = x; frame = spelling x } ∷ []) (same_front count)
+      take_set (places ++ place count ∷ []) count (record (get_or (places ++ place count ∷ []) count d) { member = x }) (let more = longer count in let has = held.within in omega (arith, more, has))
+      ∙ ap (λ l. l ++ record (get_or (places ++ place count ∷ []) count d) { member = x } ∷ []) (same_front count)
 
-  new_members : (d : Place) → members_at (now d) (suc count) ≡ members ++ x ∷ []
-  new_members d = ap (map (λ place. place.member)) (new_front d) ∙ map-append (λ place. place.member) (take count places) (record (get_or (places ++ place count ∷ []) count d) { member = x; frame = spelling x } ∷ [])
-
-  new_frames : (d : Place) → frames_at (now d) (suc count) ≡ frames_at places count ++ spelling x ∷ []
-  new_frames d = ap (map (λ place. place.frame)) (new_front d) ∙ map-append (λ place. place.frame) (take count places) (record (get_or (places ++ place count ∷ []) count d) { member = x; frame = spelling x } ∷ [])
+  pub new_members : (d : Place) → members_at (now d) (suc count) ≡ members ++ x ∷ []
+  new_members d = ap (map (λ place. place.member)) (new_front d) ∙ map-append (λ place. place.member) (take count places) (record (get_or (places ++ place count ∷ []) count d) { member = x } ∷ [])
 
   new_numbers : (d : Place) → numbers_at (now d) ≡ numbers_at places ++ length members ∷ []
   new_numbers d =
-      numbers_set (places ++ place count ∷ []) count (record (get_or (places ++ place count ∷ []) count d) { member = x; frame = spelling x }) d (let more = longer count in let has = held.within in omega (arith, more, has)) refl
+      numbers_set (places ++ place count ∷ []) count (record (get_or (places ++ place count ∷ []) count d) { member = x }) d (let more = longer count in let has = held.within in omega (arith, more, has)) refl
       ∙ more_numbers count
       ∙ ap (λ n. numbers_at places ++ n ∷ []) (sym (count_of places count held.within))
 
   pub new_held : (d : Place) → number_of members x ≡ length members → AreHeld (now d) (suc count) others
   new_held d none =
       held_of (now d) (suc count) others
-      (let more = longer count in let has = held.within in let same_length = length-set_place (places ++ place count ∷ []) count (record (get_or (places ++ place count ∷ []) count d) { member = x; frame = spelling x }) in omega (arith, more, has, same_length))
-      (subst (λ ms. Kept ms (frames_at (now d) (suc count)) (numbers_at (now d)) others) (sym (new_members d))
-      (subst (λ fs. Kept (members ++ x ∷ []) fs (numbers_at (now d)) others) (sym (new_frames d))
-      (subst (λ ns. Kept (members ++ x ∷ []) (frames_at places count ++ spelling x ∷ []) ns others) (sym (new_numbers d))
-      (kept_new members (frames_at places count) (numbers_at places) others x (kept_of places count others held) none))))
+      (let more = longer count in let has = held.within in let same_length = length-set_place (places ++ place count ∷ []) count (record (get_or (places ++ place count ∷ []) count d) { member = x }) in omega (arith, more, has, same_length))
+      (subst (λ ms. Kept ms (numbers_at (now d)) others) (sym (new_members d))
+      (subst (λ ns. Kept (members ++ x ∷ []) ns others) (sym (new_numbers d))
+      (kept_new members (numbers_at places) others x (kept_of places count others held) none)))
 
   pub new_view : (d : Place) → held_at (now d) (suc count) others ≡ record (held_at places count others) { first = (held_at places count others).first ++ x ∷ [] }
   new_view d =
@@ -196,7 +187,6 @@ module _ (places : List Place) (count : ℕ) (others : List ℕ) (held : AreHeld
   pub second_held : number_of members x < length members → AreHeld places count (others ++ number_of members x ∷ [])
   second_held inside = record {
     within = held.within;
-    spelled = held.spelled;
     members = held.members;
     first_numbered = held.first_numbered;
     second_numbered = numbered_push members others (number_of members x) held.second_numbered inside;
@@ -259,8 +249,8 @@ module _ (places : List Place) (count : ℕ) (others : List ℕ) (held : AreHeld
       go (p ∷ places) (suc count) zero d e below inside = refl
       go (p ∷ places) (suc count) (suc k) d e below inside = go places count k d e (omega arith) (let low : suc count ≤ suc (length places) = inside in omega arith)
 
-  -- any two packets that conflict take the same turns exactly where their numbers do
-  pub order_by_numbers : ((own : ℕ) → own < count → NumberedAlike places others count own) ↔ SameOrder (held_at places count others).first (held_at places count others).second
+  -- any two packets that conflict take the same turns exactly where the number of one of them does with each before it
+  pub order_by_numbers : ((own : ℕ) → own < count → NumberedAlike places others own) ↔ SameOrder (held_at places count others).first (held_at places count others).second
   order_by_numbers = (
     λ each. order_from_counts ms first second held.members (λ own inside. let low : own < count = (let is = size in omega (arith, is, inside)) in counted own low (each own low)),
     λ order own below. numbered own (counts_from_order ms first second held.members order own (let is = size in omega (arith, is, below))) below,
@@ -272,21 +262,23 @@ module _ (places : List Place) (count : ℕ) (others : List ℕ) (held : AreHeld
       second : List Packet
       second = packets_of ms others
 
-      counted : (own : ℕ) → own < count → NumberedAlike places others count own → CountedAlike ms first second own
-      counted own own_in same rival d e rival_in clash =
+      counted : (own : ℕ) → own < count → NumberedAlike places others own → CountedAlike ms first second own
+      counted own own_in same rival d e rival_before clash =
+          let rival_in : rival < count = (omega (arith, rival_before, own_in)) in
           ap (turns_of own rival) (numbers_back ms held.members.once (numbers_at places) held.first_numbered)
-          ∙ same rival nowhere nowhere (let is = size in omega (arith, is, rival_in))
+          ∙ same rival nowhere nowhere rival_before
           (subst (λ p. Conflict p (get_or places rival nowhere).member) (member_at own d nowhere own_in)
-          (subst (Conflict (get_or ms own d)) (member_at rival e nowhere (let is = size in omega (arith, is, rival_in))) clash))
+          (subst (Conflict (get_or ms own d)) (member_at rival e nowhere rival_in) clash))
           ∙ sym (ap (turns_of own rival) (numbers_back ms held.members.once others held.second_numbered))
         where
           nowhere : Place
-          nowhere = record { number = 0; member = Idle; frame = [] }
+          nowhere = record { number = 0; member = Idle }
 
-      numbered : (own : ℕ) → CountedAlike ms first second own → own < count → NumberedAlike places others count own
-      numbered own same own_in rival d e rival_in clash =
+      numbered : (own : ℕ) → CountedAlike ms first second own → own < count → NumberedAlike places others own
+      numbered own same own_in rival d e rival_before clash =
+          let rival_in : rival < count = (omega (arith, rival_before, own_in)) in
           sym (ap (turns_of own rival) (numbers_back ms held.members.once (numbers_at places) held.first_numbered))
-          ∙ same rival Idle Idle (let is = size in omega (arith, is, rival_in))
+          ∙ same rival Idle Idle rival_before
           (subst (λ p. Conflict p (get_or ms rival Idle)) (sym (member_at own Idle d own_in))
           (subst (Conflict (get_or places own d).member) (sym (member_at rival Idle e rival_in)) clash))
           ∙ ap (turns_of own rival) (numbers_back ms held.members.once others held.second_numbered)

@@ -6,7 +6,6 @@ pub mod WholeTheorem
 pub mod Clash
 pub mod AlikeBlocks
 pub mod AlikeCuts
-pub mod BlockTests
 pub mod CutTests
 pub mod TurnLaws
 pub mod MemberLaws
@@ -17,3 +16,6 @@ pub mod OneMorePacket
 pub mod SettledVerdicts
 pub mod HeldLaws
 pub mod ComparisonLaws
+pub mod IndexLaws
+pub mod GivenBoth
+pub mod AlikeVerdicts

@@ -1,26 +1,16 @@
 -- The packets of a block, each once, and their numbers.
-use Rattle.std.proofs.Common.{ℕ, zero, suc, ◌+◌, ◌<◌, ◌≤◌, ◌≡◌, ◌∙◌, refl, sym, ap, subst, Bool, true, false, cond, List, [], ◌∷◌, ◌++◌, inl, inr, length, arith, eqb, get_or, map}
-use Rattle.std.specs.Prelude.{Contains, ◌↔◌, not}
-use Rattle.std.specs.List.{position_or_len}
+use Rattle.std.proofs.Common.{ℕ, zero, suc, ◌+◌, ◌<◌, ◌≤◌, ◌≡◌, ◌∙◌, refl, sym, ap, subst, Bool, true, false, cond, List, [], ◌∷◌, ◌++◌, inl, inr, length, arith, eqb, get_or}
+use Rattle.std.specs.Prelude.{Contains, not}
 use Rattle.std.proofs.lemmas.Bool.Decides.{Decides-eqb}
 use Rattle.std.proofs.lemmas.List.{length-append}
 use Rattle.std.proofs.lemmas.List.Folds.{position_or_len_push}
 use Rattle.std.proofs.lemmas.List.Sums.{passes_at_first}
 use Rattle.std.proofs.lemmas.List.Elements.{Contains-append_left, Contains-push, Contains-push_cases}
-use lib.Pointwise.{pointwise}
 use Rattle.dcc_packet.specs.declared.packet.Packet.{Packet}
 use Rattle.dcc_packet.specs.SamePacket.{same}
-use Rattle.dcc_packet.specs.Spelling.{spelling}
 use Rattle.dcc_packet.proofs.SameFrames.{Decides-same, same-refl}
-use Rattle.dcc_order.specs.AlikeLists.{SameMembers}
 use Rattle.dcc_order.specs.Members.{number_of, AreMembers}
 use Rattle.dcc_order.proofs.AlikeBlocks.{true_is_not_false}
-
--- a packet is found by its frame
-pub number-by_frame : (members : List Packet) (p : Packet) → position_or_len (pointwise eqb (spelling p)) (map spelling members) ≡ number_of members p
-unfolding same
-number-by_frame [] p = refl
-number-by_frame (m ∷ members) p = ap (λ n. cond (not (pointwise eqb (spelling p) (spelling m))) (1 + n) 0) (number-by_frame members p)
 
 pub number-within : (members : List Packet) (p : Packet) → number_of members p ≤ length members
 number-within [] p = omega arith
@@ -110,10 +100,3 @@ new_member members block x are none = record {
             let other : k ≡ length members → ⊥ = λ i. true_is_not_false (sym ((Decides-eqb k (length members)).1 i) ∙ e) in
             let bound : k < length (members ++ x ∷ []) = inside in
             omega arith)
-
--- blocks have the same packets exactly where their members do
-pub members_agree : (left_members right_members left right : List Packet) → AreMembers left_members left → AreMembers right_members right → SameMembers left_members right_members ↔ SameMembers left right
-members_agree left_members right_members left right mine its = (
-  λ m p. (λ h. (its.same_set p).0 ((m p).0 ((mine.same_set p).1 h)), λ h. (mine.same_set p).0 ((m p).1 ((its.same_set p).1 h))),
-  λ m p. (λ h. (its.same_set p).1 ((m p).0 ((mine.same_set p).0 h)), λ h. (mine.same_set p).1 ((m p).1 ((its.same_set p).0 h))),
-)

@@ -1,6 +1,7 @@
 -- Turns, counted by the numbers of packets.
-use Rattle.std.proofs.Common.{ℕ, ◌<◌, ◌≤◌, ◌+◌, ◌≡◌, ◌∙◌, refl, sym, ap, subst, Bool, true, false, cond, List, [], ◌∷◌, ◌++◌, length, eqb, get_or, map, arith}
-use Rattle.std.specs.Prelude.{◌||◌, ◌↔◌, fold}
+use Rattle.std.proofs.Common.{ℕ, ◌<◌, ◌≤◌, ◌+◌, ◌≡◌, ◌∙◌, refl, sym, ap, subst, Bool, true, false, cond, List, [], ◌∷◌, ◌++◌, length, eqb, get_or, map, arith, zero, suc, inl, inr}
+use Rattle.std.specs.Prelude.{◌||◌, ◌↔◌, ◌⊎◌, fold, Contains, IsTrue}
+use Rattle.std.specs.List.{AllByRecursion}
 use Rattle.std.proofs.lemmas.Bool.Decides.{Decides-eqb}
 use Rattle.std.proofs.lemmas.List.{map-append}
 use Rattle.std.proofs.lemmas.List.Sums.{fold-append}
@@ -87,3 +88,40 @@ module _ (members : List Packet) (once : EachOnce members) (own rival : ℕ) (d 
     λ h. turns_counted apart left ∙ (turns_told first second left right).0 h ∙ sym (turns_counted apart right),
     λ h. (turns_told first second left right).1 (sym (turns_counted apart left) ∙ h ∙ turns_counted apart right),
   )
+
+module _ (own rival : ℕ) where
+  after_rival : (taken : Turns) → (rival_turn taken).rival_last ≡ true
+  after_rival taken = by_case taken.rival_last refl
+    where
+      by_case : (t : Bool) → taken.rival_last ≡ t → (cond t taken (record { count = taken.count + 1; rival_last = true })).rival_last ≡ true
+      by_case true e = e
+      by_case false e = refl
+
+  -- the rival is the last that came where it came at all, and the packet itself did not
+  came_last : (ns : List ℕ) (taken : Turns) → AllByRecursion (λ n. n < own) ns → (taken.rival_last ≡ true) ⊎ Contains ns rival → (fold (with_turn own rival) taken ns).rival_last ≡ true
+  came_last [] taken all (inl e) = e
+  came_last [] taken all (inr h) = absurd (let low : h.0 < 0 = h.1 in omega arith)
+  came_last (n ∷ ns) taken all before = came_last ns (with_turn own rival taken n) all.1 (step (eqb n own) (eqb n rival) refl refl before)
+    where
+      step : (mine its : Bool) → eqb n own ≡ mine → eqb n rival ≡ its → (taken.rival_last ≡ true) ⊎ Contains (n ∷ ns) rival →
+          ((cond mine (own_turn taken) (cond its (rival_turn taken) taken)).rival_last ≡ true) ⊎ Contains ns rival
+      step true its e f h = absurd (let is : n ≡ own = (Decides-eqb n own).0 e in let low : n < own = all.0 in omega arith)
+      step false true e f h = inl (after_rival taken)
+      step false false e f (inl h) = inl h
+      step false false e f (inr (zero, inside, is)) = absurd (true_is_not_false (sym ((Decides-eqb n rival).1 is) ∙ f))
+      step false false e f (inr (suc k, inside, is)) = inr (k, (let low : suc k < suc (length ns) = inside in omega arith), is)
+
+  came : (ns : List ℕ) (taken : Turns) → AllByRecursion (λ n. n < own) ns → (fold (with_turn own rival) taken ns).rival_last ≡ true → (taken.rival_last ≡ true) ⊎ Contains ns rival
+  came [] taken all e = inl e
+  came (n ∷ ns) taken all e = step (eqb n own) (eqb n rival) refl refl (came ns (with_turn own rival taken n) all.1 e)
+    where
+      step : (mine its : Bool) → eqb n own ≡ mine → eqb n rival ≡ its → ((cond mine (own_turn taken) (cond its (rival_turn taken) taken)).rival_last ≡ true) ⊎ Contains ns rival →
+          (taken.rival_last ≡ true) ⊎ Contains (n ∷ ns) rival
+      step mine its e f (inr (k, inside, is)) = inr (suc k, (let low : k < length ns = inside in omega arith), is)
+      step true its e f (inl h) = absurd (let is : n ≡ own = (Decides-eqb n own).0 e in let low : n < own = all.0 in omega arith)
+      step false true e f (inl h) = inr (zero, (omega arith), (Decides-eqb n rival).0 f)
+      step false false e f (inl h) = inl h
+
+  -- whether a number is among others, told by turns
+  pub has_come : (ns : List ℕ) → AllByRecursion (λ n. n < own) ns → IsTrue (turns_of own rival ns).rival_last ↔ Contains ns rival
+  has_come ns all = (λ t. elim (came ns no_turns all t) [ | inl e ↦ absurd (true_is_not_false (sym e)) | inr h ↦ h ], λ h. came_last ns no_turns all (inr h))

@@ -3,7 +3,6 @@ use Rattle.std.specs.Prelude.{ℕ, ◌≡◌, ◌≤◌, ◌<◌, List, length, 
 use Rattle.std.specs.List.{AllByRecursion}
 use Rattle.dcc_packet.specs.declared.packet.Packet.{Packet}
 use Rattle.dcc_packet.specs.declared.packet.Packet.TheVariants.{Idle}
-use Rattle.dcc_packet.specs.Spelling.{spelling}
 use Rattle.dcc_order.specs.declared.places.Place.{Place}
 use Rattle.dcc_order.specs.Held.{Held}
 use Rattle.dcc_order.specs.Members.{AreMembers}
@@ -32,15 +31,14 @@ held_at places count others = record {
 abbrev pub Numbered : List Packet → List ℕ → Type 0
 Numbered members numbers = AllByRecursion (λ n. n < length members) numbers
 
--- the members are those of the first block, each once, with their frames, and all numbers are theirs
+-- the members are those of the first block, each once, and all numbers are theirs
 pub record AreHeld (places : List Place) (count : ℕ) (others : List ℕ) : Type 0 where
   pub within : count ≤ length places
-  pub spelled : map (λ place. place.frame) (take count places) ≡ map spelling (members_at places count)
   pub members : AreMembers (members_at places count) (packets_of (members_at places count) (numbers_at places))
   pub first_numbered : Numbered (members_at places count) (numbers_at places)
   pub second_numbered : Numbered (members_at places count) others
 
--- a member takes the same turns, by its number, with each member that it conflicts with
-abbrev pub NumberedAlike : List Place → List ℕ → ℕ → ℕ → Type 0
-NumberedAlike places others count own = (rival : ℕ) (d e : Place) → rival < count → Conflict (slice_index_or places own d).member (slice_index_or places rival e).member →
+-- a member takes the same turns, by its number, with each member before it that it conflicts with
+abbrev pub NumberedAlike : List Place → List ℕ → ℕ → Type 0
+NumberedAlike places others own = (rival : ℕ) (d e : Place) → rival < own → Conflict (slice_index_or places own d).member (slice_index_or places rival e).member →
     turns_of own rival (numbers_at places) ≡ turns_of own rival others

@@ -1,11 +1,14 @@
 -- What lists that are alike for a decoder have in common.
-use Rattle.std.specs.Prelude.{ℕ, ◌≡◌, List, ◌++◌, ◌∷◌}
+use Rattle.std.specs.Prelude.{ℕ, ◌≡◌, ◌↔◌, List, ◌++◌, ◌∷◌}
 use Rattle.std.proofs.Common.{zero, suc}
 use Rattle.dcc_packet.specs.declared.packet.Packet.{Packet}
 use Rattle.dcc_regs.specs.declared.register.Who.{Who}
 use Rattle.dcc_regs.specs.declared.register.Register.{Register}
 use Rattle.dcc_regs.specs.declared.register.Register.TheVariants.{CvBit}
 use Rattle.dcc_regs.specs.Result.{RegisterMap, result_of_heard, result}
+use Rattle.dcc_order.specs.declared.verdict.Verdict.{Verdict}
+use Rattle.dcc_order.specs.declared.verdict.Verdict.TheVariants.{Alike}
+use Rattle.dcc_order.specs.Verdicts.{IsVerdict}
 use Rattle.dcc_order.specs.AlikeLists.{Cut, LastBlock, Block, cut_for, AlikeFor}
 
 -- whatever the registers are at the start, the two lists leave the same in each
@@ -27,3 +30,7 @@ abbrev pub AlikeListsAgreeAfterEachBlock : Type 0
 AlikeListsAgreeAfterEachBlock = (who : Who) (left right : List Packet) → AlikeFor who left right →
     (k : ℕ) (start : RegisterMap) (cv place : ℕ) →
     result_of_heard start (through_block k (cut_for who left)) (CvBit cv place) ≡ result_of_heard start (through_block k (cut_for who right)) (CvBit cv place)
+
+-- the verdict on two lists is Alike exactly where they are alike for the decoder
+abbrev pub AlikeIsTheVerdict : Type 0
+AlikeIsTheVerdict = (who : Who) (left right : List Packet) (verdict : Verdict) → IsVerdict who left right verdict → (verdict ≡ Alike) ↔ AlikeFor who left right

@@ -11,3 +11,4 @@ pub mod Held
 pub mod HeldPlaces
 pub mod Comparisons
 pub mod ComparisonSteps
+pub mod FrameNumbers

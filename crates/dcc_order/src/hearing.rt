@@ -3,7 +3,9 @@
 ghost use Rattle.std.specs.List.{AllZip};
 ghost use Rattle.std.specs.Prelude.{◌≡◌, ◌≢◌, ◌≤◌, ◌+◌, ◌-◌, ◌++◌, ◌∷◌, [], ℕ, List, length, replicate};
 ghost use Rattle.dcc_wire.specs.Framing.{Hunting, StandsFor, reported, seen as seen_in};
+ghost use Rattle.dcc_wire.specs.Half.{class_of};
 ghost use Rattle.dcc_wire.specs.Outcomes.{ones_left};
+ghost use Rattle.dcc_wire.specs.Runs.{rest_after_run};
 ghost use Rattle.dcc_packet.specs.declared.packet.Packet.{Packet};
 ghost use Rattle.dcc_regs.specs.Result.{HasHeard, RegisterMap};
 ghost use Rattle.dcc_regs.specs.declared.register.Who.{Who};
@@ -30,8 +32,10 @@ fn hear_seen<D: Decoder>(decoders: &mut [D], seen: &Seen)
 
 /// A fleet hears a half of this many microseconds. Where a packet ends with it, each member hears
 /// that packet, and otherwise each stays as it is. The answer is that of the framer.
+///
+/// This is [`hear`] for members of one type, boxed or not, as a crate needs it that has a fleet of its own kind.
 #[inline(always)]
-pub fn hear<D: Decoder>(decoders: &mut [D], framer: &mut Framer, us: u16) -> Seen
+pub fn hear_half<D: Decoder>(decoders: &mut [D], framer: &mut Framer, us: u16) -> Seen
     ensures history { (halves : List ℕ) × StandsFor framer.old halves }
     ensures hunts { result ≢ Seen.Nothing → framer.new ≡ Hunting (ones_left result) }
     ensures stands { (halves : List ℕ) → StandsFor framer.old halves → StandsFor framer.new (halves ++ us ∷ []) }
@@ -54,9 +58,11 @@ pub fn hear<D: Decoder>(decoders: &mut [D], framer: &mut Framer, us: u16) -> See
     seen
 }
 
-/// A fleet hears n halves of this many microseconds, as n calls of [`hear`] would. At most one packet ends in them: where one
+/// A fleet hears n halves of this many microseconds, as n calls of [`hear_half`] would. At most one packet ends in them: where one
 /// does, each member hears it, and otherwise each stays as it is. The answer is that of the framer.
-pub fn hear_run<D: Decoder>(decoders: &mut [D], framer: &mut Framer, us: u16, n: u32) -> RunSeen
+///
+/// This is [`hear_run`] for members of one type, boxed or not.
+pub fn hear_half_run<D: Decoder>(decoders: &mut [D], framer: &mut Framer, us: u16, n: u32) -> RunSeen
     ensures history { (halves : List ℕ) × StandsFor framer.old halves }
     ensures stands { (halves : List ℕ) → StandsFor framer.old halves → StandsFor framer.new (halves ++ replicate n us) }
     ensures sees { (halves : List ℕ) → StandsFor framer.old halves →
@@ -64,6 +70,7 @@ pub fn hear_run<D: Decoder>(decoders: &mut [D], framer: &mut Framer, us: u16, n:
     ensures before { (halves : List ℕ) → StandsFor framer.old halves → seen_in (halves ++ replicate (result.at - 1) us) ≡ seen_in halves }
     ensures nothing { result.seen ≡ Seen.Nothing → result.at ≡ n }
     ensures something { result.seen ≢ Seen.Nothing → (1 ≤ result.at) × (result.at ≤ n) }
+    ensures hunts { result.seen ≢ Seen.Nothing → framer.new ≡ rest_after_run (Hunting (ones_left result.seen)) (class_of us) (n - result.at) }
 
     // What the run showed is some list of packets, one or none,
     ensures spelled { (packets : List Packet) × AreSpelled packets (frames_of result.seen) }
@@ -81,6 +88,55 @@ pub fn hear_run<D: Decoder>(decoders: &mut [D], framer: &mut Framer, us: u16, n:
     run
 }
 
+/// A fleet hears a half of this many microseconds. Where a packet ends with it, each member hears
+/// that packet, and otherwise each stays as it is. The answer is that of the framer.
+pub fn hear(decoders: &mut [Box<dyn Decoder>], framer: &mut Framer, us: u16) -> Seen
+    ensures history { (halves : List ℕ) × StandsFor framer.old halves }
+    ensures hunts { result ≢ Seen.Nothing → framer.new ≡ Hunting (ones_left result) }
+    ensures stands { (halves : List ℕ) → StandsFor framer.old halves → StandsFor framer.new (halves ++ us ∷ []) }
+    ensures sees { (halves : List ℕ) → StandsFor framer.old halves →
+        seen_in (halves ++ us ∷ []) ≡ seen_in halves ++ reported (length halves) result }
+
+    // What the half showed is some list of packets, one or none,
+    ensures spelled { (packets : List Packet) × AreSpelled packets (frames_of result) }
+    // and each member has heard just that.
+    ensures hears { (packets : List Packet) → AreSpelled packets (frames_of result) →
+        AllZip (λ old now. HasHeard packets (who old) (registers old) (who now) (registers now)) decoders.old decoders.new }
+
+    // So members that have heard a list of halves have then heard the list with this half behind it.
+    ensures since { (halves : List ℕ) → StandsFor framer.old halves → (starts : List (Who × RegisterMap)) →
+        AllZip (λ start now. HasHeardHalves halves start.0 start.1 (who now) (registers now)) starts decoders.old →
+        AllZip (λ start now. HasHeardHalves (halves ++ us ∷ []) start.0 start.1 (who now) (registers now)) starts decoders.new }
+{
+    hear_half(decoders, framer, us)
+}
+
+/// A fleet hears n halves of this many microseconds, as n calls of [`hear`] would. At most one packet ends in them: where one
+/// does, each member hears it, and otherwise each stays as it is. The answer is that of the framer.
+pub fn hear_run(decoders: &mut [Box<dyn Decoder>], framer: &mut Framer, us: u16, n: u32) -> RunSeen
+    ensures history { (halves : List ℕ) × StandsFor framer.old halves }
+    ensures stands { (halves : List ℕ) → StandsFor framer.old halves → StandsFor framer.new (halves ++ replicate n us) }
+    ensures sees { (halves : List ℕ) → StandsFor framer.old halves →
+        seen_in (halves ++ replicate n us) ≡ seen_in halves ++ reported (length halves + result.at - 1) result.seen }
+    ensures before { (halves : List ℕ) → StandsFor framer.old halves → seen_in (halves ++ replicate (result.at - 1) us) ≡ seen_in halves }
+    ensures nothing { result.seen ≡ Seen.Nothing → result.at ≡ n }
+    ensures something { result.seen ≢ Seen.Nothing → (1 ≤ result.at) × (result.at ≤ n) }
+    ensures hunts { result.seen ≢ Seen.Nothing → framer.new ≡ rest_after_run (Hunting (ones_left result.seen)) (class_of us) (n - result.at) }
+
+    // What the run showed is some list of packets, one or none,
+    ensures spelled { (packets : List Packet) × AreSpelled packets (frames_of result.seen) }
+    // and each member has heard just that.
+    ensures hears { (packets : List Packet) → AreSpelled packets (frames_of result.seen) →
+        AllZip (λ old now. HasHeard packets (who old) (registers old) (who now) (registers now)) decoders.old decoders.new }
+
+    // So members that have heard a list of halves have then heard the list with these halves behind it.
+    ensures since { (halves : List ℕ) → StandsFor framer.old halves → (starts : List (Who × RegisterMap)) →
+        AllZip (λ start now. HasHeardHalves halves start.0 start.1 (who now) (registers now)) starts decoders.old →
+        AllZip (λ start now. HasHeardHalves (halves ++ replicate n us) start.0 start.1 (who now) (registers now)) starts decoders.new }
+{
+    hear_half_run(decoders, framer, us, n)
+}
+
 /// A fleet hears a piece of a track, half by half. So the track may come in pieces of any length: members that have heard
 /// the halves before it have then heard these behind them.
 pub fn hear_piece<D: Decoder>(decoders: &mut [D], framer: &mut Framer, durations: &[u16])
@@ -90,6 +146,6 @@ pub fn hear_piece<D: Decoder>(decoders: &mut [D], framer: &mut Framer, durations
         AllZip (λ start now. HasHeardHalves (halves ++ durations.now) start.0 start.1 (D.who now) (D.registers now)) starts decoders.new }
 {
     for us in durations {
-        hear(decoders, framer, *us);
+        hear_half(decoders, framer, *us);
     }
 }

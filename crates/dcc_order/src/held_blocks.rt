@@ -4,20 +4,25 @@ ghost use Rattle.std.specs.Prelude.{◌≡◌, ◌↔◌, ◌+◌, ◌<◌, ◌^
 ghost use Rattle.dcc_order.specs.AlikeLists.{SameMembers, SameOrder};
 ghost use Rattle.dcc_order.specs.Held.{nothing_held};
 
-use crate::places::{Place, has_each_below, number_in, same_turns_of_all, set_member};
+use crate::frame_number::frame_number;
+use crate::places::{Place, has_each_below, number_at, same_turns_of_all, set_member};
 use crate::turns::Turns;
 use dcc_packet::Packet;
 use std::alloc::{AllocError, Global};
+use std::collections::BTreeMap;
 use std::marker::Model;
 
 /// Two blocks. The packets of the second are held by their numbers in the first, and a packet that the first lacks is not
-/// held: that blocks with such a packet differ is known at once. All memory that comparing them needs is in the
-/// lists of their packets, one entry for each.
+/// held: that blocks with such a packet differ is known at once. All memory that comparing them needs is taken while
+/// packets are given: the lists of their packets, one entry for each, the index of the different ones by their frames, in
+/// which there are numbers alone, and room for the turns of each.
 #[derive(Drop)]
 pub struct HeldBlocks {
     places: Vec<Place>,
     count: usize,
     others: Vec<usize>,
+    // The number of each different packet, by the number of its frame. It is no list of packets: it holds none.
+    index: BTreeMap<u64, usize>,
     // Room for the turns of each different packet, empty but while the blocks are compared.
     turns: Vec<Turns>,
     other_turns: Vec<Turns>,
@@ -29,11 +34,16 @@ impl Model for HeldBlocks {
     ghost Value = { Held };
 
     ghost use Rattle.std.specs.Prelude.{◌≤◌, vec_capacity};
-    ghost use Rattle.dcc_order.specs.HeldPlaces.{held_at, AreHeld};
+    ghost use Rattle.std.specs.Ordering.{nat_cmp};
+    ghost use Rattle.std.specs.BTreeMap.{get};
+    ghost use Rattle.dcc_order.specs.FrameNumbers.{IsIndex};
+    ghost use Rattle.dcc_order.specs.HeldPlaces.{held_at, members_at, AreHeld};
 
     ghost view = { λ b. held_at b.places.items b.count b.others.items };
 
-    ghost invariant = { λ b. AreHeld b.places.items b.count b.others.items × (b.count ≤ vec_capacity b.turns) × (b.count ≤ vec_capacity b.other_turns) };
+    ghost invariant = { λ b. AreHeld b.places.items b.count b.others.items
+        × IsIndex (get nat_cmp b.index) (members_at b.places.items b.count)
+        × (b.count ≤ vec_capacity b.turns) × (b.count ≤ vec_capacity b.other_turns) };
 }
 
 impl HeldBlocks {
@@ -45,6 +55,7 @@ impl HeldBlocks {
             places: Vec::new(alloc),
             count: 0,
             others: Vec::new(alloc),
+            index: BTreeMap::new(alloc),
             turns: Vec::new(alloc),
             other_turns: Vec::new(alloc),
         }
@@ -55,20 +66,21 @@ impl HeldBlocks {
         ensures ok { OnOk result (self.new ≡ record self.old { first = self.old.first ++ packet.now ∷ [] }) }
         ensures err { OnErr result (self.new ≡ self.old) }
     {
-        let frame = packet.frame();
-        let places = self.places.as_slice();
-        let number = number_in(&places[..self.count], &frame);
+        let frame = frame_number(&packet.frame());
+        let number = number_at(&self.index, frame, self.count);
         let members = self.count.saturating_add(1);
         self.turns.reserve(members)?;
         self.other_turns.reserve(members)?;
-        let place = Place {
+        self.places.reserve(1)?;
+        // A known packet stays where it is in the index.
+        self.index.insert(frame, number)?;
+        // There is room.
+        let _ = self.places.push(Place {
             number,
             member: *packet,
-            frame,
-        };
-        self.places.push(place)?;
+        });
         if number == self.count {
-            set_member(&mut self.places, number, packet, frame);
+            set_member(&mut self.places, number, packet);
             self.count += 1;
         }
         Ok(())
@@ -80,8 +92,8 @@ impl HeldBlocks {
         ensures foreign { result ≡ Ok false → (¬ Contains self.old.first packet.now) × (self.new ≡ self.old) }
         ensures err { OnErr result (self.new ≡ self.old) }
     {
-        let places = self.places.as_slice();
-        let number = number_in(&places[..self.count], &packet.frame());
+        let frame = frame_number(&packet.frame());
+        let number = number_at(&self.index, frame, self.count);
         if number == self.count {
             return Ok(false);
         }
@@ -104,13 +116,17 @@ impl HeldBlocks {
         self.places.clear();
         self.count = 0;
         self.others.clear();
+        self.index.clear();
     }
 
     /// Whether the blocks have the same set of packets.
-    pub fn has_same_members(&self) -> bool
-        ensures { IsTrue result ↔ SameMembers self.now.first self.now.second }
+    pub fn has_same_members(&mut self) -> bool
+        ensures same { IsTrue result ↔ SameMembers self.old.first self.old.second }
+        ensures unchanged { self.new ≡ self.old }
     {
-        has_each_below(self.others.as_slice(), self.count)
+        let same = has_each_below(self.others.as_slice(), self.count, &mut self.other_turns);
+        self.other_turns.clear();
+        same
     }
 
     /// Whether any two packets of the first block that conflict take the same turns in both.

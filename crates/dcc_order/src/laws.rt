@@ -6,7 +6,7 @@ ghost use Rattle.dcc_regs.specs.declared.register.Who.{Who};
 ghost use Rattle.dcc_order.specs.Hearing.{HasHeardHalves};
 ghost use Rattle.dcc_order.specs.HearingLaws.{AlikeHalves, AlikeHalvesLeaveTheSame, NoHalvesHeard, OneListOfPackets};
 ghost use Rattle.dcc_order.specs.OneMore.{FinishedBlocksStay, OneMorePacket};
-ghost use Rattle.dcc_order.specs.Laws.{AlikeListsAgreeAfterEachBlock, AlikeListsLeaveTheSame};
+ghost use Rattle.dcc_order.specs.Laws.{AlikeIsTheVerdict, AlikeListsAgreeAfterEachBlock, AlikeListsLeaveTheSame};
 
 use dcc_regs::Decoder;
 
@@ -29,6 +29,12 @@ pub fn alike_lists_agree_after_each_block()
 /// Lists that are alike for a decoder leave the same in each of its registers, whatever these held at the start.
 pub fn alike_lists_leave_the_same()
     ensures { AlikeListsLeaveTheSame }
+{}
+
+/// The verdict on two lists is Alike exactly where they are alike for the decoder.
+#[tactic(auto, using(crate::proofs::AlikeVerdicts::alike_is))]
+pub fn alike_is_the_verdict()
+    ensures { AlikeIsTheVerdict }
 {}
 
 /// Decoders that are equal at the start and hear halves whose packets are alike for them hold the same in each register.

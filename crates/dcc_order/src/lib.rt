@@ -2,19 +2,16 @@
 //! lists.
 #![tactic(auto)]
 
-mod blocks;
 mod comparer;
 mod comparing;
 mod comparison;
 mod fleet;
+mod frame_number;
 mod hearing;
 mod held_blocks;
 mod last_heard;
 pub mod laws;
-mod lists;
-mod members;
 mod no_memory;
-mod order;
 mod places;
 mod tracks;
 mod turns;
@@ -23,7 +20,7 @@ mod wants;
 
 pub use comparer::Comparer;
 pub use comparing::compare;
-pub use hearing::{hear, hear_piece, hear_run};
+pub use hearing::{hear, hear_half, hear_half_run, hear_piece, hear_run};
 pub use no_memory::NoMemory;
 pub use tracks::{hear_track, hear_two_tracks};
 pub use verdict::Verdict;

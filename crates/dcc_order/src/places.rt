@@ -1,8 +1,10 @@
 //! The places of a list of packets, each with a number and, beside it, the packet of a number.
 
-ghost use Rattle.std.specs.Prelude.{◌≡◌, ◌↔◌, ◌<◌, ◌≤◌, ◌==◌, ℕ, IsTrue, length, map, slice_index_or, slice_set, vec_len, vec_capacity, Contains};
-ghost use Rattle.std.specs.List.{position_or_len};
-ghost use lib.Pointwise.{pointwise};
+ghost use Rattle.std.specs.Prelude.{◌≡◌, ◌↔◌, ◌<◌, ◌≤◌, ℕ, IsTrue, length, slice_index_or, slice_set, vec_len, vec_capacity, Contains};
+ghost use Rattle.std.specs.BTreeMap.{get};
+ghost use Rattle.std.specs.List.{AllByRecursion};
+ghost use Rattle.std.specs.Option.{unwrap_or};
+ghost use Rattle.std.specs.Ordering.{nat_cmp};
 ghost use Rattle.dcc_order.specs.declared.places.Place.{Place};
 ghost use Rattle.dcc_order.specs.HeldPlaces.{NumberedAlike, numbers_at};
 ghost use Rattle.dcc_order.specs.declared.turns.Turns.{Turns as TurnsOf};
@@ -11,8 +13,8 @@ ghost use Rattle.dcc_regs.specs.Conflict.{Conflict};
 
 use crate::turns::{Turns, take_turn};
 use dcc_packet::Packet;
-use dcc_regs::conflict;
-use dcc_wire::Frame;
+use dcc_regs::{conflict, sets_nothing};
+use std::collections::BTreeMap;
 
 /// A place in the list of the first block: the number of the packet that came here, and beside it the packet that has
 /// the number of this place, if one has. So the different packets need no list of their own.
@@ -20,55 +22,51 @@ use dcc_wire::Frame;
 pub struct Place {
     pub number: usize,
     pub member: Packet,
-    pub frame: Frame,
 }
 
-/// The number of the packet with a frame, or how many there are where none has it.
-pub fn number_in(places: &[Place], frame: &Frame) -> usize
-    ensures { result ≡ position_or_len (pointwise ◌==◌ frame.now) (map (λ place. place.frame) places.now) }
+/// The number that an index has for a frame, or how many numbers there are where it has none.
+pub fn number_at(index: &BTreeMap<u64, usize>, frame: u64, count: usize) -> usize
+    ensures { result ≡ unwrap_or (get nat_cmp index.now frame) count }
 {
-    for (i, place) in places.iter().enumerate() {
-        if same_bytes(frame.bytes(), place.frame.bytes()) {
-            return i;
-        }
+    match index.get(&frame) {
+        Some(number) => *number,
+        None => count,
     }
-    places.len()
-}
-
-fn same_bytes(one: &[u8], other: &[u8]) -> bool
-    ensures { result ≡ pointwise ◌==◌ one.now other.now }
-{
-    one == other
 }
 
 /// This packet has the number of this place.
-pub fn set_member(places: &mut Vec<Place>, at: usize, packet: &Packet, frame: Frame)
+pub fn set_member(places: &mut Vec<Place>, at: usize, packet: &Packet)
     requires { at < vec_len places.old }
-    ensures { (d : Place) → places.new.items ≡ slice_set places.old.items at (record (slice_index_or places.old.items at d) { member = packet.now; frame = frame }) }
+    ensures { (d : Place) → places.new.items ≡ slice_set places.old.items at (record (slice_index_or places.old.items at d) { member = packet.now }) }
 {
     places[at] = Place {
         number: places[at].number,
         member: *packet,
-        frame,
     };
 }
 
-/// Whether each number below a count is in a list.
-pub fn has_each_below(numbers: &[usize], count: usize) -> bool
-    ensures { IsTrue result ↔ ((k : ℕ) → k < count → Contains numbers.now k) }
+/// Whether each number below a count is among numbers below it. There is room for the turns of each.
+pub fn has_each_below(numbers: &[usize], count: usize, turns: &mut Vec<Turns>) -> bool
+    requires below { AllByRecursion (λ n. n < count) numbers.now }
+    requires room { count ≤ vec_capacity turns.old }
+    ensures each { IsTrue result ↔ ((k : ℕ) → k < count → Contains numbers.now k) }
+    ensures room { vec_capacity turns.old ≤ vec_capacity turns.new }
 {
-    for number in 0..count {
-        if !has(numbers, number) {
+    // No number is the count itself, so each is a rival that comes.
+    count_turns(turns, count, count, numbers);
+    each_has_come(turns.as_slice())
+}
+
+/// Whether each rival has a turn, where it alone takes any.
+fn each_has_come(turns: &[Turns]) -> bool
+    ensures { IsTrue result ↔ ((k : ℕ) (t : TurnsOf) → k < length turns.now → IsTrue (slice_index_or turns.now k t).rival_last) }
+{
+    for taken in turns {
+        if !taken.rival_came_last() {
             return false;
         }
     }
     true
-}
-
-fn has(numbers: &[usize], number: usize) -> bool
-    ensures { IsTrue result ↔ Contains numbers.now number }
-{
-    numbers.contains(&number)
 }
 
 /// Whether any two members that conflict take the same turns in both blocks. There is room for the turns of each member.
@@ -82,30 +80,54 @@ pub fn same_turns_of_all(
     requires within { count ≤ length places.now }
     requires room { count ≤ vec_capacity turns.old }
     requires other_room { count ≤ vec_capacity other_turns.old }
-    ensures same { IsTrue result ↔ ((own : ℕ) → own < count → NumberedAlike places.now others.now count own) }
+    ensures same { IsTrue result ↔ ((own : ℕ) → own < count → NumberedAlike places.now others.now own) }
     ensures room { vec_capacity turns.old ≤ vec_capacity turns.new }
     ensures other_room { vec_capacity other_turns.old ≤ vec_capacity other_turns.new }
 {
     for own in 0..count {
-        count_turns_at(turns, own, count, places);
-        count_turns(other_turns, own, count, others);
-        if !same_turns_at(places, own, turns.as_slice(), other_turns.as_slice()) {
+        if !same_turns_of(places, own, others, turns, other_turns) {
             return false;
         }
     }
     true
 }
 
-/// Whether a member takes the same turns with each member that it conflicts with.
+/// Whether a member takes the same turns in both blocks with each member before it that it conflicts with. Conflict is
+/// mutual, so those behind it are left to their own turn.
+fn same_turns_of(
+    places: &[Place],
+    own: usize,
+    others: &[usize],
+    turns: &mut Vec<Turns>,
+    other_turns: &mut Vec<Turns>,
+) -> bool
+    requires within { own < length places.now }
+    requires room { own ≤ vec_capacity turns.old }
+    requires other_room { own ≤ vec_capacity other_turns.old }
+    ensures same { IsTrue result ↔ NumberedAlike places.now others.now own }
+    ensures room { vec_capacity turns.old ≤ vec_capacity turns.new }
+    ensures other_room { vec_capacity other_turns.old ≤ vec_capacity other_turns.new }
+{
+    // What sets nothing conflicts with nothing.
+    if sets_nothing(&places[own].member) {
+        return true;
+    }
+    count_turns_at(turns, own, own, places);
+    count_turns(other_turns, own, own, others);
+    same_turns_at(places, own, turns.as_slice(), other_turns.as_slice())
+}
+
+/// Whether a member takes the same turns with each of the first members that it conflicts with.
 fn same_turns_at(places: &[Place], own: usize, left: &[Turns], right: &[Turns]) -> bool
-    requires own_in { own < length left.now }
+    requires own_in { own < length places.now }
     requires within { length left.now ≤ length places.now }
     requires each { length right.now ≡ length left.now }
     ensures { IsTrue result ↔ ((rival : ℕ) (d e : Place) (t : TurnsOf) → rival < length left.now →
         Conflict (slice_index_or places.now own d).member (slice_index_or places.now rival e).member → slice_index_or left.now rival t ≡ slice_index_or right.now rival t) }
 {
     for (rival, taken) in left.iter().enumerate() {
-        if conflict(&places[own].member, &places[rival].member) && !taken.is(&right[rival]) {
+        // Most turns are the same, and that is told faster than a conflict.
+        if !taken.is(&right[rival]) && conflict(&places[own].member, &places[rival].member) {
             return false;
         }
     }

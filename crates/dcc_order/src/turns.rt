@@ -1,10 +1,8 @@
 //! How a packet and its rivals take turns in a block.
 
-ghost use Rattle.std.specs.Prelude.{◌≡◌, ◌↔◌, ◌<◌, ◌-◌, ◌^◌, ℕ, IsTrue, IfOk, length, vec_len, slice_index_or, map};
+ghost use Rattle.std.specs.Prelude.{◌≡◌, ◌↔◌, ◌<◌, ◌-◌, ◌^◌, ℕ, IsTrue, length, slice_index_or, map};
 ghost use Rattle.dcc_order.specs.declared.turns.Turns.{Turns};
-ghost use Rattle.dcc_order.specs.Turns.{no_turns, own_turn, rival_turn, with_turn, turns_of};
-
-use std::alloc::{AllocError, Global};
+ghost use Rattle.dcc_order.specs.Turns.{no_turns, own_turn, rival_turn, with_turn};
 
 /// How many turns a packet and a rival take, and whether the rival has the last. That tells all: they take turns, so
 /// these two numbers say which was first too.
@@ -55,31 +53,18 @@ impl Turns {
         }
     }
 
+    /// Whether the rival has the last turn.
+    pub fn rival_came_last(&self) -> bool
+        ensures { result ≡ self.now.rival_last }
+    {
+        self.rival_last
+    }
+
     pub fn is(&self, other: &Turns) -> bool
         ensures { IsTrue result ↔ (self.now ≡ other.now) }
     {
         self.count == other.count && self.rival_last == other.rival_last
     }
-}
-
-/// How the member of one number and each member take turns, where packets come by their numbers.
-pub fn turns_with(
-    alloc: Global,
-    own: usize,
-    count: usize,
-    numbers: &[usize],
-) -> Result<Vec<Turns>, AllocError>
-    ensures each { IfOk result (λ v. (rival : ℕ) (d : Turns) → rival < count → slice_index_or v.items rival d ≡ turns_of own rival numbers.now) }
-    ensures count { IfOk result (λ v. vec_len v ≡ count) }
-{
-    let mut turns = Vec::new(alloc);
-    for rival in 0..count {
-        turns.push(Turns::none())?;
-    }
-    for number in numbers {
-        take_turn(turns.as_mut_slice(), own, *number);
-    }
-    Ok(turns)
 }
 
 /// The packet that all these are of comes.

@@ -18,3 +18,4 @@ pub mod WholeMap
 pub mod Runs
 pub mod SameValues
 pub mod OwnWrites
+pub mod NothingSet

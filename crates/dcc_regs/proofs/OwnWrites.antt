@@ -17,7 +17,7 @@ use Rattle.dcc_regs.specs.Outputs.{out_set, position_set, aspect_set}
 use Rattle.dcc_regs.specs.Sets.{sets, side}
 use Rattle.dcc_regs.specs.Writes.{is_own_write}
 
-none_of : (mode : SpeedMode) (p : Packet) (r : Register) → speed_set mode p ≡ None → direction_set p ≡ None → ((n : ℕ) → function_set mode p n ≡ None) → ((n : ℕ) → state_set p n ≡ None)
+pub none_of : (mode : SpeedMode) (p : Packet) (r : Register) → speed_set mode p ≡ None → direction_set p ≡ None → ((n : ℕ) → function_set mode p n ≡ None) → ((n : ℕ) → state_set p n ≡ None)
     → ((n : ℕ) → out_set p n ≡ None) → ((n : ℕ) → position_set p n ≡ None) → ((n : ℕ) → aspect_set p n ≡ None) → sets mode p r ≡ None
 none_of mode p SpeedRegister a b c s d f g = ap (option_map SpeedValue) a
 none_of mode p Direction a b c s d f g = ap (option_map Forward) b

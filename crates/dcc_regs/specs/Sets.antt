@@ -1,5 +1,5 @@
 -- The plain registers that a packet sets, each to a constant. Plain are all registers but the CV bits and Pending.
-use Rattle.std.specs.Prelude.{Bool, Option, None, option_map, if◌then◌else◌}
+use Rattle.std.specs.Prelude.{◌≡◌, Bool, Option, None, option_map, if◌then◌else◌}
 use Rattle.dcc_packet.specs.declared.packet.Packet.{Packet}
 use Rattle.dcc_regs.specs.declared.register.SpeedMode.{SpeedMode}
 use Rattle.dcc_regs.specs.declared.register.Register.{Register}
@@ -26,3 +26,7 @@ sets mode p (Position n) = option_map side (position_set p n)
 sets mode p (Aspect n) = option_map Number (aspect_set p n)
 sets mode p (CvBit cv place) = None
 sets mode p PendingRegister = None
+
+-- a packet sets no plain register, in either speed mode
+abbrev pub SetsNothing : Packet → Type 0
+SetsNothing p = (mode : SpeedMode) (register : Register) → sets mode p register ≡ None

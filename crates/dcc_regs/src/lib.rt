@@ -28,7 +28,7 @@ mod writes;
 
 pub use board::BoardDecoder;
 pub use board_state::BoardState;
-pub use conflicts::conflict;
+pub use conflicts::{conflict, sets_nothing};
 pub use decoder::Decoder;
 pub use heard::{address_of, hears};
 pub use last_note::LastNote;

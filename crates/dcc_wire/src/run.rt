@@ -13,7 +13,10 @@ pub struct RunSeen {
 
 impl Framer {
     ghost use Rattle.std.specs.Prelude.{◌≡◌, ◌≢◌, ◌≤◌, ◌+◌, ◌-◌, ℕ, List, ◌++◌, length, replicate};
-    ghost use Rattle.dcc_wire.specs.Framing.{StandsFor, seen, reported};
+    ghost use Rattle.dcc_wire.specs.Framing.{Hunting, StandsFor, seen, reported};
+    ghost use Rattle.dcc_wire.specs.Half.{class_of};
+    ghost use Rattle.dcc_wire.specs.Outcomes.{ones_left};
+    ghost use Rattle.dcc_wire.specs.Runs.{rest_after_run};
 
     /// Takes n halves of this many microseconds, as n calls of [`Framer::push`] would. At most one of
     /// these answers an outcome: behind it halves that are all alike bring no preamble with a start bit.
@@ -34,6 +37,9 @@ impl Framer {
 
         ensures nothing { result.seen ≡ Seen.Nothing → result.at ≡ n }
         ensures something { result.seen ≢ Seen.Nothing → (1 ≤ result.at) × (result.at ≤ n) }
+
+        // After an outcome the framer hunts, and takes the halves behind it.
+        ensures hunts { result.seen ≢ Seen.Nothing → self.new ≡ rest_after_run (Hunting (ones_left result.seen)) (class_of us) (n - result.at) }
     {
         // (the prover knows a type's invariant where one of its fields is named)
         let _ = &self.state;

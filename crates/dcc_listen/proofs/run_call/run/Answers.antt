@@ -30,8 +30,8 @@ runs-preserved g c =
     record {
       halves = before.halves ++ replicate c.in-Ok-Some.run'.n c.in-Ok-Some.run'.us;
       gave = Gave-append captures c.args.input.now c.runs.input c.read_run.new.self before.halves (replicate c.in-Ok-Some.run'.n c.in-Ok-Some.run'.us) before.gave took.0.items;
-      stands = c.hear_run.ensures.stands before.halves before.stands;
-      members = c.hear_run.ensures.since before.halves before.stands (map (λ decoder. let is = goal.Decoder-dyn g (decoder.vtable, decoder.value) in (is.who decoder.value, is.registers decoder.value)) c.args.decoders.now) before.members;
+      stands = c.hear_half_run.ensures.stands before.halves before.stands;
+      members = c.hear_half_run.ensures.since before.halves before.stands (map (λ decoder. let is = goal.Decoder-dyn g (decoder.vtable, decoder.value) in (is.who decoder.value, is.registers decoder.value)) c.args.decoders.now) before.members;
     }
 
 pub runs-preserved-in-Some-half_at_hand : goal.runs-preserved-in-Some-half_at_hand
@@ -40,8 +40,8 @@ runs-preserved-in-Some-half_at_hand g c =
     record {
       halves = before.halves ++ c.in-Some-half_at_hand.us ∷ [];
       gave = Gave-append captures c.args.input.now c.runs.input c.half_at_hand.new.self before.halves (c.in-Some-half_at_hand.us ∷ []) before.gave c.in-Some-half_at_hand.ensures.some.0.items;
-      stands = c.hear.ensures.stands before.halves before.stands;
-      members = c.hear.ensures.since before.halves before.stands (map (λ decoder. let is = goal.Decoder-dyn g (decoder.vtable, decoder.value) in (is.who decoder.value, is.registers decoder.value)) c.args.decoders.now) before.members;
+      stands = c.hear_half.ensures.stands before.halves before.stands;
+      members = c.hear_half.ensures.since before.halves before.stands (map (λ decoder. let is = goal.Decoder-dyn g (decoder.vtable, decoder.value) in (is.who decoder.value, is.registers decoder.value)) c.args.decoders.now) before.members;
     }
 
 pub returns-in-Err-clause-runs : goal.returns-in-Err-clause-runs

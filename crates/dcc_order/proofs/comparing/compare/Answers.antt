@@ -1,35 +1,17 @@
-use Rattle.std.proofs.Common.{◌≡◌, ◌∙◌, sym, ap, subst, arith, length}
-use Rattle.dcc_regs.specs.Heard.{hears, heard}
+use Rattle.std.proofs.Common.{◌≡◌, refl}
 use Rattle.dcc_order.specs.declared.verdict.Verdict.TheVariants.{Alike}
-use Rattle.dcc_order.specs.AlikeLists.{cut, cut_for}
-use Rattle.dcc_order.specs.Verdicts.{IsVerdictFrom}
 use Rattle.dcc_order.proofs.AlikeCuts.{alike_lists}
-use Rattle.dcc_order.proofs.CutTests.{alike_from_verdict, verdict_of_alike, at_first, length-capped, length-kept}
+use Rattle.dcc_order.proofs.AlikeVerdicts.{alike_is}
+use Rattle.dcc_order.proofs.GivenBoth.{verdict_of_both}
 use Rattle.dcc_order.proofs.comparing.compare.Goals as goal
 
-pub compare_capped-requires : goal.compare_capped-requires
-compare_capped-requires c =
-    let kept = length-capped (heard c.args.who c.args.left.now) in
-    let heard_of = length-kept (hears c.args.who) c.args.left.now in
-    let is = ap length (c.as_slice.ensures.value ∙ c.in_ok-left_kept.ensures) in
-    omega (arith, kept, heard_of, is, c.requires.left_fits)
+pub returns-in-Done-clause-alike_is : goal.returns-in-Done-clause-alike_is
+returns-in-Done-clause-alike_is c =
+    alike_is c.args.who c.args.left.now c.args.right.now c.in-Done.verdict
+    (verdict_of_both c.args.who c.args.left.now c.args.right.now c.items.left_rest.now c.items.right_rest.now c.items.left_ended c.items.right_ended c.items.comparer c.in-Done.verdict c.items.invariant
+    (c.in-Done.ensures.done c.in-Done.verdict refl c.items.invariant.lists c.items.invariant.stands))
 
-pub returns-clause-exact : goal.returns-clause-exact
-returns-clause-exact c =
-    at_first 0 (cut_for c.args.who c.args.left.now) (cut_for c.args.who c.args.right.now) (cut c.as_slice.result.now) (cut c.as_slice-2.result.now) c.in_ok-compare_capped.field-0
-    (sym (ap cut (c.as_slice.ensures.value ∙ c.in_ok-left_kept.ensures)))
-    (sym (ap cut (c.as_slice-2.ensures.value ∙ c.in_ok-right_kept.ensures)))
-    c.in_ok-compare_capped.ensures
-
-pub returns-clause-alike_is : goal.returns-clause-alike_is
-returns-clause-alike_is c =
-    let left = cut_for c.args.who c.args.left.now in
-    let right = cut_for c.args.who c.args.right.now in (
-      λ e. alike_from_verdict 0 left right (subst (IsVerdictFrom 0 left right) e (returns-clause-exact c)),
-      λ alike. verdict_of_alike 0 left right c.in_ok-compare_capped.field-0 alike (returns-clause-exact c),
-    )
-
-pub returns-clause-alike : goal.returns-clause-alike
-returns-clause-alike c = λ e.
-    let is : c.in_ok-compare_capped.field-0 ≡ Alike = cc in
-    alike_lists c.args.who c.args.left.now c.args.right.now ((returns-clause-alike_is c).0 is)
+pub returns-in-Done-clause-alike : goal.returns-in-Done-clause-alike
+returns-in-Done-clause-alike c = λ e.
+    let is : c.in-Done.verdict ≡ Alike = cc in
+    alike_lists c.args.who c.args.left.now c.args.right.now ((returns-in-Done-clause-alike_is c).0 is)

@@ -1,14 +1,21 @@
-use Rattle.std.proofs.Common.{◌∙◌, sym}
-use Rattle.std.specs.Prelude.{Contains}
-use borrow.Author.Count.{below_more}
-use Rattle.dcc_order.proofs.AlikeBlocks.{true_is_not_false}
+use Rattle.std.proofs.Common.{◌<◌, sym, subst, arith, length}
+use Rattle.std.specs.Prelude.{IsTrue}
+use Rattle.dcc_order.specs.declared.turns.Turns.{Turns}
+use Rattle.dcc_order.specs.Turns.{Counted, no_turns}
+use Rattle.dcc_order.proofs.NumberLaws.{has_come}
 use Rattle.dcc_order.proofs.places.has_each_below.Goals as goal
 
-pub returns-then-not-has : goal.returns-then-not-has
-returns-then-not-has c = (
-  λ t. absurd (true_is_not_false (sym t)),
-  λ each. absurd (true_is_not_false (sym (c.has.ensures.1 (each c.loop-number.number c.loop-number-test.true)) ∙ c.if-not-has.true)),
-)
-
-pub loop-number-preserved : goal.loop-number-preserved
-loop-number-preserved c = below_more (Contains c.args.numbers.now) c.loop-number.number c.loop-number.invariant (c.has.ensures.0 c.if-not-has.false)
+pub returns-clause-each : goal.returns-clause-each
+returns-clause-each c =
+    let count = c.args.count in
+    let ns = c.args.numbers.now in
+    let turns = c.as_slice.result.now in
+    let counted : Counted turns count count ns = subst (λ l. Counted l count count ns) (sym c.as_slice.ensures.value) c.count_turns.ensures.counted in
+    let size = counted.each in (
+      λ t k below.
+          let inside : k < length turns = omega (arith, below, size) in
+          (has_come count k ns c.requires.below).0 (subst (λ (taken : Turns). IsTrue taken.rival_last) (counted.told k no_turns inside) (c.each_has_come.ensures.0 t k no_turns inside)),
+      λ each. c.each_has_come.ensures.1 (λ k d inside.
+          let below : k < count = omega (arith, inside, size) in
+          subst (λ (taken : Turns). IsTrue taken.rival_last) (sym (counted.told k d inside)) ((has_come count k ns c.requires.below).1 (each k below))),
+    )

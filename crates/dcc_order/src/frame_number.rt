@@ -1,0 +1,40 @@
+//! The bytes of a frame as one number.
+
+ghost use Rattle.std.specs.Prelude.{◌≡◌, ◌<◌, ◌≤◌, ◌+◌, ◌*◌, ◌^◌, length};
+ghost use Rattle.dcc_order.specs.FrameNumbers as index;
+ghost use Rattle.dcc_wire.specs.Frames.{IsFrame};
+
+use dcc_wire::Frame;
+
+/// The bytes of a frame as one number, which no other frame has.
+pub fn frame_number(frame: &Frame) -> u64
+    ensures number { result ≡ index.frame_number frame.now }
+    ensures valid { IsFrame frame.now }
+{
+    let bytes = frame.bytes();
+    number_of(bytes)
+}
+
+/// The number of a few bytes: the first is the lowest, and a one stands above the last.
+fn number_of(bytes: &[u8]) -> u64
+    requires { length bytes.now ≤ 6 }
+    ensures { result ≡ index.frame_number bytes.now }
+{
+    match bytes {
+        [] => 1,
+        [a] => below(a, 1),
+        [a, b] => below(a, below(b, 1)),
+        [a, b, c] => below(a, below(b, below(c, 1))),
+        [a, b, c, d] => below(a, below(b, below(c, below(d, 1)))),
+        [a, b, c, d, e] => below(a, below(b, below(c, below(d, below(e, 1))))),
+        [a, b, c, d, e, f, ..] => below(a, below(b, below(c, below(d, below(e, below(f, 1)))))),
+    }
+}
+
+/// A byte below the number of those behind it.
+fn below(byte: &u8, later: u64) -> u64
+    requires { later < 2 ^ 56 }
+    ensures { result ≡ byte.now + 256 * later }
+{
+    *byte as u64 + 256 * later
+}
