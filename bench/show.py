@@ -37,10 +37,11 @@ def halves_of(packet):
     return halves + [58, 58]
 
 
-DECODERS = """dcc-decoders 1
+DECODERS = """dcc-decoders 2
 loco s3
 speed stop f
 on
+states
 pending none
 cv 1 3
 cv 29 2

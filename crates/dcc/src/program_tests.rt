@@ -39,8 +39,8 @@ const FLEET: &[u8] = b"dcc-decoders 1\nboard 12\nout\nposition 0 0 0 0\naspect 0
     loco s3\nspeed stop f\non\npending none\ncv 1 3\ncv 29 2\nend\n\
     58*28 100*14 58*4 100*4 58*4 100*6 58*2 100*6 58*4 100*8 58*4\n";
 
-const FLEET_AFTER: &[u8] = b"dcc-decoders 1\nboard 12\nout\nposition 0 0 0 0\naspect 0 0 0 0\n\
-    loco s3\nspeed 28 1 f\non\npending none\ncv 1 3\ncv 29 2\nend\n";
+const FLEET_AFTER: &[u8] = b"dcc-decoders 2\nboard 12\nout\nposition 0 0 0 0\naspect 0 0 0 0\n\
+    loco s3\nspeed 28 1 f\non\nstates\npending none\ncv 1 3\ncv 29 2\nend\n";
 
 const VALUE_2: &[u8] = b"781ce88c no\n781ce98d yes\n781cea8e no\n781ceb8f no\n781cec88 no\n\
     781ced89 no\n781cee8a no\n781cef8b no\n741c026a yes\nvalue 2\n";

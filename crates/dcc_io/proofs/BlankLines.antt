@@ -6,9 +6,10 @@ use Rattle.dcc_packet.specs.Words.{words}
 use Rattle.dcc_regs.specs.declared.register.Speed.{Speed}
 use Rattle.dcc_io.specs.declared.decoder_line.Head.{Head}
 use Rattle.dcc_io.specs.declared.decoder_line.LocoLine.{LocoLine}
-use Rattle.dcc_io.specs.DecoderLines.{version_line, head_line, speed_line, functions_line, pending_line, loco_line, outs_line, positions_line, aspects_line}
+use Rattle.dcc_io.specs.declared.decoder_line.Version.{Version}
+use Rattle.dcc_io.specs.DecoderLines.{version_line, head_line, speed_line, functions_line, states_line, pending_line, loco_line, outs_line, positions_line, aspects_line}
 
-pub blank_version : (x : Unit {0}) → version_line (words []) ≡ Ok x → ⊥
+pub blank_version : (x : Version) → version_line (words []) ≡ Ok x → ⊥
 unfolding version_line
 blank_version x e = cc
 
@@ -23,6 +24,10 @@ blank_speed x e = cc
 pub blank_functions : (x : ℕ) → functions_line (words []) ≡ Ok x → ⊥
 unfolding functions_line
 blank_functions x e = cc
+
+pub blank_states : (x : ℕ) → states_line (words []) ≡ Ok x → ⊥
+unfolding states_line
+blank_states x e = cc
 
 pub blank_pending : (active : Option Address) (x : Option Packet) → pending_line active (words []) ≡ Ok x → ⊥
 unfolding pending_line

@@ -20,7 +20,8 @@ use Rattle.dcc_io.specs.DecoderLines.{version_line, head_line, speed_line, funct
 use Rattle.dcc_io.specs.TextReader.{Text, Reader, ◌>>=◌, done, line_by}
 use Rattle.dcc_io.specs.TextRead.{at, LeadsIn, Leads, Refuses, Answers, UsedWholeLines}
 use Rattle.dcc_regs.specs.declared.register.Who.{Who}
-use Rattle.dcc_io.specs.DecoderText.{decoder_lines, behind_loco_line, cvs_from, cvs_lines, loco_lines, board_lines, decoders_from, decoder_text}
+use Rattle.dcc_io.specs.declared.decoder_line.Version.{Version}
+use Rattle.dcc_io.specs.DecoderText.{states_by, decoder_lines, behind_loco_line, cvs_from, cvs_lines, loco_lines, board_lines, decoders_from, decoder_text}
 use Rattle.dcc_io.proofs.ReadLemmas.{Leads-start, Leads-then, Answers-fault, Refuses-too_many}
 
 -- what follows each line of an accessory decoder
@@ -41,21 +42,24 @@ unfolding board_lines
 Leads-board board old fault = Leads-start (board_lines board) old fault
 
 -- what follows each line of a locomotive decoder
-abbrev pub behind_cvs : Option Address → Speed × Bool → ℕ → Option Packet → List ℕ × Head → Reader (Saved × Head)
-behind_cvs address speed functions pending cvs = done (saved.Loco (record { address = address; speed = speed.0; forward = speed.1; functions = functions; pending = pending; cvs = cvs.0 }), cvs.1)
+abbrev pub behind_cvs : Option Address → Speed × Bool → ℕ → ℕ → Option Packet → List ℕ × Head → Reader (Saved × Head)
+behind_cvs address speed functions states pending cvs = done (saved.Loco (record { address = address; speed = speed.0; forward = speed.1; functions = functions; states = states; pending = pending; cvs = cvs.0 }), cvs.1)
 
-abbrev pub behind_pending : Option Address → Speed × Bool → ℕ → Option Packet → Reader (Saved × Head)
-behind_pending address speed functions pending = cvs_lines >>= behind_cvs address speed functions pending
+abbrev pub behind_pending : Option Address → Speed × Bool → ℕ → ℕ → Option Packet → Reader (Saved × Head)
+behind_pending address speed functions states pending = cvs_lines >>= behind_cvs address speed functions states pending
 
-abbrev pub behind_functions : Option Address → Speed × Bool → ℕ → Reader (Saved × Head)
-behind_functions address speed functions = line_by (pending_line address) >>= behind_pending address speed functions
+abbrev pub behind_states : Option Address → Speed × Bool → ℕ → ℕ → Reader (Saved × Head)
+behind_states address speed functions states = line_by (pending_line address) >>= behind_pending address speed functions states
 
-abbrev pub behind_speed : Option Address → Speed × Bool → Reader (Saved × Head)
-behind_speed address speed = line_by functions_line >>= behind_functions address speed
+abbrev pub behind_functions : Version → Option Address → Speed × Bool → ℕ → Reader (Saved × Head)
+behind_functions version address speed functions = states_by version >>= behind_states address speed functions
 
-pub Leads-loco : (address : Option Address) (old : InputState) → old.fault ≡ None → Leads (loco_lines address) old (line_by speed_line >>= behind_speed address) old
+abbrev pub behind_speed : Version → Option Address → Speed × Bool → Reader (Saved × Head)
+behind_speed version address speed = line_by functions_line >>= behind_functions version address speed
+
+pub Leads-loco : (version : Version) (address : Option Address) (old : InputState) → old.fault ≡ None → Leads (loco_lines version address) old (line_by speed_line >>= behind_speed version address) old
 unfolding loco_lines
-Leads-loco address old fault = Leads-start (loco_lines address) old fault
+Leads-loco version address old fault = Leads-start (loco_lines version address) old fault
 
 -- the CVs that were read, and that there is room for those that can follow
 pub record ReadsCvs (old : InputState) (least : ℕ) (cvs : List ℕ) (now : InputState) : Type 0 where
@@ -107,16 +111,16 @@ ReadsCvs-fault old now new least cvs fault reads line =
     Answers-fault (line_by (loco_line least)) (behind_loco_line (cvs_from more.0) cvs) cvs_lines old now new fault more.2 line
 
 -- the decoders that were read, and the line behind them
-pub record ReadsDecoders (old : InputState) (before : List Saved) (head : Head) (now : InputState) : Type 0 where
+pub record ReadsDecoders (version : Version) (old : InputState) (before : List Saved) (head : Head) (now : InputState) : Type 0 where
   pub room : ℕ
   pub count : room + length before ≡ 64
-  pub leads : Leads decoder_text old (decoders_from room before head) now
+  pub leads : Leads decoder_text old (decoders_from version room before head) now
 
-abbrev pub behind_head : Head → Reader (List Saved)
-behind_head head = decoders_from 64 [] head
+abbrev pub behind_head : Version → Head → Reader (List Saved)
+behind_head version head = decoders_from version 64 [] head
 
-abbrev pub behind_version : Unit {0} → Reader (List Saved)
-behind_version version = line_by head_line >>= behind_head
+abbrev pub behind_version : Version → Reader (List Saved)
+behind_version version = line_by head_line >>= behind_head version
 
 Leads-text : (old : InputState) → old.fault ≡ None → Leads decoder_text old (line_by version_line >>= behind_version) old
 unfolding decoder_text
@@ -125,60 +129,60 @@ Leads-text old fault = Leads-start decoder_text old fault
 pub no_version : (old new : InputState) (fault : KeptFault) → old.fault ≡ None → Answers (line_by version_line) old (Err fault) new → Answers decoder_text old (Err fault) new
 no_version old new fault none version = Answers-fault (line_by version_line) behind_version decoder_text old old new fault (Leads-text old none) version
 
-pub no_head : (old now new : InputState) (fault : KeptFault) → old.fault ≡ None → Answers (line_by version_line) old (Ok tt) now → Answers (line_by head_line) now (Err fault) new → Answers decoder_text old (Err fault) new
-no_head old now new fault none version head =
-    Answers-fault (line_by head_line) behind_head decoder_text old now new fault (Leads-then (line_by version_line) behind_version decoder_text old old now tt (Leads-text old none) version) head
+pub no_head : (version : Version) (old now new : InputState) (fault : KeptFault) → old.fault ≡ None → Answers (line_by version_line) old (Ok version) now → Answers (line_by head_line) now (Err fault) new → Answers decoder_text old (Err fault) new
+no_head version old now new fault none first head =
+    Answers-fault (line_by head_line) (behind_head version) decoder_text old now new fault (Leads-then (line_by version_line) behind_version decoder_text old old now version (Leads-text old none) first) head
 
-pub ReadsDecoders-start : (old now new : InputState) (head : Head) (before : List Saved) → before ≡ [] → old.fault ≡ None → Answers (line_by version_line) old (Ok tt) now → Answers (line_by head_line) now (Ok head) new
-    → ReadsDecoders old before head new
-ReadsDecoders-start old now new head before empty none version line = rw empty record {
+pub ReadsDecoders-start : (version : Version) (old now new : InputState) (head : Head) (before : List Saved) → before ≡ [] → old.fault ≡ None → Answers (line_by version_line) old (Ok version) now → Answers (line_by head_line) now (Ok head) new
+    → ReadsDecoders version old before head new
+ReadsDecoders-start version old now new head before empty none first line = rw empty record {
   room = 64;
   count = refl;
-  leads = Leads-then (line_by head_line) behind_head decoder_text old now new head (Leads-then (line_by version_line) behind_version decoder_text old old now tt (Leads-text old none) version) line;
+  leads = Leads-then (line_by head_line) (behind_head version) decoder_text old now new head (Leads-then (line_by version_line) behind_version decoder_text old old now version (Leads-text old none) first) line;
 }
 
-pub ReadsDecoders-end : (old now : InputState) (before : List Saved) → ReadsDecoders old before heads.End now → Answers decoder_text old (Ok before) now
-ReadsDecoders-end old now before reads = ended reads.room reads.leads
+pub ReadsDecoders-end : (version : Version) (old now : InputState) (before : List Saved) → ReadsDecoders version old before heads.End now → Answers decoder_text old (Ok before) now
+ReadsDecoders-end version old now before reads = ended reads.room reads.leads
   where
-    ended : (room : ℕ) → Leads decoder_text old (decoders_from room before heads.End) now → Leads decoder_text old (done before) now
+    ended : (room : ℕ) → Leads decoder_text old (decoders_from version room before heads.End) now → Leads decoder_text old (done before) now
     ended zero leads = leads
     ended (suc room) leads = leads
 
-pub ReadsDecoders-full : (old now new : InputState) (before : List Saved) (who : Who) → ReadsDecoders old before (heads.Decoder who) now → length before ≡ 64
+pub ReadsDecoders-full : (version : Version) (old now new : InputState) (before : List Saved) (who : Who) → ReadsDecoders version old before (heads.Decoder who) now → length before ≡ 64
     → new ≡ record now { fault = Some TooMuch } → Answers decoder_text old (Err TooMuch) new
-ReadsDecoders-full old now new before who reads full is_new = rw is_new (go reads.room reads.count reads.leads, refl)
+ReadsDecoders-full version old now new before who reads full is_new = rw is_new (go reads.room reads.count reads.leads, refl)
   where
-    go : (room : ℕ) → room + length before ≡ 64 → Leads decoder_text old (decoders_from room before (heads.Decoder who)) now → Refuses decoder_text old TooMuch (record now { fault = Some TooMuch })
+    go : (room : ℕ) → room + length before ≡ 64 → Leads decoder_text old (decoders_from version room before (heads.Decoder who)) now → Refuses decoder_text old TooMuch (record now { fault = Some TooMuch })
     go zero count leads = Refuses-too_many decoder_text old now leads
     go (suc room) count leads = absurd (omega (arith, count, full))
 
 -- one decoder more
-abbrev more_decoders : InputState → List Saved → Who → InputState → Type 0
-more_decoders old before who now = (room : ℕ) × (suc room + length before ≡ 64) × Leads decoder_text old (decoder_lines who >>= λ decoder. decoders_from room (before ++ decoder.0 ∷ []) decoder.1) now
+abbrev more_decoders : Version → InputState → List Saved → Who → InputState → Type 0
+more_decoders version old before who now = (room : ℕ) × (suc room + length before ≡ 64) × Leads decoder_text old (decoder_lines version who >>= λ decoder. decoders_from version room (before ++ decoder.0 ∷ []) decoder.1) now
 
-room_for_one : (old now : InputState) (before : List Saved) (who : Who) → ReadsDecoders old before (heads.Decoder who) now → (length before ≡ 64 → ⊥) → more_decoders old before who now
-room_for_one old now before who reads some = go reads.room reads.count reads.leads
+room_for_one : (version : Version) (old now : InputState) (before : List Saved) (who : Who) → ReadsDecoders version old before (heads.Decoder who) now → (length before ≡ 64 → ⊥) → more_decoders version old before who now
+room_for_one version old now before who reads some = go reads.room reads.count reads.leads
   where
-    go : (room : ℕ) → room + length before ≡ 64 → Leads decoder_text old (decoders_from room before (heads.Decoder who)) now → more_decoders old before who now
+    go : (room : ℕ) → room + length before ≡ 64 → Leads decoder_text old (decoders_from version room before (heads.Decoder who)) now → more_decoders version old before who now
     go zero count leads = absurd (some (omega (arith, count)))
     go (suc room) count leads = (room, count, leads)
 
-pub ReadsDecoders-one : (old now new : InputState) (before : List Saved) (who : Who) (read : Saved × Head) → ReadsDecoders old before (heads.Decoder who) now → (length before ≡ 64 → ⊥)
-    → Answers (decoder_lines who) now (Ok read) new → ReadsDecoders old (before ++ read.0 ∷ []) read.1 new
-ReadsDecoders-one old now new before who read reads some line =
-    let more = room_for_one old now before who reads some in
+pub ReadsDecoders-one : (version : Version) (old now new : InputState) (before : List Saved) (who : Who) (read : Saved × Head) → ReadsDecoders version old before (heads.Decoder who) now → (length before ≡ 64 → ⊥)
+    → Answers (decoder_lines version who) now (Ok read) new → ReadsDecoders version old (before ++ read.0 ∷ []) read.1 new
+ReadsDecoders-one version old now new before who read reads some line =
+    let more = room_for_one version old now before who reads some in
     let count = more.1 in
     record {
       room = more.0;
       count = simp length-append (omega arith);
-      leads = Leads-then (decoder_lines who) (λ decoder. decoders_from more.0 (before ++ decoder.0 ∷ []) decoder.1) decoder_text old now new read more.2 line;
+      leads = Leads-then (decoder_lines version who) (λ decoder. decoders_from version more.0 (before ++ decoder.0 ∷ []) decoder.1) decoder_text old now new read more.2 line;
     }
 
-pub ReadsDecoders-fault : (old now new : InputState) (before : List Saved) (who : Who) (fault : KeptFault) → ReadsDecoders old before (heads.Decoder who) now → (length before ≡ 64 → ⊥)
-    → Answers (decoder_lines who) now (Err fault) new → Answers decoder_text old (Err fault) new
-ReadsDecoders-fault old now new before who fault reads some line =
-    let more = room_for_one old now before who reads some in
-    Answers-fault (decoder_lines who) (λ decoder. decoders_from more.0 (before ++ decoder.0 ∷ []) decoder.1) decoder_text old now new fault more.2 line
+pub ReadsDecoders-fault : (version : Version) (old now new : InputState) (before : List Saved) (who : Who) (fault : KeptFault) → ReadsDecoders version old before (heads.Decoder who) now → (length before ≡ 64 → ⊥)
+    → Answers (decoder_lines version who) now (Err fault) new → Answers decoder_text old (Err fault) new
+ReadsDecoders-fault version old now new before who fault reads some line =
+    let more = room_for_one version old now before who reads some in
+    Answers-fault (decoder_lines version who) (λ decoder. decoders_from version more.0 (before ++ decoder.0 ∷ []) decoder.1) decoder_text old now new fault more.2 line
 
 -- what a push leaves that has room
 pub pushed : {A E : Type 0} (old new : List A) (x : A) (result : Result (Unit {0}) E) → new ≡ (if is_ok result then old ++ x ∷ [] else old) → IsOk result → new ≡ old ++ x ∷ []

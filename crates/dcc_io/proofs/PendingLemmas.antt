@@ -9,7 +9,7 @@ use Rattle.dcc_packet.specs.declared.address.LongAddress.{LongAddress}
 use Rattle.dcc_packet.specs.declared.cv.CvNumber.{CvNumber}
 use Rattle.dcc_packet.specs.declared.cv.BitPlace.{BitPlace}
 use Rattle.dcc_packet.specs.declared.instruction.What.{What}
-use Rattle.dcc_packet.specs.declared.instruction.What.TheVariants.{Reset, Speed28, Speed128, Functions, CvWrite, CvVerify, CvBitWrite, CvBitVerify}
+use Rattle.dcc_packet.specs.declared.instruction.What.TheVariants.{Reset, Speed28, Speed128, Functions, BinaryState, CvWrite, CvVerify, CvBitWrite, CvBitVerify}
 use Rattle.dcc_packet.specs.declared.packet.Packet.{Packet}
 use Rattle.dcc_packet.specs.declared.packet.Packet.TheVariants.{Idle, Loco, Accessory, Signal, Other}
 use Rattle.dcc_packet.specs.declared.fault.PacketFault.{PacketFault}
@@ -102,6 +102,7 @@ short_write active a Reset h = cc
 short_write active a (Speed28 forward bits) h = cc
 short_write active a (Speed128 forward bits) h = cc
 short_write active a (Functions bits) h = cc
+short_write active a (BinaryState number on) h = cc
 short_write active a (CvVerify cv value) h = cc
 short_write active a (CvBitVerify cv place one) h = cc
 
@@ -112,6 +113,7 @@ long_write active a Reset h = cc
 long_write active a (Speed28 forward bits) h = cc
 long_write active a (Speed128 forward bits) h = cc
 long_write active a (Functions bits) h = cc
+long_write active a (BinaryState number on) h = cc
 long_write active a (CvVerify cv value) h = cc
 long_write active a (CvBitVerify cv place one) h = cc
 

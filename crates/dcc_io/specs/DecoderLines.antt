@@ -14,6 +14,8 @@ use Rattle.dcc_regs.specs.declared.register.Speed.{Speed}
 use Rattle.dcc_regs.specs.declared.register.Speed.TheVariants as speeds
 use Rattle.dcc_io.specs.declared.decoder_line.Head.{Head}
 use Rattle.dcc_io.specs.declared.decoder_line.Head.TheVariants as heads
+use Rattle.dcc_io.specs.declared.decoder_line.Version.{Version}
+use Rattle.dcc_io.specs.declared.decoder_line.Version.TheVariants as versions
 use Rattle.dcc_io.specs.declared.decoder_line.LocoLine.{LocoLine}
 use Rattle.dcc_io.specs.declared.decoder_line.LocoLine.TheVariants as behind
 use Rattle.dcc_io.specs.PendingWrite.{pending_write}
@@ -26,12 +28,20 @@ keyword name word = if is_word word name then Ok tt else Err faults.Word
 abbrev pub in_order : ℕ → ℕ → Result (Unit {0}) PacketFault
 in_order least n = if nat_lt n least then Err faults.Word else Ok tt
 
+-- VERSION, 1 or 2, as a word
+abbrev pub version_number : Word → Result Version PacketFault
+version_number word =
+    if is_word word (codes "1") then Ok versions.One
+    else if is_word word (codes "2") then Ok versions.Two
+    else Err faults.Word
+
 -- dcc-decoders VERSION
-unfoldable pub version_line : List Word → Result (Unit {0}) PacketFault
+unfoldable pub version_line : List Word → Result Version PacketFault
 version_line line = do
   key ← taken (keyword (codes "dcc-decoders")) line
-  version ← taken (keyword (codes "1")) key.1
-  ended version.1
+  version ← taken version_number key.1
+  end ← ended version.1
+  Ok version.0
 
 abbrev pub some_address : Word → Result (Option Address) PacketFault
 some_address word = do
@@ -134,6 +144,27 @@ unfoldable pub functions_line : List Word → Result ℕ PacketFault
 functions_line line = do
   key ← taken (keyword (codes "on")) line
   functions_from 0 key.1
+
+-- a binary state of a locomotive decoder, 1 to 127
+abbrev pub binary_state : Word → Result ℕ PacketFault
+binary_state word = do
+  n ← small_number word
+  if nat_lt n 1 then Err faults.StateNumber else if nat_lt 127 n then Err faults.StateNumber else Ok n
+
+-- the binary states that are on, as bits, in ascending order from this one on
+abbrev pub states_from : ℕ → List Word → Result ℕ PacketFault
+states_from least [] = Ok 0
+states_from least (word ∷ rest) = do
+  n ← binary_state word
+  ordered ← in_order least n
+  others ← states_from (n + 1) rest
+  Ok (2 ^ n + others)
+
+-- states STATE ..
+unfoldable pub states_line : List Word → Result ℕ PacketFault
+states_line line = do
+  key ← taken (keyword (codes "states")) line
+  states_from 0 key.1
 
 abbrev pub framed_write : Option Address → Word → Result (Option Packet) PacketFault
 framed_write active word = do

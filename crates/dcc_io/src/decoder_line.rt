@@ -3,6 +3,15 @@
 use dcc_packet::CvNumber;
 use dcc_regs::Who;
 
+/// The version of a decoder text.
+#[derive(Clone, Copy)]
+pub enum Version {
+    /// Without binary states: all are off.
+    One,
+    /// With a line of the binary states of each locomotive decoder.
+    Two,
+}
+
 /// A line that begins a decoder, or the last line.
 #[derive(Clone, Copy)]
 pub enum Head {

@@ -1,19 +1,19 @@
 //! Reading a decoder text.
-ghost use Rattle.std.specs.Prelude.{◌≡◌, ◌<◌, ◌^◌, None, true, nat_le, IfOk};
+ghost use Rattle.std.specs.Prelude.{◌≡◌, ◌<◌, ◌^◌, ◌%◌, None, true, nat_le, IfOk};
 ghost use Rattle.dcc_regs.specs.Addresses.{is_active};
 ghost use Rattle.dcc_regs.specs.Loco.{is_speed, is_pending_for};
 ghost use Rattle.dcc_regs.specs.Possible.{is_decoder};
 ghost use Rattle.dcc_io.specs.LineTaken.{TakesLine, Judges};
 ghost use Rattle.dcc_io.specs.TextReader.{line_by};
 ghost use Rattle.dcc_io.specs.TextRead.{Answers};
-ghost use Rattle.dcc_io.specs.DecoderLines.{version_line, head_line, speed_line, functions_line, pending_line, loco_line, outs_line, positions_line, aspects_line};
-ghost use Rattle.dcc_io.specs.DecoderText.{board_lines, cvs_lines, decoder_lines, loco_lines};
+ghost use Rattle.dcc_io.specs.DecoderLines.{version_line, head_line, speed_line, functions_line, states_line, pending_line, loco_line, outs_line, positions_line, aspects_line};
+ghost use Rattle.dcc_io.specs.DecoderText.{board_lines, cvs_lines, decoder_lines, loco_lines, states_by};
 ghost use Rattle.dcc_io.specs.SoundLines.{IsPossibleHead, IsSoundLine, is_possible};
 
-use crate::decoder_line::{Head, LocoLine};
+use crate::decoder_line::{Head, LocoLine, Version};
 use crate::decoder_words::{
     aspects_line, functions_line, head_line, loco_line, outs_line, pending_line, positions_line,
-    speed_line, version_line,
+    speed_line, states_line, version_line,
 };
 use crate::fault::KeptFault;
 use crate::input::Input;
@@ -53,7 +53,7 @@ impl<R: Source> Input<R> {
     }
 
     /// The line that begins the text.
-    pub(crate) fn version(&mut self) -> Result<(), KeptFault>
+    pub(crate) fn version(&mut self) -> Result<Version, KeptFault>
         requires { self.old.fault ≡ None }
         ensures { Answers (line_by version_line) self.old result self.new }
     {
@@ -96,6 +96,30 @@ impl<R: Source> Input<R> {
         match self.line_in_place() {
             Ok(line) => self.judge(line.number, functions_line(line.text.as_bytes())),
             Err(fault) => Err(fault),
+        }
+    }
+
+    /// The line of the binary states that are on.
+    fn states_line(&mut self) -> Result<u128, KeptFault>
+        requires { self.old.fault ≡ None }
+        ensures reads { Answers (line_by states_line) self.old result self.new }
+        ensures even { IfOk result (λ states. states % 2 ≡ 0) }
+    {
+        match self.line_in_place() {
+            Ok(line) => self.judge(line.number, states_line(line.text.as_bytes())),
+            Err(fault) => Err(fault),
+        }
+    }
+
+    /// The binary states that are on. Version 1 has no line of them.
+    fn states(&mut self, version: Version) -> Result<u128, KeptFault>
+        requires { self.old.fault ≡ None }
+        ensures reads { Answers (states_by version) self.old result self.new }
+        ensures even { IfOk result (λ states. states % 2 ≡ 0) }
+    {
+        match version {
+            Version::One => Ok(0),
+            Version::Two => self.states_line(),
         }
     }
 
@@ -177,10 +201,14 @@ impl<R: Source> Input<R> {
     }
 
     /// A locomotive decoder with this address, and the line behind it.
-    fn loco(&mut self, address: Option<Address>) -> Result<(Saved, Head), KeptFault>
+    fn loco(
+        &mut self,
+        version: Version,
+        address: Option<Address>,
+    ) -> Result<(Saved, Head), KeptFault>
         requires fault { self.old.fault ≡ None }
         requires active { is_active address ≡ true }
-        ensures reads { Answers (loco_lines address) self.old result self.new }
+        ensures reads { Answers (loco_lines version address) self.old result self.new }
         ensures possible { IfOk result (λ read. (is_possible read.0 ≡ true) × IsPossibleHead read.1) }
     {
         let (speed, forward) = match self.speed() {
@@ -189,6 +217,10 @@ impl<R: Source> Input<R> {
         };
         let functions = match self.functions() {
             Ok(functions) => functions,
+            Err(fault) => return Err(fault),
+        };
+        let states = match self.states(version) {
+            Ok(states) => states,
             Err(fault) => return Err(fault),
         };
         let pending = match self.pending(&address) {
@@ -204,6 +236,7 @@ impl<R: Source> Input<R> {
             speed,
             forward,
             functions,
+            states,
             pending,
             cvs,
         };
@@ -243,14 +276,18 @@ impl<R: Source> Input<R> {
     }
 
     /// A decoder of this kind and address, and the line behind it.
-    pub(crate) fn decoder(&mut self, who: Who) -> Result<(Saved, Head), KeptFault>
+    pub(crate) fn decoder(
+        &mut self,
+        version: Version,
+        who: Who,
+    ) -> Result<(Saved, Head), KeptFault>
         requires fault { self.old.fault ≡ None }
         requires possible { is_decoder who ≡ true }
-        ensures reads { Answers (decoder_lines who) self.old result self.new }
+        ensures reads { Answers (decoder_lines version who) self.old result self.new }
         ensures possible { IfOk result (λ read. (is_possible read.0 ≡ true) × IsPossibleHead read.1) }
     {
         match who {
-            Who::Loco(address) => self.loco(address),
+            Who::Loco(address) => self.loco(version, address),
             Who::Board(board) => self.board(board),
         }
     }

@@ -1,17 +1,17 @@
 //! The words of the lines of a decoder text.
-ghost use Rattle.std.specs.Prelude.{◌≡◌, ◌+◌, ◌^◌, ◌≤◌, ◌<◌, ◌&&◌, Some, true, nat_le, IfOk, OnOk};
+ghost use Rattle.std.specs.Prelude.{◌≡◌, ◌+◌, ◌^◌, ◌%◌, ◌≤◌, ◌<◌, ◌&&◌, Some, true, nat_le, IfOk, OnOk};
 ghost use Rattle.dcc_packet.specs.Words.{words};
 ghost use Rattle.dcc_regs.specs.declared.register.Who.TheVariants.{Loco as LocoWho};
 ghost use Rattle.dcc_regs.specs.Addresses.{is_active};
 ghost use Rattle.dcc_regs.specs.Heard.{hears as hears_packet};
 ghost use Rattle.dcc_regs.specs.Loco.{is_speed, is_byte_write, is_pending_for};
 ghost use Rattle.dcc_regs.specs.Writes.{is_own_write};
-ghost use Rattle.dcc_io.specs.DecoderLines.{in_order, version_line, own_address, own_board, loco_head, board_head, end_head, head_after, head_line, step_up_to, speed_of, speed_after, speed_line, function_number, functions_from, functions_line, pending_word, pending_line, cv_words, loco_line_after, loco_line, outs_from, outs_line, positions_line, aspects_line};
+ghost use Rattle.dcc_io.specs.DecoderLines.{in_order, version_number, version_line, own_address, own_board, loco_head, board_head, end_head, head_after, head_line, step_up_to, speed_of, speed_after, speed_line, function_number, functions_from, functions_line, binary_state, states_from, states_line, pending_word, pending_line, cv_words, loco_line_after, loco_line, outs_from, outs_line, positions_line, aspects_line};
 ghost use Rattle.dcc_io.specs.DecoderWords.{TakesKeyword, TakesSpeed};
 ghost use Rattle.dcc_io.specs.PendingWrite.{pending_write};
 ghost use Rattle.dcc_io.specs.SoundLines.{IsPossibleHead, IsSoundLine};
 
-use crate::decoder_line::{Head, LocoLine};
+use crate::decoder_line::{Head, LocoLine, Version};
 use dcc_packet::line_word::{
     address, bit_state, board_number, cv_number, direction, hex_frame, output_number,
 };
@@ -45,15 +45,27 @@ fn in_order(least: u16, n: u16) -> Result<(), PacketFault>
     }
 }
 
-/// `dcc-decoders 1`
+/// `1` or `2`
+fn version_number(word: &[u8]) -> Result<Version, PacketFault>
+    ensures { result ≡ version_number word.now }
+{
+    match word {
+        b"1" => Ok(Version::One),
+        b"2" => Ok(Version::Two),
+        _ => Err(PacketFault::Word),
+    }
+}
+
+/// `dcc-decoders VERSION`
 #[tactic(auto, unfolding(crate::specs::DecoderLines::version_line))]
-pub fn version_line(line: &[u8]) -> Result<(), PacketFault>
+pub fn version_line(line: &[u8]) -> Result<Version, PacketFault>
     ensures { result ≡ version_line (words line.now) }
 {
     let mut words = Words::new(line);
     take_keyword(&mut words, b"dcc-decoders")?;
-    take_keyword(&mut words, b"1")?;
-    words.end()
+    let version = version_number(words.word()?)?;
+    words.end()?;
+    Ok(version)
 }
 
 /// The active address of a locomotive decoder, or `none`.
@@ -226,6 +238,47 @@ pub fn functions_line(line: &[u8]) -> Result<u128, PacketFault>
     let mut words = Words::new(line);
     take_keyword(&mut words, b"on")?;
     functions_from(&mut words, 0)
+}
+
+/// A binary state of a locomotive decoder, 1 to 127.
+fn binary_state(word: &[u8]) -> Result<u8, PacketFault>
+    ensures is { result ≡ binary_state word.now }
+    ensures state { IfOk result (λ n. (1 ≤ n) × (n ≤ 127)) }
+{
+    let n = small_number(word)?;
+    if n < 1 || 127 < n {
+        Err(PacketFault::StateNumber)
+    } else {
+        Ok(n)
+    }
+}
+
+fn states_from(words: &mut Words, least: u8) -> Result<u128, PacketFault>
+    requires { least ≤ 128 }
+    ensures is { result ≡ states_from least words.old }
+    ensures fits { IfOk result (λ states. states + 2 ^ least ≤ 2 ^ 128) }
+    ensures even { IfOk result (λ states. states % 2 ≡ 0) }
+{
+    match words.next() {
+        Some(word) => {
+            let n = binary_state(word)?;
+            in_order(u16::from(least), u16::from(n))?;
+            let others = states_from(words, n + 1)?;
+            Ok((1 << n) + others)
+        }
+        None => Ok(0),
+    }
+}
+
+/// `states STATE ..`, as bits. Bit 0 is none.
+#[tactic(auto, unfolding(crate::specs::DecoderLines::states_line))]
+pub fn states_line(line: &[u8]) -> Result<u128, PacketFault>
+    ensures is { result ≡ states_line (words line.now) }
+    ensures even { IfOk result (λ states. states % 2 ≡ 0) }
+{
+    let mut words = Words::new(line);
+    take_keyword(&mut words, b"states")?;
+    states_from(&mut words, 0)
 }
 
 /// Whether the packet is a CV write to a decoder's own address.

@@ -17,11 +17,11 @@ use std::alloc::Global;
 /// How many decoders a decoder text saves at most. One more is U7, at the end of its first line.
 const MOST: usize = 64;
 
-/// The decoders that the decoder text at the front of the input saves. What stands behind its line of
-/// `end` is not read.
+/// The decoders that the decoder text at the front of the input saves, of version 1 or 2. What stands behind
+/// its line of `end` is not read.
 ///
 /// A text that is none is U3, with the line and its first fault from the left: P10 a line or a word that
-/// may not stand there or is missing, P11 a wrong number, P1 to P9 a number out of the range of its value,
+/// may not stand there or is missing, P11 a wrong number, P1 to P9 and P14 a number out of the range of its value,
 /// P12 hex digits that are no frame, P13 a state that no decoder can be in. The decoders are such as
 /// `restore` takes. Memory is taken once, before anything is read; where there is none, the answer is U6.
 pub fn read_decoders<R: Source>(
@@ -66,10 +66,10 @@ fn fill<R: Source>(mut decoders: Vec<Saved>, input: &mut Input<R>) -> Result<Vec
     ensures lines { IfOk result (λ decoders. UsedWholeLines input.old input.new) }
     ensures possible { IfOk result (λ decoders. All (λ decoder. is_possible decoder ≡ true) decoders.items) }
 {
-    match input.version() {
-        Ok(()) => (),
+    let version = match input.version() {
+        Ok(version) => version,
         Err(fault) => return Err(fault),
-    }
+    };
     let mut head = match input.head() {
         Ok(head) => head,
         Err(fault) => return Err(fault),
@@ -80,7 +80,7 @@ fn fill<R: Source>(mut decoders: Vec<Saved>, input: &mut Input<R>) -> Result<Vec
                 if decoders.len() == MOST {
                     return Err(input.refuse(KeptFault::TooMuch));
                 }
-                match input.decoder(who) {
+                match input.decoder(version, who) {
                     Ok((decoder, behind)) => {
                         let _ = decoders.push(decoder);
                         head = behind;

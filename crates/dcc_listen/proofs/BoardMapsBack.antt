@@ -67,6 +67,10 @@ no_function : (own : Board) (n : ℕ) (v : Option Value) → board_may own (regi
 no_function own n None h = refl
 no_function own n (Some x) h = cc
 
+no_state : (own : Board) (n : ℕ) (v : Option Value) → board_may own (registers.State n) v ≡ true → v ≡ None
+no_state own n None h = refl
+no_state own n (Some x) h = cc
+
 no_cv_bit : (own : Board) (cv place : ℕ) (v : Option Value) → board_may own (registers.CvBit cv place) v ≡ true → v ≡ None
 no_cv_bit own cv place None h = refl
 no_cv_bit own cv place (Some x) h = cc
@@ -125,5 +129,6 @@ module _ (board : Board) (m : RegisterMap) (possible : IsPossible (who.Board boa
   same_board outs bits registers.Speed = sym (no_speed board (m registers.Speed) (possible.registers registers.Speed))
   same_board outs bits registers.Direction = sym (no_direction board (m registers.Direction) (possible.registers registers.Direction))
   same_board outs bits (registers.Function n) = sym (no_function board n (m (registers.Function n)) (possible.registers (registers.Function n)))
+  same_board outs bits (registers.State n) = sym (no_state board n (m (registers.State n)) (possible.registers (registers.State n)))
   same_board outs bits (registers.CvBit cv place) = sym (no_cv_bit board cv place (m (registers.CvBit cv place)) (possible.registers (registers.CvBit cv place)))
   same_board outs bits registers.Pending = sym (no_pending board (m registers.Pending) (possible.registers registers.Pending))

@@ -18,18 +18,19 @@ use Rattle.dcc_io.specs.declared.saved.Saved.TheVariants as saved
 use Rattle.dcc_io.specs.declared.decoder_line.Head.{Head}
 use Rattle.dcc_io.specs.declared.decoder_line.Head.TheVariants as heads
 use Rattle.dcc_io.specs.declared.decoder_line.LocoLine.TheVariants as behind
+use Rattle.dcc_io.specs.declared.decoder_line.Version.TheVariants as versions
 use Rattle.dcc_io.specs.DecoderLines.{head_line, loco_line, speed_line, functions_line, pending_line, outs_line, positions_line, aspects_line}
-use Rattle.dcc_io.specs.DecoderText.{decoder_lines, cvs_lines, loco_lines, board_lines}
+use Rattle.dcc_io.specs.DecoderText.{decoder_lines, states_by, cvs_lines, loco_lines, board_lines}
 use Rattle.dcc_listen.specs.FleetText.{own_address_word, cvs_text, speed_held, forward_held, pending_held, loco_address_line, board_line}
-use Rattle.dcc_listen.specs.FleetText.{speed_line as speed_bytes, functions_line as functions_bytes, pending_line as pending_bytes, outs_line as outs_bytes, positions_line as positions_bytes, aspects_line as aspects_bytes}
+use Rattle.dcc_listen.specs.FleetText.{speed_line as speed_bytes, functions_line as functions_bytes, states_line as states_bytes, pending_line as pending_bytes, outs_line as outs_bytes, positions_line as positions_bytes, aspects_line as aspects_bytes}
 use Rattle.dcc_listen.specs.ReadBack.{Saves}
 use Rattle.dcc_io.specs.TextReader.{line_by}
 use Rattle.dcc_listen.proofs.BoardMapsBack.{four_of, sides_of, positions_of, aspects_of, board_state, sides_are, aspects_small, same_board}
 use Rattle.dcc_listen.proofs.CvsBack.{IsHeadLine, all_cvs}
-use Rattle.dcc_io.proofs.DecoderTextLemmas.{behind_board_head, behind_aspects, behind_positions, behind_outs, behind_cvs, behind_pending, behind_functions, behind_speed}
+use Rattle.dcc_io.proofs.DecoderTextLemmas.{behind_board_head, behind_aspects, behind_positions, behind_outs, behind_cvs, behind_pending, behind_states, behind_functions, behind_speed}
 use Rattle.dcc_listen.proofs.LinesBack.{at, few_back, then_back}
-use Rattle.dcc_listen.proofs.MapsBack.{speed_is, pending_is, byte_small, loco_state, same_loco}
-use Rattle.dcc_listen.proofs.RowsBack.{fed, functions_read, outs_read, speed_read, pending_read, aspects_read, positions_read}
+use Rattle.dcc_listen.proofs.MapsBack.{speed_is, pending_is, no_state_0, byte_small, loco_state, same_loco}
+use Rattle.dcc_listen.proofs.RowsBack.{fed, functions_read, states_read, outs_read, speed_read, pending_read, aspects_read, positions_read}
 use Rattle.dcc_listen.proofs.RulesBack.{loco_back, board_head_back, end_back, loco_behind, board_behind, end_behind}
 use Rattle.dcc_listen.proofs.TokensBack.{keyword_token, decimal_token, address_token}
 
@@ -76,7 +77,7 @@ end_begins text =
 pub record GivesDecoder (member : Who × RegisterMap) (n : ℕ) (bytes : List ℕ) (head : Head) (rest : List ℕ) : Type 0 where
   pub state : Saved
   pub line : ℕ
-  pub reads : decoder_lines member.0 (at n bytes) ≡ Ok ((state, head), at line rest)
+  pub reads : decoder_lines versions.Two member.0 (at n bytes) ≡ Ok ((state, head), at line rest)
   pub saves : Saves state member
 
 pub board_given : (board : Board) (m : RegisterMap) (n : ℕ) (bytes : List ℕ) (head : Head) (rest : List ℕ) → IsPossible (who.Board board) m → BeginsWith bytes head rest
@@ -100,27 +101,32 @@ board_given board m n bytes head rest possible begins =
     }
 
 pub loco_given : (address : Option Address) (m : RegisterMap) (n : ℕ) (bytes : List ℕ) (head : Head) (rest : List ℕ) → IsPossible (who.Loco address) m → BeginsWith bytes head rest
-    → GivesDecoder (who.Loco address, m) n (speed_bytes m ++ (functions_bytes m ++ (pending_bytes m ++ (cvs_text (cv_of m) 1024 ++ bytes)))) head rest
+    → GivesDecoder (who.Loco address, m) n (speed_bytes m ++ (functions_bytes m ++ (states_bytes m ++ (pending_bytes m ++ (cvs_text (cv_of m) 1024 ++ bytes))))) head rest
 unfolding loco_lines
 loco_given address m n bytes head rest possible begins =
     let speed : Speed = speed_held (m registers.Speed) in
     let pending : Option Packet = pending_held (m registers.Pending) in
     let cvs_and : List ℕ = cvs_text (cv_of m) 1024 ++ bytes in
-    let functions = functions_read (λ k. holds_one (m (registers.Function k))) 69 (n + 1) (pending_bytes m ++ cvs_and) (omega arith) in
-    let cvs = all_cvs (cv_of m) (λ k. byte_small (λ place. holds_one (m (registers.CvBit k place)))) bytes head rest begins.behind_cv (n + 1 + 1 + 1) in
-    let state : Saved = saved.Loco (loco_state address m functions.value cvs.given) in
+    let pending_and : List ℕ = pending_bytes m ++ cvs_and in
+    let states_and : List ℕ = states_bytes m ++ pending_and in
+    let functions = functions_read (λ k. holds_one (m (registers.Function k))) 69 (n + 1) states_and (omega arith) in
+    let states = states_read (λ k. holds_one (m (registers.State k))) (n + 1 + 1) pending_and (no_state_0 address (m (registers.State 0)) (possible.registers (registers.State 0))) in
+    let cvs = all_cvs (cv_of m) (λ k. byte_small (λ place. holds_one (m (registers.CvBit k place)))) bytes head rest begins.behind_cv (n + 1 + 1 + 1 + 1) in
+    let state : Saved = saved.Loco (loco_state address m functions.value states.value cvs.given) in
     let line : ℕ = cvs.behind_line in
     record {
       state = state;
       line = line;
       reads =
-          then_back (line_by speed_line) (behind_speed address) (speed, forward_held (m registers.Direction)) (at n (speed_bytes m ++ (functions_bytes m ++ (pending_bytes m ++ cvs_and)))) (at (n + 1) (functions_bytes m ++ (pending_bytes m ++ cvs_and))) (Ok ((state, head), at line rest))
-          (speed_read speed (forward_held (m registers.Direction)) n (functions_bytes m ++ (pending_bytes m ++ cvs_and)) (speed_is address (m registers.Speed) (possible.registers registers.Speed)).1)
-          (then_back (line_by functions_line) (behind_functions address (speed, forward_held (m registers.Direction))) functions.value (at (n + 1) (functions_bytes m ++ (pending_bytes m ++ cvs_and))) (at (n + 1 + 1) (pending_bytes m ++ cvs_and)) (Ok ((state, head), at line rest))
+          then_back (line_by speed_line) (behind_speed versions.Two address) (speed, forward_held (m registers.Direction)) (at n (speed_bytes m ++ (functions_bytes m ++ states_and))) (at (n + 1) (functions_bytes m ++ states_and)) (Ok ((state, head), at line rest))
+          (speed_read speed (forward_held (m registers.Direction)) n (functions_bytes m ++ states_and) (speed_is address (m registers.Speed) (possible.registers registers.Speed)).1)
+          (then_back (line_by functions_line) (behind_functions versions.Two address (speed, forward_held (m registers.Direction))) functions.value (at (n + 1) (functions_bytes m ++ states_and)) (at (n + 1 + 1) states_and) (Ok ((state, head), at line rest))
           functions.reads
-          (then_back (line_by (pending_line address)) (behind_pending address (speed, forward_held (m registers.Direction)) functions.value) pending (at (n + 1 + 1) (pending_bytes m ++ cvs_and)) (at (n + 1 + 1 + 1) cvs_and) (Ok ((state, head), at line rest))
-          (pending_read address pending (n + 1 + 1) cvs_and (pending_is address (m registers.Pending) (possible.registers registers.Pending)).1)
-          (then_back cvs_lines (behind_cvs address (speed, forward_held (m registers.Direction)) functions.value pending) (cvs.given, head) (at (n + 1 + 1 + 1) cvs_and) (at line rest) (Ok ((state, head), at line rest))
-          cvs.reads refl)));
-      saves = (refl, same_loco address m possible functions.value functions.bits cvs.given cvs.each);
+          (then_back (states_by versions.Two) (behind_states address (speed, forward_held (m registers.Direction)) functions.value) states.value (at (n + 1 + 1) states_and) (at (n + 1 + 1 + 1) pending_and) (Ok ((state, head), at line rest))
+          states.reads
+          (then_back (line_by (pending_line address)) (behind_pending address (speed, forward_held (m registers.Direction)) functions.value states.value) pending (at (n + 1 + 1 + 1) pending_and) (at (n + 1 + 1 + 1 + 1) cvs_and) (Ok ((state, head), at line rest))
+          (pending_read address pending (n + 1 + 1 + 1) cvs_and (pending_is address (m registers.Pending) (possible.registers registers.Pending)).1)
+          (then_back cvs_lines (behind_cvs address (speed, forward_held (m registers.Direction)) functions.value states.value pending) (cvs.given, head) (at (n + 1 + 1 + 1 + 1) cvs_and) (at line rest) (Ok ((state, head), at line rest))
+          cvs.reads refl))));
+      saves = (refl, same_loco address m possible functions.value functions.bits states.value states.bits cvs.given cvs.each);
     }

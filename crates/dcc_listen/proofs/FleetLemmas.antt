@@ -87,7 +87,7 @@ module _ {A : Type 0} (view : A → Who × RegisterMap) where
   texts members = flat_map member_text (map view members)
 
   abbrev pub header : List ℕ
-  header = codes "dcc-decoders 1\n"
+  header = codes "dcc-decoders 2\n"
 
   texts-append : (xs ys : List A) → texts (xs ++ ys) ≡ texts xs ++ texts ys
   texts-append xs ys = ap (flat_map member_text) (map-append view xs ys) ∙ flat_map-append member_text (map view xs) (map view ys)

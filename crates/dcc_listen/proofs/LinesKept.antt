@@ -12,13 +12,15 @@ use Rattle.dcc_io.specs.declared.decoder_line.Head.{Head}
 use Rattle.dcc_io.specs.declared.decoder_line.Head.TheVariants as heads
 use Rattle.dcc_io.specs.declared.decoder_line.LocoLine.{LocoLine}
 use Rattle.dcc_io.specs.declared.decoder_line.LocoLine.TheVariants as behind
-use Rattle.dcc_io.specs.DecoderLines.{version_line, head_line, speed_line, functions_line, pending_line, loco_line, outs_line, positions_line, aspects_line}
-use Rattle.dcc_io.specs.DecoderText.{behind_loco_line, cvs_from, cvs_lines, loco_lines, board_lines, decoder_lines, decoders_from, decoder_text}
+use Rattle.dcc_io.specs.DecoderLines.{version_line, head_line, speed_line, functions_line, states_line, pending_line, loco_line, outs_line, positions_line, aspects_line}
+use Rattle.dcc_io.specs.declared.decoder_line.Version.{Version}
+use Rattle.dcc_io.specs.declared.decoder_line.Version.TheVariants as versions
+use Rattle.dcc_io.specs.DecoderText.{states_by, behind_loco_line, cvs_from, cvs_lines, loco_lines, board_lines, decoder_lines, decoders_from, decoder_text}
 use Rattle.dcc_io.specs.Lines.{is_good}
 use Rattle.dcc_listen.specs.ReadBack.{line_feeds}
 use Rattle.dcc_io.specs.TextReader.{Text, Stop, Reader, ◌>>=◌, read_on, judged, first_line, behind_line, ended_line, line_by}
 use Rattle.dcc_io.specs.TextReader.Stop.{refused}
-use Rattle.dcc_io.proofs.DecoderTextLemmas.{behind_board_head, behind_aspects, behind_positions, behind_outs, behind_cvs, behind_pending, behind_functions, behind_speed, behind_head, behind_version}
+use Rattle.dcc_io.proofs.DecoderTextLemmas.{behind_board_head, behind_aspects, behind_positions, behind_outs, behind_cvs, behind_pending, behind_states, behind_functions, behind_speed, behind_head, behind_version}
 
 -- the line behind a text
 abbrev pub end_of : Text → ℕ
@@ -77,13 +79,18 @@ all_cvs_keep : Keeps cvs_lines
 unfolding cvs_lines
 all_cvs_keep = cvs_keep 1025 1 (replicate 1024 0)
 
-loco_keeps : (address : Option Address) → Keeps (loco_lines address)
+states_keep : (version : Version) → Keeps (states_by version)
+states_keep versions.One = λ text. refl
+states_keep versions.Two = line_keeps states_line
+
+loco_keeps : (version : Version) (address : Option Address) → Keeps (loco_lines version address)
 unfolding loco_lines
-loco_keeps address =
-    then_keeps (line_by speed_line) (behind_speed address) (line_keeps speed_line)
-    (λ speed. then_keeps (line_by functions_line) (behind_functions address speed) (line_keeps functions_line)
-    (λ functions. then_keeps (line_by (pending_line address)) (behind_pending address speed functions) (line_keeps (pending_line address))
-    (λ pending. then_keeps cvs_lines (behind_cvs address speed functions pending) all_cvs_keep (λ cvs text. refl))))
+loco_keeps version address =
+    then_keeps (line_by speed_line) (behind_speed version address) (line_keeps speed_line)
+    (λ speed. then_keeps (line_by functions_line) (behind_functions version address speed) (line_keeps functions_line)
+    (λ functions. then_keeps (states_by version) (behind_states address speed functions) (states_keep version)
+    (λ states. then_keeps (line_by (pending_line address)) (behind_pending address speed functions states) (line_keeps (pending_line address))
+    (λ pending. then_keeps cvs_lines (behind_cvs address speed functions states pending) all_cvs_keep (λ cvs text. refl)))))
 
 board_keeps : (board : Board) → Keeps (board_lines board)
 unfolding board_lines
@@ -93,20 +100,20 @@ board_keeps board =
     (λ positions. then_keeps (line_by aspects_line) (behind_aspects board outs positions) (line_keeps aspects_line)
     (λ aspects. then_keeps (line_by head_line) (behind_board_head board outs positions aspects) (line_keeps head_line) (λ head text. refl))))
 
-decoder_keeps : (own : Who) → Keeps (decoder_lines own)
-decoder_keeps (who.Loco address) = loco_keeps address
-decoder_keeps (who.Board board) = board_keeps board
+decoder_keeps : (version : Version) (own : Who) → Keeps (decoder_lines version own)
+decoder_keeps version (who.Loco address) = loco_keeps version address
+decoder_keeps version (who.Board board) = board_keeps board
 
-decoders_keep : (room : ℕ) (before : List Saved) (head : Head) → Keeps (decoders_from room before head)
-decoders_keep zero before heads.End = λ text. refl
-decoders_keep (suc room) before heads.End = λ text. refl
-decoders_keep zero before (heads.Decoder next) = λ text. tt
-decoders_keep (suc room) before (heads.Decoder next) =
-    then_keeps (decoder_lines next) (λ decoder. decoders_from room (before ++ decoder.0 ∷ []) decoder.1) (decoder_keeps next) (λ decoder. decoders_keep room (before ++ decoder.0 ∷ []) decoder.1)
+decoders_keep : (version : Version) (room : ℕ) (before : List Saved) (head : Head) → Keeps (decoders_from version room before head)
+decoders_keep version zero before heads.End = λ text. refl
+decoders_keep version (suc room) before heads.End = λ text. refl
+decoders_keep version zero before (heads.Decoder next) = λ text. tt
+decoders_keep version (suc room) before (heads.Decoder next) =
+    then_keeps (decoder_lines version next) (λ decoder. decoders_from version room (before ++ decoder.0 ∷ []) decoder.1) (decoder_keeps version next) (λ decoder. decoders_keep version room (before ++ decoder.0 ∷ []) decoder.1)
 
 text_keeps : Keeps decoder_text
 unfolding decoder_text
-text_keeps = then_keeps (line_by version_line) behind_version (line_keeps version_line) (λ version. then_keeps (line_by head_line) behind_head (line_keeps head_line) (decoders_keep 64 []))
+text_keeps = then_keeps (line_by version_line) behind_version (line_keeps version_line) (λ version. then_keeps (line_by head_line) (behind_head version) (line_keeps head_line) (decoders_keep version 64 []))
 
 feeds-append : (xs ys : List ℕ) → line_feeds (xs ++ ys) ≡ line_feeds xs + line_feeds ys
 feeds-append [] ys = omega arith

@@ -1,6 +1,6 @@
 -- A map that is possible is that of what its lines say.
 use Rattle.std.proofs.Common.{zero, suc, ◌≡◌, ℕ, ◌+◌, ◌-◌, ◌*◌, ◌/◌, ◌%◌, ◌^◌, ◌<◌, ◌≤◌, Bool, true, false, eqb, nat_le, List, slice_index, Option, None, Some, if◌then◌else◌, refl, sym, ap, ◌∙◌, arith}
-use Rattle.std.proofs.lemmas.Bool.{leb-true}
+use Rattle.std.proofs.lemmas.Bool.{and_parts, leb-true}
 use Rattle.dcc_packet.specs.declared.address.Address.{Address}
 use Rattle.dcc_packet.proofs.WrittenWords.{not_true}
 use Rattle.dcc_regs.specs.declared.loco_state.LocoState.{LocoState}
@@ -11,6 +11,7 @@ use Rattle.dcc_regs.specs.declared.register.Value.TheVariants as values
 use Rattle.dcc_regs.specs.declared.register.Who.TheVariants as who
 use Rattle.dcc_regs.specs.Bits.{is_one, byte_of}
 use Rattle.dcc_regs.specs.Loco.{is_function, is_cv_bit, is_speed, is_pending_for, holds_one, cv_of, loco_registers}
+use Rattle.dcc_regs.specs.States.{is_binary_state}
 use Rattle.dcc_regs.specs.LocoState.{content as loco_content}
 use Rattle.dcc_regs.specs.Possible.{may_hold, IsPossible}
 use Rattle.dcc_regs.specs.Result.{RegisterMap}
@@ -57,6 +58,22 @@ function_is active n (Some (values.Flag true)) h = rw h refl
 function_is active n (Some (values.Flag false)) h = rw h refl
 function_is active n (Some (values.Number s)) h = cc
 function_is active n (Some (values.Pending s)) h = cc
+
+state_is : (active : Option Address) (n : ℕ) (v : Option Value) → loco_may active (registers.State n) v ≡ true → v ≡ flag_or_none (is_binary_state n) (holds_one v)
+state_is active n None h = rw (not_true (is_binary_state n) h) refl
+state_is active n (Some (values.Speed s)) h = cc
+state_is active n (Some (values.Forward s)) h = cc
+state_is active n (Some (values.Flag true)) h = rw h refl
+state_is active n (Some (values.Flag false)) h = rw h refl
+state_is active n (Some (values.Number s)) h = cc
+state_is active n (Some (values.Pending s)) h = cc
+
+-- there is no state 0
+pub no_state_0 : (active : Option Address) (v : Option Value) → loco_may active (registers.State 0) v ≡ true → holds_one v ≡ false
+no_state_0 active v h = ap holds_one (state_is active 0 v h)
+
+state_few : (n : ℕ) → is_binary_state n ≡ true → n < 128
+state_few n there = let parts = and_parts (nat_le 1 n) (nat_le n 127) there in omega (arith, leb-true n 127 parts.1)
 
 cv_bit_is : (active : Option Address) (cv place : ℕ) (v : Option Value) → loco_may active (registers.CvBit cv place) v ≡ true → v ≡ flag_or_none (is_cv_bit cv place) (holds_one v)
 cv_bit_is active cv place None h = rw (not_true (is_cv_bit cv place) h) refl
@@ -125,10 +142,11 @@ pub byte_small : (bits : ℕ → Bool) → byte_of bits < 256
 byte_small bits = omega (arith, byte_is bits, unit_small (bits 0), unit_small (bits 1), unit_small (bits 2), unit_small (bits 3), unit_small (bits 4), unit_small (bits 5), unit_small (bits 6), unit_small (bits 7))
 
 -- what a locomotive decoder's lines save
-abbrev pub loco_state : Option Address → RegisterMap → ℕ → List ℕ → LocoState
-loco_state address m functions cvs = record { address = address; speed = speed_held (m registers.Speed); forward = forward_held (m registers.Direction); functions = functions; pending = pending_held (m registers.Pending); cvs = cvs }
+abbrev pub loco_state : Option Address → RegisterMap → ℕ → ℕ → List ℕ → LocoState
+loco_state address m functions states cvs = record { address = address; speed = speed_held (m registers.Speed); forward = forward_held (m registers.Direction); functions = functions; states = states; pending = pending_held (m registers.Pending); cvs = cvs }
 
 module _ (address : Option Address) (m : RegisterMap) (possible : IsPossible (who.Loco address) m) (functions : ℕ) (bits : (j : ℕ) → j < 69 → is_one functions j ≡ holds_one (m (registers.Function j)))
+    (states : ℕ) (states_bits : (j : ℕ) → j < 128 → is_one states j ≡ holds_one (m (registers.State j)))
     (cvs : List ℕ) (each : (i : ℕ) → i < 1024 → slice_index cvs i ≡ cv_of m (suc i)) where
   same_cv_bit : (cv place : ℕ) → is_cv_bit cv place ≡ true → is_one (slice_index cvs (cv - 1)) place ≡ holds_one (m (registers.CvBit cv place))
   same_cv_bit cv place there =
@@ -138,12 +156,15 @@ module _ (address : Option Address) (m : RegisterMap) (possible : IsPossible (wh
       let next : suc (cv - 1) ≡ cv = omega (arith, low) in
       ap (λ n. is_one n place) (each (cv - 1) (omega (arith, low, high)) ∙ ap (cv_of m) next) ∙ bit_byte (λ k. holds_one (m (registers.CvBit cv k))) place (leb-true place 7 parts.2)
 
-  pub same_loco : SameRegisters (loco_registers (loco_content (loco_state address m functions cvs))) m
+  pub same_loco : SameRegisters (loco_registers (loco_content (loco_state address m functions states cvs))) m
   same_loco registers.Speed = sym (speed_is address (m registers.Speed) (possible.registers registers.Speed)).0
   same_loco registers.Direction = sym (direction_is address (m registers.Direction) (possible.registers registers.Direction))
   same_loco (registers.Function n) =
       same_flags (is_function n) (is_one functions n) (holds_one (m (registers.Function n))) (λ there. bits n (omega (arith, leb-true n 68 there)))
       ∙ sym (function_is address n (m (registers.Function n)) (possible.registers (registers.Function n)))
+  same_loco (registers.State n) =
+      same_flags (is_binary_state n) (is_one states n) (holds_one (m (registers.State n))) (λ there. states_bits n (state_few n there))
+      ∙ sym (state_is address n (m (registers.State n)) (possible.registers (registers.State n)))
   same_loco (registers.CvBit cv place) =
       same_flags (is_cv_bit cv place) (is_one (slice_index cvs (cv - 1)) place) (holds_one (m (registers.CvBit cv place))) (same_cv_bit cv place)
       ∙ sym (cv_bit_is address cv place (m (registers.CvBit cv place)) (possible.registers (registers.CvBit cv place)))

@@ -3,14 +3,15 @@ use Rattle.std.proofs.Common.{zero, suc, ◌≡◌, ℕ, ◌+◌, ◌*◌, ◌/�
 use native.Mathlib.Nat.{pow-succ'}
 use Rattle.std.specs.Fmt.{decimal}
 use Rattle.std.specs.Int.{bit_at}
-use Rattle.std.proofs.lemmas.Bool.{le-ltb}
+use Rattle.std.proofs.lemmas.Bool.{le-ltb, ltb-true}
+use Rattle.std.proofs.lemmas.Fmt.{length-decimal-le}
 use Rattle.std.proofs.lemmas.Nat.Bits.{bit_at_lowest, bit_at-suc}
 use Rattle.std.proofs.lemmas.List.{append-nil}
 use Rattle.dcc_packet.specs.Written.{spaced}
 use Rattle.dcc_packet.proofs.Decimal.{short}
 use Rattle.dcc_packet.proofs.WordsBack.{small_number-decimal, output_back}
 use Rattle.dcc_regs.specs.Bits.{is_one}
-use Rattle.dcc_io.specs.DecoderLines.{functions_from, outs_from}
+use Rattle.dcc_io.specs.DecoderLines.{functions_from, states_from, outs_from}
 use Rattle.dcc_listen.specs.FleetText.{numbers_below}
 use Rattle.dcc_io.specs.Spaced.{behind_space}
 
@@ -57,7 +58,55 @@ ons_short on k (suc c) h = go (ons_short on (suc k) c (omega (arith, h))) (on k)
     go rest true is = rw is (omega (arith, rest, short k (omega (arith, h)), length-append (decimal k) (spaced (on_words on (suc k) c))))
     go rest false is = rw is (omega (arith, rest))
 
+-- a space and the digits of a number below 1000, as many as it can have
+abbrev width : ℕ → ℕ
+width k = if nat_lt k 100 then 3 else 4
+
+abbrev widths : ℕ → ℕ → ℕ
+widths k zero = 0
+widths k (suc c) = width k + widths (suc k) c
+
+digits_fit : (k : ℕ) → k < 1000 → 1 + length (decimal k) ≤ width k
+digits_fit k few = go (nat_lt k 100) refl
+  where
+    go : (b : Bool) → nat_lt k 100 ≡ b → 1 + length (decimal k) ≤ (if b then 3 else 4)
+    go true is = let small = ltb-true k 100 is in let two = length-decimal-le 2 k (omega arith) (omega arith) (omega (arith, small)) in omega (arith, two)
+    go false is = let three = length-decimal-le 3 k (omega arith) (omega arith) (omega (arith, few)) in omega (arith, three)
+
+ons_fit : (on : ℕ → Bool) (k c : ℕ) → k + c ≤ 1000 → length (spaced (on_words on k c)) ≤ widths k c
+ons_fit on k zero h = omega arith
+ons_fit on k (suc c) h = go (ons_fit on (suc k) c (omega (arith, h))) (on k) refl
+  where
+    go : length (spaced (on_words on (suc k) c)) ≤ widths (suc k) c → (b : Bool) → on k ≡ b → length (spaced (on_words on k (suc c))) ≤ widths k (suc c)
+    go rest true is = rw is (omega (arith, rest, digits_fit k (omega (arith, h)), length-append (decimal k) (spaced (on_words on (suc k) c))))
+    go rest false is = rw is (omega (arith, rest))
+
+-- all binary states stand in one line
+pub states_short : (on : ℕ → Bool) → length (spaced (on_words on 0 128)) ≤ 412
+states_short on = ons_fit on 0 128 (omega arith)
+
 -- the value is read
+pub states_are : (on : ℕ → Bool) → on 0 ≡ false → (least k c : ℕ) → least ≤ k → k + c ≤ 128 → states_from least (on_words on k c) ≡ Ok (value_of on k c (2 ^ k))
+states_are on none least k zero h few = refl
+states_are on none least k (suc c) h few =
+    go (states_are on none (k + 1) (suc k) c (omega arith) (omega (arith, few))) (states_are on none least (suc k) c (omega (arith, h)) (omega (arith, few))) (on k) refl
+  where
+    twice : value_of on (suc k) c (2 ^ suc k) ≡ value_of on (suc k) c (2 * 2 ^ k)
+    twice = ap (value_of on (suc k) c) (pow-succ' 2 k)
+
+    some : (k : ℕ) → on k ≡ true → 1 ≤ k
+    some zero is = let clash : true ≡ false = sym is ∙ none in absurd cc
+    some (suc k) is = omega arith
+
+    go : states_from (k + 1) (on_words on (suc k) c) ≡ Ok (value_of on (suc k) c (2 ^ suc k)) → states_from least (on_words on (suc k) c) ≡ Ok (value_of on (suc k) c (2 ^ suc k))
+        → (b : Bool) → on k ≡ b → states_from least (on_words on k (suc c)) ≡ Ok (value_of on k (suc c) (2 ^ k))
+    go behind same true is =
+        let first : nat_lt k 1 ≡ false = le-ltb k 1 (some k is) in
+        let range : nat_lt 127 k ≡ false = le-ltb 127 k (omega (arith, few)) in
+        let ordered : nat_lt k least ≡ false = le-ltb k least h in
+        rw (is, small_number-decimal k (omega (arith, few)), first, range, ordered, behind) (ap (λ n. Ok (2 ^ k + n)) twice)
+    go behind same false is = rw is (same ∙ ap Ok twice)
+
 pub functions_are : (on : ℕ → Bool) (least k c : ℕ) → least ≤ k → k + c ≤ 69 → functions_from least (on_words on k c) ≡ Ok (value_of on k c (2 ^ k))
 functions_are on least k zero h few = refl
 functions_are on least k (suc c) h few =

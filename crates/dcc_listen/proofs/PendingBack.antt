@@ -14,7 +14,7 @@ use Rattle.dcc_wire.proofs.ErrorByte.{xor_of-with_error_byte}
 use Rattle.dcc_packet.specs.declared.address.Address.{Address}
 use Rattle.dcc_packet.specs.declared.address.Address.TheVariants.{Broadcast, Short, Long}
 use Rattle.dcc_packet.specs.declared.instruction.What.{What}
-use Rattle.dcc_packet.specs.declared.instruction.What.TheVariants.{Reset, Speed28, Speed128, Functions, CvWrite, CvVerify, CvBitWrite, CvBitVerify}
+use Rattle.dcc_packet.specs.declared.instruction.What.TheVariants.{Reset, Speed28, Speed128, Functions, BinaryState, CvWrite, CvVerify, CvBitWrite, CvBitVerify}
 use Rattle.dcc_packet.specs.declared.packet.Packet.{Packet}
 use Rattle.dcc_packet.specs.declared.packet.Packet.TheVariants.{Idle, Loco, Accessory, Signal, Other}
 use Rattle.dcc_packet.specs.Rows.{bit, loco_bytes}
@@ -97,6 +97,7 @@ short_write a Reset h byte = cc
 short_write a (Speed28 forward bits) h byte = cc
 short_write a (Speed128 forward bits) h byte = cc
 short_write a (Functions bits) h byte = cc
+short_write a (BinaryState number on) h byte = cc
 short_write a (CvVerify cv value) h byte = cc
 short_write a (CvBitVerify cv place one) h byte = cc
 
@@ -117,6 +118,7 @@ long_write a Reset h byte = cc
 long_write a (Speed28 forward bits) h byte = cc
 long_write a (Speed128 forward bits) h byte = cc
 long_write a (Functions bits) h byte = cc
+long_write a (BinaryState number on) h byte = cc
 long_write a (CvVerify cv value) h byte = cc
 long_write a (CvBitVerify cv place one) h byte = cc
 

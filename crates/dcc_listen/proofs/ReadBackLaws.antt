@@ -9,9 +9,10 @@ use Rattle.dcc_regs.specs.Result.{RegisterMap}
 use Rattle.dcc_io.specs.declared.saved.Saved.{Saved}
 use Rattle.dcc_io.specs.declared.decoder_line.Head.{Head}
 use Rattle.dcc_io.specs.declared.decoder_line.Head.TheVariants as heads
+use Rattle.dcc_io.specs.declared.decoder_line.Version.TheVariants as versions
 use Rattle.dcc_io.specs.DecoderLines.{version_line, head_line}
 use Rattle.dcc_io.specs.DecoderText.{decoder_lines, decoders_from, decoder_text}
-use Rattle.dcc_listen.specs.FleetText.{cvs_text, member_text, fleet_text, loco_address_line, speed_line, functions_line, pending_line, board_line, outs_line, positions_line, aspects_line}
+use Rattle.dcc_listen.specs.FleetText.{cvs_text, member_text, fleet_text, loco_address_line, speed_line, functions_line, states_line, pending_line, board_line, outs_line, positions_line, aspects_line}
 use Rattle.dcc_listen.specs.ReadBack.{SavesEach, IsPossibleMember, FleetsAreReadBack}
 use Rattle.dcc_io.specs.TextReader.{line_by}
 use Rattle.dcc_io.proofs.DecoderTextLemmas.{behind_head, behind_version}
@@ -34,15 +35,15 @@ head_of [] = heads.End
 head_of (member ∷ members) = heads.Decoder member.0
 
 abbrev lines_of : Member → List ℕ → List ℕ
-lines_of (who.Loco address, m) text = speed_line m ++ (functions_line m ++ (pending_line m ++ (cvs_text (cv_of m) 1024 ++ text)))
+lines_of (who.Loco address, m) text = speed_line m ++ (functions_line m ++ (states_line m ++ (pending_line m ++ (cvs_text (cv_of m) 1024 ++ text))))
 lines_of (who.Board board, m) text = outs_line m ++ (positions_line m ++ (aspects_line m ++ text))
 
 abbrev rest_of : List Member → List ℕ → List ℕ
 rest_of [] text = text
 rest_of (member ∷ members) text = lines_of member (tail members text)
 
-loco_shuffle : (h s f p c t e x : List ℕ) → ((((h ++ (s ++ (f ++ p))) ++ c) ++ t) ++ e) ++ x ≡ h ++ (s ++ (f ++ (p ++ (c ++ ((t ++ e) ++ x)))))
-loco_shuffle h s f p c t e x = simp append_assoc refl
+loco_shuffle : (h s f b p c t e x : List ℕ) → ((((h ++ (s ++ (f ++ (b ++ p)))) ++ c) ++ t) ++ e) ++ x ≡ h ++ (s ++ (f ++ (b ++ (p ++ (c ++ ((t ++ e) ++ x))))))
+loco_shuffle h s f b p c t e x = simp append_assoc refl
 
 board_shuffle : (h o p a t e x : List ℕ) → (((h ++ (o ++ (p ++ a))) ++ t) ++ e) ++ x ≡ h ++ (o ++ (p ++ (a ++ ((t ++ e) ++ x))))
 board_shuffle h o p a t e x = simp append_assoc refl
@@ -52,7 +53,7 @@ begins [] text possible = end_begins text
 begins ((who.Loco address, m) ∷ members) text possible =
     let behind : List ℕ = lines_of (who.Loco address, m) (tail members text) in
     let is : tail ((who.Loco address, m) ∷ members) text ≡ loco_address_line address ++ behind =
-    loco_shuffle (loco_address_line address) (speed_line m) (functions_line m) (pending_line m) (cvs_text (cv_of m) 1024) (flat_map member_text members) (codes "end\n") text in
+    loco_shuffle (loco_address_line address) (speed_line m) (functions_line m) (states_line m) (pending_line m) (cvs_text (cv_of m) 1024) (flat_map member_text members) (codes "end\n") text in
     subst (λ (bytes : List ℕ). BeginsWith bytes (heads.Decoder (who.Loco address)) behind) (sym is) (loco_begins address behind m possible.0)
 begins ((who.Board board, m) ∷ members) text possible =
     let behind : List ℕ = lines_of (who.Board board, m) (tail members text) in
@@ -68,7 +69,7 @@ given (who.Board board, m) n bytes head rest possible first = board_given board 
 record GivesDecoders (room : ℕ) (before : List Saved) (members : List Member) (n : ℕ) (text : List ℕ) : Type 0 where
   states : List Saved
   line : ℕ
-  reads : decoders_from room before (head_of members) (at n (rest_of members text)) ≡ Ok (before ++ states, at line text)
+  reads : decoders_from versions.Two room before (head_of members) (at n (rest_of members text)) ≡ Ok (before ++ states, at line text)
   saves : SavesEach states members
 
 none_more : (room : ℕ) (before : List Saved) (n : ℕ) (text : List ℕ) → GivesDecoders room before [] n text
@@ -84,16 +85,16 @@ all_given (member ∷ members) (suc room) before n text few possible =
     record {
       states = one.state ∷ more.states;
       line = more.line;
-      reads = then_back (decoder_lines member.0) (λ decoder. decoders_from room (before ++ decoder.0 ∷ []) decoder.1) (one.state, head_of members) (at n (lines_of member (tail members text))) (at one.line (rest_of members text))
+      reads = then_back (decoder_lines versions.Two member.0) (λ decoder. decoders_from versions.Two room (before ++ decoder.0 ∷ []) decoder.1) (one.state, head_of members) (at n (lines_of member (tail members text))) (at one.line (rest_of members text))
           (Ok (before ++ one.state ∷ more.states, at more.line text)) one.reads
           (more.reads ∙ ap (λ (xs : List Saved). Ok (xs, at more.line text)) (append_assoc before (one.state ∷ []) more.states));
       saves = (one.saves, more.saves);
     }
 
-version_read : (n : ℕ) (text : List ℕ) → line_by version_line (at n (codes "dcc-decoders 1\n" ++ text)) ≡ Ok (tt, at (n + 1) text)
+version_read : (n : ℕ) (text : List ℕ) → line_by version_line (at n (codes "dcc-decoders 2\n" ++ text)) ≡ Ok (versions.Two, at (n + 1) text)
 version_read n text =
-    few_back version_line tt n (codes "dcc-decoders 1") (codes "dcc-decoders") (codes "1" ∷ []) text refl
-    (keyword_token (codes "dcc-decoders") (omega arith) refl refl (omega arith)) (keyword_token (codes "1") (omega arith) refl refl (omega arith), tt) (omega arith) version_back
+    few_back version_line versions.Two n (codes "dcc-decoders 2") (codes "dcc-decoders") (codes "2" ∷ []) text refl
+    (keyword_token (codes "dcc-decoders") (omega arith) refl refl (omega arith)) (keyword_token (codes "2") (omega arith) refl refl (omega arith), tt) (omega arith) version_back
 
 pub fleets_read_back : FleetsAreReadBack
 unfolding decoder_text
@@ -101,9 +102,9 @@ fleets_read_back members line rest few possible =
     let first = begins members rest possible in
     let all = all_given members 64 [] (line + 1 + 1) rest few possible in
     let reads : decoder_text (at line (fleet_text members ++ rest)) ≡ Ok (all.states, at all.line rest) =
-    ap (λ (bytes : List ℕ). decoder_text (at line bytes)) (append_assoc (codes "dcc-decoders 1\n") (flat_map member_text members ++ codes "end\n") rest)
-    ∙ then_back (line_by version_line) behind_version tt (at line (codes "dcc-decoders 1\n" ++ tail members rest)) (at (line + 1) (tail members rest)) (Ok (all.states, at all.line rest)) (version_read line (tail members rest))
-    (then_back (line_by head_line) behind_head (head_of members) (at (line + 1) (tail members rest)) (at (line + 1 + 1) (rest_of members rest)) (Ok (all.states, at all.line rest)) (first.first (line + 1)) all.reads) in
+    ap (λ (bytes : List ℕ). decoder_text (at line bytes)) (append_assoc (codes "dcc-decoders 2\n") (flat_map member_text members ++ codes "end\n") rest)
+    ∙ then_back (line_by version_line) behind_version versions.Two (at line (codes "dcc-decoders 2\n" ++ tail members rest)) (at (line + 1) (tail members rest)) (Ok (all.states, at all.line rest)) (version_read line (tail members rest))
+    (then_back (line_by head_line) (behind_head versions.Two) (head_of members) (at (line + 1) (tail members rest)) (at (line + 1 + 1) (rest_of members rest)) (Ok (all.states, at all.line rest)) (first.first (line + 1)) all.reads) in
     record {
       states = all.states;
       behind = all.line;

@@ -14,11 +14,11 @@ use Rattle.dcc_regs.specs.declared.register.Speed.{Speed}
 use Rattle.dcc_regs.specs.declared.register.Speed.TheVariants.{Stop, Emergency, Step14, Step28, Step126}
 use Rattle.dcc_regs.specs.Bits.{is_one}
 use Rattle.dcc_regs.specs.Loco.{is_speed, is_pending_for}
-use Rattle.dcc_io.specs.DecoderLines.{functions_line, outs_line, speed_line, pending_line, positions_line, aspects_line}
+use Rattle.dcc_io.specs.DecoderLines.{functions_line, states_line, outs_line, speed_line, pending_line, positions_line, aspects_line}
 use Rattle.dcc_listen.specs.FleetText.{numbers_below, speed_text, pending_text, four_numbers}
 use Rattle.dcc_io.specs.TextReader.{line_by}
 use Rattle.dcc_listen.proofs.LinesBack.{IsToken, at, line_back, few_back}
-use Rattle.dcc_listen.proofs.NumbersBack.{on_words, value_of, numbers_are, ons_short, functions_are, outs_are, value_bits}
+use Rattle.dcc_listen.proofs.NumbersBack.{on_words, value_of, numbers_are, ons_short, functions_are, states_short, states_are, outs_are, value_bits}
 use Rattle.dcc_listen.proofs.PendingBack.{pending_back}
 use Rattle.dcc_listen.proofs.RulesBack.{speed_words, speed_back, positions_back, aspects_back}
 use Rattle.dcc_listen.proofs.TokensBack.{keyword_token, decimal_token, direction_token, state_token, on_tokens, pending_token}
@@ -43,6 +43,10 @@ functions_say : (on : ℕ → Bool) (c : ℕ) → c ≤ 69 → functions_line (c
 unfolding functions_line
 functions_say on c few = functions_are on 0 0 c (omega arith) (omega (arith, few))
 
+states_say : (on : ℕ → Bool) → on 0 ≡ false → states_line (codes "states" ∷ on_words on 0 128) ≡ Ok (value_of on 0 128 1)
+unfolding states_line
+states_say on none = states_are on none 0 0 128 (omega arith) (omega arith)
+
 outs_say : (on : ℕ → Bool) (c : ℕ) → c ≤ 8 → outs_line (codes "out" ∷ on_words on 0 c) ≡ Ok (value_of on 0 c 1)
 unfolding outs_line
 outs_say on c few = outs_are on 0 0 c (omega arith) (omega (arith, few))
@@ -56,6 +60,17 @@ functions_read on c n text few = record {
       (omega (arith, few, ap length (numbers_are on c), ons_short on 0 c (omega (arith, few)), length-append (codes "on") (numbers_below on c)))
       (functions_say on c few);
   bits = row_bits on c;
+}
+
+pub states_read : (on : ℕ → Bool) (n : ℕ) (text : List ℕ) → on 0 ≡ false → GivesBits states_line on 128 n (((codes "states" ++ numbers_below on 128) ++ codes "\n") ++ text) text
+states_read on n text none = record {
+  value = value_of on 0 128 1;
+  reads = ap (λ (bytes : List ℕ). line_by states_line (at n bytes)) (fed (codes "states" ++ numbers_below on 128) text)
+      ∙ line_back states_line (value_of on 0 128 1) n (codes "states" ++ numbers_below on 128) (codes "states") (on_words on 0 128) text
+      (ap (λ (xs : List ℕ). codes "states" ++ xs) (numbers_are on 128)) (keyword_token (codes "states") (omega arith) refl refl (omega arith)) (on_tokens on 0 128 (omega arith))
+      (omega (arith, ap length (numbers_are on 128), states_short on, length-append (codes "states") (numbers_below on 128)))
+      (states_say on none);
+  bits = row_bits on 128;
 }
 
 pub outs_read : (on : ℕ → Bool) (c n : ℕ) (text : List ℕ) → c ≤ 8 → GivesBits outs_line on c n (((codes "out" ++ numbers_below on c) ++ codes "\n") ++ text) text

@@ -17,10 +17,11 @@ use Rattle.dcc_regs.specs.Addresses.{is_active}
 use Rattle.dcc_regs.specs.Loco.{is_speed}
 use Rattle.dcc_io.specs.declared.decoder_line.Head.TheVariants as heads
 use Rattle.dcc_io.specs.declared.decoder_line.LocoLine.TheVariants as behind
+use Rattle.dcc_io.specs.declared.decoder_line.Version.TheVariants as versions
 use Rattle.dcc_io.specs.DecoderLines.{version_line, own_address, own_board, head_line, step_up_to, speed_line, positions_line, aspects_line, loco_line}
 use Rattle.dcc_listen.specs.FleetText.{own_address_word}
 
-pub version_back : version_line (codes "dcc-decoders" ∷ codes "1" ∷ []) ≡ Ok tt
+pub version_back : version_line (codes "dcc-decoders" ∷ codes "2" ∷ []) ≡ Ok versions.Two
 unfolding version_line
 version_back = refl
 

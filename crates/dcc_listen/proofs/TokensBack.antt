@@ -56,7 +56,7 @@ pub state_token : (one : Bool) → IsToken (state_word one)
 state_token true = record { word_is = IsWord-state true; plain = refl; short = omega arith }
 state_token false = record { word_is = IsWord-state false; plain = refl; short = omega arith }
 
-pub on_tokens : (on : ℕ → Bool) (k c : ℕ) → k + c ≤ 100 → AllByRecursion IsToken (on_words on k c)
+pub on_tokens : (on : ℕ → Bool) (k c : ℕ) → k + c ≤ 1000 → AllByRecursion IsToken (on_words on k c)
 on_tokens on k zero h = tt
 on_tokens on k (suc c) h = go (on_tokens on (suc k) c (omega (arith, h))) (on k) refl
   where

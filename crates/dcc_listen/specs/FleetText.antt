@@ -75,11 +75,14 @@ speed_line m = (codes "speed " ++ speed_text (speed_held (m registers.Speed))) +
 abbrev pub functions_line : RegisterMap → List ℕ
 functions_line m = (codes "on" ++ numbers_below (λ n. holds_one (m (registers.Function n))) 69) ++ codes "\n"
 
+abbrev pub states_line : RegisterMap → List ℕ
+states_line m = (codes "states" ++ numbers_below (λ n. holds_one (m (registers.State n))) 128) ++ codes "\n"
+
 abbrev pub pending_line : RegisterMap → List ℕ
 pending_line m = (codes "pending " ++ pending_text (pending_held (m registers.Pending))) ++ codes "\n"
 
 abbrev pub loco_front : Option Address → RegisterMap → List ℕ
-loco_front address m = loco_address_line address ++ (speed_line m ++ (functions_line m ++ pending_line m))
+loco_front address m = loco_address_line address ++ (speed_line m ++ (functions_line m ++ (states_line m ++ pending_line m)))
 
 -- the lines of an accessory decoder
 abbrev pub board_line : Board → List ℕ
@@ -110,4 +113,4 @@ member_text member = decoder_text member.0 member.1
 
 -- the text of a fleet, from its members
 abbrev pub fleet_text : List (Who × RegisterMap) → List ℕ
-fleet_text members = codes "dcc-decoders 1\n" ++ (flat_map member_text members ++ codes "end\n")
+fleet_text members = codes "dcc-decoders 2\n" ++ (flat_map member_text members ++ codes "end\n")

@@ -4,7 +4,7 @@ ghost use Rattle.arrayvec.specs.ArrayVec.{array_vec_len};
 ghost use Rattle.dcc_packet.specs.Written.{address_word, direction_word};
 ghost use Rattle.dcc_regs.specs.Loco.{holds_one as is_on_value, cv_of};
 ghost use Rattle.dcc_io.specs.Spaced.{behind_space};
-ghost use Rattle.dcc_listen.specs.FleetText.{speed_held, forward_held, pending_held, number_held, numbers_below, own_address_word, speed_text, pending_text, cv_line, loco_address_line, speed_line, functions_line, pending_line, loco_front, board_line, outs_line, four_numbers, positions_line, aspects_line, board_text};
+ghost use Rattle.dcc_listen.specs.FleetText.{speed_held, forward_held, pending_held, number_held, numbers_below, own_address_word, speed_text, pending_text, cv_line, loco_address_line, speed_line, functions_line, states_line, pending_line, loco_front, board_line, outs_line, four_numbers, positions_line, aspects_line, board_text};
 
 use arrayvec::ArrayVec;
 use dcc_io::{append, append_decimal, append_hex};
@@ -12,12 +12,12 @@ use dcc_packet::{Address, Board, Packet};
 use dcc_regs::{Decoder, Register, Speed, Value};
 
 /// Some lines of a decoder, at most all of them before its CVs.
-pub(crate) type Rows = ArrayVec<u8, 1024>;
+pub(crate) type Rows = ArrayVec<u8, 4096>;
 
 /// Adds a space and a number.
 #[tactic(auto, using(dcc_io::proofs::ListingLemmas::decimal_is_short))]
 fn append_number(rows: &mut Rows, number: u32)
-    requires { array_vec_len rows.old + 11 ≤ 1024 }
+    requires { array_vec_len rows.old + 11 ≤ 4096 }
     ensures items { rows.new.items ≡ rows.old.items ++ behind_space number }
     ensures len { array_vec_len rows.new ≤ array_vec_len rows.old + 11 }
 {
@@ -28,7 +28,7 @@ fn append_number(rows: &mut Rows, number: u32)
 /// Adds an address.
 #[tactic(auto, using(dcc_io::proofs::ListingLemmas::decimal_is_short))]
 fn append_own_address(rows: &mut Rows, address: &Option<Address>)
-    requires { array_vec_len rows.old + 12 ≤ 1024 }
+    requires { array_vec_len rows.old + 12 ≤ 4096 }
     ensures items { rows.new.items ≡ rows.old.items ++ own_address_word address.now }
     ensures len { array_vec_len rows.new ≤ array_vec_len rows.old + 12 }
 {
@@ -47,7 +47,7 @@ fn append_own_address(rows: &mut Rows, address: &Option<Address>)
 }
 
 fn append_speed(rows: &mut Rows, speed: Speed)
-    requires { array_vec_len rows.old + 14 ≤ 1024 }
+    requires { array_vec_len rows.old + 14 ≤ 4096 }
     ensures items { rows.new.items ≡ rows.old.items ++ speed_text speed }
     ensures len { array_vec_len rows.new ≤ array_vec_len rows.old + 14 }
 {
@@ -70,7 +70,7 @@ fn append_speed(rows: &mut Rows, speed: Speed)
 }
 
 fn append_pending(rows: &mut Rows, pending: &Option<Packet>)
-    requires { array_vec_len rows.old + 12 ≤ 1024 }
+    requires { array_vec_len rows.old + 12 ≤ 4096 }
     ensures items { rows.new.items ≡ rows.old.items ++ pending_text pending.now }
     ensures len { array_vec_len rows.new ≤ array_vec_len rows.old + 12 }
 {
@@ -132,7 +132,7 @@ fn is_on(value: Option<Value>) -> bool
 }
 
 fn append_speed_line(rows: &mut Rows, decoder: &dyn Decoder)
-    requires { array_vec_len rows.old + 24 ≤ 1024 }
+    requires { array_vec_len rows.old + 24 ≤ 4096 }
     ensures items { rows.new.items ≡ rows.old.items ++ speed_line (registers decoder.now) }
     ensures len { array_vec_len rows.new ≤ array_vec_len rows.old + 24 }
 {
@@ -147,7 +147,7 @@ fn append_speed_line(rows: &mut Rows, decoder: &dyn Decoder)
 }
 
 fn append_functions(rows: &mut Rows, decoder: &dyn Decoder)
-    requires { array_vec_len rows.old + 800 ≤ 1024 }
+    requires { array_vec_len rows.old + 800 ≤ 4096 }
     ensures items { rows.new.items ≡ rows.old.items ++ functions_line (registers decoder.now) }
     ensures len { array_vec_len rows.new ≤ array_vec_len rows.old + 800 }
 {
@@ -160,8 +160,22 @@ fn append_functions(rows: &mut Rows, decoder: &dyn Decoder)
     append(rows, b"\n");
 }
 
+fn append_states(rows: &mut Rows, decoder: &dyn Decoder)
+    requires { array_vec_len rows.old + 1420 ≤ 4096 }
+    ensures items { rows.new.items ≡ rows.old.items ++ states_line (registers decoder.now) }
+    ensures len { array_vec_len rows.new ≤ array_vec_len rows.old + 1420 }
+{
+    append(rows, b"states");
+    for n in 0..128u8 {
+        if is_on(decoder.get(Register::State(n))) {
+            append_number(rows, u32::from(n));
+        }
+    }
+    append(rows, b"\n");
+}
+
 fn append_outs(rows: &mut Rows, decoder: &dyn Decoder)
-    requires { array_vec_len rows.old + 100 ≤ 1024 }
+    requires { array_vec_len rows.old + 100 ≤ 4096 }
     ensures items { rows.new.items ≡ rows.old.items ++ outs_line (registers decoder.now) }
     ensures len { array_vec_len rows.new ≤ array_vec_len rows.old + 100 }
 {
@@ -175,7 +189,7 @@ fn append_outs(rows: &mut Rows, decoder: &dyn Decoder)
 }
 
 fn append_address_line(rows: &mut Rows, address: &Option<Address>)
-    requires { array_vec_len rows.old + 18 ≤ 1024 }
+    requires { array_vec_len rows.old + 18 ≤ 4096 }
     ensures items { rows.new.items ≡ rows.old.items ++ loco_address_line address.now }
     ensures len { array_vec_len rows.new ≤ array_vec_len rows.old + 18 }
 {
@@ -185,7 +199,7 @@ fn append_address_line(rows: &mut Rows, address: &Option<Address>)
 }
 
 fn append_pending_line(rows: &mut Rows, decoder: &dyn Decoder)
-    requires { array_vec_len rows.old + 21 ≤ 1024 }
+    requires { array_vec_len rows.old + 21 ≤ 4096 }
     ensures items { rows.new.items ≡ rows.old.items ++ pending_line (registers decoder.now) }
     ensures len { array_vec_len rows.new ≤ array_vec_len rows.old + 21 }
 {
@@ -202,6 +216,7 @@ pub(crate) fn loco_front(address: &Option<Address>, decoder: &dyn Decoder) -> Ro
     append_address_line(&mut rows, address);
     append_speed_line(&mut rows, decoder);
     append_functions(&mut rows, decoder);
+    append_states(&mut rows, decoder);
     append_pending_line(&mut rows, decoder);
     rows
 }
@@ -245,7 +260,7 @@ pub(crate) fn cv_line(cv: u16, value: u8) -> Rows
 }
 
 fn append_position_line(rows: &mut Rows, decoder: &dyn Decoder)
-    requires { array_vec_len rows.old + 60 ≤ 1024 }
+    requires { array_vec_len rows.old + 60 ≤ 4096 }
     ensures items { rows.new.items ≡ rows.old.items ++ positions_line (registers decoder.now) }
     ensures len { array_vec_len rows.new ≤ array_vec_len rows.old + 60 }
 {
@@ -270,7 +285,7 @@ fn append_position_line(rows: &mut Rows, decoder: &dyn Decoder)
 }
 
 fn append_aspect_line(rows: &mut Rows, decoder: &dyn Decoder)
-    requires { array_vec_len rows.old + 60 ≤ 1024 }
+    requires { array_vec_len rows.old + 60 ≤ 4096 }
     ensures items { rows.new.items ≡ rows.old.items ++ aspects_line (registers decoder.now) }
     ensures len { array_vec_len rows.new ≤ array_vec_len rows.old + 60 }
 {

@@ -16,7 +16,7 @@ pub(crate) fn write_fleet<W: Sink>(
     ensures { Writes (W.contents writer.old) (W.failures writer.old) (fleet_text (map (λ decoder. (who decoder, registers decoder)) decoders.now)) result
         (W.contents writer.new) (W.failures writer.new) }
 {
-    match write_all(writer, b"dcc-decoders 1\n") {
+    match write_all(writer, b"dcc-decoders 2\n") {
         Ok(()) => (),
         Err(failed) => return Err(failed),
     }

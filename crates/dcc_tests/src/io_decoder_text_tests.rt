@@ -45,7 +45,7 @@ fn expect(rt: &impl Abort, alloc: Global, text: &[u8], line: u64, fault: PacketF
 #[test]
 fn a_line_is_refused_by_its_first_fault(rt: HostRuntime) -> Result<(), Fail> {
     let rows: [(u64, &[u8], PacketFault); 29] = [
-        (1, b"dcc-decoders 2", PacketFault::Word),
+        (1, b"dcc-decoders 3", PacketFault::Word),
         (1, b"dcc-decoders 01", PacketFault::Word),
         (2, b"", PacketFault::Word),
         (2, b"# x", PacketFault::Word),

@@ -34,6 +34,8 @@ mod regs_tests;
 #[cfg(test)]
 mod service_tests;
 #[cfg(test)]
+mod state_tests;
+#[cfg(test)]
 mod station_tests;
 #[cfg(test)]
 mod wire_noise_tests;

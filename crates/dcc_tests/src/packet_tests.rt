@@ -65,7 +65,7 @@ fn locomotive_packets(rt: HostRuntime) {
 
 #[test]
 fn other_packets(rt: HostRuntime) {
-    let cases: [(&[u8], &str); 11] = [
+    let cases: [(&[u8], &str); 10] = [
         (&[0xFF, 0x00, 0xFF], "idle"),
         (&[0x8C, 0xFD, 0x71], "accessory 12 5 on"),
         (&[0x8C, 0xFC, 0x70], "accessory 12 4 on"),
@@ -74,8 +74,6 @@ fn other_packets(rt: HostRuntime) {
         (&[0xBF, 0x45, 0x03, 0xF9], "signal 1022 3"),
         (&[0xBF, 0x07, 0x05, 0xBD], "signal 2047 5"),
         (&[0x7C, 0x00, 0x0A, 0x76], "frame 7c000a76"),
-        // a binary state, until its row comes
-        (&[0x03, 0xDD, 0x85, 0x5B], "frame 03dd855b"),
         (&[0xFF, 0x01, 0xFE], "frame ff01fe"),
         (&[0x03, 0x01, 0x02, 0x03, 0x04, 0x07], "frame 030102030407"),
     ];
@@ -228,6 +226,10 @@ fn texts_of_refusals(rt: HostRuntime) -> Result<(), Fail> {
         (PacketFault::Short, "P1: a short address is 1 to 127"),
         (PacketFault::Word, "P10: wrong word"),
         (PacketFault::State, "P13: no state of a decoder"),
+        (
+            PacketFault::StateNumber,
+            "P14: a binary state is 0 to 127",
+        ),
     ];
     for (fault, wanted) in cases {
         let text = format!(in rt.alloc(); "{fault}")?;

@@ -16,6 +16,7 @@ fn stopped() -> Result<LocoState, PacketFault> {
         speed: Speed::Stop,
         forward: true,
         functions: 0,
+        states: 0,
         pending: None,
         cvs: cvs(2),
     })

@@ -23,7 +23,7 @@ const COMMANDS: &[u8] = b"loco s3 speed28 f 4\nsend 2\nidle\nloco s3 reset\nsend
 
 /// A locomotive at short 3, and a capture of `03 62 61`.
 const FLEET: &[u8] =
-    b"dcc-decoders 1\nloco s3\nspeed stop f\non\npending none\ncv 1 3\ncv 29 2\nend\n\
+    b"dcc-decoders 2\nloco s3\nspeed stop f\non\nstates\npending none\ncv 1 3\ncv 29 2\nend\n\
     58*28 100*14 58*4 100*4 58*4 100*6 58*2 100*6 58*4 100*8 58*4\n";
 
 /// An idle packet more in the second.
@@ -74,7 +74,7 @@ const CALLS: [(Call, &[u8], &[u8]); 7] = [
     (
         Call::Run,
         FLEET,
-        b"dcc-decoders 1\nloco s3\nspeed 28 1 f\non\npending none\ncv 1 3\ncv 29 2\nend\n",
+        b"dcc-decoders 2\nloco s3\nspeed 28 1 f\non\nstates\npending none\ncv 1 3\ncv 29 2\nend\n",
     ),
     (Call::Same, CAPTURE, b"alike\n"),
     (Call::SameInput, CAPTURES, b"alike\n"),

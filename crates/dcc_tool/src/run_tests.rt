@@ -8,7 +8,7 @@ use std::process::Abort;
 use std::test::Fail;
 
 /// A locomotive decoder at short 3, and board 12.
-const TEXT: &[u8] = b"dcc-decoders 1\nloco s3\nspeed stop f\non\npending none\ncv 1 3\ncv 29 2\n\
+const TEXT: &[u8] = b"dcc-decoders 2\nloco s3\nspeed stop f\non\nstates\npending none\ncv 1 3\ncv 29 2\n\
     board 12\nout\nposition 0 0 0 0\naspect 0 0 0 0\nend\n";
 
 /// Packets to both of them.
@@ -16,7 +16,7 @@ const LINES: &[u8] = b"frame 036261\nframe 039093\nframe 03ec1c06f5\nframe 8cfd7
 
 /// The text when they have heard these.
 const AFTER: &[u8] =
-    b"dcc-decoders 1\nloco s3\nspeed 28 1 f\non 0\npending 03ec1c06f5\ncv 1 3\ncv 29 2\n\
+    b"dcc-decoders 2\nloco s3\nspeed 28 1 f\non 0\nstates\npending 03ec1c06f5\ncv 1 3\ncv 29 2\n\
     board 12\nout 5\nposition 0 0 1 0\naspect 0 0 0 0\nend\n";
 
 /// A decoder as it was saved.
@@ -62,6 +62,11 @@ fn expect(
 
 /// The text, and behind it the halves of the packets of these lines.
 fn played(alloc: Global, lines: &[u8]) -> Result<Vec<u8>, Fail> {
+    played_to(alloc, TEXT, lines)
+}
+
+/// The same behind another text.
+fn played_to(alloc: Global, text: &[u8], lines: &[u8]) -> Result<Vec<u8>, Fail> {
     let mut input = Input::new(Counted::new(lines), Limits::full());
     let mut writer = Counted::new(Vec::new(alloc));
     let how = Encode {
@@ -69,7 +74,7 @@ fn played(alloc: Global, lines: &[u8]) -> Result<Vec<u8>, Fail> {
         service: false,
         station: None,
     };
-    writer.inner.extend_from_slice(TEXT)?;
+    writer.inner.extend_from_slice(text)?;
     encode(alloc, &mut input, &mut writer, how)?;
     Ok(writer.inner)
 }
@@ -78,16 +83,16 @@ fn played(alloc: Global, lines: &[u8]) -> Result<Vec<u8>, Fail> {
 fn texts_are_written_back(rt: HostRuntime) -> Result<(), Fail> {
     let rows: [&[u8]; 4] = [
         TEXT,
-        b"dcc-decoders 1\nend\n",
-        b"dcc-decoders 1\nloco none\nspeed 126 126 r\non 0 5 68\npending none\ncv 1024 255\n\
-            loco l1000\nspeed 14 14 f\non 1\npending c3e8ec1c06dd\nend\n",
-        b"dcc-decoders 1\nboard 0\nout 0 3 7\nposition 0 1 0 1\naspect 0 1 254 255\nend\n",
+        b"dcc-decoders 2\nend\n",
+        b"dcc-decoders 2\nloco none\nspeed 126 126 r\non 0 5 68\nstates\npending none\ncv 1024 255\n\
+            loco l1000\nspeed 14 14 f\non 1\nstates\npending c3e8ec1c06dd\nend\n",
+        b"dcc-decoders 2\nboard 0\nout 0 3 7\nposition 0 1 0 1\naspect 0 1 254 255\nend\n",
     ];
     for text in rows {
         expect(&rt, rt.alloc(), text, Limits::full(), Ok(()), text)?;
     }
-    let text = b"dcc-decoders 1\nend".as_slice();
-    let whole = b"dcc-decoders 1\nend\n".as_slice();
+    let text = b"dcc-decoders 2\nend".as_slice();
+    let whole = b"dcc-decoders 2\nend\n".as_slice();
     expect(&rt, rt.alloc(), text, Limits::full(), Ok(()), whole)
 }
 
@@ -100,11 +105,55 @@ fn a_fleet_hears_its_packets(rt: HostRuntime) -> Result<(), Fail> {
     expect(&rt, rt.alloc(), AFTER, Limits::full(), Ok(()), AFTER)
 }
 
+/// The text of version 1, which says no states.
+const OLD: &[u8] = b"dcc-decoders 1\nloco s3\nspeed stop f\non\npending none\ncv 1 3\ncv 29 2\n\
+    board 12\nout\nposition 0 0 0 0\naspect 0 0 0 0\nend\n";
+
+/// The text with the states 5 and 127 on.
+const STATES: &[u8] = b"dcc-decoders 2\nloco s3\nspeed stop f\non\nstates 5 127\npending none\ncv 1 3\n\
+    cv 29 2\nboard 12\nout\nposition 0 0 0 0\naspect 0 0 0 0\nend\n";
+
+/// The text with state 127 on.
+const STATE: &[u8] = b"dcc-decoders 2\nloco s3\nspeed stop f\non\nstates 127\npending none\ncv 1 3\n\
+    cv 29 2\nboard 12\nout\nposition 0 0 0 0\naspect 0 0 0 0\nend\n";
+
+#[test]
+fn an_old_text_is_carried_over(rt: HostRuntime) -> Result<(), Fail> {
+    expect(&rt, rt.alloc(), OLD, Limits::full(), Ok(()), TEXT)
+}
+
+#[test]
+fn binary_states_are_saved(rt: HostRuntime) -> Result<(), Fail> {
+    let alloc = rt.alloc();
+    expect(&rt, alloc, STATES, Limits::full(), Ok(()), STATES)?;
+    let rows: [(&[u8], &[u8]); 2] = [(b"frame 03dd05db\n", STATE), (b"frame 000000\n", TEXT)];
+    for (lines, written) in rows {
+        let input = played_to(alloc, STATES, lines)?;
+        expect(&rt, alloc, input.as_slice(), Limits::full(), Ok(()), written)?;
+    }
+    // all of them in one line
+    let input = played_to(alloc, OLD, b"frame 03dd805e\n")?;
+    let mut reader = Input::new(Counted::new(input.as_slice()), Limits::full());
+    let saved = read_decoders(alloc, &mut reader)?;
+    let mut fleet = fleet_of(alloc, saved.as_slice())?;
+    let mut writer = Counted::new(Vec::new(alloc));
+    assert_eq!(rt; run(fleet.as_mut_slice(), &mut reader, &mut writer), Ok(()));
+    let text = writer.inner;
+    expect(&rt, alloc, text.as_slice(), Limits::full(), Ok(()), text.as_slice())?;
+    let mut again = Input::new(Counted::new(text.as_slice()), Limits::full());
+    for decoder in read_decoders(alloc, &mut again)?.iter() {
+        if let Saved::Loco(state) = decoder {
+            assert_eq!(rt; state.states, u128::MAX - 1);
+        }
+    }
+    Ok(())
+}
+
 #[test]
 fn a_bad_word_behind_the_text_is_told_by_its_line(rt: HostRuntime) -> Result<(), Fail> {
     let mut text = played(rt.alloc(), b"")?;
     text.extend_from_slice(b"58x")?;
-    let answer = Err(ToolFault::Number { line: 13 });
+    let answer = Err(ToolFault::Number { line: 14 });
     expect(
         &rt,
         rt.alloc(),
@@ -129,7 +178,7 @@ fn followed(alloc: Global, words: &[u8]) -> Result<Vec<u8>, Fail> {
 #[test]
 fn a_fleet_hears_runs(rt: HostRuntime) -> Result<(), Fail> {
     let text = followed(rt.alloc(), SLOW)?;
-    let after = b"dcc-decoders 1\nloco s3\nspeed 28 1 f\non\npending none\ncv 1 3\ncv 29 2\n\
+    let after = b"dcc-decoders 2\nloco s3\nspeed 28 1 f\non\nstates\npending none\ncv 1 3\ncv 29 2\n\
         board 12\nout\nposition 0 0 0 0\naspect 0 0 0 0\nend\n"
         .as_slice();
     let limits = |halves| Limits {
@@ -143,7 +192,7 @@ fn a_fleet_hears_runs(rt: HostRuntime) -> Result<(), Fail> {
     let rows: [&[u8]; 5] = [b"58*0", b"58*16777217", b"58*", b"*5", b"58*5*2"];
     for word in rows {
         let bad = followed(rt.alloc(), word)?;
-        let answer = Err(ToolFault::Number { line: 13 });
+        let answer = Err(ToolFault::Number { line: 14 });
         expect(&rt, rt.alloc(), bad.as_slice(), Limits::full(), answer, b"")?;
     }
     let longest = followed(rt.alloc(), b"58*16777216")?;
@@ -159,8 +208,8 @@ fn a_fleet_hears_runs(rt: HostRuntime) -> Result<(), Fail> {
 
 #[test]
 fn halves_and_bytes_have_limits(rt: HostRuntime) -> Result<(), Fail> {
-    let text = b"dcc-decoders 1\nend\n58 58\n".as_slice();
-    let whole = b"dcc-decoders 1\nend\n".as_slice();
+    let text = b"dcc-decoders 2\nend\n58 58\n".as_slice();
+    let whole = b"dcc-decoders 2\nend\n".as_slice();
     let limits = |halves, bytes| Limits { halves, bytes };
     expect(&rt, rt.alloc(), text, limits(2, 25), Ok(()), whole)?;
     let much = Err(ToolFault::TooMuch);
@@ -225,7 +274,7 @@ fn a_writer_takes_the_text_in_parts_or_fails(rt: HostRuntime) -> Result<(), Fail
 /// A text of so many boards.
 fn boards(alloc: Global, count: u32) -> Result<Vec<u8>, Fail> {
     let mut text = Vec::new(alloc);
-    text.extend_from_slice(b"dcc-decoders 1\n")?;
+    text.extend_from_slice(b"dcc-decoders 2\n")?;
     for _ in 0..count {
         text.extend_from_slice(b"board 12\nout\nposition 0 0 0 0\naspect 0 0 0 0\n")?;
     }

@@ -8,7 +8,7 @@ use Rattle.dcc_listen.proofs.fleet_text.write_fleet.Goals as goal
 pub returns-in-Err : goal.returns-in-Err
 returns-in-Err g c =
     Writes-first (g.W.Sink.contents c.args.writer.now) (g.W.Sink.contents c.write_all.new.writer) (g.W.Sink.failures c.args.writer.now) (g.W.Sink.failures c.write_all.new.writer)
-    (codes "dcc-decoders 1\n") (flat_map member_text (map (λ decoder. let is = goal.Decoder-dyn g (decoder.vtable, decoder.value) in (is.who decoder.value, is.registers decoder.value)) c.args.decoders.now) ++ codes "end\n") c.in-Err.failed c.in-Err.ensures
+    (codes "dcc-decoders 2\n") (flat_map member_text (map (λ decoder. let is = goal.Decoder-dyn g (decoder.vtable, decoder.value) in (is.who decoder.value, is.registers decoder.value)) c.args.decoders.now) ++ codes "end\n") c.in-Err.failed c.in-Err.ensures
 
 pub returns-in-Err-write_decoder : goal.returns-in-Err-write_decoder
 returns-in-Err-write_decoder g c =
