@@ -68,10 +68,7 @@ impl Outcome {
 }
 
 /// The outcomes in a list of durations, each with the number of its last half, from 1.
-pub fn outcomes(
-    alloc: Global,
-    durations: &[u16],
-) -> Result<Vec<(usize, Outcome)>, AllocError> {
+pub fn outcomes(alloc: Global, durations: &[u16]) -> Result<Vec<(usize, Outcome)>, AllocError> {
     let mut outcomes = Vec::new(alloc);
     let mut unused = 0;
     for place in 0..durations.len() {
@@ -108,7 +105,7 @@ enum Pair {
     Cut,
 }
 
-fn pair(halves: &[u16], at: usize) -> Pair {
+fn pair_at(halves: &[u16], at: usize) -> Pair {
     let first = match halves.get(at) {
         None => return Pair::Cut,
         Some(us) => Half::of(*us),
@@ -135,7 +132,7 @@ fn body(halves: &[u16]) -> Option<(usize, Outcome)> {
     let mut bytes = [0u8; 6];
     for number in 0..55usize {
         let at = 2 * number;
-        let bit = match pair(halves, at) {
+        let bit = match pair_at(halves, at) {
             Pair::Bit(bit) => bit,
             Pair::Bad(n) => return Some((at.saturating_add(n), Outcome::refused(1))),
             Pair::Split => return Some((at + 2, Outcome::refused(2))),

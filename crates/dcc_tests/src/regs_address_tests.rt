@@ -1,8 +1,8 @@
 //! Worked examples of active addresses, each held against the plain and the packed type.
 
 use crate::regs_examples::*;
-use dcc_regs::{Decoder, LocoDecoder, PackedLoco, Register, Speed, Value, Who};
 use dcc_packet::Address;
+use dcc_regs::{Decoder, LocoDecoder, PackedLoco, Register, Speed, Value, Who};
 use std::process::Abort;
 use std::test::Fail;
 

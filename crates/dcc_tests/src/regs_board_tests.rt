@@ -1,8 +1,8 @@
 //! Worked examples of accessory decoders, each held against the plain and the packed type.
 
 use crate::regs_examples::*;
-use dcc_regs::{Decoder, Register, Value};
 use dcc_packet::PacketFault;
+use dcc_regs::{Decoder, Register, Value};
 use std::process::Abort;
 use std::test::Fail;
 

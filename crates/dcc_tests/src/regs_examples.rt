@@ -1,7 +1,9 @@
 //! What the worked examples share. A packet is written as a line: `frame` and its bytes in hex.
 
-use dcc_regs::{BoardDecoder, Decoder, LocoDecoder, PackedBoard, PackedLoco, Register, Speed, Value};
 use dcc_packet::{Board, CvNumber, Packet, PacketFault};
+use dcc_regs::{
+    BoardDecoder, Decoder, LocoDecoder, PackedBoard, PackedLoco, Register, Speed, Value,
+};
 use std::process::Abort;
 
 pub const ON: Value = Value::Flag(true);

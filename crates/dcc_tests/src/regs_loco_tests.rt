@@ -1,8 +1,8 @@
 //! Worked examples of locomotive decoders, each held against the plain and the packed type.
 
 use crate::regs_examples::*;
-use dcc_regs::{Decoder, Register, Speed, Value};
 use dcc_packet::Packet;
+use dcc_regs::{Decoder, Register, Speed, Value};
 use std::process::Abort;
 use std::test::Fail;
 

@@ -1,11 +1,11 @@
 //! Worked examples of saved states, each held against the plain and the packed type.
 
 use crate::regs_examples::*;
+use dcc_packet::{Address, Board, CvNumber, Packet, PacketFault};
 use dcc_regs::{
     BoardDecoder, BoardState, Decoder, LocoDecoder, LocoState, PackedBoard, PackedLoco, Register,
     Speed, Value, Who,
 };
-use dcc_packet::{Address, Board, CvNumber, Packet, PacketFault};
 use std::process::Abort;
 use std::test::Fail;
 

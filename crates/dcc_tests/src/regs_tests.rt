@@ -1,7 +1,7 @@
 //! Worked examples of the definitions: who hears what, what is told, which packets conflict.
 
-use dcc_regs::*;
 use dcc_packet::{Address, Board, Packet};
+use dcc_regs::*;
 use std::test::Fail;
 
 #[test]

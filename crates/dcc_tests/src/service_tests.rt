@@ -1,7 +1,7 @@
 //! Worked frames and their answers, and every frame of four bytes held against the patterns of the table.
 
-use dcc_service::{CvReader, Reading, ServiceDecoder, ServicePacket, ask, question_frames};
 use dcc_packet::{BitPlace, CvNumber};
+use dcc_service::{CvReader, Reading, ServiceDecoder, ServicePacket, ask, question_frames};
 use dcc_wire::Frame;
 use std::process::Abort;
 

@@ -1,7 +1,7 @@
 //! Worked examples. A packet is written as the line of its frame.
 
-use dcc_station::*;
 use dcc_packet::{Packet, PacketFault};
+use dcc_station::*;
 use std::alloc::Global;
 use std::test::Fail;
 

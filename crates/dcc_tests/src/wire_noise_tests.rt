@@ -122,7 +122,8 @@ fn push_byte(durations: &mut Vec<u16>, byte: u8) -> Result<(), AllocError> {
 fn push_bit(durations: &mut Vec<u16>, bit: bool) -> Result<(), AllocError> {
     let us = if bit { 58 } else { 100 };
     durations.push(us)?;
-    durations.push(us)
+    durations.push(us)?;
+    Ok(())
 }
 
 /// 5,000 packets, of whose halves one in so many has some other duration, most of them near the two bands.

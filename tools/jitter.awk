@@ -1,0 +1,30 @@
+# A capture, as `dcc encode` writes it, to what a logic analyser would have seen: each edge up to `jitter` microseconds early or
+# late, and seen at the next of `rate` samples a microsecond. Written as VCD, or with -v csv=1 as Saleae's digital CSV.
+# -v seed=.. chooses the noise; the same seed gives the same edges.
+function noise() { seed = (seed * 16807) % 2147483647; return 2 * seed / 2147483647 - 1 }
+function edge(at, level,    sample) {
+    sample = int(at * rate) + 1
+    if (csv) printf "%.9f,%d\n", sample / rate / 1e6, level
+    else printf "#%d %d!\n", sample * unit / rate, level
+}
+BEGIN {
+    if (!rate) rate = 8
+    if (!seed) seed = 1
+    # a sample takes a whole number of these units: 1 us at 1 MHz, 1 ns at 8 MHz, else 100 ps
+    unit = rate == 1 ? 1 : rate == 8 ? 1000 : 10000
+    name = rate == 1 ? "1 us" : rate == 8 ? "1 ns" : "100 ps"
+    if (csv) print "Time [s],Channel 0\n0.000000000,0"
+    else printf "$timescale %s $end\n$scope module dcc $end\n$var wire 1 ! track $end\n$upscope $end\n$enddefinitions $end\n#0 0!\n", name
+    at = 37.3
+    level = 1
+    edge(at, level)
+}
+{
+    sub(/#.*/, "")
+    for (i = 1; i <= NF; i++) {
+        at += $i
+        level = 1 - level
+        edge(at + jitter * noise(), level)
+    }
+}
+END { if (!csv) printf "#%d\n", (int(at * rate) + 200 * rate) * unit / rate }
