@@ -1,5 +1,7 @@
 //! Whether two captures hold packets that are alike for a decoder.
-ghost use Rattle.std.specs.Prelude.{◌≡◌};
+ghost use Rattle.std.specs.Prelude.{◌≡◌, None, IfSome};
+ghost use Rattle.dcc_io.specs.Faults.{as_tool_fault};
+ghost use Rattle.dcc_io.specs.InputState.{HasCause};
 ghost use Rattle.dcc_listen.specs.Compared.{Compares};
 ghost use Rattle.dcc_listen.specs.VerdictLine.{verdict_line as line_of};
 ghost use Rattle.dcc_io.specs.Written.{Writes};
@@ -23,9 +25,24 @@ pub fn same<L: Source, R: Source, W: Sink>(
     writer: &mut W,
     who: Who,
 ) -> Result<Verdict, ToolFault>
+    // A fault that the first input keeps is answered again, else one that the second keeps, and nothing is read or written.
+    ensures kept { IfSome left.old.fault (λ fault. (result ≡ Err (as_tool_fault fault)) × (left.new ≡ left.old) × (right.new ≡ right.old) × (writer.new ≡ writer.old)) }
+    ensures kept_second { left.old.fault ≡ None → IfSome right.old.fault (λ fault. (result ≡ Err (as_tool_fault fault)) × (left.new ≡ left.old) × (right.new ≡ right.old) × (writer.new ≡ writer.old)) }
+    ensures cause { HasCause left.old.fault left.old.failures }
+    ensures cause_second { HasCause right.old.fault right.old.failures }
+
+    // Else both captures are read, up to the first fault, and the verdict is written if there is none.
     ensures compares { Compares who left.old right.old (W.contents writer.old) (W.failures writer.old) result
         left.new right.new (W.contents writer.new) (W.failures writer.new) }
 {
+    let left_fault = left.fault();
+    let right_fault = right.fault();
+    if let Some(fault) = left_fault {
+        return Err(fault.told());
+    }
+    if let Some(fault) = right_fault {
+        return Err(fault.told());
+    }
     let verdict = match compare_in_step(alloc, left, right, who) {
         Ok(verdict) => verdict,
         Err(fault) => return Err(fault),

@@ -1,5 +1,7 @@
 //! Whether the two captures of one input hold packets that are alike for a decoder.
-ghost use Rattle.std.specs.Prelude.{List, IfOk, IfErr};
+ghost use Rattle.std.specs.Prelude.{◌≡◌, List, IfOk, IfErr, IfSome};
+ghost use Rattle.dcc_io.specs.Faults.{as_tool_fault};
+ghost use Rattle.dcc_io.specs.InputState.{HasCause};
 ghost use Rattle.dcc_packet.specs.declared.packet.Packet.{Packet};
 ghost use Rattle.dcc_order.specs.Verdicts.{IsVerdict};
 ghost use Rattle.dcc_listen.specs.ComparedBoth.{ComparesBoth};
@@ -25,9 +27,17 @@ pub fn same_input<R: Source, W: Sink>(
     writer: &mut W,
     who: Who,
 ) -> Result<Verdict, ToolFault>
+    // A fault that the input keeps is answered again, and nothing is read or written.
+    ensures kept { IfSome input.old.fault (λ fault. (result ≡ Err (as_tool_fault fault)) × (input.new ≡ input.old) × (writer.new ≡ writer.old)) }
+    ensures cause { HasCause input.old.fault input.old.failures }
+
+    // Else both captures are read, up to the first fault, and the verdict is written if there is none.
     ensures compares { ComparesBoth who input.old (W.contents writer.old) (W.failures writer.old) result
         input.new (W.contents writer.new) (W.failures writer.new) }
 {
+    if let Some(fault) = input.fault() {
+        return Err(fault.told());
+    }
     let verdict = match compare_both(alloc, input, who) {
         Ok(verdict) => verdict,
         Err(fault) => return Err(fault),

@@ -1,0 +1,158 @@
+//! The calls that requests ask for.
+ghost use Rattle.std.specs.Prelude.{◌≡◌, nat_le, true};
+ghost use Rattle.dcc_regs.specs.declared.register.Who.TheVariants.{Loco as LocoWho, Board as BoardWho};
+ghost use Rattle.dcc_regs.specs.LocoState.{is_state, content as loco_content};
+ghost use Rattle.dcc_regs.specs.BoardState.{content as board_content};
+ghost use Rattle.dcc_regs.specs.Loco.{loco_registers};
+ghost use Rattle.dcc_regs.specs.Board.{board_registers};
+ghost use Rattle.dcc_tool.specs.Performs.{Performs, ReadsTrack, RunsText};
+
+use crate::ending::Ending;
+use dcc_io::{Input, Saved, Sink, Source, ToolFault, read_decoders};
+use dcc_listen::{run, same_input, show};
+use dcc_packet::CvNumber;
+use dcc_regs::{BoardState, Decoder, LocoState, PackedBoard, PackedLoco, Who};
+use dcc_send::{Encode, encode, programming_track, readcv};
+use std::alloc::Global;
+
+/// What a call of the program is asked for.
+#[derive(Clone, Copy, Debug, PartialEq, Eq)]
+pub enum Request {
+    /// The listing of a capture, with packets as lines where `words` is set.
+    Show { words: bool },
+
+    /// The halves or the bytes of the packets of packet lines.
+    Encode(Encode),
+
+    /// A capture is played to the decoders of a decoder text.
+    Run,
+
+    /// Two captures are compared for this decoder.
+    Same(Who),
+
+    /// A CV is read on a programming track: an empty one, or that of a decoder text.
+    ReadCv { cv: CvNumber, empty: bool },
+}
+
+/// Does what is asked for, with this input and writer.
+pub fn perform<R: Source, W: Sink>(
+    alloc: Global,
+    request: Request,
+    input: &mut Input<R>,
+    writer: &mut W,
+) -> Result<Ending, ToolFault>
+    ensures { Performs request (record { input = input.old; written = W.contents writer.old; failures = W.failures writer.old }) result
+        (record { input = input.new; written = W.contents writer.new; failures = W.failures writer.new }) }
+{
+    match request {
+        Request::Show { words } => match show(input, writer, words) {
+            Ok(()) => Ok(Ending::Done),
+            Err(fault) => Err(fault),
+        },
+        Request::Encode(how) => match encode(alloc, input, writer, how) {
+            Ok(()) => Ok(Ending::Done),
+            Err(fault) => Err(fault),
+        },
+        Request::Run => match run_saved(alloc, input, writer) {
+            Ok(()) => Ok(Ending::Done),
+            Err(fault) => Err(fault),
+        },
+        Request::Same(who) => match same_input(alloc, input, writer, who) {
+            Ok(verdict) => Ok(Ending::Verdict(verdict)),
+            Err(fault) => Err(fault),
+        },
+        Request::ReadCv { cv, empty } => match read_on_track(alloc, input, writer, cv, empty) {
+            Ok(value) => Ok(Ending::Value(value)),
+            Err(fault) => Err(fault),
+        },
+    }
+}
+
+/// `readcv` on an empty track, or for the first locomotive of a decoder text.
+fn read_on_track<R: Source, W: Sink>(
+    alloc: Global,
+    input: &mut Input<R>,
+    writer: &mut W,
+    cv: CvNumber,
+    empty: bool,
+) -> Result<Option<u8>, ToolFault>
+    ensures { ReadsTrack empty cv (record { input = input.old; written = W.contents writer.old; failures = W.failures writer.old }) result
+        (record { input = input.new; written = W.contents writer.new; failures = W.failures writer.new }) }
+{
+    if empty {
+        return readcv(None, cv, writer);
+    }
+    let decoders = match read_decoders(alloc, input) {
+        Ok(decoders) => decoders,
+        Err(fault) => return Err(fault),
+    };
+    match programming_track(decoders.as_slice(), input.lines()) {
+        Ok(mut decoder) => readcv(Some(&mut decoder), cv, writer),
+        Err(fault) => Err(fault),
+    }
+}
+
+/// The locomotive decoder that was saved.
+fn loco_of(state: &LocoState) -> PackedLoco
+    requires { is_state state.now ≡ true }
+    ensures who { ⟦<PackedLoco as Decoder>⟧.who result ≡ LocoWho state.now.address }
+    ensures registers { ⟦<PackedLoco as Decoder>⟧.registers result ≡ loco_registers (loco_content state.now) }
+{
+    match PackedLoco::restore(state) {
+        Ok(decoder) => decoder,
+        Err(_) => unreachable!(),
+    }
+}
+
+/// The accessory decoder that was saved.
+fn board_of(state: &BoardState) -> PackedBoard
+    requires { nat_le state.now.board.number 510 ≡ true }
+    ensures who { ⟦<PackedBoard as Decoder>⟧.who result ≡ BoardWho state.now.board }
+    ensures registers { ⟦<PackedBoard as Decoder>⟧.registers result ≡ board_registers (board_content state.now) }
+{
+    match PackedBoard::restore(state) {
+        Ok(decoder) => decoder,
+        Err(_) => unreachable!(),
+    }
+}
+
+/// `run` for the decoders of a decoder text, with the capture behind it.
+fn run_saved<R: Source, W: Sink>(
+    alloc: Global,
+    input: &mut Input<R>,
+    writer: &mut W,
+) -> Result<(), ToolFault>
+    ensures { RunsText (record { input = input.old; written = W.contents writer.old; failures = W.failures writer.old }) result
+        (record { input = input.new; written = W.contents writer.new; failures = W.failures writer.new }) }
+{
+    let saved = match read_decoders(alloc, input) {
+        Ok(saved) => saved,
+        Err(fault) => return Err(fault),
+    };
+    let mut fleet: Vec<Box<dyn Decoder>> = Vec::new(alloc);
+    'decoders: for decoder in &saved {
+        match decoder {
+            Saved::Loco(state) => {
+                let boxed = match Box::new(alloc, loco_of(state)) {
+                    Ok(boxed) => boxed,
+                    Err(_) => return Err(ToolFault::NoMemory),
+                };
+                match fleet.push(boxed) {
+                    Ok(()) => (),
+                    Err(_) => return Err(ToolFault::NoMemory),
+                }
+            }
+            Saved::Board(state) => {
+                let boxed = match Box::new(alloc, board_of(state)) {
+                    Ok(boxed) => boxed,
+                    Err(_) => return Err(ToolFault::NoMemory),
+                };
+                match fleet.push(boxed) {
+                    Ok(()) => (),
+                    Err(_) => return Err(ToolFault::NoMemory),
+                }
+            }
+        }
+    }
+    run(fleet.as_mut_slice(), input, writer)
+}
