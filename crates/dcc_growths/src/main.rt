@@ -1,0 +1,38 @@
+//! Calls that may want memory, and calls that take none, each with its full answer or with want of memory and nothing changed.
+//! `tools/growths` runs the program with the first growth of memory refused, with the second, and so on.
+#![tactic(auto)]
+
+mod lists;
+mod page;
+mod tool;
+
+use std::process::ExitCode;
+
+fn main(rt: HostRuntime) -> ExitCode {
+    let rows = [
+        ("a station", lists::station(rt.alloc())),
+        ("two lists", lists::two_lists(rt.alloc())),
+        ("two lists in step", lists::in_step(rt.alloc())),
+        ("a fleet", tool::fleet(rt.alloc())),
+        ("a station that is driven", tool::driven(rt.alloc())),
+        ("two captures", tool::two_captures(rt.alloc())),
+        ("two captures in one input", tool::both_captures(rt.alloc())),
+        ("captures that are not heard", tool::unheard(rt.alloc())),
+        ("a listing", tool::listing()),
+        ("lines", tool::lines(rt.alloc())),
+        ("a reading", tool::reading()),
+    ];
+    let mut status = 0;
+    for (name, came) in rows {
+        let word = match came {
+            Some(false) => "full answer",
+            Some(true) => "want of memory",
+            None => "WRONG",
+        };
+        if came.is_none() {
+            status = 1;
+        }
+        let _ = println!(rt; "{name}: {word}");
+    }
+    ExitCode::from(status)
+}

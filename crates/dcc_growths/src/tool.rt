@@ -1,0 +1,162 @@
+//! What the program does. Each answers whether memory was wanted, and then nothing was written; none where something is wrong.
+
+use crate::page::Page;
+use dcc_order::Verdict;
+use dcc_packet::{Address, Board, CvNumber};
+use dcc_regs::{BoardDecoder, Decoder, LocoDecoder, Who};
+use dcc_service::ServiceDecoder;
+use dcc_tool::{
+    Counted, Encode, Input, Limits, Saved, ToolFault, encode, read_decoders, readcv, run, same,
+    same_input, show,
+};
+use std::alloc::{AllocError, Global};
+
+/// `03 62 61`.
+const SLOW: &[u8] = b"58*28 100*14 58*4 100*4 58*4 100*6 58*2 100*6 58*4 100*8 58*4\n";
+
+/// An idle packet, `03 62 61`, and `03 62 60`, whose error byte is wrong.
+const AMONG_OTHERS: &[u8] = b"58*28 100*2 58*16 100*20 58*18\n\
+    58*28 100*14 58*4 100*4 58*4 100*6 58*2 100*6 58*4 100*8 58*4\n\
+    58*28 100*14 58*4 100*4 58*4 100*6 58*2 100*6 58*4 100*10 58*2\n";
+
+/// Both in one input.
+const BOTH: &[u8] = b"58*28 100*14 58*4 100*4 58*4 100*6 58*2 100*6 58*4 100*8 58*4\n---\n\
+    58*28 100*2 58*16 100*20 58*18\n\
+    58*28 100*14 58*4 100*4 58*4 100*6 58*2 100*6 58*4 100*8 58*4\n\
+    58*28 100*14 58*4 100*4 58*4 100*6 58*2 100*6 58*4 100*10 58*2\n";
+
+/// A locomotive decoder at short 3 and board 12, and `03 62 61`.
+const FLEET: &[u8] = b"dcc-decoders 2\nloco s3\nspeed stop f\non\nstates\npending none\ncv 1 3\ncv 29 2\n\
+    board 12\nout\nposition 0 0 0 0\naspect 0 0 0 0\nend\n\
+    58*28 100*14 58*4 100*4 58*4 100*6 58*2 100*6 58*4 100*8 58*4\n";
+
+/// The decoders when they have heard it.
+const FLEET_AFTER: &[u8] =
+    b"dcc-decoders 2\nloco s3\nspeed 28 1 f\non\nstates\npending none\ncv 1 3\ncv 29 2\n\
+    board 12\nout\nposition 0 0 0 0\naspect 0 0 0 0\nend\n";
+
+/// The reading of a CV that is 0.
+const ZERO: &[u8] =
+    b"7800e890 no\n7800e991 no\n7800ea92 no\n7800eb93 no\n7800ec94 no\n7800ed95 no\n\
+    7800ee96 no\n7800ef97 no\n74000074 yes\nvalue 0\n";
+
+fn input(text: &[u8]) -> Input<Counted<&[u8]>> {
+    Input::new(Counted::new(text), Limits::full())
+}
+
+/// The full answer and text, or want of memory and no text.
+fn all_or_nothing(answer: Result<bool, ToolFault>, page: &Page, text: &[u8]) -> Option<bool> {
+    match answer {
+        Ok(true) if page.is(text) => Some(false),
+        Err(ToolFault::NoMemory) if page.is(b"") => Some(true),
+        _ => None,
+    }
+}
+
+/// The answer and text of a call that takes no memory.
+fn all(right: bool, page: &Page, text: &[u8]) -> Option<bool> {
+    if right && page.is(text) {
+        Some(false)
+    } else {
+        None
+    }
+}
+
+/// The fleet of these, those left out that cannot be.
+fn fleet_of(alloc: Global, saved: &[Saved]) -> Result<Vec<Box<dyn Decoder>>, AllocError> {
+    let mut fleet: Vec<Box<dyn Decoder>> = Vec::new(alloc);
+    for decoder in saved {
+        match decoder {
+            Saved::Loco(state) => {
+                if let Ok(decoder) = LocoDecoder::restore(state) {
+                    fleet.push(Box::new(alloc, decoder)?)?;
+                }
+            }
+            Saved::Board(state) => {
+                if let Ok(decoder) = BoardDecoder::restore(state) {
+                    fleet.push(Box::new(alloc, decoder)?)?;
+                }
+            }
+        }
+    }
+    Ok(fleet)
+}
+
+/// A decoder text is read, boxes are made by the caller, and `run` takes no memory.
+pub fn fleet(alloc: Global) -> Option<bool> {
+    let mut input = input(FLEET);
+    let mut page = Page::new();
+    let saved = match read_decoders(alloc, &mut input) {
+        Ok(saved) => saved,
+        Err(ToolFault::NoMemory) => return Some(true),
+        Err(_) => return None,
+    };
+    let mut fleet = match fleet_of(alloc, saved.as_slice()) {
+        Ok(fleet) => fleet,
+        Err(_) => return Some(true),
+    };
+    let right = run(fleet.as_mut_slice(), &mut input, &mut page).is_ok();
+    all(right, &page, FLEET_AFTER)
+}
+
+pub fn driven(alloc: Global) -> Option<bool> {
+    let how = Encode {
+        hex: true,
+        service: false,
+        station: Some((16, 32, 1)),
+    };
+    let mut input = input(b"loco s3 speed28 f 4\nsend 2\nidle\n");
+    let mut page = Page::new();
+    let answer = encode(alloc, &mut input, &mut page, how).map(|_| true);
+    all_or_nothing(answer, &page, b"036261\n036261\n# refused C3\n")
+}
+
+pub fn two_captures(alloc: Global) -> Option<bool> {
+    let s3 = Who::Loco(Some(Address::short(3).ok()?));
+    let (mut first, mut second) = (input(SLOW), input(AMONG_OTHERS));
+    let mut page = Page::new();
+    let answer = same(alloc, &mut first, &mut second, &mut page, s3);
+    all_or_nothing(answer.map(|v| v == Verdict::Alike), &page, b"alike\n")
+}
+
+pub fn both_captures(alloc: Global) -> Option<bool> {
+    let s3 = Who::Loco(Some(Address::short(3).ok()?));
+    let mut both = input(BOTH);
+    let mut page = Page::new();
+    let answer = same_input(alloc, &mut both, &mut page, s3);
+    all_or_nothing(answer.map(|v| v == Verdict::Alike), &page, b"alike\n")
+}
+
+/// Neither an end nor a packet that is not heard takes memory.
+pub fn unheard(alloc: Global) -> Option<bool> {
+    let b13 = Who::Board(Board::new(13).ok()?);
+    let (mut first, mut second) = (input(SLOW), input(AMONG_OTHERS));
+    let mut page = Page::new();
+    let answer = same(alloc, &mut first, &mut second, &mut page, b13);
+    all(answer == Ok(Verdict::Alike), &page, b"alike\n")
+}
+
+pub fn listing() -> Option<bool> {
+    let mut page = Page::new();
+    let right = show(&mut input(AMONG_OTHERS), &mut page, false).is_ok();
+    all(right, &page, b"84 ff00ff\n168 036261\n252 refused H5 036260\n")
+}
+
+pub fn lines(alloc: Global) -> Option<bool> {
+    let how = Encode {
+        hex: true,
+        service: false,
+        station: None,
+    };
+    let mut page = Page::new();
+    let mut lines = input(b"loco s3 speed28 f 4\nidle\n");
+    let right = encode(alloc, &mut lines, &mut page, how).is_ok();
+    all(right, &page, b"036261\nff00ff\n")
+}
+
+pub fn reading() -> Option<bool> {
+    let mut decoder = ServiceDecoder::new(&[0; 1024]);
+    let mut page = Page::new();
+    let answer = readcv(Some(&mut decoder), CvNumber::new(1).ok()?, &mut page);
+    all(answer == Ok(Some(0)), &page, ZERO)
+}
