@@ -226,10 +226,7 @@ fn texts_of_refusals(rt: HostRuntime) -> Result<(), Fail> {
         (PacketFault::Short, "P1: a short address is 1 to 127"),
         (PacketFault::Word, "P10: wrong word"),
         (PacketFault::State, "P13: no state of a decoder"),
-        (
-            PacketFault::StateNumber,
-            "P14: a binary state is 0 to 127",
-        ),
+        (PacketFault::StateNumber, "P14: a binary state is 0 to 127"),
     ];
     for (fault, wanted) in cases {
         let text = format!(in rt.alloc(); "{fault}")?;

@@ -5,8 +5,8 @@ use dcc_io::{Counted, Input, Limits, Saved, ToolFault, read_decoders};
 use dcc_order::{Verdict, compare};
 use dcc_packet::{Address, Packet, PacketFault, StateNumber, What};
 use dcc_regs::{
-    Decoder, LastNote, LocoDecoder, LocoState, PackedLoco, Register, Speed, Who, announce, conflict,
-    same_registers,
+    Decoder, LastNote, LocoDecoder, LocoState, PackedLoco, Register, Speed, Who, announce,
+    conflict, same_registers,
 };
 use dcc_station::Station;
 use dcc_wire::Frame;
@@ -33,10 +33,7 @@ fn binary_states_are_spelled(rt: HostRuntime) -> Result<(), Fail> {
         (&[0x03, 0xDD, 0x80, 0x5E], "loco s3 state 0 on"),
         (&[0x00, 0xDD, 0x85, 0x58], "loco all state 5 on"),
         (&[0x03, 0xDD, 0xFF, 0x21], "loco s3 state 127 on"),
-        (
-            &[0xC3, 0xE8, 0xDD, 0x01, 0xF7],
-            "loco l1000 state 1 off",
-        ),
+        (&[0xC3, 0xE8, 0xDD, 0x01, 0xF7], "loco l1000 state 1 off"),
     ];
     for (bytes, line) in rows {
         let packet = Packet::from_line(line)?;
@@ -87,7 +84,11 @@ fn has_states(rt: &impl Abort, decoder: &dyn Decoder, lines: &[&str], on: fn(u8)
     lacks(rt, decoder, Register::State(0));
     for n in 1..128 {
         let value = if on(n) { ON } else { OFF };
-        assert_eq!(rt; decoder.get(Register::State(n)), Some(value), "{lines:?} {n}");
+        assert_eq!(rt;
+            decoder.get(Register::State(n)),
+            Some(value),
+            "{lines:?} {n}"
+        );
     }
     lacks(rt, decoder, Register::State(128));
 }
@@ -102,15 +103,21 @@ fn binary_states_of_a_locomotive(rt: HostRuntime) -> Result<(), Fail> {
         (2, &[ALL_UP, FIVE_DOWN], |n| n != 5),
         (2, &[ALL_UP, RESET], |_| false),
         (2, &[ALL_UP, "frame 000000"], |_| false),
-        (2, &[FIVE_UP, "loco s3 state 127 on"], |n| n == 5 || n == 127),
+        (
+            2,
+            &[FIVE_UP, "loco s3 state 127 on"],
+            |n| n == 5 || n == 127,
+        ),
         // in 14 steps too, and for all
         (0, &[FIVE_UP], |n| n == 5),
         (2, &[FIVE_UP_FOR_ALL], |n| n == 5),
         // another locomotive, and packets of other kinds
         (2, &["loco s4 state 5 on", "loco l3 state 5 on"], |_| false),
-        (2, &[FIVE_UP, "frame 036261", "frame 039093", WRITE], |n| {
-            n == 5
-        }),
+        (
+            2,
+            &[FIVE_UP, "frame 036261", "frame 039093", WRITE],
+            |n| { n == 5 },
+        ),
     ];
     for (cv29, lines, on) in rows {
         let mut plain = loco(cv29);
@@ -280,10 +287,30 @@ fn text(alloc: Global, version: &[u8], states: Option<&[u8]>) -> Result<Vec<u8>,
 fn wrong_lines_of_states_are_refused(rt: HostRuntime) -> Result<(), Fail> {
     let alloc = rt.alloc();
     let rows: [(&[u8], Option<&[u8]>, u64, PacketFault); 14] = [
-        (b"dcc-decoders 2", Some(b"states 0"), 5, PacketFault::StateNumber),
-        (b"dcc-decoders 2", Some(b"states 128"), 5, PacketFault::StateNumber),
-        (b"dcc-decoders 2", Some(b"states 5 128"), 5, PacketFault::StateNumber),
-        (b"dcc-decoders 2", Some(b"states 256"), 5, PacketFault::Number),
+        (
+            b"dcc-decoders 2",
+            Some(b"states 0"),
+            5,
+            PacketFault::StateNumber,
+        ),
+        (
+            b"dcc-decoders 2",
+            Some(b"states 128"),
+            5,
+            PacketFault::StateNumber,
+        ),
+        (
+            b"dcc-decoders 2",
+            Some(b"states 5 128"),
+            5,
+            PacketFault::StateNumber,
+        ),
+        (
+            b"dcc-decoders 2",
+            Some(b"states 256"),
+            5,
+            PacketFault::Number,
+        ),
         (b"dcc-decoders 2", Some(b"states x"), 5, PacketFault::Number),
         (b"dcc-decoders 2", Some(b"states 5 5"), 5, PacketFault::Word),
         (b"dcc-decoders 2", Some(b"states 7 5"), 5, PacketFault::Word),

@@ -250,7 +250,7 @@ fn a_bad_word_leaves_what_stood_before_it(rt: HostRuntime) -> Result<(), Fail> {
     let mut writer = Counted::new(Vec::new(rt.alloc()));
     let answer = show(&mut input, &mut writer, false);
     assert_eq!(rt; answer, Err(ToolFault::Number { line: 2 }));
-    assert_eq!(rt; writer.inner.as_slice(), b"84 036261\n");
+    assert_eq!(rt; writer.inner.as_slice(), b"84 036261\n".as_slice());
     Ok(())
 }
 
@@ -262,5 +262,8 @@ fn spaces_for_ever_are_too_much(rt: HostRuntime) {
     };
     let mut input = Input::new(Giving::new(b" ", 1, 1_000_000, true), limits);
     let mut writer = Counted::new(Vec::new(rt.alloc()));
-    assert_eq!(rt; show(&mut input, &mut writer, false), Err(ToolFault::TooMuch));
+    assert_eq!(rt;
+        show(&mut input, &mut writer, false),
+        Err(ToolFault::TooMuch)
+    );
 }

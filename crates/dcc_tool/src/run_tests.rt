@@ -8,7 +8,8 @@ use std::process::Abort;
 use std::test::Fail;
 
 /// A locomotive decoder at short 3, and board 12.
-const TEXT: &[u8] = b"dcc-decoders 2\nloco s3\nspeed stop f\non\nstates\npending none\ncv 1 3\ncv 29 2\n\
+const TEXT: &[u8] =
+    b"dcc-decoders 2\nloco s3\nspeed stop f\non\nstates\npending none\ncv 1 3\ncv 29 2\n\
     board 12\nout\nposition 0 0 0 0\naspect 0 0 0 0\nend\n";
 
 /// Packets to both of them.
@@ -110,11 +111,13 @@ const OLD: &[u8] = b"dcc-decoders 1\nloco s3\nspeed stop f\non\npending none\ncv
     board 12\nout\nposition 0 0 0 0\naspect 0 0 0 0\nend\n";
 
 /// The text with the states 5 and 127 on.
-const STATES: &[u8] = b"dcc-decoders 2\nloco s3\nspeed stop f\non\nstates 5 127\npending none\ncv 1 3\n\
+const STATES: &[u8] =
+    b"dcc-decoders 2\nloco s3\nspeed stop f\non\nstates 5 127\npending none\ncv 1 3\n\
     cv 29 2\nboard 12\nout\nposition 0 0 0 0\naspect 0 0 0 0\nend\n";
 
 /// The text with state 127 on.
-const STATE: &[u8] = b"dcc-decoders 2\nloco s3\nspeed stop f\non\nstates 127\npending none\ncv 1 3\n\
+const STATE: &[u8] =
+    b"dcc-decoders 2\nloco s3\nspeed stop f\non\nstates 127\npending none\ncv 1 3\n\
     cv 29 2\nboard 12\nout\nposition 0 0 0 0\naspect 0 0 0 0\nend\n";
 
 #[test]
@@ -129,7 +132,14 @@ fn binary_states_are_saved(rt: HostRuntime) -> Result<(), Fail> {
     let rows: [(&[u8], &[u8]); 2] = [(b"frame 03dd05db\n", STATE), (b"frame 000000\n", TEXT)];
     for (lines, written) in rows {
         let input = played_to(alloc, STATES, lines)?;
-        expect(&rt, alloc, input.as_slice(), Limits::full(), Ok(()), written)?;
+        expect(
+            &rt,
+            alloc,
+            input.as_slice(),
+            Limits::full(),
+            Ok(()),
+            written,
+        )?;
     }
     // all of them in one line
     let input = played_to(alloc, OLD, b"frame 03dd805e\n")?;
@@ -139,7 +149,14 @@ fn binary_states_are_saved(rt: HostRuntime) -> Result<(), Fail> {
     let mut writer = Counted::new(Vec::new(alloc));
     assert_eq!(rt; run(fleet.as_mut_slice(), &mut reader, &mut writer), Ok(()));
     let text = writer.inner;
-    expect(&rt, alloc, text.as_slice(), Limits::full(), Ok(()), text.as_slice())?;
+    expect(
+        &rt,
+        alloc,
+        text.as_slice(),
+        Limits::full(),
+        Ok(()),
+        text.as_slice(),
+    )?;
     let mut again = Input::new(Counted::new(text.as_slice()), Limits::full());
     for decoder in read_decoders(alloc, &mut again)?.iter() {
         if let Saved::Loco(state) = decoder {
@@ -178,9 +195,10 @@ fn followed(alloc: Global, words: &[u8]) -> Result<Vec<u8>, Fail> {
 #[test]
 fn a_fleet_hears_runs(rt: HostRuntime) -> Result<(), Fail> {
     let text = followed(rt.alloc(), SLOW)?;
-    let after = b"dcc-decoders 2\nloco s3\nspeed 28 1 f\non\nstates\npending none\ncv 1 3\ncv 29 2\n\
+    let after =
+        b"dcc-decoders 2\nloco s3\nspeed 28 1 f\non\nstates\npending none\ncv 1 3\ncv 29 2\n\
         board 12\nout\nposition 0 0 0 0\naspect 0 0 0 0\nend\n"
-        .as_slice();
+            .as_slice();
     let limits = |halves| Limits {
         halves,
         bytes: 1000,

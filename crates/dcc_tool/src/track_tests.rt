@@ -52,8 +52,12 @@ fn both_versions_are_put_on_the_track(rt: HostRuntime) -> Result<(), Fail> {
         let mut writer = Counted::new(Vec::new(rt.alloc()));
         let answer = readcv(Some(&mut track), CvNumber::new(1)?, &mut writer);
         assert_eq!(rt; answer, Ok(Some(3)));
-        assert_eq!(rt; writer.inner.as_slice(), b"7800e890 yes\n7800e991 yes\n7800ea92 no\n7800eb93 no\n\
-            7800ec94 no\n7800ed95 no\n7800ee96 no\n7800ef97 no\n74000377 yes\nvalue 3\n".as_slice());
+        assert_eq!(rt;
+            writer.inner.as_slice(),
+            b"7800e890 yes\n7800e991 yes\n7800ea92 no\n7800eb93 no\n\
+            7800ec94 no\n7800ed95 no\n7800ee96 no\n7800ef97 no\n74000377 yes\nvalue 3\n"
+                .as_slice()
+        );
     }
     Ok(())
 }
