@@ -1,42 +1,37 @@
 -- Two captures, read in step.
 use Rattle.std.proofs.Common.{◌≡◌, ◌∙◌, ◌++◌, ◌∷◌, [], refl, sym, ap, subst, Bool, true, false, List, Option, Some, None, Ok, append-nil, append_assoc, length, ℕ, ◌+◌, ◌-◌, ◌<◌, ◌^◌, arith}
-use Rattle.std.specs.Prelude.{slice_get, IfSome}
+use Rattle.std.specs.Prelude.{slice_get, IfSome, is_none, is_some, not}
 use Rattle.std.proofs.lemmas.List.{length-append}
 use Rattle.dcc_packet.specs.declared.packet.Packet.{Packet}
 use Rattle.dcc_regs.specs.declared.register.Who.{Who}
 use Rattle.dcc_order.specs.declared.verdict.Verdict.{Verdict}
-use Rattle.dcc_order.specs.AlikeLists.{cut_for}
-use Rattle.dcc_order.specs.Verdicts.{IsVerdict, IsVerdictFrom}
-use Rattle.dcc_order.proofs.AlikeCuts.{alike_lists}
-use Rattle.dcc_order.proofs.CutTests.{alike_from_verdict, verdict_of_alike}
+use Rattle.dcc_order.specs.Laws.{AlikeIsTheVerdict, AlikeListsLeaveTheSame}
+use Rattle.dcc_order.specs.Verdicts.{IsVerdict}
 use Rattle.dcc_io.specs.InputState.{InputState}
 use Rattle.dcc_listen.specs.Compared.{Compared}
 use Rattle.dcc_listen.specs.Gathered.{Gathered}
-use Rattle.dcc_listen.specs.InStep.{SideRead, ReadBeside}
+use Rattle.dcc_listen.specs.InStep.{SideRead, ReadBeside, ReadInStep}
 use Rattle.dcc_listen.specs.Taking.{Gathering, ReadsOn, TakesPacket}
 use Rattle.dcc_listen.proofs.GatherLemmas.{reads_on, all_read_on}
 use Rattle.dcc_wire.specs.declared.framer.Framer.{Framer}
 use Rattle.dcc_order.specs.GivenLists.{MayFollow, Lists, with_item}
 use Rattle.dcc_order.specs.Comparisons.{StandsFor}
 use Rattle.dcc_order.specs.declared.comparer.Comparer.{Comparer}
-use Rattle.dcc_order.specs.declared.wants.Wants.TheVariants.{Left}
+use Rattle.dcc_order.specs.declared.wants.Wants.TheVariants.{Left, Right}
 use Rattle.dcc_listen.specs.ComparedBoth.{ComparedBoth}
 use Rattle.dcc_listen.specs.GatheredBoth.{GatheredBoth}
 
 -- what a verdict on the packets of two captures says
-pub compared : (who : Who) (left right left' right' : InputState) (verdict : Verdict) (packets others : List Packet) → Gathered left packets left' → Gathered right others right' → IsVerdict who packets others verdict →
+pub compared : AlikeIsTheVerdict → AlikeListsLeaveTheSame → (who : Who) (left right left' right' : InputState) (verdict : Verdict) (packets others : List Packet) → Gathered left packets left' → Gathered right others right' → IsVerdict who packets others verdict →
     Compared who left right left' right' verdict
-compared who left right left' right' verdict packets others first second is = record {
+compared tells leave who left right left' right' verdict packets others first second is = record {
   packets = packets;
   others = others;
   first = first;
   second = second;
   is_verdict = is;
-  alike_is = (
-    λ e. alike_from_verdict 0 (cut_for who packets) (cut_for who others) (subst (IsVerdictFrom 0 (cut_for who packets) (cut_for who others)) e is),
-    λ alike. verdict_of_alike 0 (cut_for who packets) (cut_for who others) verdict alike is,
-  );
-  alike = λ e. alike_lists who packets others (alike_from_verdict 0 (cut_for who packets) (cut_for who others) (subst (IsVerdictFrom 0 (cut_for who packets) (cut_for who others)) e is));
+  alike_is = tells who packets others verdict is;
+  alike = λ e. leave who packets others ((tells who packets others verdict is).0 e);
 }
 
 -- the rest of a capture, behind what was given of it
@@ -68,17 +63,14 @@ side_reads_on false start now framer packets none read = reads_on start now fram
 side_reads_on true start now framer packets none read = all_read_on start now packets read
 
 -- what a verdict on the packets of the two captures of an input says
-pub compared_both : (who : Who) (input input' : InputState) (verdict : Verdict) (packets others : List Packet) → GatheredBoth input packets others input' → IsVerdict who packets others verdict → ComparedBoth who input input' verdict
-compared_both who input input' verdict packets others both is = record {
+pub compared_both : AlikeIsTheVerdict → AlikeListsLeaveTheSame → (who : Who) (input input' : InputState) (verdict : Verdict) (packets others : List Packet) → GatheredBoth input packets others input' → IsVerdict who packets others verdict → ComparedBoth who input input' verdict
+compared_both tells leave who input input' verdict packets others both is = record {
   packets = packets;
   others = others;
   gathered = both;
   is_verdict = is;
-  alike_is = (
-    λ e. alike_from_verdict 0 (cut_for who packets) (cut_for who others) (subst (IsVerdictFrom 0 (cut_for who packets) (cut_for who others)) e is),
-    λ alike. verdict_of_alike 0 (cut_for who packets) (cut_for who others) verdict alike is,
-  );
-  alike = λ e. alike_lists who packets others (alike_from_verdict 0 (cut_for who packets) (cut_for who others) (subst (IsVerdictFrom 0 (cut_for who packets) (cut_for who others)) e is));
+  alike_is = tells who packets others verdict is;
+  alike = λ e. leave who packets others ((tells who packets others verdict is).0 e);
 }
 
 -- the next of the packets that were not given yet
@@ -137,3 +129,64 @@ one_more_fits (Some p) start now framer packets given is few takes =
     let left = takes.gave.left in
     let more = length-append packets (p ∷ []) in
     omega (arith, is, few, held, left, more)
+
+-- whether an item is an end, as it is asked
+pub end_is : (item : Option Packet) (flag : Bool) → is_some item ≡ not flag → flag ≡ is_none item
+end_is None true e = refl
+end_is None false e = cc
+end_is (Some p) true e = cc
+end_is (Some p) false e = refl
+
+-- one item of the right side was taken and given
+pub took_right : (who : Who) (left right left' right' right'' : InputState) (left_framer right_framer next : Framer) (left_ended right_ended flag : Bool) (c new : Comparer) (item : Option Packet) →
+    (s : ReadInStep who left right left' right' left_framer right_framer left_ended right_ended c) → c.wants ≡ Right → new.who ≡ c.who → s.lists.right_ended ≡ false → flag ≡ is_none item →
+    ((lists : Lists) → StandsFor c lists → StandsFor new (with_item c.wants item lists)) → TakesPacket right s.lists.right (Ok item) right'' next →
+    ReadInStep who left right left' right'' left_framer next left_ended flag new
+took_right who left right left' right' right'' left_framer right_framer next left_ended right_ended flag c new None s is_right same_who going e stands takes = record {
+  lists = with_item Right None s.lists;
+  stands = subst (λ w. StandsFor new (with_item w None s.lists)) is_right (stands s.lists s.stands);
+  who_is = same_who ∙ s.who_is;
+  left_read = s.left_read;
+  right_read = subst (λ f. SideRead f right right'' next s.lists.right) (sym e) takes;
+  left_is = s.left_is;
+  right_is = sym e;
+}
+took_right who left right left' right' right'' left_framer right_framer next left_ended right_ended flag c new (Some p) s is_right same_who going e stands takes = record {
+  lists = with_item Right (Some p) s.lists;
+  stands = subst (λ w. StandsFor new (with_item w (Some p) s.lists)) is_right (stands s.lists s.stands);
+  who_is = same_who ∙ s.who_is;
+  left_read = s.left_read;
+  right_read = subst (λ f. SideRead f right right'' next (s.lists.right ++ p ∷ [])) (sym e) takes;
+  left_is = s.left_is;
+  right_is = going ∙ sym e;
+}
+
+-- the same beside a list
+pub took_beside : (who : Who) (packets : List Packet) (given : ℕ) (left_ended : Bool) (input input' input'' : InputState) (framer next : Framer) (ended flag : Bool) (c new : Comparer) (item : Option Packet) →
+    (s : ReadBeside who packets given left_ended input input' framer ended c) → c.wants ≡ Right → new.who ≡ c.who → s.lists.right_ended ≡ false → flag ≡ is_none item →
+    ((lists : Lists) → StandsFor c lists → StandsFor new (with_item c.wants item lists)) → TakesPacket input s.lists.right (Ok item) input'' next →
+    ReadBeside who packets given left_ended input input'' next flag new
+took_beside who packets given left_ended input input' input'' framer next ended flag c new None s is_right same_who going e stands takes = record {
+  lists = with_item Right None s.lists;
+  stands = subst (λ w. StandsFor new (with_item w None s.lists)) is_right (stands s.lists s.stands);
+  who_is = same_who ∙ s.who_is;
+  rest = s.rest;
+  whole = s.whole;
+  may = s.may;
+  given_is = s.given_is;
+  right_read = subst (λ f. SideRead f input input'' next s.lists.right) (sym e) takes;
+  left_is = s.left_is;
+  right_is = sym e;
+}
+took_beside who packets given left_ended input input' input'' framer next ended flag c new (Some p) s is_right same_who going e stands takes = record {
+  lists = with_item Right (Some p) s.lists;
+  stands = subst (λ w. StandsFor new (with_item w (Some p) s.lists)) is_right (stands s.lists s.stands);
+  who_is = same_who ∙ s.who_is;
+  rest = s.rest;
+  whole = s.whole;
+  may = s.may;
+  given_is = s.given_is;
+  right_read = subst (λ f. SideRead f input input'' next (s.lists.right ++ p ∷ [])) (sym e) takes;
+  left_is = s.left_is;
+  right_is = going ∙ sym e;
+}

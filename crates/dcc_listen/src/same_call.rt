@@ -10,14 +10,16 @@ use crate::in_step::compare_in_step;
 use crate::verdict_line::verdict_line;
 use dcc_io::{Failed, Input, Sink, Source, ToolFault, write_all};
 use dcc_order::Verdict;
+use dcc_order::laws::{alike_is_the_verdict, alike_lists_leave_the_same};
 use dcc_regs::Who;
 use std::alloc::Global;
 
 /// Reads two captures to their ends, and writes and answers the first difference of their packets for a decoder:
 /// `alike`, `writes`, `members k` or `order k`.
 ///
-/// Both are read before anything is written, so that a fault behind the first difference is still answered: U2, U4 or
-/// U7 of the first capture, else of the second. U6 where there is no memory for the packets.
+/// The two are read in step: of the side that is wanted next, up to the verdict, and then both on to their ends, so that a
+/// fault behind the first difference is still answered: U2, U4 or U7 of either capture, of one of them where both have one.
+/// Nothing is written before. One block of each capture is held at most; U6 where there is no memory for it.
 pub fn same<L: Source, R: Source, W: Sink>(
     alloc: Global,
     left: &mut Input<L>,
@@ -43,6 +45,9 @@ pub fn same<L: Source, R: Source, W: Sink>(
     if let Some(fault) = right_fault {
         return Err(fault.told());
     }
+    // (what Alike says of two lists)
+    alike_is_the_verdict();
+    alike_lists_leave_the_same();
     let verdict = match compare_in_step(alloc, left, right, who) {
         Ok(verdict) => verdict,
         Err(fault) => return Err(fault),

@@ -12,6 +12,7 @@ use crate::in_step::compare_beside;
 use crate::same_call::write_verdict;
 use dcc_io::{Input, Sink, Source, ToolFault};
 use dcc_order::Verdict;
+use dcc_order::laws::{alike_is_the_verdict, alike_lists_leave_the_same};
 use dcc_regs::Who;
 use std::alloc::Global;
 
@@ -38,6 +39,9 @@ pub fn same_input<R: Source, W: Sink>(
     if let Some(fault) = input.fault() {
         return Err(fault.told());
     }
+    // (what Alike says of two lists)
+    alike_is_the_verdict();
+    alike_lists_leave_the_same();
     let verdict = match compare_both(alloc, input, who) {
         Ok(verdict) => verdict,
         Err(fault) => return Err(fault),

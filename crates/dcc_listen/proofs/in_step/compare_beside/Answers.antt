@@ -2,7 +2,7 @@ use Rattle.std.proofs.Common.{◌∙◌, ◌++◌, ◌<◌, sym, refl, subst, ar
 use Rattle.dcc_order.specs.GivenLists.{no_lists}
 use Rattle.dcc_order.specs.Verdicts.{IsVerdict}
 use Rattle.dcc_listen.proofs.GatherLemmas.{Gathering-start}
-use Rattle.dcc_listen.proofs.InStepLemmas.{Rest, nothing_behind, still_open, rest_behind, beside_given, beside_ended, one_more_fits}
+use Rattle.dcc_listen.proofs.InStepLemmas.{Rest, nothing_behind, still_open, rest_behind, beside_given, beside_ended, one_more_fits, end_is, took_beside}
 use Rattle.dcc_listen.proofs.in_step.compare_beside.Goals as goal
 use Rattle.dcc_listen.proofs.in_step.compare_beside.Goals.{then-not-ended+in-Ok-pass_rest, else-not-ended}
 
@@ -67,3 +67,17 @@ give-requires-in-Ok-next_packet-clause-right g c = λ e.
     one_more_fits c.in-Ok-next_packet.item c.args.input.now c.next_packet.new.input c.next_packet.new.framer s.lists.right c.packets.comparer.right_given s.stands.right_given few
     (c.in-Ok-next_packet.ensures.takes c.args.input.now s.lists.right none
     (still_open c.packets.ended c.args.input.now c.packets.input c.packets.framer s.lists.right (sym s.right_is ∙ c.wants.ensures.right c.in-Right.is s.lists s.stands) s.right_read))
+
+pub packets-preserved : goal.packets-preserved
+packets-preserved g c =
+    let s = c.packets.invariant.beside in
+    let none = sym c.fault.ensures.fault ∙ c.in_default.is in
+    let going = c.wants.ensures.right c.in-Right.is s.lists s.stands in
+    record {
+      fault = c.in-Ok-next_packet.ensures.fault;
+      beside = took_beside c.args.who c.args.packets.now c.packets.given c.packets.left_ended c.args.input.now c.packets.input c.next_packet.new.input c.packets.framer c.next_packet.new.framer
+          c.packets.ended c.is_none-ended.result c.packets.comparer c.give-in-Ok-next_packet.new.self c.in-Ok-next_packet.item s (sym c.wants.ensures.is ∙ c.in-Right.is) c.in-Ok-give-2.ensures.who going
+          (end_is c.in-Ok-next_packet.item c.is_none-ended.result c.is_none-ended.ensures) c.in-Ok-give-2.ensures.stands
+          (c.in-Ok-next_packet.ensures.takes c.args.input.now s.lists.right none
+          (still_open c.packets.ended c.args.input.now c.packets.input c.packets.framer s.lists.right (sym s.right_is ∙ going) s.right_read));
+    }

@@ -2,7 +2,7 @@ use Rattle.std.proofs.Common.{◌∙◌, ◌++◌, sym, refl, subst}
 use Rattle.dcc_order.specs.GivenLists.{no_lists}
 use Rattle.dcc_order.specs.Verdicts.{IsVerdict}
 use Rattle.dcc_listen.proofs.GatherLemmas.{Gathering-start}
-use Rattle.dcc_listen.proofs.InStepLemmas.{Rest, nothing_behind, still_open, rest_behind}
+use Rattle.dcc_listen.proofs.InStepLemmas.{Rest, nothing_behind, still_open, rest_behind, end_is, took_right}
 use Rattle.dcc_listen.proofs.in_step.compare_in_step.Goals as goal
 use Rattle.dcc_listen.proofs.in_step.compare_in_step.Goals.{then-not-left_ended+in-Ok-pass_rest, else-not-left_ended, then-not-right_ended+in-Ok-pass_rest-2, else-not-right_ended}
 
@@ -50,3 +50,18 @@ returns-in-Done-clause-compared g c =
       subst (λ who. IsVerdict who (s.lists.left ++ left.more) (s.lists.right ++ right.more) c.in-Done.verdict) s.who_is
           (c.wants.ensures.done c.in-Done.verdict c.in-Done.is s.lists s.stands left.more right.more left.may right.may),
     )
+
+pub packets-preserved : goal.packets-preserved
+packets-preserved g c =
+    let s = c.packets.invariant.in_step in
+    let none = sym c.fault-2.ensures.fault ∙ c.in_default-fault.is in
+    let going = c.wants.ensures.right c.in-Right.is s.lists s.stands in
+    record {
+      left_fault = c.packets.invariant.left_fault;
+      right_fault = c.in-Ok-next_packet.ensures.fault;
+      in_step = took_right c.args.who c.args.left.now c.args.right.now c.packets.left c.packets.right c.next_packet-in-Right.new.input c.packets.left_framer c.packets.right_framer c.next_packet-in-Right.new.framer
+          c.packets.left_ended c.packets.right_ended c.is_none-right_ended.result c.packets.comparer c.give-in-Ok-next_packet.new.self c.in-Ok-next_packet.item s (sym c.wants.ensures.is ∙ c.in-Right.is) c.in-Ok-give-2.ensures.who going
+          (end_is c.in-Ok-next_packet.item c.is_none-right_ended.result c.is_none-right_ended.ensures) c.in-Ok-give-2.ensures.stands
+          (c.in-Ok-next_packet.ensures.takes c.args.right.now s.lists.right none
+          (still_open c.packets.right_ended c.args.right.now c.packets.right c.packets.right_framer s.lists.right (sym s.right_is ∙ going) s.right_read));
+    }
