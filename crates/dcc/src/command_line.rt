@@ -3,27 +3,8 @@
 use clap::{Arg, ArgAction, ArgMatches, Command, value_parser};
 use dcc_packet::CvNumber;
 use dcc_regs::Who;
-use dcc_tool::{Encode, ToolFault, Usage, read_who};
+use dcc_tool::{Encode, Request, ToolFault, Usage, read_who};
 use std::alloc::{AllocError, Global};
-
-/// What the words of a command line ask for.
-#[derive(Clone, Copy, Debug, PartialEq, Eq)]
-pub enum Request {
-    /// The listing of a capture, with packets as lines where `words` is set.
-    Show { words: bool },
-
-    /// The halves or the bytes of the packets of packet lines.
-    Encode(Encode),
-
-    /// A capture is played to the decoders of a decoder text.
-    Run,
-
-    /// Two captures are compared for this decoder.
-    Same(Who),
-
-    /// A CV is read on a programming track: an empty one, or that of a decoder text.
-    ReadCv { cv: CvNumber, empty: bool },
-}
 
 /// A flag of a subcommand.
 fn flag<'a>(alloc: Global, name: &'a str, help: &'a str) -> Arg<'a> {

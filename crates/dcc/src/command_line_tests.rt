@@ -1,10 +1,10 @@
 //! Which words are taken and what they ask for, and which are refused.
 
-use crate::command_line::{Request, command, request_of};
+use crate::command_line::{command, request_of};
 use clap::error::ErrorKind;
 use dcc_packet::{Address, Board, CvNumber};
 use dcc_regs::Who;
-use dcc_tool::{Encode, ToolFault, Usage};
+use dcc_tool::{Encode, Request, ToolFault, Usage};
 use std::alloc::{AllocError, Global};
 use std::test::Fail;
 

@@ -14,6 +14,9 @@ pub struct Terminal<'a> {
     alloc: Global,
     words: &'a [&'a str],
 
+    /// What stands in the place of the first word, the program's name, and need not be text.
+    pub name: Option<&'a [u8]>,
+
     /// One word more, which need not be text.
     pub last: Option<&'a [u8]>,
 
@@ -29,6 +32,7 @@ impl<'a> Terminal<'a> {
         Terminal {
             alloc,
             words,
+            name: None,
             last: None,
             closed: false,
             out: RefCell::new(String::new(alloc)),
@@ -92,7 +96,10 @@ impl<'a> Eprint for Terminal<'a> {
 impl<'a> Env for Terminal<'a> {
     fn arg(&self, i: usize, buf: &mut [u8]) -> Result<usize, FillError> {
         let word = match self.words.get(i) {
-            Some(word) => word.as_bytes(),
+            Some(word) => match self.name {
+                Some(name) if i == 0 => name,
+                _ => word.as_bytes(),
+            },
             None if i > self.words.len() => return Err(FillError::NotPresent),
             None => match self.last {
                 Some(word) => word,

@@ -1,10 +1,10 @@
 //! One call of the program, over any words, streams and standard error.
 
 use crate::command_line::{command, request_of};
-use crate::performing::perform;
-use crate::telling::{tell_end, tell_words};
-use dcc_tool::{Ending, Input, Sink, Source, ToolFault, Usage};
-use std::rt::Env;
+use crate::telling::tell_words;
+use dcc_tool::{Ending, Input, Sink, Source, ToolFault, Usage, perform, tell_end};
+use std::alloc::Global;
+use std::env::{Env, FillError};
 use std::{env, io};
 
 /// Runs the subcommand that the words of the runtime ask for, and answers the exit status. What it reads and writes
@@ -32,15 +32,55 @@ where
     }
 }
 
-/// The words of the command line, where they are text and there is room for them.
+/// The words of the command line, where those behind the program's name are text and there is room for them. The name itself
+/// may be any path, and stands as `dcc`.
 fn words_of<T: Env + Eprint + AllocGlobal>(rt: &T) -> Result<Vec<String>, ToolFault> {
-    match env::args(rt) {
-        Ok(words) => words.collect(rt.alloc()).map_err(|_| ToolFault::NoMemory),
+    let mut words = Vec::new(rt.alloc());
+    let name = String::from_str(rt.alloc(), "dcc").map_err(|_| ToolFault::NoMemory)?;
+    words.push(name).map_err(|_| ToolFault::NoMemory)?;
+    match env::args(&BehindName { rt }) {
+        Ok(behind) => {
+            for word in behind {
+                words.push(word).map_err(|_| ToolFault::NoMemory)?;
+            }
+            Ok(words)
+        }
         Err(error) if error.kind() == io::ErrorKind::OutOfMemory => Err(ToolFault::NoMemory),
         Err(_) => {
             let fault = ToolFault::Usage(Usage::Words);
             let _ = eprintln!(rt; "{fault}");
             Err(fault)
         }
+    }
+}
+
+/// The words of a runtime but its first, the program's name, which is a path and need not be text.
+#[derive(Drop)]
+struct BehindName<'a, T> {
+    rt: &'a T,
+}
+
+impl<'a, T: Env> Env for BehindName<'a, T> {
+    fn arg(&self, i: usize, buf: &mut [u8]) -> Result<usize, FillError> {
+        match i.checked_add(1) {
+            Some(behind) => self.rt.arg(behind, buf),
+            None => Err(FillError::NotPresent),
+        }
+    }
+
+    fn var(&self, name: &str, buf: &mut [u8]) -> Result<usize, FillError> {
+        self.rt.var(name, buf)
+    }
+
+    fn var_at(&self, i: usize, buf: &mut [u8]) -> Result<usize, FillError> {
+        self.rt.var_at(i, buf)
+    }
+}
+
+impl<'a, T: AllocGlobal> Alloc for BehindName<'a, T> {
+    type A = Global;
+
+    fn alloc(&self) -> Global {
+        self.rt.alloc()
     }
 }

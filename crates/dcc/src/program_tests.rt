@@ -294,3 +294,15 @@ fn a_word_that_is_no_text_is_a_bad_command_line(rt: HostRuntime) {
         "dcc: U1 bad command line\n"
     );
 }
+
+#[test]
+fn a_program_is_started_by_any_path(rt: HostRuntime) {
+    let words = ["dcc", "show"];
+    let mut terminal = Terminal::new(rt.alloc(), &words);
+    terminal.name = Some(b"/tmp/\xFF/dcc");
+    let mut input = Input::new(Counted::new(ONE), Limits::full());
+    let mut writer = Counted::new(Vec::new(rt.alloc()));
+    assert_eq!(rt; run(&terminal, &mut input, &mut writer), 0);
+    assert_eq!(rt; writer.inner.as_slice(), b"84 036261\n");
+    assert!(rt; terminal.error.into_inner().is_empty());
+}

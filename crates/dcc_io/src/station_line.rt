@@ -84,9 +84,7 @@ impl<R: Source> Input<R> {
 }
 
 /// What the next line asks that asks anything, or none at the end.
-fn next_asking_line<R: Source>(
-    input: &mut Input<R>,
-) -> Result<Option<StationLine>, KeptFault>
+fn next_asking_line<R: Source>(input: &mut Input<R>) -> Result<Option<StationLine>, KeptFault>
     requires { input.old.fault ≡ None }
     ensures { AnswersSaid station_words asked_by input.old result input.new }
 {

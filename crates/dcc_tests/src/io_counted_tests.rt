@@ -1,0 +1,144 @@
+//! Readers and writers of std that fail, or take a part, seen call by call through `Counted`.
+
+use dcc_io::{Counted, Failed, Sink, Source};
+use std::io;
+
+/// A reader of which one call is interrupted: the one behind so many others.
+#[derive(Drop)]
+struct Halting<'a> {
+    bytes: &'a [u8],
+    each: usize,
+    good_calls: u32,
+    calls: u32,
+}
+
+impl<'a> io::Read for Halting<'a> {
+    fn read(&mut self, buffer: &mut [u8]) -> io::Result<usize> {
+        let before = self.calls;
+        self.calls = before.saturating_add(1);
+        if before == self.good_calls {
+            return Err(io::Error::from(io::ErrorKind::Interrupted));
+        }
+        let count = self.each.min(self.bytes.len()).min(buffer.len());
+        buffer[..count].copy_from_slice(&self.bytes[..count]);
+        self.bytes = &self.bytes[count..];
+        Ok(count)
+    }
+}
+
+#[test]
+fn an_interrupted_read_fails_and_the_next_one_goes_on(rt: HostRuntime) {
+    let mut reader = Counted::new(Halting {
+        bytes: b"58 57 ",
+        each: 3,
+        good_calls: 0,
+        calls: 0,
+    });
+    let mut buffer = [0u8; 8];
+    assert_eq!(rt; reader.read(&mut buffer), Err(Failed));
+    assert_eq!(rt; (reader.failures, reader.inner.calls), (1, 1));
+    assert_eq!(rt; reader.read(&mut buffer), Ok(3));
+    assert_eq!(rt; &buffer[..3], b"58 ".as_slice());
+    assert_eq!(rt; (reader.failures, reader.inner.calls), (1, 2));
+    assert_eq!(rt; reader.read(&mut buffer), Ok(3));
+    assert_eq!(rt; &buffer[..3], b"57 ".as_slice());
+    assert_eq!(rt; reader.read(&mut buffer), Ok(0));
+    assert_eq!(rt; (reader.failures, reader.inner.calls), (1, 4));
+}
+
+#[test]
+fn a_read_that_is_interrupted_between_two_fails_alone(rt: HostRuntime) {
+    let mut reader = Counted::new(Halting {
+        bytes: b"58 57 ",
+        each: 3,
+        good_calls: 1,
+        calls: 0,
+    });
+    let mut buffer = [0u8; 8];
+    assert_eq!(rt; reader.read(&mut buffer), Ok(3));
+    assert_eq!(rt; (reader.failures, reader.inner.calls), (0, 1));
+    assert_eq!(rt; reader.read(&mut buffer), Err(Failed));
+    assert_eq!(rt; (reader.failures, reader.inner.calls), (1, 2));
+    assert_eq!(rt; reader.read(&mut buffer), Ok(3));
+    assert_eq!(rt; &buffer[..3], b"57 ".as_slice());
+    assert_eq!(rt; (reader.failures, reader.inner.calls), (1, 3));
+}
+
+/// A writer that takes some bytes at each call, of which one is interrupted: the one behind so many others.
+#[derive(Drop)]
+struct Sipping {
+    taken: [u8; 8],
+    len: usize,
+    each: usize,
+    good_calls: u32,
+    calls: u32,
+
+    /// How many bytes the last call was handed.
+    handed: usize,
+}
+
+impl Sipping {
+    fn new(each: usize, good_calls: u32) -> Sipping {
+        Sipping {
+            taken: [0; 8],
+            len: 0,
+            each,
+            good_calls,
+            calls: 0,
+            handed: 0,
+        }
+    }
+}
+
+impl io::Write for Sipping {
+    fn write(&mut self, bytes: &[u8]) -> io::Result<usize> {
+        let before = self.calls;
+        self.calls = before.saturating_add(1);
+        self.handed = bytes.len();
+        if before == self.good_calls {
+            return Err(io::Error::from(io::ErrorKind::Interrupted));
+        }
+        let at = self.len.min(8);
+        let count = self.each.min(bytes.len()).min(8 - at);
+        self.taken[at..at + count].copy_from_slice(&bytes[..count]);
+        self.len = at + count;
+        Ok(count)
+    }
+
+    fn flush(&mut self) -> io::Result<()> {
+        Ok(())
+    }
+}
+
+#[test]
+fn an_interrupted_write_fails_and_the_next_one_goes_on(rt: HostRuntime) {
+    let mut writer = Counted::new(Sipping::new(2, 0));
+    assert_eq!(rt; writer.write(b"alike"), Err(Failed));
+    assert_eq!(rt; (writer.failures, writer.inner.calls, writer.inner.len), (1, 1, 0));
+    assert_eq!(rt; writer.write(b"alike"), Ok(2));
+    assert_eq!(rt; writer.inner.handed, 5);
+    assert_eq!(rt; writer.write(b"ike"), Ok(2));
+    assert_eq!(rt; (writer.failures, writer.inner.calls, writer.inner.handed), (1, 3, 3));
+    assert_eq!(rt; &writer.inner.taken[..4], b"alik".as_slice());
+}
+
+#[test]
+fn a_write_that_is_interrupted_between_two_fails_alone(rt: HostRuntime) {
+    let mut writer = Counted::new(Sipping::new(8, 1));
+    assert_eq!(rt; writer.write(b"al"), Ok(2));
+    assert_eq!(rt; (writer.failures, writer.inner.calls), (0, 1));
+    assert_eq!(rt; writer.write(b"ike"), Err(Failed));
+    assert_eq!(rt; (writer.failures, writer.inner.calls, writer.inner.len), (1, 2, 2));
+    assert_eq!(rt; writer.write(b"ike"), Ok(3));
+    assert_eq!(rt; (writer.failures, writer.inner.calls, writer.inner.handed), (1, 3, 3));
+    assert_eq!(rt; &writer.inner.taken[..5], b"alike".as_slice());
+}
+
+#[test]
+fn a_write_that_takes_nothing_of_some_bytes_counts(rt: HostRuntime) {
+    let mut writer = Counted::new(Sipping::new(0, 9));
+    assert_eq!(rt; writer.write(b"alike"), Ok(0));
+    assert_eq!(rt; (writer.failures, writer.inner.calls, writer.inner.handed), (1, 1, 5));
+    assert_eq!(rt; writer.write(b""), Ok(0));
+    assert_eq!(rt; (writer.failures, writer.inner.calls, writer.inner.handed), (1, 2, 0));
+}
