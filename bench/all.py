@@ -1,0 +1,110 @@
+#!/usr/bin/env python3
+"""Times every command of `dcc` on every form of capture beside `wc -w` on the same file, and prints a table.
+
+    bench/all.py [PROGRAM [OTHER]]
+
+PROGRAM is the built program, crates/dcc/out/dcc if it is not given. OTHER is another program with the same commands, to be measured
+beside it. Processor seconds (user and system) on one core, each command in turn with the others, the median of ROUNDS runs.
+"""
+import os
+import resource
+import statistics
+import subprocess
+import sys
+import tempfile
+
+HALVES = int(os.environ.get("HALVES", 16_000_000))
+ROUNDS = int(os.environ.get("ROUNDS", 7))
+PACKETS = ["036261", "ff00ff", "039093", "ff00ff", "8cfd71", "c3e83f7f6b", "03ec1c06f5"]
+FLEET = "dcc-decoders 2\nloco s3\nspeed stop f\non\nstates\npending none\ncv 1 3\ncv 29 2\nend\n"
+
+
+def halves_of(packet):
+    bits = [1] * 14
+    for byte in bytes.fromhex(packet):
+        bits += [0] + [byte >> place & 1 for place in range(7, -1, -1)]
+    return [us for bit in bits + [1] for us in ([58, 58] if bit else [100, 100])]
+
+
+def runs_of(halves):
+    words, at = [], 0
+    while at < len(halves):
+        end = at
+        while end < len(halves) and halves[end] == halves[at]:
+            end += 1
+        words.append(f"{halves[at]}*{end - at}" if end - at > 1 else str(halves[at]))
+        at = end
+    return words
+
+
+def write(path, line_of, head="", halves=HALVES):
+    lines = [line_of(halves_of(packet)) for packet in PACKETS]
+    per_turn = sum(len(halves_of(packet)) for packet in PACKETS)
+    with open(path, "w", encoding="ascii", newline="") as file:
+        file.write(head)
+        for _ in range(halves // per_turn):
+            file.writelines(lines)
+
+
+def seconds(words, path):
+    before = resource.getrusage(resource.RUSAGE_CHILDREN)
+    with open(path, "rb") as file, open(os.devnull, "wb") as out:
+        subprocess.run(words, stdin=file, stdout=out, check=False, preexec_fn=lambda: os.sched_setaffinity(0, {0}))
+    after = resource.getrusage(resource.RUSAGE_CHILDREN)
+    return after.ru_utime + after.ru_stime - before.ru_utime - before.ru_stime
+
+
+def main():
+    top = os.path.join(os.path.dirname(os.path.abspath(__file__)), "..")
+    programs = [os.path.abspath(p) for p in sys.argv[1:]] or [os.path.join(top, "crates/dcc/out/dcc")]
+    with tempfile.TemporaryDirectory() as room:
+        def at(name):
+            return os.path.join(room, name)
+
+        spaced = lambda halves: " ".join(map(str, halves)) + "\n"
+        write(at("halves"), spaced)
+        write(at("crlf"), lambda halves: " ".join(map(str, halves)) + "\r\n")
+        write(at("comments"), lambda halves: " ".join(map(str, halves)) + " # a packet\n")
+        write(at("one"), lambda halves: "".join(f"{us}\n" for us in halves))
+        write(at("one_crlf"), lambda halves: "".join(f"{us}\r\n" for us in halves))
+        write(at("runs"), lambda halves: " ".join(runs_of(halves)) + "\n")
+        write(at("fleet"), spaced, FLEET)
+        write(at("fleet_runs"), lambda halves: " ".join(runs_of(halves)) + "\n", FLEET)
+        write(at("one_track"), spaced, halves=HALVES // 2)
+        with open(at("two"), "wb") as file:
+            with open(at("one_track"), "rb") as track:
+                halves = track.read()
+            file.write(halves + b"---\n" + halves)
+        with open(at("lines"), "w", encoding="ascii") as file:
+            file.writelines(["loco s3 speed28 f 4\n", "idle\n", "loco l1000 cv write 29 6\n", "accessory 12 5 on\n"] * 50_000)
+        rows = [
+            ("show", ["show"], "halves"),
+            ("show, CR LF at line ends", ["show"], "crlf"),
+            ("show, a comment a line", ["show"], "comments"),
+            ("show, one half a line", ["show"], "one"),
+            ("show, one half a line, CR LF", ["show"], "one_crlf"),
+            ("show, in runs", ["show"], "runs"),
+            ("run", ["run"], "fleet"),
+            ("run, in runs", ["run"], "fleet_runs"),
+            ("same --who s3, two halves of it", ["same", "--who", "s3"], "two"),
+            ("encode --hex, 200,000 lines", ["encode", "--hex"], "lines"),
+            ("encode, 200,000 lines", ["encode"], "lines"),
+        ]
+        times = {}
+        for _ in range(ROUNDS):
+            for name, words, file in rows:
+                times.setdefault((name, "wc -w"), []).append(seconds(["wc", "-w"], at(file)))
+                for program in programs:
+                    times.setdefault((name, program), []).append(seconds([program, *words], at(file)))
+        print("| | `wc -w` | " + " | ".join(f"`{os.path.basename(p)}`" for p in programs) + " |")
+        print("|---|---|" + "---|" * len(programs))
+        for name, _, _ in rows:
+            base = statistics.median(times[name, "wc -w"])
+            cells = []
+            for program in programs:
+                took = statistics.median(times[name, program])
+                cells.append(f"{took:.3f} s ({took / base:.2f} times)")
+            print(f"| {name} | {base:.3f} s | " + " | ".join(cells) + " |")
+
+
+main()
