@@ -262,5 +262,8 @@ fn spaces_for_ever_are_too_much(rt: HostRuntime) {
     };
     let mut input = Input::new(Giving::new(b" ", 1, 1_000_000, true), limits);
     let mut writer = Counted::new(Vec::new(rt.alloc()));
-    assert_eq!(rt; show(&mut input, &mut writer, false), Err(ToolFault::TooMuch));
+    assert_eq!(rt;
+        show(&mut input, &mut writer, false),
+        Err(ToolFault::TooMuch)
+    );
 }
