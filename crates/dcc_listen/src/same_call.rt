@@ -28,8 +28,10 @@ pub fn same<L: Source, R: Source, W: Sink>(
     who: Who,
 ) -> Result<Verdict, ToolFault>
     // A fault that the first input keeps is answered again, else one that the second keeps, and nothing is read or written.
-    ensures kept { IfSome left.old.fault (λ fault. (result ≡ Err (as_tool_fault fault)) × (left.new ≡ left.old) × (right.new ≡ right.old) × (writer.new ≡ writer.old)) }
-    ensures kept_second { left.old.fault ≡ None → IfSome right.old.fault (λ fault. (result ≡ Err (as_tool_fault fault)) × (left.new ≡ left.old) × (right.new ≡ right.old) × (writer.new ≡ writer.old)) }
+    ensures kept { IfSome left.old.fault (λ fault. (result ≡ Err (as_tool_fault fault))
+        × (left.new ≡ left.old) × (right.new ≡ right.old) × (writer.new ≡ writer.old)) }
+    ensures kept_second { left.old.fault ≡ None → IfSome right.old.fault (λ fault. (result ≡ Err (as_tool_fault fault))
+        × (left.new ≡ left.old) × (right.new ≡ right.old) × (writer.new ≡ writer.old)) }
     ensures cause { HasCause left.old.fault left.old.failures }
     ensures cause_second { HasCause right.old.fault right.old.failures }
 

@@ -114,11 +114,17 @@ impl io::Write for Sipping {
 fn an_interrupted_write_fails_and_the_next_one_goes_on(rt: HostRuntime) {
     let mut writer = Counted::new(Sipping::new(2, 0));
     assert_eq!(rt; writer.write(b"alike"), Err(Failed));
-    assert_eq!(rt; (writer.failures, writer.inner.calls, writer.inner.len), (1, 1, 0));
+    assert_eq!(rt;
+        (writer.failures, writer.inner.calls, writer.inner.len),
+        (1, 1, 0)
+    );
     assert_eq!(rt; writer.write(b"alike"), Ok(2));
     assert_eq!(rt; writer.inner.handed, 5);
     assert_eq!(rt; writer.write(b"ike"), Ok(2));
-    assert_eq!(rt; (writer.failures, writer.inner.calls, writer.inner.handed), (1, 3, 3));
+    assert_eq!(rt;
+        (writer.failures, writer.inner.calls, writer.inner.handed),
+        (1, 3, 3)
+    );
     assert_eq!(rt; &writer.inner.taken[..4], b"alik".as_slice());
 }
 
@@ -128,9 +134,15 @@ fn a_write_that_is_interrupted_between_two_fails_alone(rt: HostRuntime) {
     assert_eq!(rt; writer.write(b"al"), Ok(2));
     assert_eq!(rt; (writer.failures, writer.inner.calls), (0, 1));
     assert_eq!(rt; writer.write(b"ike"), Err(Failed));
-    assert_eq!(rt; (writer.failures, writer.inner.calls, writer.inner.len), (1, 2, 2));
+    assert_eq!(rt;
+        (writer.failures, writer.inner.calls, writer.inner.len),
+        (1, 2, 2)
+    );
     assert_eq!(rt; writer.write(b"ike"), Ok(3));
-    assert_eq!(rt; (writer.failures, writer.inner.calls, writer.inner.handed), (1, 3, 3));
+    assert_eq!(rt;
+        (writer.failures, writer.inner.calls, writer.inner.handed),
+        (1, 3, 3)
+    );
     assert_eq!(rt; &writer.inner.taken[..5], b"alike".as_slice());
 }
 
@@ -138,7 +150,13 @@ fn a_write_that_is_interrupted_between_two_fails_alone(rt: HostRuntime) {
 fn a_write_that_takes_nothing_of_some_bytes_counts(rt: HostRuntime) {
     let mut writer = Counted::new(Sipping::new(0, 9));
     assert_eq!(rt; writer.write(b"alike"), Ok(0));
-    assert_eq!(rt; (writer.failures, writer.inner.calls, writer.inner.handed), (1, 1, 5));
+    assert_eq!(rt;
+        (writer.failures, writer.inner.calls, writer.inner.handed),
+        (1, 1, 5)
+    );
     assert_eq!(rt; writer.write(b""), Ok(0));
-    assert_eq!(rt; (writer.failures, writer.inner.calls, writer.inner.handed), (1, 2, 0));
+    assert_eq!(rt;
+        (writer.failures, writer.inner.calls, writer.inner.handed),
+        (1, 2, 0)
+    );
 }

@@ -2,6 +2,8 @@
 #![tactic(auto)]
 
 #[cfg(test)]
+mod io_counted_tests;
+#[cfg(test)]
 mod io_decoder_text_tests;
 #[cfg(test)]
 mod io_who_tests;

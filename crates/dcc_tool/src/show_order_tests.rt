@@ -27,9 +27,7 @@ fn each_line_is_out_before_the_next_read(rt: HostRuntime) -> Result<(), Fail> {
         },
         Limits::full(),
     );
-    let mut writer = Counting {
-        track: &track,
-    };
+    let mut writer = Counting { track: &track };
     assert_eq!(rt; show(&mut input, &mut writer, false), Ok(()));
     assert!(rt;
         !track.late.get(),
@@ -49,9 +47,7 @@ fn lines_of_one_read_go_out_together(rt: HostRuntime) -> Result<(), Fail> {
     let text = blocks(rt.alloc(), 30)?;
     let track = Track::new();
     let mut input = Input::new(Counted::new(text.bytes.as_slice()), Limits::full());
-    let mut writer = Counting {
-        track: &track,
-    };
+    let mut writer = Counting { track: &track };
     assert_eq!(rt; show(&mut input, &mut writer, false), Ok(()));
     assert_eq!(rt; track.written.get(), 3 * 14 + 27 * 15, "30 lines");
     assert!(rt;

@@ -81,7 +81,7 @@ returns-in-Ok-Ok-None-clause-shows g c fault =
 pub returns-in-Ok-Err-clause-shows : goal.returns-in-Ok-Err-clause-shows
 returns-in-Ok-Err-clause-shows g c fault =
     let before = subst (λ (now : InputState). Showing c.args.words c.args.input.now now c.runs.framer c.runs.held (g.W.Sink.contents c.args.writer.now) (g.W.Sink.contents c.runs.writer) (g.W.Sink.failures c.args.writer.now) (g.W.Sink.failures c.runs.writer))
-        (sym c.in-None.ensures.none) c.runs.invariant in
+    (sym c.in-None.ensures.none) c.runs.invariant in
     let took = rw c.in-Ok-Err.field-0-is at c.in-Ok-Err.ensures in
     let showing = Showing-wrote c.args.words c.args.input.now c.half_at_hand.new.self c.runs.framer c.runs.held c.next_run.new.held _ _ _ _ _ _ before took.1 took.2 in
     let rest = rw c.told-in-Ok-Err.ensures at c.write_rest-in-Ok-Err.ensures in
