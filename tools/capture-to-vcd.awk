@@ -17,8 +17,8 @@ BEGIN {
         for (n = parts > 1 ? run[2] : 1; n > 0; n--) {
             at += run[1]
             level = 1 - level
-            print "#" at " " level "!"
+            printf "#%.0f %d!\n", at, level
         }
     }
 }
-END { print "#" (at + 10) }
+END { printf "#%.0f\n", at + 10 }

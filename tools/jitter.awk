@@ -5,7 +5,7 @@ function noise() { seed = (seed * 16807) % 2147483647; return 2 * seed / 2147483
 function edge(at, level,    sample) {
     sample = int(at * rate) + 1
     if (csv) printf "%.9f,%d\n", sample / rate / 1e6, level
-    else printf "#%d %d!\n", sample * unit / rate, level
+    else printf "#%.0f %d!\n", sample * unit / rate, level
 }
 BEGIN {
     if (!rate) rate = 8
@@ -27,4 +27,4 @@ BEGIN {
         edge(at + jitter * noise(), level)
     }
 }
-END { if (!csv) printf "#%d\n", (int(at * rate) + 200 * rate) * unit / rate }
+END { if (!csv) printf "#%.0f\n", (int(at * rate) + 200 * rate) * unit / rate }
