@@ -26,7 +26,8 @@ const BOTH: &[u8] = b"58*28 100*14 58*4 100*4 58*4 100*6 58*2 100*6 58*4 100*8 5
     58*28 100*14 58*4 100*4 58*4 100*6 58*2 100*6 58*4 100*10 58*2\n";
 
 /// A locomotive decoder at short 3 and board 12, and `03 62 61`.
-const FLEET: &[u8] = b"dcc-decoders 2\nloco s3\nspeed stop f\non\nstates\npending none\ncv 1 3\ncv 29 2\n\
+const FLEET: &[u8] =
+    b"dcc-decoders 2\nloco s3\nspeed stop f\non\nstates\npending none\ncv 1 3\ncv 29 2\n\
     board 12\nout\nposition 0 0 0 0\naspect 0 0 0 0\nend\n\
     58*28 100*14 58*4 100*4 58*4 100*6 58*2 100*6 58*4 100*8 58*4\n";
 
@@ -139,7 +140,11 @@ pub fn unheard(alloc: Global) -> Option<bool> {
 pub fn listing() -> Option<bool> {
     let mut page = Page::new();
     let right = show(&mut input(AMONG_OTHERS), &mut page, false).is_ok();
-    all(right, &page, b"84 ff00ff\n168 036261\n252 refused H5 036260\n")
+    all(
+        right,
+        &page,
+        b"84 ff00ff\n168 036261\n252 refused H5 036260\n",
+    )
 }
 
 pub fn lines(alloc: Global) -> Option<bool> {

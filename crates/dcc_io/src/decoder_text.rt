@@ -276,11 +276,7 @@ impl<R: Source> Input<R> {
     }
 
     /// A decoder of this kind and address, and the line behind it.
-    pub(crate) fn decoder(
-        &mut self,
-        version: Version,
-        who: Who,
-    ) -> Result<(Saved, Head), KeptFault>
+    pub(crate) fn decoder(&mut self, version: Version, who: Who) -> Result<(Saved, Head), KeptFault>
         requires fault { self.old.fault ≡ None }
         requires possible { is_decoder who ≡ true }
         ensures reads { Answers (decoder_lines version who) self.old result self.new }

@@ -3,7 +3,9 @@
 ghost use Rattle.std.specs.Prelude.{◌≡◌, Some, None};
 
 use crate::notify::Notify;
-use dcc_packet::{Address, Board, GroupBits, OtherFrame, Output, Packet, SignalAddress, StateNumber, What};
+use dcc_packet::{
+    Address, Board, GroupBits, OtherFrame, Output, Packet, SignalAddress, StateNumber, What,
+};
 use std::marker::Model;
 
 /// Keeps the packet that it was told last. A call that is given an instruction of another kind tells none.

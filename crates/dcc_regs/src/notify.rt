@@ -3,7 +3,9 @@
 ghost use Rattle.std.specs.Prelude.{◌≡◌};
 ghost use Rattle.dcc_regs.specs.Notes.{Note, IdleCall, ResetCall, SpeedCall, FunctionsCall, StateCall, CvAccessCall, TurnoutCall, SignalCall, OtherCall, note_of};
 
-use dcc_packet::{Address, Board, GroupBits, OtherFrame, Output, Packet, SignalAddress, StateNumber, What};
+use dcc_packet::{
+    Address, Board, GroupBits, OtherFrame, Output, Packet, SignalAddress, StateNumber, What,
+};
 
 /// Is told packets, each by the call of its kind.
 pub trait Notify {

@@ -10,7 +10,10 @@ pub fn states_told(packet: &Packet) -> Option<(u8, bool)>
     ensures { result ≡ table.states_told packet.now }
 {
     match packet {
-        Packet::Loco { what: What::Reset, .. } => Some((0, false)),
+        Packet::Loco {
+            what: What::Reset,
+            ..
+        } => Some((0, false)),
         Packet::Loco {
             what: What::BinaryState { number, on },
             ..

@@ -54,8 +54,14 @@ fn fleets_may_be_written_where_they_hear(rt: HostRuntime) -> Result<(), Fail> {
     let mut framer = Framer::new();
     assert_eq!(rt; hear(&mut [], &mut framer, 58), Seen::Nothing);
     assert_eq!(rt; hear_run(&mut [], &mut framer, 58, 9).at, 9);
-    assert_eq!(rt; hear(&mut [Box::new(alloc, s3())?], &mut framer, 58), Seen::Nothing);
-    assert_eq!(rt; hear_run(&mut [Box::new(alloc, s3())?], &mut framer, 58, 9).at, 9);
+    assert_eq!(rt;
+        hear(&mut [Box::new(alloc, s3())?], &mut framer, 58),
+        Seen::Nothing
+    );
+    assert_eq!(rt;
+        hear_run(&mut [Box::new(alloc, s3())?], &mut framer, 58, 9).at,
+        9
+    );
     assert_eq!(rt; hear_half(&mut [s3()], &mut framer, 58), Seen::Nothing);
     assert_eq!(rt; hear_half_run(&mut [s3()], &mut framer, 58, 9).at, 9);
     Ok(())

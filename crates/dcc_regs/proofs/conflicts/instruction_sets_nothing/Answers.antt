@@ -13,44 +13,62 @@ returns-in-Broadcast c =
     )
 
 pub returns-in-Short : goal.returns-in-Short
-returns-in-Short c = (λ t. absurd (cc), λ none. elim c.in-Short.is [
-  | inl s ↦ absurd (short_speed s.0 c.in-Speed28.forward c.in-Speed28.bits (subst SetsNothing (ap (λ to. Loco to c.args.what.now) s.1 ∙ ap (Loco (Short s.0)) c.in-Speed28.is) none))
-  | inr s ↦ absurd (long_speed s.0 c.in-Speed28.forward c.in-Speed28.bits (subst SetsNothing (ap (λ to. Loco to c.args.what.now) s.1 ∙ ap (Loco (Long s.0)) c.in-Speed28.is) none))
-])
+returns-in-Short c = (
+  λ t. absurd (cc),
+  λ none. elim c.in-Short.is [
+    | inl s ↦ absurd (short_speed s.0 c.in-Speed28.forward c.in-Speed28.bits (subst SetsNothing (ap (λ to. Loco to c.args.what.now) s.1 ∙ ap (Loco (Short s.0)) c.in-Speed28.is) none))
+    | inr s ↦ absurd (long_speed s.0 c.in-Speed28.forward c.in-Speed28.bits (subst SetsNothing (ap (λ to. Loco to c.args.what.now) s.1 ∙ ap (Loco (Long s.0)) c.in-Speed28.is) none))
+  ],
+)
 
 pub returns-in-Short-2 : goal.returns-in-Short-2
-returns-in-Short-2 c = (λ t. absurd (cc), λ none. elim c.in-Short.is [
-  | inl s ↦ absurd (short_speed s.0 c.in-Speed28.forward c.in-Speed28.bits (subst SetsNothing (ap (λ to. Loco to c.args.what.now) s.1 ∙ ap (Loco (Short s.0)) c.in-Speed28.is) none))
-  | inr s ↦ absurd (long_speed s.0 c.in-Speed28.forward c.in-Speed28.bits (subst SetsNothing (ap (λ to. Loco to c.args.what.now) s.1 ∙ ap (Loco (Long s.0)) c.in-Speed28.is) none))
-])
+returns-in-Short-2 c = (
+  λ t. absurd (cc),
+  λ none. elim c.in-Short.is [
+    | inl s ↦ absurd (short_speed s.0 c.in-Speed28.forward c.in-Speed28.bits (subst SetsNothing (ap (λ to. Loco to c.args.what.now) s.1 ∙ ap (Loco (Short s.0)) c.in-Speed28.is) none))
+    | inr s ↦ absurd (long_speed s.0 c.in-Speed28.forward c.in-Speed28.bits (subst SetsNothing (ap (λ to. Loco to c.args.what.now) s.1 ∙ ap (Loco (Long s.0)) c.in-Speed28.is) none))
+  ],
+)
 
 pub returns-in-Reset : goal.returns-in-Reset
-returns-in-Reset c = (λ t. absurd (cc), λ none. elim c.in-Reset.is [
-  | inl s ↦ absurd (reset c.args.to.now (subst SetsNothing (ap (Loco c.args.to.now) s) none))
-  | inr s ↦ elim s [
-    | inl r ↦ absurd (speed_128 c.args.to.now r.0 r.1 (subst SetsNothing (ap (Loco c.args.to.now) r.2) none))
-    | inr r ↦ absurd (functions c.args.to.now r.0 (subst SetsNothing (ap (Loco c.args.to.now) r.1) none))
-  ]
-])
+returns-in-Reset c = (
+  λ t. absurd (cc),
+  λ none. elim c.in-Reset.is [
+    | inl s ↦ absurd (reset c.args.to.now (subst SetsNothing (ap (Loco c.args.to.now) s) none))
+    | inr s ↦ elim s [
+      | inl r ↦ absurd (speed_128 c.args.to.now r.0 r.1 (subst SetsNothing (ap (Loco c.args.to.now) r.2) none))
+      | inr r ↦ absurd (functions c.args.to.now r.0 (subst SetsNothing (ap (Loco c.args.to.now) r.1) none))
+    ]
+  ],
+)
 
 pub returns-in-Reset-2 : goal.returns-in-Reset-2
-returns-in-Reset-2 c = (λ t. absurd (cc), λ none. elim c.in-Reset.is [
-  | inl s ↦ absurd (reset c.args.to.now (subst SetsNothing (ap (Loco c.args.to.now) s) none))
-  | inr s ↦ elim s [
-    | inl r ↦ absurd (speed_128 c.args.to.now r.0 r.1 (subst SetsNothing (ap (Loco c.args.to.now) r.2) none))
-    | inr r ↦ absurd (functions c.args.to.now r.0 (subst SetsNothing (ap (Loco c.args.to.now) r.1) none))
-  ]
-])
+returns-in-Reset-2 c = (
+  λ t. absurd (cc),
+  λ none. elim c.in-Reset.is [
+    | inl s ↦ absurd (reset c.args.to.now (subst SetsNothing (ap (Loco c.args.to.now) s) none))
+    | inr s ↦ elim s [
+      | inl r ↦ absurd (speed_128 c.args.to.now r.0 r.1 (subst SetsNothing (ap (Loco c.args.to.now) r.2) none))
+      | inr r ↦ absurd (functions c.args.to.now r.0 (subst SetsNothing (ap (Loco c.args.to.now) r.1) none))
+    ]
+  ],
+)
 
 pub returns-in-Reset-3 : goal.returns-in-Reset-3
-returns-in-Reset-3 c = (λ t. absurd (cc), λ none. elim c.in-Reset.is [
-  | inl s ↦ absurd (reset c.args.to.now (subst SetsNothing (ap (Loco c.args.to.now) s) none))
-  | inr s ↦ elim s [
-    | inl r ↦ absurd (speed_128 c.args.to.now r.0 r.1 (subst SetsNothing (ap (Loco c.args.to.now) r.2) none))
-    | inr r ↦ absurd (functions c.args.to.now r.0 (subst SetsNothing (ap (Loco c.args.to.now) r.1) none))
-  ]
-])
+returns-in-Reset-3 c = (
+  λ t. absurd (cc),
+  λ none. elim c.in-Reset.is [
+    | inl s ↦ absurd (reset c.args.to.now (subst SetsNothing (ap (Loco c.args.to.now) s) none))
+    | inr s ↦ elim s [
+      | inl r ↦ absurd (speed_128 c.args.to.now r.0 r.1 (subst SetsNothing (ap (Loco c.args.to.now) r.2) none))
+      | inr r ↦ absurd (functions c.args.to.now r.0 (subst SetsNothing (ap (Loco c.args.to.now) r.1) none))
+    ]
+  ],
+)
 
 pub returns-in-BinaryState : goal.returns-in-BinaryState
-returns-in-BinaryState c = (λ t. absurd (cc), λ none.
-    absurd (binary_state c.args.to.now c.in-BinaryState.number c.in-BinaryState.on (subst SetsNothing (ap (Loco c.args.to.now) c.in-BinaryState.is) none)))
+returns-in-BinaryState c = (
+  λ t. absurd (cc),
+  λ none.
+      absurd (binary_state c.args.to.now c.in-BinaryState.number c.in-BinaryState.on (subst SetsNothing (ap (Loco c.args.to.now) c.in-BinaryState.is) none)),
+)
