@@ -124,4 +124,4 @@ module _ (own rival : ℕ) where
 
   -- whether a number is among others, told by turns
   pub has_come : (ns : List ℕ) → AllByRecursion (λ n. n < own) ns → IsTrue (turns_of own rival ns).rival_last ↔ Contains ns rival
-  has_come ns all = (λ t. elim (came ns no_turns all t) [ | inl e ↦ absurd (true_is_not_false (sym e)) | inr h ↦ h ], λ h. came_last ns no_turns all (inr h))
+  has_come ns all = (λ t. elim (came ns no_turns all t) [ inl e ↦ absurd (true_is_not_false (sym e)) | inr h ↦ h ], λ h. came_last ns no_turns all (inr h))

@@ -78,4 +78,3 @@ counts_from_order members left right are order own own_in rival d e rival_before
     let rival_in : rival < length members = (omega (arith, rival_before, own_in)) in
     (same_turns_counted members are.once own rival d e own_in rival_in (apart (get_or members own d) (get_or members rival e) clash) left right).0
     (order (get_or members own d) (get_or members rival e) (stands members left are own d own_in) (stands members left are rival e rival_in) clash)
-

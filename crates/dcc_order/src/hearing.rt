@@ -62,7 +62,12 @@ pub fn hear_half<D: Decoder>(decoders: &mut [D], framer: &mut Framer, us: u16) -
 /// does, each member hears it, and otherwise each stays as it is. The answer is that of the framer.
 ///
 /// This is [`hear_run`] for members of one type, boxed or not.
-pub fn hear_half_run<D: Decoder>(decoders: &mut [D], framer: &mut Framer, us: u16, n: u32) -> RunSeen
+pub fn hear_half_run<D: Decoder>(
+    decoders: &mut [D],
+    framer: &mut Framer,
+    us: u16,
+    n: u32,
+) -> RunSeen
     ensures history { (halves : List ℕ) × StandsFor framer.old halves }
     ensures stands { (halves : List ℕ) → StandsFor framer.old halves → StandsFor framer.new (halves ++ replicate n us) }
     ensures sees { (halves : List ℕ) → StandsFor framer.old halves →

@@ -125,7 +125,9 @@ fn binary_state(byte: u8) -> What
     ensures { instruction_bytes result ≡ 0xDD ∷ byte ∷ [] }
 {
     What::BinaryState {
-        number: StateNumber { number: byte & 0x7F },
+        number: StateNumber {
+            number: byte & 0x7F,
+        },
         on: is_set(byte, 7),
     }
 }

@@ -38,8 +38,7 @@ invariant_of-self-2 c =
     let found : c.number_at-number.result ≡ number_of (members_at places b.count) x =
     c.number_at-number.ensures
     ∙ ap (λ k. unwrap_or (get nat_cmp b.index k) b.count) key
-    ∙ number_found (get nat_cmp b.index) (members_at places b.count) x b.count c.self.invariant.1 frame_is (count_of places b.count held.within) in
-    (
+    ∙ number_found (get nat_cmp b.index) (members_at places b.count) x b.count c.self.invariant.1 frame_is (count_of places b.count held.within) in (
       subst (AreHeld places b.count) (sym (c.in_ok-push.ensures.items ∙ ap (λ n. b.others.items ++ n ∷ []) found))
           (second_held places b.count b.others.items held x (is_known places b.count b.others.items held x (λ e. c.if-number-self.false (found ∙ e)))),
       c.self.invariant.1,
