@@ -1,6 +1,7 @@
 pub mod Stepped
 pub mod SpelledLemmas
 pub mod HearingLemmas
+pub mod SentAndHeard
 pub mod PieceLemmas
 pub mod WholeTheorem
 pub mod Clash

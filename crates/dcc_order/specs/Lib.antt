@@ -1,5 +1,6 @@
 pub mod Hearing
 pub mod HearingLaws
+pub mod SendingLaws
 pub mod AlikeLists
 pub mod Laws
 pub mod Verdicts

@@ -5,6 +5,7 @@ ghost use Rattle.dcc_regs.specs.Result.{RegisterMap};
 ghost use Rattle.dcc_regs.specs.declared.register.Who.{Who};
 ghost use Rattle.dcc_order.specs.Hearing.{HasHeardHalves};
 ghost use Rattle.dcc_order.specs.HearingLaws.{AlikeHalves, AlikeHalvesLeaveTheSame, NoHalvesHeard, OneListOfPackets};
+ghost use Rattle.dcc_order.specs.SendingLaws.{SentPacketsAreHeard, NothingElseIsSeen};
 ghost use Rattle.dcc_order.specs.OneMore.{FinishedBlocksStay, OneMorePacket};
 ghost use Rattle.dcc_order.specs.Laws.{AlikeIsTheVerdict, AlikeListsAgreeAfterEachBlock, AlikeListsLeaveTheSame};
 
@@ -18,6 +19,14 @@ pub fn one_list_of_packets()
 /// A decoder that has heard no half is as it was.
 pub fn no_halves_heard()
     ensures { NoHalvesHeard }
+{}
+
+/// What is sent is heard: the halves of packets that are sent one after the other, each with any timing, hold exactly
+/// these packets, in order, and no refusal.
+#[tactic(auto, using(crate::proofs::SentAndHeard::sent_packets_are_heard, crate::proofs::SentAndHeard::nothing_else_is_seen))]
+pub fn sent_packets_are_heard()
+    ensures packets { SentPacketsAreHeard }
+    ensures nothing_else { NothingElseIsSeen }
 {}
 
 /// Lists that are alike for a decoder have left the same in each bit of its configuration variables after each block,

@@ -1,4 +1,5 @@
 pub mod FrameParts
+pub mod FrameSpellings
 pub mod Same
 pub mod OneSpelling
 pub mod FirstWord

@@ -4,6 +4,7 @@ ghost use Rattle.std.specs.Prelude.{◌≡◌, List, Result, Ok};
 ghost use Rattle.dcc_packet.specs.declared.packet.Packet.{Packet};
 ghost use Rattle.dcc_packet.specs.declared.fault.PacketFault.{PacketFault};
 ghost use Rattle.dcc_packet.specs.Spelling.{spelling, BytesFit};
+ghost use Rattle.dcc_packet.specs.SpellingLaws.{SpellingsAreFrames};
 ghost use Rattle.dcc_packet.specs.Words.{Word, words};
 ghost use Rattle.dcc_packet.specs.Line.{Says};
 ghost use Rattle.dcc_packet.specs.Written.{written_line};
@@ -36,6 +37,12 @@ pub fn from_line_after_to_line(packet: &Packet) -> Result<Packet, PacketFault>
 #[tactic(auto, using(crate::proofs::OneSpelling::one_packet))]
 pub fn one_reading()
     ensures { (one other : Packet) → spelling one ≡ spelling other → one ≡ other }
+{}
+
+/// The spelling of a packet is a frame: 3 to 6 bytes whose exclusive or is zero.
+#[tactic(auto, using(crate::proofs::FrameSpellings::spellings_are_frames))]
+pub fn spellings_are_frames()
+    ensures { SpellingsAreFrames }
 {}
 
 /// The words of a line say one packet or one fault.

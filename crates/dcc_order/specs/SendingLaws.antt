@@ -1,0 +1,26 @@
+-- Laws of packets that are sent and heard.
+use Rattle.std.specs.Prelude.{◌≡◌, List, map}
+use Rattle.dcc_wire.specs.declared.timing.Timing.{Timing}
+use Rattle.dcc_wire.specs.Framing.{seen}
+use Rattle.dcc_wire.specs.Sending.{Sent, sent_all, at_last_halves}
+use Rattle.dcc_packet.specs.declared.packet.Packet.{Packet}
+use Rattle.dcc_packet.specs.Spelling.{spelling, BytesFit}
+use Rattle.dcc_order.specs.Hearing.{ArePackets}
+
+-- a packet to send, with its timing; its bytes fit, as those of every packet of a program do
+pub record SentPacket : Type 0 where
+  pub packet : Packet
+  pub fits : BytesFit packet
+  pub timing : Timing
+
+-- its frame with its timing
+abbrev pub spelled_out : SentPacket → Sent
+spelled_out one = record { bytes = spelling one.packet; timing = one.timing }
+
+-- the halves of such packets that are sent one after the other hold these packets, in order
+abbrev pub SentPacketsAreHeard : Type 0
+SentPacketsAreHeard = (sent : List SentPacket) → ArePackets (map (λ one. one.packet) sent) (sent_all (map spelled_out sent))
+
+-- their frames are seen in them, each at its last half, and nothing else is: no refusal either
+abbrev pub NothingElseIsSeen : Type 0
+NothingElseIsSeen = (sent : List SentPacket) → seen (sent_all (map spelled_out sent)) ≡ at_last_halves 0 (map spelled_out sent)
