@@ -25,6 +25,11 @@ const FIVE_UP_FOR_ALL: &str = "frame 00dd8558";
 
 const RESET: &str = "frame 030003";
 
+/// Whether the written line of a packet is this one.
+fn is_written(packet: &Packet, line: &str) -> bool {
+    packet.to_line().as_str() == line
+}
+
 #[test]
 fn binary_states_are_spelled(rt: HostRuntime) -> Result<(), Fail> {
     let rows: [(&[u8], &str); 6] = [
@@ -40,7 +45,7 @@ fn binary_states_are_spelled(rt: HostRuntime) -> Result<(), Fail> {
         assert_eq!(rt; packet.frame().bytes(), bytes, "{line}");
         let read = Packet::read(&Frame::of(bytes)?);
         assert!(rt; read.is(&packet), "{line}");
-        assert!(rt; read.to_line().as_str() == line, "{line}");
+        assert!(rt; is_written(&read, line), "{line}");
     }
     Ok(())
 }
@@ -76,14 +81,30 @@ fn a_binary_state_is_no_cv_access(rt: HostRuntime) -> Result<(), Fail> {
     Ok(())
 }
 
+/// The binary states that are on.
+#[derive(Clone, Copy)]
+enum On {
+    Just(&'static [u8]),
+    AllBut(u8),
+}
+
+impl On {
+    fn has(&self, n: u8) -> bool {
+        match self {
+            On::Just(numbers) => numbers.contains(&n),
+            On::AllBut(number) => n != *number,
+        }
+    }
+}
+
 /// Starts with CV29 as given, hears the lines, then has these states on, of all from 0 to 128.
-type StateRow = (u8, &'static [&'static str], fn(u8) -> bool);
+type StateRow = (u8, &'static [&'static str], On);
 
 /// Whether the decoder has just these states on.
-fn has_states(rt: &impl Abort, decoder: &dyn Decoder, lines: &[&str], on: fn(u8) -> bool) {
+fn has_states(rt: &impl Abort, decoder: &dyn Decoder, lines: &[&str], on: On) {
     lacks(rt, decoder, Register::State(0));
     for n in 1..128 {
-        let value = if on(n) { ON } else { OFF };
+        let value = if on.has(n) { ON } else { OFF };
         assert_eq!(rt;
             decoder.get(Register::State(n)),
             Some(value),
@@ -96,27 +117,27 @@ fn has_states(rt: &impl Abort, decoder: &dyn Decoder, lines: &[&str], on: fn(u8)
 #[test]
 fn binary_states_of_a_locomotive(rt: HostRuntime) -> Result<(), Fail> {
     let rows: [StateRow; 12] = [
-        (2, &[], |_| false),
-        (2, &[FIVE_UP], |n| n == 5),
-        (2, &[FIVE_UP, FIVE_DOWN], |_| false),
-        (2, &[ALL_UP], |_| true),
-        (2, &[ALL_UP, FIVE_DOWN], |n| n != 5),
-        (2, &[ALL_UP, RESET], |_| false),
-        (2, &[ALL_UP, "frame 000000"], |_| false),
+        (2, &[], On::Just(&[])),
+        (2, &[FIVE_UP], On::Just(&[5])),
+        (2, &[FIVE_UP, FIVE_DOWN], On::Just(&[])),
+        (2, &[ALL_UP], On::AllBut(0)),
+        (2, &[ALL_UP, FIVE_DOWN], On::AllBut(5)),
+        (2, &[ALL_UP, RESET], On::Just(&[])),
+        (2, &[ALL_UP, "frame 000000"], On::Just(&[])),
         (
             2,
             &[FIVE_UP, "loco s3 state 127 on"],
-            |n| n == 5 || n == 127,
+            On::Just(&[5, 127]),
         ),
         // in 14 steps too, and for all
-        (0, &[FIVE_UP], |n| n == 5),
-        (2, &[FIVE_UP_FOR_ALL], |n| n == 5),
+        (0, &[FIVE_UP], On::Just(&[5])),
+        (2, &[FIVE_UP_FOR_ALL], On::Just(&[5])),
         // another locomotive, and packets of other kinds
-        (2, &["loco s4 state 5 on", "loco l3 state 5 on"], |_| false),
+        (2, &["loco s4 state 5 on", "loco l3 state 5 on"], On::Just(&[])),
         (
             2,
             &[FIVE_UP, "frame 036261", "frame 039093", WRITE],
-            |n| { n == 5 },
+            On::Just(&[5]),
         ),
     ];
     for (cv29, lines, on) in rows {
@@ -129,8 +150,8 @@ fn binary_states_of_a_locomotive(rt: HostRuntime) -> Result<(), Fail> {
         assert!(rt; same_registers(&plain, &packed), "{lines:?}");
         plain.power_up();
         packed.power_up();
-        has_states(&rt, &plain, lines, |_| false);
-        has_states(&rt, &packed, lines, |_| false);
+        has_states(&rt, &plain, lines, On::Just(&[]));
+        has_states(&rt, &packed, lines, On::Just(&[]));
     }
     Ok(())
 }

@@ -69,8 +69,10 @@ fn each_half_of_two_packets_is_changed_in_turn(rt: HostRuntime) -> Result<(), Fa
 #[test]
 fn every_list_of_eight_halves_behind_a_preamble(rt: HostRuntime) -> Result<(), Fail> {
     let mut lists = 0u32;
-    for len in 0..9u32 {
-        for number in 0..3u32.pow(len) {
+    // how many lists there are of each length
+    let lengths = [1u32, 3, 9, 27, 81, 243, 729, 2187, 6561];
+    for (len, count) in lengths.iter().enumerate() {
+        for number in 0..*count {
             let mut durations = vec![in rt.alloc(); 58; 28]?;
             let mut classes = number;
             for _ in 0..len {
@@ -134,7 +136,7 @@ fn noisy(alloc: Global, one_in: u32) -> Result<Vec<u16>, AllocError> {
         push_packet(&mut durations, &mut noise)?;
     }
     for us in durations.iter_mut() {
-        if noise.below(one_in) == 0 {
+        if one_in > 0 && noise.below(one_in) == 0 {
             *us = match noise.below(4) {
                 0 => 58,
                 1 => 100,
