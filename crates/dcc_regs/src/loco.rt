@@ -14,7 +14,7 @@ use crate::loco_state::{LocoState, functions_of, states_of};
 use crate::register::{Register, Speed, SpeedMode, Value, Who};
 use crate::speeds::{direction_set, speed_set};
 use crate::states::state_set;
-use crate::writes::own_write;
+use crate::writes::leave_pending;
 use dcc_packet::{Address, CvNumber, Packet, PacketFault};
 
 /// A locomotive decoder: its functions and binary states as truth values, its CVs as bytes.
@@ -157,7 +157,7 @@ impl Decoder for LocoDecoder {
             let mode = self.cvs.mode();
             self.cvs.hear(&self.pending, packet);
             self.obey(mode, packet);
-            self.pending = own_write(packet);
+            leave_pending(&mut self.pending, packet);
         }
     }
 

@@ -14,7 +14,7 @@ use crate::loco_state::LocoState;
 use crate::register::{Register, Speed, SpeedMode, Value, Who};
 use crate::speeds::{direction_set, speed_set};
 use crate::states::{state_set, states_told};
-use crate::writes::own_write;
+use crate::writes::leave_pending;
 use dcc_packet::{Address, CvNumber, Packet, PacketFault};
 
 /// A locomotive decoder: bit n of `functions` is function n, bit n of `states` state n, its CVs are bytes. It
@@ -154,7 +154,7 @@ impl Decoder for PackedLoco {
             self.forward = direction_set(packet).unwrap_or(self.forward);
             self.functions = functions_after(self.functions, mode, packet);
             self.states = states_after(self.states, packet);
-            self.pending = own_write(packet);
+            leave_pending(&mut self.pending, packet);
         }
     }
 

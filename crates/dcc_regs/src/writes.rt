@@ -40,7 +40,7 @@ pub fn is_own_write(packet: &Packet) -> bool
 }
 
 /// What a heard packet leaves pending.
-pub fn own_write(packet: &Packet) -> Option<Packet>
+fn own_write(packet: &Packet) -> Option<Packet>
     ensures pending { result ≡ left_pending packet.now }
     ensures byte { is_byte_write packet.now ≡ true }
 {
@@ -49,6 +49,14 @@ pub fn own_write(packet: &Packet) -> Option<Packet>
     } else {
         None
     }
+}
+
+/// A heard packet leaves itself pending where it is an own write, and else nothing.
+pub fn leave_pending(pending: &mut Option<Packet>, packet: &Packet)
+    ensures pending { pending.new ≡ left_pending packet.now }
+    ensures byte { is_byte_write packet.now ≡ true }
+{
+    *pending = own_write(packet);
 }
 
 /// Whether a heard packet is a CV write that takes effect: the second copy of the pending one.

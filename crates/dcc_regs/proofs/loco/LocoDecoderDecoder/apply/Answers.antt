@@ -19,7 +19,7 @@ returns-then-hears-clause-step c =
       functions = λ n. slice_index_or c.obey.new.self.functions n false;
       states = λ n. slice_index_or c.obey.new.self.states n false;
       cvs = cv_in c.obey.new.self.cvs.bytes;
-      pending = c.own_write-self.result;
+      pending = c.leave_pending.new.pending;
     } in
     step-heard (LocoWho c.args.self.now.address) c.args.packet.now c.mode-mode.result (content c.args.self.now) is heard
     (record {
@@ -29,16 +29,16 @@ returns-then-hears-clause-step c =
       functions = c.obey.ensures.functions;
       states = c.obey.ensures.states;
       cvs = rw c.obey.ensures.cvs c.hear.ensures;
-      pending = c.own_write-self.ensures.pending;
+      pending = c.leave_pending.ensures.pending;
     })
 
 pub invariant_of-self-then-hears-clause-is_pending : goal.invariant_of-self-then-hears-clause-is_pending
 invariant_of-self-then-hears-clause-is_pending c =
     let heard : hears (LocoWho c.args.self.now.address) c.args.packet.now ≡ true = ap (λ (who : Who). hears who c.args.packet.now) (sym c.who.ensures.who) ∙ (sym c.hears.ensures ∙ c.if-hears.true) in
     subst
-    (λ (active : Option Address). is_pending_for active c.own_write-self.result ≡ true)
+    (λ (active : Option Address). is_pending_for active c.leave_pending.new.pending ≡ true)
     (sym c.obey.ensures.address)
-    (pending-heard c.args.self.now.address c.args.packet.now c.own_write-self.result heard c.own_write-self.ensures.byte c.own_write-self.ensures.pending)
+    (pending-heard c.args.self.now.address c.args.packet.now c.leave_pending.new.pending heard c.leave_pending.ensures.byte c.leave_pending.ensures.pending)
 
 pub returns-then-hears-clause-kept : goal.returns-then-hears-clause-kept
 returns-then-hears-clause-kept c =

@@ -18,7 +18,7 @@ returns-then-hears-clause-step c =
       functions = is_one c.functions_after-self.result;
       states = is_one c.states_after-self.result;
       cvs = cv_in c.hear.new.self.bytes;
-      pending = c.own_write-self.result;
+      pending = c.leave_pending.new.pending;
     } in
     step-heard (LocoWho c.args.self.now.address) c.args.packet.now c.mode-mode.result (content c.args.self.now) is heard
     (record {
@@ -28,7 +28,7 @@ returns-then-hears-clause-step c =
       functions = c.functions_after-self.ensures;
       states = c.states_after-self.ensures;
       cvs = c.hear.ensures;
-      pending = c.own_write-self.ensures.pending;
+      pending = c.leave_pending.ensures.pending;
     })
 
 pub returns-then-hears-clause-kept : goal.returns-then-hears-clause-kept
@@ -38,4 +38,4 @@ returns-then-hears-clause-kept c =
 pub invariant_of-self-clause-is_pending : goal.invariant_of-self-clause-is_pending
 invariant_of-self-clause-is_pending c =
     let heard : hears (LocoWho c.args.self.now.address) c.args.packet.now ≡ true = ap (λ (who : Who). hears who c.args.packet.now) (sym c.who.ensures.who) ∙ (sym c.hears.ensures ∙ c.if-hears.true) in
-    pending-heard c.args.self.now.address c.args.packet.now c.own_write-self.result heard c.own_write-self.ensures.byte c.own_write-self.ensures.pending
+    pending-heard c.args.self.now.address c.args.packet.now c.leave_pending.new.pending heard c.leave_pending.ensures.byte c.leave_pending.ensures.pending
