@@ -124,16 +124,16 @@ fn binary_states_of_a_locomotive(rt: HostRuntime) -> Result<(), Fail> {
         (2, &[ALL_UP, FIVE_DOWN], On::AllBut(5)),
         (2, &[ALL_UP, RESET], On::Just(&[])),
         (2, &[ALL_UP, "frame 000000"], On::Just(&[])),
-        (
-            2,
-            &[FIVE_UP, "loco s3 state 127 on"],
-            On::Just(&[5, 127]),
-        ),
+        (2, &[FIVE_UP, "loco s3 state 127 on"], On::Just(&[5, 127])),
         // in 14 steps too, and for all
         (0, &[FIVE_UP], On::Just(&[5])),
         (2, &[FIVE_UP_FOR_ALL], On::Just(&[5])),
         // another locomotive, and packets of other kinds
-        (2, &["loco s4 state 5 on", "loco l3 state 5 on"], On::Just(&[])),
+        (
+            2,
+            &["loco s4 state 5 on", "loco l3 state 5 on"],
+            On::Just(&[]),
+        ),
         (
             2,
             &[FIVE_UP, "frame 036261", "frame 039093", WRITE],
