@@ -303,6 +303,6 @@ fn a_program_is_started_by_any_path(rt: HostRuntime) {
     let mut input = Input::new(Counted::new(ONE), Limits::full());
     let mut writer = Counted::new(Vec::new(rt.alloc()));
     assert_eq!(rt; run(&terminal, &mut input, &mut writer), 0);
-    assert_eq!(rt; writer.inner.as_slice(), b"84 036261\n");
+    assert_eq!(rt; writer.inner.as_slice(), b"84 036261\n".as_slice());
     assert!(rt; terminal.error.into_inner().is_empty());
 }

@@ -186,25 +186,47 @@ fn with_states(states: u128) -> Result<LocoState, PacketFault> {
     })
 }
 
+/// Neither type takes this state.
+fn refused(rt: &impl Abort, state: &LocoState) {
+    assert!(rt; !state.is_possible());
+    match LocoDecoder::restore(state) {
+        Ok(_) => assert!(rt; false),
+        Err(fault) => assert_eq!(rt; fault.number(), 13),
+    }
+    match PackedLoco::restore(state) {
+        Ok(_) => assert!(rt; false),
+        Err(fault) => assert_eq!(rt; fault.number(), 13),
+    }
+}
+
+/// Both types take this state, with these binary states on.
+fn taken(rt: &impl Abort, state: &LocoState, on: On) -> Result<(), PacketFault> {
+    let plain = LocoDecoder::restore(state)?;
+    has_states(rt, &plain, &[], on);
+    let packed = PackedLoco::restore(state)?;
+    has_states(rt, &packed, &[], on);
+    Ok(())
+}
+
+/// A state with these binary states on is taken by neither type.
+fn refused_states(rt: &impl Abort, states: u128) -> Result<(), PacketFault> {
+    let state = with_states(states)?;
+    refused(rt, &state);
+    Ok(())
+}
+
+/// A state with these binary states on is taken by both types.
+fn taken_states(rt: &impl Abort, states: u128, on: On) -> Result<(), PacketFault> {
+    let state = with_states(states)?;
+    taken(rt, &state, on)
+}
+
 #[test]
 fn saved_binary_states(rt: HostRuntime) -> Result<(), Fail> {
-    for states in [1, 3, u128::MAX] {
-        let state = with_states(states)?;
-        assert!(rt; !state.is_possible());
-        match LocoDecoder::restore(&state) {
-            Ok(_) => assert!(rt; false),
-            Err(fault) => assert_eq!(rt; fault.number(), 13),
-        }
-        match PackedLoco::restore(&state) {
-            Ok(_) => assert!(rt; false),
-            Err(fault) => assert_eq!(rt; fault.number(), 13),
-        }
-    }
-    let state = with_states(1 << 127 | 1 << 5)?;
-    let plain = LocoDecoder::restore(&state)?;
-    has_states(&rt, &plain, &[], |n| n == 5 || n == 127);
-    let packed = PackedLoco::restore(&state)?;
-    has_states(&rt, &packed, &[], |n| n == 5 || n == 127);
+    refused_states(&rt, 1)?;
+    refused_states(&rt, 3)?;
+    refused_states(&rt, u128::MAX)?;
+    taken_states(&rt, 1 << 127 | 1 << 5, On::Just(&[5, 127]))?;
     Ok(())
 }
 
