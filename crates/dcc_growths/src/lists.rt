@@ -20,6 +20,10 @@ const LEFT: [&str; 7] = [X, C, C, X, D, D, X];
 
 const RIGHT: [&str; 6] = [X, C, C, D, D, X];
 
+fn packet(line: &str) -> Option<Packet> {
+    Packet::from_line(line).ok()
+}
+
 fn s3() -> Option<Who> {
     Some(Who::Loco(Some(Address::short(3).ok()?)))
 }
@@ -38,7 +42,7 @@ pub fn station(alloc: Global) -> Option<bool> {
         }
     };
     let mut station = made.ok()?;
-    let command = Packet::from_line(A).ok()?;
+    let command = packet(A)?;
     let taken = station.command(command).is_ok();
     let sent = station.next().is(&command) && station.next().is(&command);
     let left = station.waiting() == 0 && station.entries() == 1;
@@ -51,11 +55,23 @@ pub fn station(alloc: Global) -> Option<bool> {
 
 /// Lists are compared, at the second call where memory was wanted at the first.
 pub fn two_lists(alloc: Global) -> Option<bool> {
-    let x = Packet::from_line(X).ok()?;
-    let c = Packet::from_line(C).ok()?;
-    let d = Packet::from_line(D).ok()?;
-    let left = [x, c, c, x, d, d, x];
-    let right = [x, c, c, d, d, x];
+    let left = [
+        packet(X)?,
+        packet(C)?,
+        packet(C)?,
+        packet(X)?,
+        packet(D)?,
+        packet(D)?,
+        packet(X)?,
+    ];
+    let right = [
+        packet(X)?,
+        packet(C)?,
+        packet(C)?,
+        packet(D)?,
+        packet(D)?,
+        packet(X)?,
+    ];
     let who = s3()?;
     let mut wanted = false;
     let verdict = match compare(alloc, who, &left, &right) {
@@ -75,7 +91,7 @@ pub fn two_lists(alloc: Global) -> Option<bool> {
 /// The next packet of a list, or its end.
 fn next(lines: &[&str], at: u32) -> Option<Option<Packet>> {
     match lines.get(at as usize) {
-        Some(line) => Some(Some(Packet::from_line(line).ok()?)),
+        Some(line) => Some(Some(packet(line)?)),
         None => Some(None),
     }
 }
