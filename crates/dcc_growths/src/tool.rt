@@ -3,13 +3,13 @@
 use crate::page::Page;
 use dcc_order::Verdict;
 use dcc_packet::{Address, Board, CvNumber};
-use dcc_regs::{BoardDecoder, Decoder, LocoDecoder, Who};
+use dcc_regs::Who;
 use dcc_service::ServiceDecoder;
 use dcc_tool::{
-    Counted, Encode, Input, Limits, Saved, ToolFault, encode, read_decoders, readcv, run, same,
+    Counted, Encode, Ending, Input, Limits, Request, ToolFault, encode, perform, readcv, same,
     same_input, show,
 };
-use std::alloc::{AllocError, Global};
+use std::alloc::Global;
 
 /// `03 62 61`.
 const SLOW: &[u8] = b"58*28 100*14 58*4 100*4 58*4 100*6 58*2 100*6 58*4 100*8 58*4\n";
@@ -63,41 +63,12 @@ fn all(right: bool, page: &Page, text: &[u8]) -> Option<bool> {
     }
 }
 
-/// The fleet of these, those left out that cannot be.
-fn fleet_of(alloc: Global, saved: &[Saved]) -> Result<Vec<Box<dyn Decoder>>, AllocError> {
-    let mut fleet: Vec<Box<dyn Decoder>> = Vec::new(alloc);
-    for decoder in saved {
-        match decoder {
-            Saved::Loco(state) => {
-                if let Ok(decoder) = LocoDecoder::restore(state) {
-                    fleet.push(Box::new(alloc, decoder)?)?;
-                }
-            }
-            Saved::Board(state) => {
-                if let Ok(decoder) = BoardDecoder::restore(state) {
-                    fleet.push(Box::new(alloc, decoder)?)?;
-                }
-            }
-        }
-    }
-    Ok(fleet)
-}
-
-/// A decoder text is read, boxes are made by the caller, and `run` takes no memory.
+/// A decoder text is read, its decoders are made, and hear the capture behind it.
 pub fn fleet(alloc: Global) -> Option<bool> {
     let mut input = input(FLEET);
     let mut page = Page::new();
-    let saved = match read_decoders(alloc, &mut input) {
-        Ok(saved) => saved,
-        Err(ToolFault::NoMemory) => return Some(true),
-        Err(_) => return None,
-    };
-    let mut fleet = match fleet_of(alloc, saved.as_slice()) {
-        Ok(fleet) => fleet,
-        Err(_) => return Some(true),
-    };
-    let right = run(fleet.as_mut_slice(), &mut input, &mut page).is_ok();
-    all(right, &page, FLEET_AFTER)
+    let answer = perform(alloc, Request::Run, &mut input, &mut page).map(|end| end == Ending::Done);
+    all_or_nothing(answer, &page, FLEET_AFTER)
 }
 
 pub fn driven(alloc: Global) -> Option<bool> {
