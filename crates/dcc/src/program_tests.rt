@@ -299,7 +299,7 @@ fn a_word_that_is_no_text_is_a_bad_command_line(rt: HostRuntime) {
 fn a_program_is_started_by_any_path(rt: HostRuntime) {
     let words = ["dcc", "show"];
     let mut terminal = Terminal::new(rt.alloc(), &words);
-    terminal.name = Some(b"/tmp/\xFF/dcc");
+    terminal.name = Some(b"/rails/\xFF/dcc");
     let mut input = Input::new(Counted::new(ONE), Limits::full());
     let mut writer = Counted::new(Vec::new(rt.alloc()));
     assert_eq!(rt; run(&terminal, &mut input, &mut writer), 0);
