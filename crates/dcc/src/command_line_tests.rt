@@ -1,11 +1,11 @@
 //! Which words are taken and what they ask for, and which are refused.
 
-use crate::command_line::{command, request_of};
+use crate::request::asked;
 use clap::error::ErrorKind;
 use dcc_packet::{Address, Board, CvNumber};
 use dcc_regs::Who;
 use dcc_tool::{Encode, Request, ToolFault, Usage};
-use std::alloc::{AllocError, Global};
+use std::alloc::Global;
 use std::test::Fail;
 
 /// What comes of words.
@@ -20,15 +20,12 @@ enum Answer {
 }
 
 /// What comes of words, the first of which is the program's name.
-fn asked<'a>(alloc: Global, words: &'a [&'a str]) -> Result<Answer, AllocError> {
-    let command = command(alloc)?;
-    Ok(match command.try_get_matches_from(words) {
-        Ok(matches) => match request_of(&matches) {
-            Ok(request) => Answer::For(request),
-            Err(fault) => Answer::Fault(fault),
-        },
+fn comes_of(alloc: Global, words: &[&str]) -> Answer {
+    match asked(alloc, words) {
+        Ok(Ok(request)) => Answer::For(request),
+        Ok(Err(fault)) => Answer::Fault(fault),
         Err(error) => Answer::Told(error.kind()),
-    })
+    }
 }
 
 #[test]
@@ -52,7 +49,7 @@ fn captures_are_asked_for(rt: HostRuntime) -> Result<(), Fail> {
     ];
     for (words, request) in rows {
         assert_eq!(rt;
-            asked(rt.alloc(), words)?,
+            comes_of(rt.alloc(), words),
             Answer::For(request),
             "{words:?}"
         );
@@ -73,7 +70,7 @@ fn readings_are_asked_for(rt: HostRuntime) -> Result<(), Fail> {
         let cv = CvNumber::new(number)?;
         let request = Request::ReadCv { cv, empty };
         assert_eq!(rt;
-            asked(rt.alloc(), words)?,
+            comes_of(rt.alloc(), words),
             Answer::For(request),
             "{words:?}"
         );
@@ -97,7 +94,7 @@ fn encodings_are_asked_for(rt: HostRuntime) -> Result<(), Fail> {
         };
         let request = Request::Encode(how);
         assert_eq!(rt;
-            asked(rt.alloc(), words)?,
+            comes_of(rt.alloc(), words),
             Answer::For(request),
             "{words:?}"
         );
@@ -151,7 +148,7 @@ fn stations_are_asked_for(rt: HostRuntime) -> Result<(), Fail> {
         };
         let request = Request::Encode(how);
         assert_eq!(rt;
-            asked(rt.alloc(), words)?,
+            comes_of(rt.alloc(), words),
             Answer::For(request),
             "{words:?}"
         );
@@ -164,7 +161,7 @@ fn words_for_who_that_name_no_decoder_are_refused(rt: HostRuntime) -> Result<(),
     let refused = Answer::Fault(ToolFault::Usage(Usage::BadWho));
     for who in ["", "s0", "s128", "l10240", "b512", "S3", "3", "all"] {
         let words = ["dcc", "same", "--who", who];
-        assert_eq!(rt; asked(rt.alloc(), &words)?, refused, "{who}");
+        assert_eq!(rt; comes_of(rt.alloc(), &words), refused, "{who}");
     }
     Ok(())
 }
@@ -193,7 +190,11 @@ fn words_that_ask_for_no_subcommand_are_told(rt: HostRuntime) -> Result<(), Fail
         (&["dcc", "--version"], ErrorKind::DisplayVersion),
     ];
     for (words, kind) in rows {
-        assert_eq!(rt; asked(rt.alloc(), words)?, Answer::Told(kind), "{words:?}");
+        assert_eq!(rt;
+            comes_of(rt.alloc(), words),
+            Answer::Told(kind),
+            "{words:?}"
+        );
     }
     Ok(())
 }
@@ -251,7 +252,11 @@ fn values_of_flags_are_told(rt: HostRuntime) -> Result<(), Fail> {
         ),
     ];
     for (words, kind) in rows {
-        assert_eq!(rt; asked(rt.alloc(), words)?, Answer::Told(kind), "{words:?}");
+        assert_eq!(rt;
+            comes_of(rt.alloc(), words),
+            Answer::Told(kind),
+            "{words:?}"
+        );
     }
     Ok(())
 }

@@ -1,6 +1,6 @@
 //! One call of the program, over any words, streams and standard error.
 
-use crate::command_line::{command, request_of};
+use crate::request::asked;
 use crate::telling::tell_words;
 use dcc_tool::{Ending, Input, Sink, Source, ToolFault, Usage, perform, tell_end};
 use std::alloc::Global;
@@ -25,9 +25,8 @@ where
     W: Sink,
 {
     let words = words_of(rt)?;
-    let command = command(rt.alloc()).map_err(|_| ToolFault::NoMemory)?;
-    match command.try_get_matches_from(words.as_slice()) {
-        Ok(matches) => perform(rt.alloc(), request_of(&matches)?, input, writer),
+    match asked(rt.alloc(), words.as_slice()) {
+        Ok(request) => perform(rt.alloc(), request?, input, writer),
         Err(error) => tell_words(rt, &error),
     }
 }
