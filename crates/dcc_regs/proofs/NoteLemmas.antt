@@ -1,5 +1,5 @@
 -- A packet is told by its own call alone.
-use Rattle.std.proofs.Common.{◌≡◌, refl, ap, Option, Some, None, unwrap_or}
+use Rattle.std.proofs.Common.{◌≡◌, refl, ap, Some, None, unwrap_or}
 use Rattle.dcc_packet.specs.declared.instruction.What.{What}
 use Rattle.dcc_packet.specs.declared.instruction.What.TheVariants.{Reset, Speed28, Speed128, Functions, BinaryState, CvWrite, CvVerify, CvBitWrite, CvBitVerify}
 use Rattle.dcc_packet.specs.declared.address.Address.{Address}

@@ -1,12 +1,12 @@
 -- Truth values that are packed into a number, one to a bit, from the lowest bit up.
-use Rattle.std.proofs.Common.{◌≡◌, ◌≢◌, ℕ, ◌+◌, ◌*◌, ◌^◌, ◌%◌, ◌<◌, ◌≤◌, Bool, true, false, refl, ◌∙◌, arith, below_more, bit_or}
-use Rattle.std.specs.Prelude.{if◌then◌else◌}
-use Rattle.std.specs.Int.{bit_at}
+use Rattle.std.proofs.Common.{◌≡◌, ◌≢◌, ℕ, ◌+◌, ◌*◌, ◌^◌, ◌%◌, ◌<◌, ◌≤◌, Bool, true, false, refl, ◌∙◌, arith, below_more, bit_or, bit_and, ◌-◌}
+use Rattle.std.specs.Prelude.{◌==◌, if◌then◌else◌}
+use Rattle.std.specs.Int.{bit_at, w128}
 use Rattle.std.proofs.lemmas.Grind.{common_steps}
-use Rattle.std.proofs.lemmas.Nat.Bits.{bit_at_or, bit_at-zero}
+use Rattle.std.proofs.lemmas.Nat.Bits.{bit_at_or, bit_at-zero, bit_at_clear_same, bit_at_clear_other}
 use mir.Val.{bool_byte}
 use Rattle.dcc_regs.specs.Bits.{is_one}
-use Rattle.dcc_regs.proofs.Bits.{same_bit, other_bit}
+use Rattle.dcc_regs.proofs.Bits.{same_bit, other_bit, by_number}
 
 -- a one that is shifted to its place is not cut off
 pub shifted_one_128 : (n : ℕ) → n ≤ 127 → 1 * 2 ^ n % 340282366920938463463374607431768211456 ≡ 2 ^ n
@@ -44,3 +44,13 @@ packed_more word n limit on f fits before free here =
 pub zero_above : (word n limit : ℕ) (on : Bool) → 1 * 2 ^ n % limit ≡ 2 ^ n → ((k : ℕ) → n ≤ k → is_one word k ≡ false)
     → (k : ℕ) → n + 1 ≤ k → is_one (bit_or word (bool_byte on * 2 ^ n % limit)) k ≡ false
 zero_above word n limit on fits zero k h = put_elsewhere word n _ k on (shifted on n limit fits) (omega arith) ∙ zero k (omega arith)
+
+-- a word of 128 bits with one bit turned off
+pub turned_off : (word n k : ℕ) → n ≤ 127 → k ≤ 127
+    → is_one (bit_and word (340282366920938463463374607431768211455 - 1 * 2 ^ n % 340282366920938463463374607431768211456)) k ≡ (if k == n then false else is_one word k)
+turned_off word n k here there =
+    by_number k n _ _ _
+    (λ same. let b : bit_at (bit_and word (340282366920938463463374607431768211455 - 1 * 2 ^ n % 340282366920938463463374607431768211456)) n ≡ 0 =
+    bit_at_clear_same w128 word n (omega arith) in rw (same, b) refl)
+    (λ other. let b : bit_at (bit_and word (340282366920938463463374607431768211455 - 1 * 2 ^ n % 340282366920938463463374607431768211456)) k ≡ bit_at word k =
+    bit_at_clear_other w128 word n (omega arith) k (omega arith) other in rw b refl)

@@ -1,7 +1,8 @@
 //! The functions that a packet turns on and off (RCN-212, NMRA S-9.2.1).
 
-ghost use Rattle.std.specs.Prelude.{◌≡◌, ◌≤◌, IfSome};
+ghost use Rattle.std.specs.Prelude.{◌≡◌, ℕ, ◌<◌, ◌≤◌, ◌⊎◌, None, IfSome};
 ghost use Rattle.dcc_regs.specs.FunctionBits as table;
+ghost use Rattle.dcc_regs.specs.declared.register.SpeedMode.{SpeedMode as SpeedModeOf};
 
 use crate::register::SpeedMode;
 use dcc_packet::{Address, Group, GroupBits, Packet, What};
@@ -89,5 +90,35 @@ pub fn function_set(mode: SpeedMode, packet: &Packet, n: u8) -> Option<bool>
         }
         (What::Functions(bits), _, _) => group_bit(mode, *bits, n),
         _ => None,
+    }
+}
+
+/// The functions that a packet may turn on or off: from the first up to the second, without it.
+pub fn functions_told(mode: SpeedMode, packet: &Packet) -> (u8, u8)
+    ensures others { (n : ℕ) → n ≤ 68 → (n < result.0) ⊎ (result.1 ≤ n) → table.function_set mode packet.now n ≡ None }
+    ensures end { result.1 ≤ 69 }
+{
+    let Packet::Loco { what, .. } = packet else {
+        return (0, 0)
+    };
+    match (what, mode) {
+        (What::Reset, _) => (0, 69),
+        (What::Speed28 { .. }, SpeedMode::Steps14) => (0, 1),
+        (What::Functions(bits), _) => group_told(bits.group()),
+        _ => (0, 0),
+    }
+}
+
+/// The functions of a group: from the first up to the second, without it.
+fn group_told(group: Group) -> (u8, u8)
+    ensures others { (mode : SpeedModeOf) (n : ℕ) → n ≤ 68 → (n < result.0) ⊎ (result.1 ≤ n) → table.place_of mode group n ≡ None }
+    ensures end { result.1 ≤ 69 }
+{
+    match group {
+        Group::F0 => (0, 5),
+        _ => {
+            let first = first_function(group);
+            (first, first + count_of(group))
+        }
     }
 }

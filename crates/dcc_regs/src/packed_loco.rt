@@ -1,5 +1,5 @@
 //! A locomotive decoder with its functions packed into one number, its binary states into another.
-ghost use Rattle.std.specs.Prelude.{◌≡◌, ℕ, ◌<◌, ◌≤◌, Some, None, if◌then◌else◌, unwrap_or, true, ◌↔◌, IsOk, IfOk, IfErr};
+ghost use Rattle.std.specs.Prelude.{◌≡◌, ◌==◌, ℕ, ◌<◌, ◌≤◌, ◌⊎◌, Some, None, if◌then◌else◌, unwrap_or, true, ◌↔◌, IsOk, IfOk, IfErr};
 ghost use Rattle.dcc_regs.specs.Addresses.{is_active};
 ghost use Rattle.dcc_regs.specs.Bits.{is_one};
 ghost use Rattle.dcc_regs.specs.FunctionBits.{function_set as function_set_of};
@@ -8,7 +8,7 @@ ghost use Rattle.dcc_regs.specs.States.{is_binary_state, state_set as state_set_
 
 use crate::cvs::Cvs;
 use crate::decoder::Decoder;
-use crate::function_bits::function_set;
+use crate::function_bits::{function_set, functions_told};
 use crate::heard::hears;
 use crate::loco_state::LocoState;
 use crate::register::{Register, Speed, SpeedMode, Value, Who};
@@ -95,31 +95,51 @@ impl PackedLoco {
     }
 }
 
-/// The functions after a heard packet.
+/// The functions after a heard packet. Those that the packet is not for stay as they are, unlooked at.
 fn functions_after(functions: u128, mode: SpeedMode, packet: &Packet) -> u128
     ensures { (n : ℕ) → n ≤ 68 → is_one result n ≡ unwrap_or (function_set_of mode packet.now n) (is_one functions n) }
 {
-    let mut after = 0;
-    for n in 0..69 {
+    let (first, end) = functions_told(mode, packet);
+    let mut after = functions;
+    for n in first..end {
         let on = function_set(mode, packet, n).unwrap_or(functions >> n & 1 == 1);
-        after |= (on as u128) << n;
+        after = with_bit(after, n, on);
     }
     after
 }
 
-/// The binary states after a heard packet. Most packets turn none.
+/// The binary states after a heard packet. Those that the packet is not for stay as they are, unlooked at.
 fn states_after(states: u128, packet: &Packet) -> u128
     ensures { (n : ℕ) → n ≤ 127 → is_one result n ≡ unwrap_or (state_set_of packet.now n) (is_one states n) }
 {
-    if states_told(packet).is_none() {
-        return states;
-    }
-    let mut after = 0;
-    for n in 0..128 {
+    let (first, end) = states_of(packet);
+    let mut after = states;
+    for n in first..end {
         let on = state_set(packet, n).unwrap_or(states >> n & 1 == 1);
-        after |= (on as u128) << n;
+        after = with_bit(after, n, on);
     }
     after
+}
+
+/// The binary states that a packet may turn on or off: from the first up to the second, without it.
+fn states_of(packet: &Packet) -> (u8, u8)
+    ensures others { (n : ℕ) → n ≤ 127 → (n < result.0) ⊎ (result.1 ≤ n) → state_set_of packet.now n ≡ None }
+    ensures end { result.1 ≤ 128 }
+{
+    match states_told(packet) {
+        Some((0, _)) => (1, 128),
+        Some((number, _)) if number <= 127 => (number, number + 1),
+        Some(_) => (0, 0),
+        None => (0, 0),
+    }
+}
+
+/// A word with one bit changed.
+fn with_bit(word: u128, n: u8, on: bool) -> u128
+    requires { n ≤ 127 }
+    ensures { (k : ℕ) → k ≤ 127 → is_one result k ≡ (if k == n then on else is_one word k) }
+{
+    if on { word | 1 << n } else { word & !(1 << n) }
 }
 
 /// A binary state, where there is such a state.
