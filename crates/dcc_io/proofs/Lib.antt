@@ -6,6 +6,7 @@ pub mod RunWordLemmas
 pub mod PassedLemmas
 pub mod CaptureLemmas
 pub mod WrittenLemmas
+pub mod HeldLemmas
 pub mod HandLemmas
 pub mod FrontLemmas
 pub mod LineLemmas

@@ -9,6 +9,7 @@ pub mod Spells
 pub mod Told
 pub mod Words
 pub mod Written
+pub mod Held
 pub mod Lines
 pub mod LineRead
 pub mod Items

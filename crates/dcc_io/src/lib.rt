@@ -9,6 +9,7 @@ mod decoder_words;
 mod digits;
 mod fault;
 mod first_capture;
+mod held_lines;
 mod input;
 pub mod laws;
 mod saved;
@@ -22,6 +23,7 @@ mod word;
 mod writing;
 
 pub use fault::{KeptFault, ToolFault, Usage};
+pub use held_lines::HeldLines;
 pub use input::{Input, Limits};
 pub use saved::Saved;
 pub use saved_decoders::read_decoders;

@@ -1,5 +1,4 @@
 pub mod ListingLaws
-pub mod HeldLemmas
 pub mod ShowLemmas
 pub mod GatherLemmas
 pub mod RowsLemmas

@@ -20,10 +20,11 @@ use Rattle.dcc_io.specs.Items.{Items, Gives, StopsAt}
 use Rattle.dcc_listen.specs.Listing.{IsListing}
 use Rattle.dcc_io.specs.Written.{AppendsFront}
 use Rattle.dcc_listen.specs.Shown.{StopsWriting, Lists, ListsFront, Shows}
-use Rattle.dcc_listen.specs.Held.{Holds, WritesRest}
+use Rattle.dcc_io.specs.Held.{Holds}
+use Rattle.dcc_listen.specs.Held.{WritesRest}
 use Rattle.dcc_io.proofs.ItemsLemmas.{Gave-none, Gave-append, up_to_fault, reads_up_to, uses_all_lines}
 use Rattle.dcc_listen.proofs.ListingLaws.{IsListing-append}
-use Rattle.dcc_listen.proofs.HeldLemmas.{Holds-same, Holds-wrote, Holds-append, Holds-fails, Holds-fails_with, Holds-rest}
+use Rattle.dcc_io.proofs.HeldLemmas.{Holds-same, Holds-wrote, Holds-append, Holds-fails, Holds-fails_with, Holds-rest}
 
 -- the halves of one more run add this outcome at its place
 abbrev pub Answers : List ℕ → Run → RunSeen → Type 0

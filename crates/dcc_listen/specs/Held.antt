@@ -1,4 +1,4 @@
--- What is held of the bytes that were to be written.
+-- What is held of a listing.
 use Rattle.std.specs.Prelude.{◌≡◌, ℕ, ◌++◌, ◌⊎◌, Bool, List, Option, Result, Ok, Err}
 use Rattle.std.specs.Io.KnownBytes.{Appends}
 use Rattle.dcc_wire.specs.declared.fault.Seen.{Seen}
@@ -12,17 +12,7 @@ use Rattle.dcc_io.specs.InputState.{InputState}
 use Rattle.dcc_io.specs.Capture.{AnswersRun}
 use Rattle.dcc_listen.specs.Listing.{IsListing}
 use Rattle.dcc_io.specs.Written.{AppendsFront}
-
--- these bytes were written, but for the last of them, which are held
-pub record Holds (before after : Option (List ℕ)) (bytes held : List ℕ) : Type 0 where
-  pub written : List ℕ
-  pub whole : bytes ≡ written ++ held
-  pub appended : Appends before after written
-
--- each of these bytes was written or is held, or a write failed or took no byte
-abbrev pub HoldsOrFails : Option (List ℕ) → ℕ → List ℕ → Result (Unit {0}) Failed → List ℕ → Option (List ℕ) → ℕ → Type 0
-HoldsOrFails before failures bytes (Ok done) held after now = Holds before after bytes held × (now ≡ failures)
-HoldsOrFails before failures bytes (Err failed) held after now = AppendsFront before after bytes × HasRisen failures now
+use Rattle.dcc_io.specs.Held.{Holds, HoldsOrFails}
 
 -- each of the bytes that were held and of a listing of these outcomes was written or is held, or a
 -- write failed or took no byte

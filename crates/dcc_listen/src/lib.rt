@@ -5,7 +5,6 @@ mod decoder_rows;
 mod first_capture;
 mod fleet_text;
 mod gathering;
-mod held_lines;
 mod in_step;
 pub mod laws;
 mod listing;

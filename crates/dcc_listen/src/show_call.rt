@@ -1,16 +1,16 @@
 //! The listing of a capture.
 ghost use Rattle.std.specs.Prelude.{◌≡◌, ◌≢◌, ◌<◌, ◌+◌, ◌++◌, ◌⊎◌, ℕ, List, [], None, IfSome, OnOk};
 ghost use Rattle.dcc_wire.specs.Framing.{reported};
-ghost use Rattle.dcc_listen.specs.Held.{HoldsOrFails, HoldsListing, TakesRun, WritesRest};
+ghost use Rattle.dcc_io.specs.Held.{HoldsOrFails};
+ghost use Rattle.dcc_listen.specs.Held.{HoldsListing, TakesRun, WritesRest};
 ghost use Rattle.dcc_io.specs.Faults.{as_tool_fault};
 ghost use Rattle.dcc_io.specs.InputState.{HasCause};
 ghost use Rattle.dcc_io.specs.Words.{ended_words};
 ghost use Rattle.dcc_listen.specs.Listing.{IsLine};
 ghost use Rattle.dcc_listen.specs.Shown.{Shows};
 
-use crate::held_lines::HeldLines;
 use crate::listing::outcome_line;
-use dcc_io::{Failed, Input, KeptFault, Run, Sink, Source, ToolFault};
+use dcc_io::{Failed, HeldLines, Input, KeptFault, Run, Sink, Source, ToolFault};
 use dcc_wire::{Framer, Seen};
 
 /// Writes a line for each outcome of a capture, with the number of the half that shows it, from 1.

@@ -1,13 +1,16 @@
 //! Lines that are finished and not yet written.
 ghost use Rattle.std.specs.Prelude.{◌≡◌, ◌≤◌, ◌++◌, [], ◌↔◌, IsTrue, OnOk, length};
 ghost use Rattle.dcc_io.specs.Written.{Writes};
-ghost use Rattle.dcc_listen.specs.Held.{HoldsOrFails};
+ghost use Rattle.dcc_io.specs.Held.{HoldsOrFails};
 
+use crate::stream::{Failed, Sink};
+use crate::writing::write_all;
 use arrayvec::ArrayVec;
-use dcc_io::{Failed, Sink, write_all};
 use std::marker::Model;
 
-/// Finished lines, which one call of the writer is to take together.
+/// Finished lines, which one call of the writer is to take together: 4096 bytes at most.
+///
+/// Whoever holds lines writes them out before he reads more, so that nobody waits for a finished line.
 #[derive(Drop)]
 pub struct HeldLines {
     lines: ArrayVec<u8, 4096>,
@@ -22,6 +25,7 @@ impl Model for HeldLines {
 }
 
 impl HeldLines {
+    /// No lines.
     pub fn new() -> HeldLines
         ensures { result ≡ [] }
     {
@@ -30,13 +34,15 @@ impl HeldLines {
         }
     }
 
+    /// Whether nothing is held.
     pub fn is_empty(&self) -> bool
         ensures { IsTrue result ↔ (self.now ≡ []) }
     {
         self.lines.is_empty()
     }
 
-    /// Holds a line. Where there is no room for it, what was held is written first.
+    /// Holds a line of at most 4096 bytes. Where there is no room for it, what was held is written first; where that fails, the
+    /// line is not held.
     pub fn hold<W: Sink>(&mut self, line: &[u8], writer: &mut W) -> Result<(), Failed>
         requires { length line.now ≤ 4096 }
         ensures { HoldsOrFails (W.contents writer.old) (W.failures writer.old) (self.old ++ line.now) result self.new
@@ -52,7 +58,7 @@ impl HeldLines {
         Ok(())
     }
 
-    /// Writes all that is held, and then holds nothing.
+    /// Writes all that is held, and then holds nothing. Where a write fails, a front of it was written.
     pub fn write_out<W: Sink>(&mut self, writer: &mut W) -> Result<(), Failed>
         ensures writes { Writes (W.contents writer.old) (W.failures writer.old) self.old result (W.contents writer.new) (W.failures writer.new) }
         ensures empty { OnOk result (self.new ≡ []) }

@@ -1,5 +1,5 @@
 use Rattle.dcc_io.proofs.WrittenLemmas.{AppendsFront-more}
-use Rattle.dcc_listen.proofs.held_lines.HeldLines.hold.Goals as goal
+use Rattle.dcc_io.proofs.held_lines.HeldLines.hold.Goals as goal
 
 pub returns-in-Err : goal.returns-in-Err
 returns-in-Err g c =

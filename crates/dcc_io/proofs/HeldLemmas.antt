@@ -2,7 +2,7 @@
 use Rattle.std.proofs.Common.{ℕ, List, [], ◌++◌, Option, refl, sym, ap, ◌∙◌, subst, append_assoc}
 use Rattle.std.specs.Io.KnownBytes.{Appends}
 use Rattle.dcc_io.specs.Written.{AppendsFront}
-use Rattle.dcc_listen.specs.Held.{Holds}
+use Rattle.dcc_io.specs.Held.{Holds}
 use Rattle.dcc_io.proofs.WrittenLemmas.{Appends-none, Appends-append}
 
 -- nothing was written yet
