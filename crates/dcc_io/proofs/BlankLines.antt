@@ -1,5 +1,5 @@
 -- A blank line is no line of a decoder text.
-use Rattle.std.proofs.Common.{◌≡◌, ℕ, Bool, List, [], Option, Ok, Err}
+use Rattle.std.proofs.Common.{◌≡◌, ℕ, Bool, List, [], Option, Ok}
 use Rattle.dcc_packet.specs.declared.address.Address.{Address}
 use Rattle.dcc_packet.specs.declared.packet.Packet.{Packet}
 use Rattle.dcc_packet.specs.Words.{words}

@@ -187,7 +187,7 @@ takes_front old new whole rest ahead front old_text new_text consumed is_front n
     }
 
 -- what an input with these fields is
-abbrev state_of : Told → ℕ → ℕ → Bool → Bool → ℕ → ℕ → Option KeptFault → InputState
+abbrev pub state_of : Told → ℕ → ℕ → Bool → Bool → ℕ → ℕ → Option KeptFault → InputState
 state_of source line lines in_comment closed halves bytes fault = record {
   text = closed_text closed source.text;
   ahead = source.ahead;

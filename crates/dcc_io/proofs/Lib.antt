@@ -9,6 +9,7 @@ pub mod WrittenLemmas
 pub mod HeldLemmas
 pub mod HandLemmas
 pub mod FrontLemmas
+pub mod FrontLineLemmas
 pub mod LineLemmas
 pub mod ItemsLemmas
 pub mod PacketLineLemmas

@@ -1,7 +1,8 @@
 -- What lines say, read one after the other.
-use Rattle.std.proofs.Common.{◌≡◌, [], true, false, Option, None, Some, Result, Ok, Err, sym, subst, arith}
+use Rattle.std.proofs.Common.{◌≡◌, ℕ, List, [], true, false, Option, None, Some, Result, Ok, Err, sym, subst, arith}
 use Rattle.dcc_packet.specs.declared.fault.PacketFault.{PacketFault}
 use Rattle.dcc_packet.specs.declared.fault.PacketFault.TheVariants as faults
+use Rattle.dcc_packet.specs.Words.{words}
 use Rattle.dcc_io.specs.declared.text_line.TextLine.{TextLine}
 use Rattle.dcc_io.specs.declared.fault.KeptFault.{KeptFault}
 use Rattle.dcc_io.specs.declared.fault.KeptFault.TheVariants.{Number, Line, Read, TooMuch}
@@ -32,6 +33,11 @@ module _ {A B C : Type 0} (saying : Saying A B) (as_said : C → B) where
       let stops = stops_at_words saying now mid new line.number line.text.bytes reads.0 ends some reads.2 reads.3 in
       subst (λ (kept : KeptFault). AnswersSaid saying as_said old (Err kept) new) (sym reads.1)
       (StopsAt-behind (lines_by saying) old now new (Line line.number reads.0) gave stops.0, stops.1)
+
+  -- a line with words was taken
+  pub answers_line : (old new : InputState) (line : List ℕ) (says : C) → EndsLine old old.place.line line new → is_skipped line ≡ false → saying.said (words line) ≡ Ok (as_said says)
+      → AnswersSaid saying as_said old (Ok (Some says)) new
+  answers_line old new line says ends some is = (Gave-said saying old new old.place.line line (as_said says) ends some is, omega (arith, ends.bytes))
 
   -- there is no line more
   pub answers_none : (old now new : InputState) → Gave (lines_by saying) old [] now → EndsText now new → AnswersSaid saying as_said old (Ok None) new

@@ -15,6 +15,7 @@ pub mod LineRead
 pub mod Items
 pub mod PacketLines
 pub mod PacketRead
+pub mod FrontLine
 pub mod LineLaws
 pub mod PendingWrite
 pub mod DecoderLines

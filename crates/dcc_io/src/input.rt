@@ -1,19 +1,20 @@
 //! What a call of the program reads from.
-ghost use Rattle.std.specs.Prelude.{◌≡◌, ◌≢◌, ◌+◌, ◌<◌, ◌≤◌, ◌^◌, ℕ, [], None, Some, true, false, IsTrue, IfSome, IfNone, if◌then◌else◌, ◌||◌};
+ghost use Rattle.std.specs.Prelude.{◌≡◌, ◌≢◌, ◌+◌, ◌<◌, ◌≤◌, ◌^◌, ℕ, List, [], length, None, Some, true, false, IsTrue, IfSome, IfNone, if◌then◌else◌, ◌||◌};
 ghost use Rattle.dcc_io.specs.Told.{IsFront};
 ghost use Rattle.dcc_io.specs.Words.{comments, is_gap, ended_words};
 ghost use Rattle.dcc_io.specs.Front.{IsFrontWord};
 ghost use Rattle.dcc_io.specs.Passed.{AnswersWord};
 ghost use Rattle.dcc_io.specs.KeptAnswers.{AnswersKept};
-ghost use Rattle.dcc_io.specs.LineRead.{AnswersLine};
+ghost use Rattle.dcc_io.specs.LineRead.{AnswersLine, EndsLine};
 ghost use Rattle.dcc_io.specs.PacketRead.{AnswersPacket, ReadsPacket};
+ghost use Rattle.dcc_io.specs.FrontLine.{IsFrontLine};
 ghost use Rattle.dcc_io.specs.Capture.{AnswersRun, CountsRun};
 ghost use Rattle.dcc_io.specs.InputState.{InputState, closed_text, closing, AnswersByte, HasCause, fresh};
 
 use crate::buffered::Buffered;
 use crate::fault::KeptFault;
 use crate::stream::Source;
-use crate::text_line::TextLine;
+use crate::text_line::{TextLine, front_line};
 use crate::word::{FrontWord, Run, RunWord, front_word, is_separator, short_front_word};
 use dcc_packet::{Packet, PacketFault};
 use std::marker::Model;
@@ -359,6 +360,47 @@ impl<R: Source> Input<R> {
                 fault,
             })),
         }
+    }
+
+    /// The packet of the next line, if that line stands whole in the bytes that were read and says one. So most lines take no
+    /// read, and no copy of them is made. Any other line is left to `next_packet`, a skipped or a bad one too.
+    pub fn packet_at_hand(&mut self) -> Option<Packet>
+        requires { self.old.fault ≡ None }
+        ensures some { IfSome result (λ packet. AnswersPacket self.old (Ok (Some packet)) self.new) }
+        ensures none { IfNone result (self.new ≡ self.old) }
+    {
+        let line = self.whole_line()?;
+        let len = line.len();
+        match Packet::from_line(line) {
+            Ok(packet) if self.take_line(len) => Some(packet),
+            Ok(_) | Err(_) => None,
+        }
+    }
+
+    /// The next line, if it stands whole in the bytes that were read, is good and says something.
+    pub(crate) fn whole_line(&self) -> Option<&str>
+        ensures { IfSome result (λ line. IsFrontLine self.now.ahead line.now) }
+    {
+        front_line(self.source.ahead())
+    }
+
+    /// Takes the line of so many bytes at the front, unless its bytes are too many.
+    pub(crate) fn take_line(&mut self, len: usize) -> bool
+        requires fault { self.old.fault ≡ None }
+        requires front { (line : List ℕ) × IsFrontLine self.old.ahead line × (length line ≡ len) }
+        ensures taken { IsTrue result → (line : List ℕ) → IsFrontLine self.old.ahead line → length line ≡ len
+            → EndsLine self.old self.old.place.line line self.new }
+        ensures left { result ≡ false → self.new ≡ self.old }
+    {
+        if self.bytes_left as usize <= len {
+            return false;
+        }
+        self.source.skip(len + 1);
+        self.bytes_left -= len as u32 + 1;
+        let used = self.line as u32;
+        self.lines = used;
+        self.line += 1;
+        true
     }
 
     /// Keeps the fault, for this call and every later one.

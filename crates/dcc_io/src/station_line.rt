@@ -1,5 +1,5 @@
 //! The lines that a station is driven by.
-ghost use Rattle.std.specs.Prelude.{◌≡◌, None};
+ghost use Rattle.std.specs.Prelude.{◌≡◌, None, IfSome, IfNone};
 ghost use Rattle.dcc_packet.specs.Words.{words};
 ghost use Rattle.dcc_io.specs.StationLines.{asked, asked_by, asked_or_fault, send, send_count, station_words};
 ghost use Rattle.dcc_io.specs.KeptAnswers.{AnswersKept};
@@ -79,6 +79,21 @@ impl<R: Source> Input<R> {
         match self.fault() {
             Some(fault) => Err(fault),
             None => next_asking_line(self),
+        }
+    }
+
+    /// What the next line asks of a station, if that line stands whole in the bytes that were read and asks anything. Any other
+    /// line is left to `next_station_line`, a skipped or a bad one too.
+    pub fn station_line_at_hand(&mut self) -> Option<StationLine>
+        requires { self.old.fault ≡ None }
+        ensures some { IfSome result (λ line. AnswersSaid station_words asked_by self.old (Ok (Some line)) self.new) }
+        ensures none { IfNone result (self.new ≡ self.old) }
+    {
+        let line = self.whole_line()?;
+        let len = line.len();
+        match StationLine::from_line(line) {
+            Ok(asks) if self.take_line(len) => Some(asks),
+            Ok(_) | Err(_) => None,
         }
     }
 }

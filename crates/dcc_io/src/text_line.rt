@@ -1,12 +1,14 @@
 //! A line of a text.
-ghost use Rattle.std.specs.Prelude.{◌≡◌, ◌<◌, ◌&&◌, ◌∷◌, ◌++◌, [], nat_lt, true};
+ghost use Rattle.std.specs.Prelude.{◌≡◌, ◌<◌, ◌&&◌, ◌∷◌, ◌++◌, [], nat_lt, true, IfSome};
 ghost use Rattle.std.specs.Char.{is_ascii};
 ghost use Rattle.std.specs.List.{list_all};
 ghost use Rattle.dcc_packet.specs.Words.{is_separator};
 ghost use Rattle.arrayvec.specs.ArrayString.{array_string_len};
 ghost use Rattle.dcc_io.specs.PacketLines.{is_comment_line, is_skipped};
+ghost use Rattle.dcc_io.specs.FrontLine.{IsFrontLine, IsEndedLine};
 
 use arrayvec::ArrayString;
+use std::str;
 
 /// A line with its number, from 1, without the line feed that ends it.
 #[derive(Drop)]
@@ -49,9 +51,44 @@ impl TextLine {
     pub fn is_skipped(&self) -> bool
         ensures { result ≡ is_skipped self.now.text.bytes }
     {
-        let bytes = self.text.as_bytes();
-        is_comment(bytes) || is_blank(bytes)
+        is_skipped(self.text.as_bytes())
     }
+}
+
+/// The line at the front of these bytes, if it has ended, is good and says something.
+pub fn front_line(bytes: &[u8]) -> Option<&str>
+    ensures { IfSome result (λ line. IsFrontLine bytes.now line.now) }
+{
+    let len = ended_line_len(bytes)?;
+    let line = &bytes[..len];
+    if is_skipped(line) {
+        return None;
+    }
+    match str::from_utf8(line) {
+        Ok(text) => Some(text),
+        Err(_) => None,
+    }
+}
+
+/// How many bytes the line at the front of these bytes has, if it has ended and is good.
+fn ended_line_len(bytes: &[u8]) -> Option<usize>
+    ensures { IfSome result (λ len. IsEndedLine bytes.now len) }
+{
+    for (len, byte) in bytes.iter().enumerate() {
+        if *byte == b'\n' {
+            return if len <= 512 { Some(len) } else { None };
+        }
+        if *byte >= 128 {
+            return None;
+        }
+    }
+    None
+}
+
+fn is_skipped(bytes: &[u8]) -> bool
+    ensures { result ≡ is_skipped bytes.now }
+{
+    is_comment(bytes) || is_blank(bytes)
 }
 
 fn is_comment(bytes: &[u8]) -> bool

@@ -5,3 +5,4 @@ pub mod TrackAnswers
 pub mod Loan
 pub mod StationEncoded
 pub mod EncodeStation
+pub mod Held

@@ -5,12 +5,15 @@ ghost use Rattle.dcc_io.specs.Faults.{as_tool_fault};
 ghost use Rattle.dcc_io.specs.InputState.{HasCause};
 ghost use Rattle.dcc_send.specs.Encoded.{EncodesText};
 ghost use Rattle.dcc_send.specs.EncodeStation.{is_past_limits, has_begun};
+ghost use Rattle.dcc_io.specs.PacketRead.{AnswersPacket};
 ghost use Rattle.dcc_send.specs.StationEncoded.{StationText};
+ghost use Rattle.dcc_send.specs.Held.{TakesNext};
 
-use crate::encoded_line::write_frame;
+use crate::encoded_line::hold_frame;
 use crate::encoding::Encode;
 use crate::station_encoding::encode_by_station;
-use dcc_io::{Input, Sink, Source, ToolFault, Usage};
+use dcc_io::{Failed, HeldLines, Input, KeptFault, Sink, Source, ToolFault, Usage};
+use dcc_packet::Packet;
 use dcc_station::{Station, StationFault};
 use std::alloc::Global;
 
@@ -75,14 +78,37 @@ fn encode_packets<R: Source, W: Sink>(
     if let Some(fault) = input.fault() {
         return Err(fault.told());
     }
+    let mut held = HeldLines::new();
     'packets: loop {
-        match input.next_packet() {
-            Ok(Some(packet)) => match write_frame(writer, &packet.frame(), how) {
+        match next_packet(input, &mut held, writer) {
+            Ok(Ok(Some(packet))) => match hold_frame(&mut held, &packet.frame(), how, writer) {
                 Ok(()) => (),
                 Err(_) => return Err(ToolFault::Write),
             },
-            Ok(None) => return Ok(()),
-            Err(fault) => return Err(fault.told()),
+            Ok(Ok(None)) => return Ok(()),
+            Ok(Err(fault)) => return Err(fault.told()),
+            Err(_) => return Err(ToolFault::Write),
         }
+    }
+}
+
+/// The packet of the next line that says one, or none at the end. What is held is written before more is read for it, and before
+/// a fault of a line is kept.
+fn next_packet<R: Source, W: Sink>(
+    input: &mut Input<R>,
+    held: &mut HeldLines,
+    writer: &mut W,
+) -> Result<Result<Option<Packet>, KeptFault>, Failed>
+    requires { input.old.fault ≡ None }
+    ensures { TakesNext AnswersPacket input.old (W.contents writer.old) (W.failures writer.old) held.old result input.new held.new
+        (W.contents writer.new) (W.failures writer.new) }
+{
+    match input.packet_at_hand() {
+        Some(packet) => return Ok(Ok(Some(packet))),
+        None => (),
+    }
+    match held.write_out(writer) {
+        Ok(()) => Ok(input.next_packet()),
+        Err(failed) => Err(failed),
     }
 }

@@ -2,16 +2,30 @@
 ghost use Rattle.std.specs.Prelude.{◌≡◌, ◌≤◌, ◌+◌, ◌++◌, [], length, decimal};
 ghost use Rattle.arrayvec.specs.ArrayVec.{array_vec_len};
 ghost use Rattle.dcc_wire.specs.Sending.{sent};
+ghost use Rattle.dcc_io.specs.Held.{HoldsOrFails};
 ghost use Rattle.dcc_io.specs.Written.{Writes};
 ghost use Rattle.dcc_send.specs.Encoded.{frame_line, timing_of, spaced};
 
 use crate::encoding::Encode;
 use arrayvec::ArrayVec;
-use dcc_io::{Failed, Sink, append_decimal, append_hex, write_all};
+use dcc_io::{Failed, HeldLines, Sink, append_decimal, append_hex, write_all};
 use dcc_wire::{Frame, Halves, Timing};
 
 /// Room for the 150 halves of six bytes in service mode, each of up to five digits and a space.
 pub(crate) type EncodedLine = ArrayVec<u8, 1024>;
+
+/// Holds the line of a frame.
+pub(crate) fn hold_frame<W: Sink>(
+    held: &mut HeldLines,
+    frame: &Frame,
+    how: Encode,
+    writer: &mut W,
+) -> Result<(), Failed>
+    ensures { HoldsOrFails (W.contents writer.old) (W.failures writer.old) (held.old ++ frame_line how frame.now) result held.new
+        (W.contents writer.new) (W.failures writer.new) }
+{
+    held.hold(frame_line(frame, how).as_slice(), writer)
+}
 
 /// Writes the line of a frame.
 pub(crate) fn write_frame<W: Sink>(writer: &mut W, frame: &Frame, how: Encode) -> Result<(), Failed>

@@ -1,6 +1,4 @@
-use Rattle.std.proofs.Common.{ℕ, zero}
 use Rattle.dcc_io.specs.DecoderText.{states_by}
-use Rattle.dcc_io.specs.TextReader.{Reader}
 use Rattle.dcc_io.specs.declared.decoder_line.Version.TheVariants as versions
 use Rattle.dcc_io.proofs.ReadLemmas.{Leads-start}
 use Rattle.dcc_io.proofs.input.Input.states.Goals as goal

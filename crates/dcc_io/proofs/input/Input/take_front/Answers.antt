@@ -1,4 +1,4 @@
-use Rattle.std.proofs.Common.{◌≡◌, ◌<◌, Bool, false, ap, sym, subst, ◌∙◌, get_or, arith}
+use Rattle.std.proofs.Common.{◌<◌, ap, sym, subst, ◌∙◌, get_or, arith}
 use Rattle.dcc_io.specs.Front.{IsFrontWord}
 use Rattle.dcc_io.specs.InputState.{InputState}
 use Rattle.dcc_io.proofs.FrontLemmas.{takes_front_at, line_of_gap, same_line_of_gap, open_with}
