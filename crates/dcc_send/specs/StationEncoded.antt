@@ -8,7 +8,6 @@ use Rattle.dcc_station.specs.declared.fault.Refused.TheVariants.{NotSendable, Qu
 use Rattle.dcc_station.specs.Commands.{is_sendable}
 use Rattle.dcc_station.specs.Sending as sending
 use Rattle.dcc_send.specs.declared.encoding.Encode.{Encode}
-use Rattle.dcc_io.specs.declared.stream.Failed.{Failed}
 use Rattle.dcc_io.specs.declared.fault.KeptFault.{KeptFault}
 use Rattle.dcc_io.specs.declared.fault.KeptFault.TheVariants as kept
 use Rattle.dcc_io.specs.declared.fault.ToolFault.{ToolFault}
@@ -70,11 +69,6 @@ pub record WroteFront (how : Encode) (s : sending.Sending) (items : List Asked) 
   pub new : sending.Sending
   pub answers : AnswersAll how s first bytes new
   pub written : AppendsFront before after bytes
-
--- what a station answers was written, or a front of it where a write failed
-abbrev pub WritesAnswers : Encode → sending.Sending → List Asked → Option (List ℕ) → ℕ → Result (Unit {0}) Failed → sending.Sending → Option (List ℕ) → ℕ → Type 0
-WritesAnswers how s items before writes (Ok done) new after now = Wrote how s items new before after × (now ≡ writes)
-WritesAnswers how s items before writes (Err failed) new after now = WroteFront how s items before after × HasRisen writes now
 
 -- what a station answers to all of these was written
 abbrev pub Answered : Encode → sending.Sending → Option (List ℕ) → Option (List ℕ) → List Asked → Type 0

@@ -3,12 +3,11 @@ ghost use Rattle.std.specs.Prelude.{◌≡◌, ◌≤◌, ◌+◌, ◌++◌, [],
 ghost use Rattle.arrayvec.specs.ArrayVec.{array_vec_len};
 ghost use Rattle.dcc_wire.specs.Sending.{sent};
 ghost use Rattle.dcc_io.specs.Held.{HoldsOrFails};
-ghost use Rattle.dcc_io.specs.Written.{Writes};
 ghost use Rattle.dcc_send.specs.Encoded.{frame_line, timing_of, spaced};
 
 use crate::encoding::Encode;
 use arrayvec::ArrayVec;
-use dcc_io::{Failed, HeldLines, Sink, append_decimal, append_hex, write_all};
+use dcc_io::{Failed, HeldLines, Sink, append_decimal, append_hex};
 use dcc_wire::{Frame, Halves, Timing};
 
 /// Room for the 150 halves of six bytes in service mode, each of up to five digits and a space.
@@ -25,13 +24,6 @@ pub(crate) fn hold_frame<W: Sink>(
         (W.contents writer.new) (W.failures writer.new) }
 {
     held.hold(frame_line(frame, how).as_slice(), writer)
-}
-
-/// Writes the line of a frame.
-pub(crate) fn write_frame<W: Sink>(writer: &mut W, frame: &Frame, how: Encode) -> Result<(), Failed>
-    ensures { Writes (W.contents writer.old) (W.failures writer.old) (frame_line how frame.now) result (W.contents writer.new) (W.failures writer.new) }
-{
-    write_all(writer, frame_line(frame, how).as_slice())
 }
 
 /// The line of a frame.

@@ -1,15 +1,17 @@
 //! What a station writes for the lines that drive it.
-ghost use Rattle.std.specs.Prelude.{◌≡◌, None, Some, [], ◌∷◌, replicate, IfSome};
+ghost use Rattle.std.specs.Prelude.{◌≡◌, ◌≤◌, length, None, Some, [], ◌∷◌, replicate, IfSome};
 ghost use Rattle.dcc_packet.specs.Spelling.{spelling};
 ghost use Rattle.dcc_io.specs.Faults.{as_tool_fault};
 ghost use Rattle.dcc_io.specs.InputState.{HasCause};
 ghost use Rattle.dcc_send.specs.declared.encoding.Encode.{Encode};
-ghost use Rattle.dcc_io.specs.StationLines.{asked_by, Command, Next};
-ghost use Rattle.dcc_send.specs.StationEncoded.{StationText, WritesAnswers, refusal_line};
+ghost use Rattle.dcc_io.specs.PacketRead.{AnswersSaid};
+ghost use Rattle.dcc_io.specs.StationLines.{asked_by, station_words, Command, Next};
+ghost use Rattle.dcc_send.specs.StationEncoded.{StationText, refusal_line};
+ghost use Rattle.dcc_send.specs.Held.{TakesNext, HoldsAnswersOrFails};
 
-use crate::encoded_line::write_frame;
+use crate::encoded_line::hold_frame;
 use crate::encoding::Encode;
-use dcc_io::{Failed, Input, Sink, Source, StationLine, ToolFault, write_all};
+use dcc_io::{Failed, HeldLines, Input, KeptFault, Sink, Source, StationLine, ToolFault};
 use dcc_packet::Packet;
 use dcc_station::{Refused, Station};
 
@@ -29,61 +31,87 @@ pub(crate) fn encode_by_station<R: Source, W: Sink>(
     if let Some(fault) = input.fault() {
         return Err(fault.told());
     }
+    let mut held = HeldLines::new();
     'lines: loop {
-        match input.next_station_line() {
-            Ok(Some(line)) => match answer(station, writer, how, line) {
+        match next_line(input, &mut held, writer) {
+            Ok(Ok(Some(line))) => match answer(station, &mut held, how, line, writer) {
                 Ok(()) => (),
                 Err(_) => return Err(ToolFault::Write),
             },
-            Ok(None) => return Ok(()),
-            Err(fault) => return Err(fault.told()),
+            Ok(Ok(None)) => return Ok(()),
+            Ok(Err(fault)) => return Err(fault.told()),
+            Err(_) => return Err(ToolFault::Write),
         }
+    }
+}
+
+/// What the next line asks that asks anything, or none at the end. What is held is written before more is read for it, and
+/// before a fault of a line is kept.
+fn next_line<R: Source, W: Sink>(
+    input: &mut Input<R>,
+    held: &mut HeldLines,
+    writer: &mut W,
+) -> Result<Result<Option<StationLine>, KeptFault>, Failed>
+    requires { input.old.fault ≡ None }
+    ensures { TakesNext (AnswersSaid station_words asked_by) input.old (W.contents writer.old) (W.failures writer.old) held.old result
+        input.new held.new (W.contents writer.new) (W.failures writer.new) }
+{
+    match input.station_line_at_hand() {
+        Some(line) => return Ok(Ok(Some(line))),
+        None => (),
+    }
+    match held.write_out(writer) {
+        Ok(()) => Ok(input.next_station_line()),
+        Err(failed) => Err(failed),
     }
 }
 
 /// Does what a line asks.
 fn answer<W: Sink>(
     station: &mut Station,
-    writer: &mut W,
+    held: &mut HeldLines,
     how: Encode,
     line: StationLine,
+    writer: &mut W,
 ) -> Result<(), Failed>
-    ensures { WritesAnswers how station.old (asked_by line) (W.contents writer.old) (W.failures writer.old) result
-        station.new (W.contents writer.new) (W.failures writer.new) }
+    ensures { HoldsAnswersOrFails how station.old (asked_by line) (W.contents writer.old) (W.failures writer.old) held.old result
+        station.new held.new (W.contents writer.new) (W.failures writer.new) }
 {
     match line {
-        StationLine::Command(packet) => take_command(station, writer, packet),
-        StationLine::Send(count) => send(station, writer, how, count),
+        StationLine::Command(packet) => take_command(station, held, packet, writer),
+        StationLine::Send(count) => send(station, held, how, count, writer),
     }
 }
 
-/// Hands a command to the station, and writes why where it is refused.
+/// Hands a command to the station, and holds the line that says why where it is refused.
 fn take_command<W: Sink>(
     station: &mut Station,
-    writer: &mut W,
+    held: &mut HeldLines,
     packet: Packet,
+    writer: &mut W,
 ) -> Result<(), Failed>
-    ensures { (how : Encode) → WritesAnswers how station.old (Command (spelling packet) ∷ []) (W.contents writer.old) (W.failures writer.old) result
-        station.new (W.contents writer.new) (W.failures writer.new) }
+    ensures { (how : Encode) → HoldsAnswersOrFails how station.old (Command (spelling packet) ∷ []) (W.contents writer.old) (W.failures writer.old) held.old result
+        station.new held.new (W.contents writer.new) (W.failures writer.new) }
 {
     match station.command(packet) {
         Ok(()) => Ok(()),
-        Err((refused, _)) => write_all(writer, refusal_line(refused)),
+        Err((refused, _)) => held.hold(refusal_line(refused), writer),
     }
 }
 
-/// Writes so many packets that the station sends.
+/// Holds the lines of so many packets that the station sends.
 fn send<W: Sink>(
     station: &mut Station,
-    writer: &mut W,
+    held: &mut HeldLines,
     how: Encode,
     count: u16,
+    writer: &mut W,
 ) -> Result<(), Failed>
-    ensures { WritesAnswers how station.old (replicate count Next) (W.contents writer.old) (W.failures writer.old) result
-        station.new (W.contents writer.new) (W.failures writer.new) }
+    ensures { HoldsAnswersOrFails how station.old (replicate count Next) (W.contents writer.old) (W.failures writer.old) held.old result
+        station.new held.new (W.contents writer.new) (W.failures writer.new) }
 {
     for _ in 0..count {
-        match send_next(station, writer, how) {
+        match send_next(station, held, how, writer) {
             Ok(()) => (),
             Err(failed) => return Err(failed),
         }
@@ -91,18 +119,24 @@ fn send<W: Sink>(
     Ok(())
 }
 
-/// Writes the packet that the station sends next.
-fn send_next<W: Sink>(station: &mut Station, writer: &mut W, how: Encode) -> Result<(), Failed>
-    ensures { WritesAnswers how station.old (Next ∷ []) (W.contents writer.old) (W.failures writer.old) result
-        station.new (W.contents writer.new) (W.failures writer.new) }
+/// Holds the line of the packet that the station sends next.
+fn send_next<W: Sink>(
+    station: &mut Station,
+    held: &mut HeldLines,
+    how: Encode,
+    writer: &mut W,
+) -> Result<(), Failed>
+    ensures { HoldsAnswersOrFails how station.old (Next ∷ []) (W.contents writer.old) (W.failures writer.old) held.old result
+        station.new held.new (W.contents writer.new) (W.failures writer.new) }
 {
     let packet = station.next();
-    write_frame(writer, &packet.frame(), how)
+    hold_frame(held, &packet.frame(), how, writer)
 }
 
 /// The line of a refused command.
 fn refusal_line(refused: Refused) -> &'static [u8]
-    ensures { result.now ≡ refusal_line refused }
+    ensures line { result.now ≡ refusal_line refused }
+    ensures short { length result.now ≤ 4096 }
 {
     match refused {
         Refused::NotSendable => b"# refused C3\n".as_slice(),

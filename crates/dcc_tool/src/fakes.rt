@@ -196,6 +196,41 @@ impl<'a> Source for Watching<'a> {
     }
 }
 
+/// Gives so many bytes at each call of lines of one length, and notes it where another number of lines of 7 bytes is out
+/// than was given whole.
+#[derive(Drop)]
+pub struct WatchingLines<'a> {
+    pub lines: &'a [u8],
+    pub line_len: usize,
+    pub each: usize,
+    pub at: usize,
+    pub track: &'a Track,
+}
+
+impl<'a> Source for WatchingLines<'a> {
+    ghost remaining = { λ _. None };
+
+    ghost failures = { λ _. 0 };
+
+    fn read(&mut self, buffer: &mut [u8]) -> Result<usize, Failed> {
+        if self.line_len > 0 && self.track.written.get() / 7 != self.at / self.line_len {
+            self.track.late.set(true);
+        }
+        self.track
+            .reads
+            .set(self.track.reads.get().saturating_add(1));
+        let left = if self.at < self.lines.len() {
+            &self.lines[self.at..]
+        } else {
+            b"".as_slice()
+        };
+        let count = self.each.min(left.len()).min(buffer.len());
+        buffer[..count].copy_from_slice(&left[..count]);
+        self.at += count;
+        Ok(count)
+    }
+}
+
 /// Takes all, and counts calls and bytes.
 #[derive(Drop)]
 pub struct Counting<'a> {

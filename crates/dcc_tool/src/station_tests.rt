@@ -117,5 +117,5 @@ fn a_write_fails_within_the_packets_to_be_sent(rt: HostRuntime) {
         encode(rt.alloc(), &mut input, &mut writer, of(4, 4, 1)),
         Err(ToolFault::Write)
     );
-    assert_eq!(rt; writer.taken.as_slice(), b"ff00ff\nff00".as_slice());
+    assert_eq!(rt; writer.taken.as_slice(), b"ff00ff\nff00f".as_slice());
 }

@@ -1,0 +1,92 @@
+//! The order of reads and writes of `encode`, with and without a station, which no contract can name.
+
+use crate::fakes::{Counting, Track, WatchingLines};
+use crate::{Encode, Input, Limits, encode};
+use std::alloc::{AllocError, Global};
+use std::process::Abort;
+use std::test::Fail;
+
+/// A packet line of 5 bytes, and a line that asks a station for a packet, of 7. Each gives a line of 7 bytes.
+const LINES: [(Encode, &[u8]); 2] = [
+    (
+        Encode {
+            hex: true,
+            service: false,
+            station: None,
+        },
+        b"idle\n",
+    ),
+    (
+        Encode {
+            hex: true,
+            service: false,
+            station: Some((4, 4, 1)),
+        },
+        b"send 1\n",
+    ),
+];
+
+fn repeated(alloc: Global, line: &[u8], count: u32) -> Result<Vec<u8>, AllocError> {
+    let mut lines = Vec::new(alloc);
+    for _ in 0..count {
+        lines.extend_from_slice(line)?;
+    }
+    Ok(lines)
+}
+
+/// Encodes lines that come so many bytes at a time.
+fn watch(
+    rt: &impl Abort,
+    alloc: Global,
+    track: &Track,
+    how: Encode,
+    lines: &[u8],
+    line_len: usize,
+    each: usize,
+) {
+    let reader = WatchingLines {
+        lines,
+        line_len,
+        each,
+        at: 0,
+        track,
+    };
+    let mut input = Input::new(reader, Limits::full());
+    let mut writer = Counting { track };
+    assert_eq!(rt; encode(alloc, &mut input, &mut writer, how), Ok(()));
+}
+
+#[test]
+fn each_line_is_out_before_the_next_read(rt: HostRuntime) -> Result<(), Fail> {
+    for (how, line) in LINES {
+        let lines = repeated(rt.alloc(), line, 120)?;
+        for each in [1, 4, 5, 6, 7, 11, 35, 512] {
+            let track = Track::new();
+            let text = lines.as_slice();
+            watch(&rt, rt.alloc(), &track, how, text, line.len(), each);
+            assert!(rt;
+                !track.late.get(),
+                "a line was held while the reader was asked for more"
+            );
+            assert_eq!(rt; track.written.get(), 7 * 120);
+        }
+    }
+    Ok(())
+}
+
+#[test]
+fn lines_of_one_read_go_out_together(rt: HostRuntime) -> Result<(), Fail> {
+    for (how, line) in LINES {
+        let lines = repeated(rt.alloc(), line, 700)?;
+        let track = Track::new();
+        let text = lines.as_slice();
+        watch(&rt, rt.alloc(), &track, how, text, line.len(), 512);
+        assert_eq!(rt; track.written.get(), 7 * 700);
+        assert!(rt;
+            track.writes.get() <= track.reads.get(),
+            "no more calls than reads of 512 bytes: {}",
+            track.writes.get()
+        );
+    }
+    Ok(())
+}
