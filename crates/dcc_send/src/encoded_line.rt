@@ -1,13 +1,15 @@
 //! The line of a packet that is sent.
-ghost use Rattle.std.specs.Prelude.{◌≡◌, ◌≤◌, ◌+◌, ◌++◌, [], length, decimal};
+ghost use Rattle.std.specs.Prelude.{◌≡◌, ◌≤◌, ◌+◌, ◌++◌, ◌∷◌, [], length, decimal};
 ghost use Rattle.arrayvec.specs.ArrayVec.{array_vec_len};
 ghost use Rattle.dcc_wire.specs.Sending.{sent};
+ghost use Rattle.hex.specs.Hex.{encode_lower};
 ghost use Rattle.dcc_io.specs.Held.{HoldsOrFails};
+ghost use Rattle.dcc_io.specs.Spaced.{behind_space};
 ghost use Rattle.dcc_send.specs.Encoded.{frame_line, timing_of, spaced};
 
 use crate::encoding::Encode;
 use arrayvec::ArrayVec;
-use dcc_io::{Failed, HeldLines, Sink, append_decimal, append_hex};
+use dcc_io::{Failed, HeldLines, Line, Sink, append, append_decimal, append_hex};
 use dcc_wire::{Frame, Halves, Timing};
 
 /// Room for the 150 halves of six bytes in service mode, each of up to five digits and a space.
@@ -23,20 +25,33 @@ pub(crate) fn hold_frame<W: Sink>(
     ensures { HoldsOrFails (W.contents writer.old) (W.failures writer.old) (held.old ++ frame_line how frame.now) result held.new
         (W.contents writer.new) (W.failures writer.new) }
 {
-    held.hold(frame_line(frame, how).as_slice(), writer)
-}
-
-/// The line of a frame.
-fn frame_line(frame: &Frame, how: Encode) -> EncodedLine
-    ensures { result.items ≡ frame_line how frame.now }
-{
-    let mut line = EncodedLine::new();
     let bytes = frame.bytes();
     if how.hex {
-        append_hex(&mut line, bytes);
+        held.hold(hex_line(bytes).as_slice(), writer)
     } else {
-        append_halves(&mut line, *frame, timing_of(how));
+        held.hold(halves_line(frame, timing_of(how)).as_slice(), writer)
     }
+}
+
+/// The bytes of a frame in hex, and a line feed.
+fn hex_line(bytes: &[u8]) -> Line
+    requires { length bytes.now ≤ 6 }
+    ensures { result.items ≡ encode_lower bytes.now ++ 10 ∷ [] }
+{
+    let mut line = Line::new();
+    append_hex(&mut line, bytes);
+    append(&mut line, b"\n");
+    line
+}
+
+/// The halves that are sent for a frame, and a line feed.
+fn halves_line(frame: &Frame, timing: Timing) -> EncodedLine
+    requires few { length frame.now ≤ 6 }
+    requires short { timing.preamble ≤ 20 }
+    ensures { result.items ≡ spaced (sent frame.now timing) ++ 10 ∷ [] }
+{
+    let mut line = EncodedLine::new();
+    append_halves(&mut line, *frame, timing);
     line.push(b'\n');
     line
 }
@@ -67,9 +82,10 @@ fn append_halves(line: &mut EncodedLine, frame: Frame, timing: Timing)
         return;
     };
     append_half(line, first);
+    let one = HalfText::new(timing.one);
+    let zero = HalfText::new(timing.zero_first);
     for us in halves {
-        line.push(b' ');
-        append_half(line, us);
+        append_next_half(line, us, &one, &zero);
     }
 }
 
@@ -81,4 +97,39 @@ fn append_half(line: &mut EncodedLine, us: u16)
     ensures len { array_vec_len line.new ≤ array_vec_len line.old + 5 }
 {
     append_decimal(line, u32::from(us));
+}
+
+/// Adds a half behind a space. The digits of these two, which most halves are, were made before.
+fn append_next_half(line: &mut EncodedLine, us: u16, one: &HalfText, zero: &HalfText)
+    requires { array_vec_len line.old ≤ 1018 }
+    ensures items { line.new.items ≡ line.old.items ++ behind_space us }
+    ensures len { array_vec_len line.new ≤ array_vec_len line.old + 6 }
+{
+    if us == one.us {
+        append(line, one.text.as_slice());
+    } else if us == zero.us {
+        append(line, zero.text.as_slice());
+    } else {
+        append(line, HalfText::new(us).text.as_slice());
+    }
+}
+
+/// A half in decimal, of up to five digits, and the space before it.
+#[derive(Drop)]
+struct HalfText {
+    us: u16,
+    text: ArrayVec<u8, 6>,
+    ghost spelled: { text.items ≡ behind_space us },
+}
+
+impl HalfText {
+    #[tactic(auto, using(dcc_io::proofs::ListingLemmas::half_is_short))]
+    fn new(us: u16) -> HalfText
+        ensures { result.us ≡ us }
+    {
+        let mut text = ArrayVec::new();
+        text.push(b' ');
+        append_decimal(&mut text, u32::from(us));
+        HalfText { us, text }
+    }
 }
