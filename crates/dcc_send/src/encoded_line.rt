@@ -9,7 +9,7 @@ ghost use Rattle.dcc_send.specs.Encoded.{frame_line, timing_of, spaced};
 
 use crate::encoding::Encode;
 use arrayvec::ArrayVec;
-use dcc_io::{Failed, HeldLines, Line, Sink, append, append_decimal, append_hex};
+use dcc_io::{Failed, HeldLines, Sink, append, append_decimal};
 use dcc_wire::{Frame, Halves, Timing};
 
 /// Room for the 150 halves of six bytes in service mode, each of up to five digits and a space.
@@ -27,33 +27,44 @@ pub(crate) fn hold_frame<W: Sink>(
 {
     let bytes = frame.bytes();
     if how.hex {
-        held.hold(hex_line(bytes).as_slice(), writer)
+        hold_hex(held, bytes, writer)
     } else {
-        held.hold(halves_line(frame, timing_of(how)).as_slice(), writer)
+        hold_halves(held, *frame, timing_of(how), writer)
     }
 }
 
-/// The bytes of a frame in hex, and a line feed.
-fn hex_line(bytes: &[u8]) -> Line
+/// Holds the bytes of a frame in hex, and a line feed.
+fn hold_hex<W: Sink>(held: &mut HeldLines, bytes: &[u8], writer: &mut W) -> Result<(), Failed>
     requires { length bytes.now ≤ 6 }
-    ensures { result.items ≡ encode_lower bytes.now ++ 10 ∷ [] }
+    ensures { HoldsOrFails (W.contents writer.old) (W.failures writer.old) (held.old ++ (encode_lower bytes.now ++ 10 ∷ [])) result held.new
+        (W.contents writer.new) (W.failures writer.new) }
 {
-    let mut line = Line::new();
-    append_hex(&mut line, bytes);
-    append(&mut line, b"\n");
-    line
+    let mut line = [0; 13];
+    let len = 2 * bytes.len();
+    let _ = hex::encode_to_slice(bytes, &mut line[..len]);
+    line[len] = b'\n';
+    held.hold(&line[..len + 1], writer)
 }
 
-/// The halves that are sent for a frame, and a line feed.
-fn halves_line(frame: &Frame, timing: Timing) -> EncodedLine
-    requires few { length frame.now ≤ 6 }
+/// Holds the halves that are sent for a frame, and a line feed.
+///
+/// It stands alone, since whoever has this line in its frame makes room for it at each call.
+#[inline(never)]
+fn hold_halves<W: Sink>(
+    held: &mut HeldLines,
+    frame: Frame,
+    timing: Timing,
+    writer: &mut W,
+) -> Result<(), Failed>
+    requires few { length frame ≤ 6 }
     requires short { timing.preamble ≤ 20 }
-    ensures { result.items ≡ spaced (sent frame.now timing) ++ 10 ∷ [] }
+    ensures { HoldsOrFails (W.contents writer.old) (W.failures writer.old) (held.old ++ (spaced (sent frame timing) ++ 10 ∷ [])) result held.new
+        (W.contents writer.new) (W.failures writer.new) }
 {
     let mut line = EncodedLine::new();
-    append_halves(&mut line, *frame, timing);
+    append_halves(&mut line, frame, timing);
     line.push(b'\n');
-    line
+    held.hold(line.as_slice(), writer)
 }
 
 /// The timing that is sent with.
