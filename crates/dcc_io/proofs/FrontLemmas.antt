@@ -10,17 +10,19 @@ use Rattle.std.specs.Char.{is_ascii_digit}
 use Rattle.std.specs.Str.Parse.{digits_value}
 use Rattle.dcc_io.specs.declared.word.FrontWord.{FrontWord}
 use Rattle.dcc_io.specs.Place.{Place, line_behind, lines_with, lines_through}
-use Rattle.dcc_io.specs.Words.{Word, is_gap, comments, ended_words, duration_of, Passes}
+use Rattle.dcc_io.specs.Words.{Word, is_gap, is_dash, is_mark, comments, ended_words, duration_of, Passes}
 use Rattle.dcc_io.specs.Front.{IsFrontWord}
 use Rattle.dcc_io.specs.declared.fault.KeptFault.{KeptFault}
 use Rattle.dcc_io.specs.Told.{Told}
 use Rattle.dcc_io.specs.InputState.{InputState, closed_text, closing}
-use Rattle.dcc_io.specs.Passed.{Uses}
+use Rattle.dcc_io.specs.Passed.{Passed, Uses}
 use Rattle.dcc_io.specs.Capture.{AnswersRun}
+use Rattle.dcc_io.specs.FirstRead.{AnswersFirst}
 use Rattle.dcc_io.proofs.WordsLemmas.{behind, opened, opened-none, opened-word, opened-gap, ended}
 use Rattle.dcc_io.proofs.HandLemmas.{outside}
 use Rattle.dcc_io.proofs.RunWordLemmas.{run_of_duration}
 use Rattle.dcc_io.proofs.CaptureLemmas.{Gave-word}
+use Rattle.dcc_io.proofs.BothLemmas.{counts}
 use Rattle.dcc_io.proofs.SpellsLemmas.{digit_value-digit, is_ascii_digit-digit, digits_value_after-push}
 
 digit_bounds : (byte : ℕ) → is_ascii_digit byte ≡ true → (48 ≤ byte) × (byte ≤ 57)
@@ -120,7 +122,7 @@ lines_of_front lines line gap (byte ∷ word) rest digits =
     some (first ∷ word) = refl
 
 -- what a word that spells a duration is made of
-record IsDuration (word : List ℕ) : Type 0 where
+pub record IsDuration (word : List ℕ) : Type 0 where
   some : 0 < length word
   digits : list_all is_ascii_digit word ≡ true
 
@@ -134,30 +136,76 @@ duration_parts word us spells = go (nat_lt 0 (length word)) refl (nat_le (length
     go true some false c digits is = cc
     go false some b c digits is = cc
 
+-- the half of a word on the line of the input was taken
+pub record TakesHalf (old : InputState) (us : ℕ) (new : InputState) : Type 0 where
+  pub word : List ℕ
+  pub digits : IsDuration word
+  pub spells : duration_of word ≡ Some us
+  pub mid : InputState
+  pub passed : Passed old (record { line = old.place.line; bytes = word } ∷ []) mid
+  pub some : 0 < mid.halves
+  pub counted : new ≡ record { text = mid.text; ahead = mid.ahead; place = mid.place; lines = mid.lines; halves = mid.halves - 1; bytes = mid.bytes; fault = mid.fault; failures = mid.failures }
+  pub fewer : new.bytes < old.bytes
+
+-- as a run of one half
+pub run_taken : (old new : InputState) (us : ℕ) → TakesHalf old us new → AnswersRun old (Ok (Some (record { us = us; n = 1 }))) new
+run_taken old new us takes = let some = takes.some in (
+  Gave-word old takes.mid new old.place.line (record { us = us; n = 1 }) takes.word takes.passed (run_of_duration takes.word us takes.digits.digits takes.spells) (omega (arith, some)) takes.counted,
+  omega arith,
+  takes.fewer,
+)
+
+no_dash : (byte : ℕ) → is_ascii_digit byte ≡ true → is_dash byte ≡ false
+no_dash byte digit = let bounds = digit_bounds byte digit in ne_eqb byte 45 (λ same. omega (arith, bounds))
+
+no_mark : (word : List ℕ) → IsDuration word → is_mark word ≡ false
+no_mark [] is = absurd (let some = is.some in omega (arith, some))
+no_mark (byte ∷ word) is =
+    let parts = both (is_ascii_digit byte) (list_all is_ascii_digit word) is.digits in
+    rw (no_dash byte parts.0) (never (eqb (length (byte ∷ word)) 3))
+  where
+    never : (a : Bool) → (a && false) ≡ false
+    never true = refl
+    never false = refl
+
+-- as a half of the first of two captures
+pub first_taken : (before : ℕ) (old new : InputState) (us : ℕ) → old.fault ≡ None → TakesHalf old us new
+    → AnswersFirst before old (Ok (Some (old.place.line, record { us = us; n = 1 }))) new
+first_taken before old new us none takes =
+    let some = takes.some in
+    let fewer = takes.fewer in
+    let bytes : new.bytes ≡ takes.mid.bytes = ap (λ (state : InputState). state.bytes) takes.counted in
+    counts before old.place.line takes.word old takes.mid none takes.passed new (Ok (Some (old.place.line, record { us = us; n = 1 })))
+    (rw (no_mark takes.word takes.digits) refl) (omega (arith, fewer, bytes)) (refl, run_of_duration takes.word us takes.digits.digits takes.spells, omega (arith, some), takes.counted)
+
 -- a half was taken from the duration at the front
 pub takes_front : (old new : InputState) (whole rest : Option (List ℕ)) (ahead : List ℕ) (front : FrontWord)
     → old.text ≡ closed_text false whole → new.text ≡ closed_text false rest → Consumes whole rest (take (front.len + 1) ahead)
     → IsFrontWord ahead front → old.place.in_comment ≡ false → new.place ≡ outside (line_behind old.place.line (get_or ahead front.len 0)) → new.lines ≡ old.place.line
     → new.bytes + (front.len + 1) ≡ old.bytes → 0 < new.bytes → 0 < old.halves → new.halves ≡ old.halves - 1 → new.fault ≡ None → new.failures ≡ old.failures
-    → AnswersRun old (Ok (Some (record { us = front.us; n = 1 }))) new
+    → TakesHalf old front.us new
 takes_front old new whole rest ahead front old_text new_text consumed is_front no_comment place lines bytes some_bytes some halves fault failures =
     let parts = duration_parts (take front.len ahead) front.us is_front.spells in
     let used : take (front.len + 1) ahead ≡ take front.len ahead ++ get_or ahead front.len 0 ∷ [] = take_more ahead front.len 0 is_front.inside in
-    let count : length (take front.len ahead) ≡ front.len = let inside = is_front.inside in simp length-take (omega arith) in (
-      Gave-word old mid new old.place.line (record { us = front.us; n = 1 }) (take front.len ahead)
-          record {
-            text = subst (λ (xs : Option (List ℕ)). IfSome xs (λ text. IsSomeAnd new.text (λ left. Uses old mid words text left))) (sym old_text)
-                (subst (λ (xs : Option (List ℕ)). IfSome (closed_text false whole) (λ text. IsSomeAnd xs (λ left. Uses old mid words text left))) (sym new_text)
-                (go parts used count whole rest consumed));
-            halves = refl;
-            bytes = omega (arith, bytes);
-            fault = fault;
-            failures = failures;
-          }
-          (run_of_duration (take front.len ahead) front.us parts.digits is_front.spells) (omega arith) (ap (λ (n : ℕ). record { text = new.text; ahead = new.ahead; place = new.place; lines = new.lines; halves = n; bytes = new.bytes; fault = new.fault; failures = new.failures }) halves),
-      omega arith,
-      omega (arith, bytes),
-    )
+    let count : length (take front.len ahead) ≡ front.len = let inside = is_front.inside in simp length-take (omega arith) in
+    record {
+      word = take front.len ahead;
+      digits = parts;
+      spells = is_front.spells;
+      mid = mid;
+      passed = record {
+        text = subst (λ (xs : Option (List ℕ)). IfSome xs (λ text. IsSomeAnd new.text (λ left. Uses old mid words text left))) (sym old_text)
+            (subst (λ (xs : Option (List ℕ)). IfSome (closed_text false whole) (λ text. IsSomeAnd xs (λ left. Uses old mid words text left))) (sym new_text)
+            (go parts used count whole rest consumed));
+        halves = refl;
+        bytes = omega (arith, bytes);
+        fault = fault;
+        failures = failures;
+      };
+      some = some;
+      counted = ap (λ (n : ℕ). record { text = new.text; ahead = new.ahead; place = new.place; lines = new.lines; halves = n; bytes = new.bytes; fault = new.fault; failures = new.failures }) halves;
+      fewer = omega (arith, bytes);
+    }
   where
     mid : InputState
     mid = record { text = new.text; ahead = new.ahead; place = new.place; lines = new.lines; halves = old.halves; bytes = new.bytes; fault = new.fault; failures = new.failures }
@@ -203,7 +251,7 @@ pub takes_front_at : (source later : Told) (line next lines halves bytes : ℕ) 
     → closed ≡ false → in_comment ≡ false → halves ≢ 0 → front.len < bytes → IsFrontWord source.ahead front
     → Consumes source.text later.text (take (front.len + 1) source.ahead) → later.failures ≡ source.failures → fault ≡ None
     → next ≡ line_behind line (get_or source.ahead front.len 0)
-    → AnswersRun (state_of source line lines in_comment closed halves bytes fault) (Ok (Some (record { us = front.us; n = 1 })))
+    → TakesHalf (state_of source line lines in_comment closed halves bytes fault) front.us
     (state_of later next line in_comment closed (halves - 1) (bytes - (front.len + 1)) fault)
 takes_front_at source later line next lines halves bytes in_comment closed fault front is_open no_comment some fits is_front consumed failures none behind_gap =
     takes_front (state_of source line lines in_comment closed halves bytes fault) (state_of later next line in_comment closed (halves - 1) (bytes - (front.len + 1)) fault)

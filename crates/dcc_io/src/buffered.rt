@@ -42,6 +42,7 @@ impl<R: Source> Buffered<R> {
     }
 
     /// The bytes that were read and not yet used.
+    #[inline(always)]
     pub fn ahead(&self) -> &[u8]
         ensures bytes { result.now ≡ self.now.ahead }
         ensures front { IsFront self.now.ahead self.now.text }
@@ -50,6 +51,7 @@ impl<R: Source> Buffered<R> {
     }
 
     /// Passes over bytes that were read.
+    #[inline(always)]
     pub fn skip(&mut self, count: usize)
         requires { count ≤ length self.old.ahead }
         ensures ahead { self.new.ahead ≡ drop count self.old.ahead }
@@ -60,6 +62,7 @@ impl<R: Source> Buffered<R> {
     }
 
     /// The next byte, or none at the end.
+    #[inline(always)]
     pub fn next(&mut self) -> Result<Option<u8>, Failed>
         ensures { AnswersNext self.old result self.new }
     {
@@ -73,6 +76,7 @@ impl<R: Source> Buffered<R> {
     }
 
     /// Whether no byte is ahead.
+    #[inline(always)]
     fn is_used_up(&self) -> bool
         ensures { IsTrue result ↔ (self.now.ahead ≡ []) }
     {
@@ -80,6 +84,7 @@ impl<R: Source> Buffered<R> {
     }
 
     /// Reads once, where no byte is ahead.
+    #[inline(never)]
     fn fill(&mut self) -> Result<(), Failed>
         requires { self.old.ahead ≡ [] }
         ensures { Fills self.old result self.new }
@@ -95,6 +100,7 @@ impl<R: Source> Buffered<R> {
     }
 
     /// The first byte ahead, if there is one.
+    #[inline(always)]
     fn take_first(&mut self) -> Option<u8>
         ensures { TakesFirst self.old result self.new }
     {

@@ -33,6 +33,7 @@ impl Digits {
     }
 
     /// Adds a byte.
+    #[inline(always)]
     pub fn push(&mut self, byte: u8)
         ensures { (bytes : List ℕ) → AreDigits self.old bytes → AreDigits self.new (bytes ++ byte ∷ []) }
     {
@@ -44,6 +45,7 @@ impl Digits {
     }
 
     /// How many bytes there are; 11 where there are more.
+    #[inline(always)]
     pub fn len(&self) -> u8
         ensures { (bytes : List ℕ) → AreDigits self.now bytes → result ≡ min (length bytes) 11 }
     {
@@ -79,6 +81,7 @@ impl Digits {
 }
 
 /// The number with one more digit, at most the cap.
+#[inline(always)]
 fn capped_with(number: u32, digit: u8) -> u32
     requires { digit < 10 }
     ensures { result ≡ min (number * 10 + digit) 100000000 }

@@ -21,8 +21,23 @@ impl<R: Source> Input<R> {
     {
         match self.fault() {
             Some(fault) => Err(fault),
-            None => run_or_mark(self, before),
+            None => first_at_hand(self, before),
         }
+    }
+}
+
+/// The same, where no fault is kept. Most words are durations that stand whole among the bytes at hand.
+fn first_at_hand<R: Source>(
+    input: &mut Input<R>,
+    before: u64,
+) -> Result<Option<(u64, Run)>, KeptFault>
+    requires { input.old.fault ≡ None }
+    ensures { AnswersFirst before input.old result input.new }
+{
+    let line = input.line();
+    match input.half_at_hand() {
+        Some(us) => Ok(Some((line, Run { us, n: 1 }))),
+        None => run_or_mark(input, before),
     }
 }
 

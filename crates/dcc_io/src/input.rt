@@ -9,6 +9,7 @@ ghost use Rattle.dcc_io.specs.LineRead.{AnswersLine, EndsLine};
 ghost use Rattle.dcc_io.specs.PacketRead.{AnswersPacket, ReadsPacket};
 ghost use Rattle.dcc_io.specs.FrontLine.{IsFrontLine};
 ghost use Rattle.dcc_io.specs.Capture.{AnswersRun, CountsRun};
+ghost use Rattle.dcc_io.specs.FirstRead.{AnswersFirst};
 ghost use Rattle.dcc_io.specs.InputState.{InputState, closed_text, closing, AnswersByte, HasCause, fresh};
 
 use crate::buffered::Buffered;
@@ -96,6 +97,7 @@ impl<R: Source> Input<R> {
 
     #[tactic(auto, using(crate::proofs::InputLemmas::more_behind, crate::proofs::InputLemmas::line_of_byte))]
     /// The next byte. A line feed closes the input at its end, and then there is none.
+    #[inline(always)]
     pub(crate) fn next_byte(&mut self) -> Result<Option<u8>, KeptFault>
         requires { self.old.fault ≡ None }
         ensures { AnswersByte self.old result self.new }
@@ -168,6 +170,7 @@ impl<R: Source> Input<R> {
     }
 
     /// Whether the byte counts as a gap between words, as each byte of a comment does.
+    #[inline(always)]
     pub(crate) fn passes_gap(&mut self, byte: u8) -> bool
         ensures gap { result ≡ (comments self.old.place.in_comment byte || is_gap byte) }
         ensures place { self.new ≡ record self.old {
@@ -236,6 +239,7 @@ impl<R: Source> Input<R> {
     pub fn half_at_hand(&mut self) -> Option<u16>
         requires { self.old.fault ≡ None }
         ensures some { IfSome result (λ us. AnswersRun self.old (Ok (Some (record { us = us; n = 1 }))) self.new) }
+        ensures first { IfSome result (λ us. (before : ℕ) → AnswersFirst before self.old (Ok (Some (self.old.place.line, record { us = us; n = 1 }))) self.new) }
         ensures none { IfNone result (self.new ≡ self.old) }
     {
         if self.in_comment || self.halves_left == 0 {
@@ -254,6 +258,7 @@ impl<R: Source> Input<R> {
         requires no_comment { self.old.place.in_comment ≡ false }
         requires left { 0 < self.old.halves }
         ensures some { IfSome result (λ us. AnswersRun self.old (Ok (Some (record { us = us; n = 1 }))) self.new) }
+        ensures first { IfSome result (λ us. (before : ℕ) → AnswersFirst before self.old (Ok (Some (self.old.place.line, record { us = us; n = 1 }))) self.new) }
         ensures none { IfNone result (self.new ≡ self.old) }
     {
         let front = front_word(self.source.ahead())?;
@@ -268,6 +273,7 @@ impl<R: Source> Input<R> {
         requires left { 0 < self.old.halves }
         requires front { IsFrontWord self.old.ahead front }
         ensures some { IfSome result (λ us. AnswersRun self.old (Ok (Some (record { us = us; n = 1 }))) self.new) }
+        ensures first { IfSome result (λ us. (before : ℕ) → AnswersFirst before self.old (Ok (Some (self.old.place.line, record { us = us; n = 1 }))) self.new) }
         ensures none { IfNone result (self.new ≡ self.old) }
     {
         if self.bytes_left as usize <= front.len {
@@ -440,6 +446,7 @@ fn ends_word(byte: u8) -> bool
 }
 
 #[tactic(auto, unfolding(crate::specs::Words::comments))]
+#[inline(always)]
 fn is_comment(in_comment: bool, byte: u8) -> bool
     ensures { result ≡ comments in_comment byte }
 {

@@ -42,6 +42,7 @@ impl RunWord {
     }
 
     /// Adds a byte.
+    #[inline(always)]
     pub fn push(&mut self, byte: u8)
         ensures { (word : List ℕ) → Spells self.old word → Spells self.new (word ++ byte ∷ []) }
     {
@@ -62,6 +63,7 @@ impl RunWord {
     }
 
     /// Whether it has no bytes.
+    #[inline(always)]
     pub fn is_empty(&self) -> bool
         ensures { (word : List ℕ) → Spells self.now word → result ≡ not (is_some_byte word) }
     {
@@ -174,6 +176,7 @@ fn ended_word(number: u32, len: usize, behind: u8) -> Option<FrontWord>
 
 /// Whether a byte is a gap between words: a space, a tab, CR or LF.
 #[tactic(auto, unfolding(crate::specs::Words::is_gap))]
+#[inline(always)]
 pub fn is_separator(byte: u8) -> bool
     ensures { result ≡ is_gap byte }
 {
@@ -181,6 +184,7 @@ pub fn is_separator(byte: u8) -> bool
 }
 
 /// Whether bytes that were all dashes, or not, are so with one more.
+#[inline(always)]
 fn still_dashes(all_dashes: bool, byte: u8) -> bool
     ensures { result ≡ (all_dashes && byte == 45) }
 {
