@@ -1,5 +1,5 @@
 -- A word at the front of the bytes at hand is the next word of the input.
-use Rattle.std.proofs.Common.{◌≡◌, ◌≢◌, ℕ, ◌+◌, ◌-◌, ◌*◌, ◌<◌, ◌≤◌, List, [], ◌∷◌, ◌++◌, take, get_or, length, Bool, true, false, cond, eqb, nat_lt, nat_le, ◌||◌, ◌&&◌, min, Option, None, Some, Ok, IfSome, IsSomeAnd, refl, sym, ap, ◌∙◌, subst, arith, append_assoc, length-append, length-take}
+use Rattle.std.proofs.Common.{◌≡◌, ℕ, ◌+◌, ◌-◌, ◌*◌, ◌<◌, ◌≤◌, List, [], ◌∷◌, ◌++◌, take, get_or, length, Bool, true, false, not, cond, eqb, nat_lt, nat_le, ◌||◌, ◌&&◌, min, Option, None, Some, Ok, IfSome, IsSomeAnd, refl, sym, ap, ◌∙◌, subst, arith, append_assoc, length-append, length-take}
 use Rattle.std.proofs.lemmas.List.{append-nil, take_more}
 use Rattle.std.proofs.lemmas.List.Folds.{list_all_more}
 use Rattle.std.proofs.lemmas.Bool.{ne_eqb}
@@ -11,14 +11,14 @@ use Rattle.std.specs.Str.Parse.{digits_value}
 use Rattle.dcc_io.specs.declared.word.FrontWord.{FrontWord}
 use Rattle.dcc_io.specs.Place.{Place, line_behind, lines_with, lines_through}
 use Rattle.dcc_io.specs.Words.{Word, is_gap, is_dash, is_mark, comments, ended_words, duration_of, Passes}
-use Rattle.dcc_io.specs.Front.{IsFrontWord}
+use Rattle.dcc_io.specs.Front.{BeginsWithWord, IsFrontWord, is_plain}
 use Rattle.dcc_io.specs.declared.fault.KeptFault.{KeptFault}
 use Rattle.dcc_io.specs.Told.{Told}
 use Rattle.dcc_io.specs.InputState.{InputState, closed_text, closing}
 use Rattle.dcc_io.specs.Passed.{Passed, Uses}
 use Rattle.dcc_io.specs.Capture.{AnswersRun}
 use Rattle.dcc_io.specs.FirstRead.{AnswersFirst}
-use Rattle.dcc_io.proofs.WordsLemmas.{behind, opened, opened-none, opened-word, opened-gap, ended}
+use Rattle.dcc_io.proofs.WordsLemmas.{eqb_line_feed, behind, opened, opened-none, opened-word, opened-gap, ended}
 use Rattle.dcc_io.proofs.HandLemmas.{outside}
 use Rattle.dcc_io.proofs.RunWordLemmas.{run_of_duration}
 use Rattle.dcc_io.proofs.CaptureLemmas.{Gave-word}
@@ -34,8 +34,24 @@ record IsPlain (byte : ℕ) : Type 0 where
   no_gap : is_gap byte ≡ false
   no_line : eqb byte 10 ≡ false
 
-plain_digit : (byte : ℕ) → is_ascii_digit byte ≡ true → IsPlain byte
-unfolding comments is_gap
+both : (a b : Bool) → (a && b) ≡ true → (a ≡ true) × (b ≡ true)
+both true b all = (refl, all)
+both false b all = cc
+
+neither : (a b : Bool) → not (a || b) ≡ true → (a ≡ false) × (b ≡ false)
+neither true b h = cc
+neither false true h = cc
+neither false false h = (refl, refl)
+
+plain_parts : (byte : ℕ) → is_plain byte ≡ true → IsPlain byte
+unfolding comments
+plain_parts byte plain =
+    let parts = neither (is_gap byte) (eqb byte 35) plain in
+    let no_line = eqb_line_feed byte parts.0 in
+    record { no_comment = rw (no_line, parts.1) refl; no_gap = parts.0; no_line = no_line }
+
+plain_digit : (byte : ℕ) → is_ascii_digit byte ≡ true → is_plain byte ≡ true
+unfolding is_gap
 plain_digit byte digit =
     let bounds = digit_bounds byte digit in
     let not_32 = ne_eqb byte 32 (λ same. omega (arith, bounds)) in
@@ -43,24 +59,22 @@ plain_digit byte digit =
     let not_13 = ne_eqb byte 13 (λ same. omega (arith, bounds)) in
     let not_10 = ne_eqb byte 10 (λ same. omega (arith, bounds)) in
     let not_35 = ne_eqb byte 35 (λ same. omega (arith, bounds)) in
-    record {
-      no_comment = rw (not_10, not_35) refl;
-      no_gap = rw (not_32, not_9, not_13, not_10) refl;
-      no_line = not_10;
-    }
+    rw (not_32, not_9, not_13, not_10, not_35) refl
 
-both : (a b : Bool) → (a && b) ≡ true → (a ≡ true) × (b ≡ true)
-both true b all = (refl, all)
-both false b all = cc
-
-opened-digits : (line : ℕ) (front word more : List ℕ) → list_all is_ascii_digit word ≡ true → opened (outside line) front (word ++ more) ≡ opened (outside line) (front ++ word) more
-opened-digits line front [] more digits = ap (λ (xs : List ℕ). opened (outside line) xs more) (sym (append-nil front))
-opened-digits line front (byte ∷ word) more digits =
+plain_digits : (word : List ℕ) → list_all is_ascii_digit word ≡ true → list_all is_plain word ≡ true
+plain_digits [] digits = refl
+plain_digits (byte ∷ word) digits =
     let parts = both (is_ascii_digit byte) (list_all is_ascii_digit word) digits in
-    let plain = plain_digit byte parts.0 in
+    rw (plain_digit byte parts.0, plain_digits word parts.1) refl
+
+opened-plain : (line : ℕ) (front word more : List ℕ) → list_all is_plain word ≡ true → opened (outside line) front (word ++ more) ≡ opened (outside line) (front ++ word) more
+opened-plain line front [] more digits = ap (λ (xs : List ℕ). opened (outside line) xs more) (sym (append-nil front))
+opened-plain line front (byte ∷ word) more digits =
+    let parts = both (is_plain byte) (list_all is_plain word) digits in
+    let plain = plain_parts byte parts.0 in
     opened-word (outside line) front byte (word ++ more) plain.no_comment plain.no_gap
     ∙ ap (λ (place : Place). opened place (front ++ byte ∷ []) (word ++ more)) (stays plain)
-    ∙ opened-digits line (front ++ byte ∷ []) word more parts.1
+    ∙ opened-plain line (front ++ byte ∷ []) word more parts.1
     ∙ ap (λ (xs : List ℕ). opened (outside line) xs more) (append_assoc front (byte ∷ []) word)
   where
     stays : IsPlain byte → behind (outside line) byte ≡ outside line
@@ -89,12 +103,12 @@ ends_word_of : (line : ℕ) (word : List ℕ) → 0 < length word → ended line
 ends_word_of line [] some = absurd (omega arith)
 ends_word_of line (byte ∷ word) some = refl
 
--- digits and a gap hold one word
-passes_front : (line gap : ℕ) (word : List ℕ) → list_all is_ascii_digit word ≡ true → 0 < length word → is_gap gap ≡ true
+-- a word and a gap hold one word
+passes_front : (line gap : ℕ) (word : List ℕ) → list_all is_plain word ≡ true → 0 < length word → is_gap gap ≡ true
     → Passes (outside line) (word ++ gap ∷ []) (record { line = line; bytes = word } ∷ []) (outside (line_behind line gap))
 passes_front line gap word digits some is = λ more.
     ap (ended_words (outside line)) (append_assoc word (gap ∷ []) more) ∙ sym (opened-none (outside line) (word ++ gap ∷ more))
-    ∙ opened-digits line [] word (gap ∷ more) digits
+    ∙ opened-plain line [] word (gap ∷ more) digits
     ∙ opened-gap (outside line) word gap more (or_gap (comments false gap) is)
     ∙ ap (λ (words : List Word). words ++ ended_words (behind (outside line) gap) more) (ends_word_of line word some)
     ∙ ap (λ (in_comment : Bool). record { line = line; bytes = word } ∷ ended_words (record { line = line_behind line gap; in_comment = in_comment }) more) (gap_outside gap is)
@@ -103,8 +117,8 @@ passes_front line gap word digits some is = λ more.
     or_gap true is = refl
     or_gap false is = is
 
--- digits and a gap stand on one line
-lines_of_front : (lines line gap : ℕ) (word rest : List ℕ) → list_all is_ascii_digit word ≡ true
+-- a word and a gap stand on one line
+lines_of_front : (lines line gap : ℕ) (word rest : List ℕ) → list_all is_plain word ≡ true
     → lines_through lines line ((word ++ gap ∷ []) ++ (rest ++ 10 ∷ [])) ≡ lines_through line (line_behind line gap) (rest ++ 10 ∷ [])
 lines_of_front lines line gap [] rest digits = ap (λ n. lines_through n (line_behind line gap) (rest ++ 10 ∷ [])) (some rest)
   where
@@ -112,8 +126,8 @@ lines_of_front lines line gap [] rest digits = ap (λ n. lines_through n (line_b
     some [] = refl
     some (byte ∷ rest) = refl
 lines_of_front lines line gap (byte ∷ word) rest digits =
-    let parts = both (is_ascii_digit byte) (list_all is_ascii_digit word) digits in
-    let plain = plain_digit byte parts.0 in
+    let parts = both (is_plain byte) (list_all is_plain word) digits in
+    let plain = plain_parts byte parts.0 in
     ap (λ n. lines_through n (line_behind line byte) ((word ++ gap ∷ []) ++ (rest ++ 10 ∷ []))) (some word)
     ∙ rw plain.no_line (lines_of_front line line gap word rest parts.1)
   where
@@ -178,61 +192,73 @@ first_taken before old new us none takes =
     counts before old.place.line takes.word old takes.mid none takes.passed new (Ok (Some (old.place.line, record { us = us; n = 1 })))
     (rw (no_mark takes.word takes.digits) refl) (omega (arith, fewer, bytes)) (refl, run_of_duration takes.word us takes.digits.digits takes.spells, omega (arith, some), takes.counted)
 
--- a half was taken from the duration at the front
-pub takes_front : (old new : InputState) (whole rest : Option (List ℕ)) (ahead : List ℕ) (front : FrontWord)
-    → old.text ≡ closed_text false whole → new.text ≡ closed_text false rest → Consumes whole rest (take (front.len + 1) ahead)
-    → IsFrontWord ahead front → old.place.in_comment ≡ false → new.place ≡ outside (line_behind old.place.line (get_or ahead front.len 0)) → new.lines ≡ old.place.line
-    → new.bytes + (front.len + 1) ≡ old.bytes → 0 < new.bytes → 0 < old.halves → new.halves ≡ old.halves - 1 → new.fault ≡ None → new.failures ≡ old.failures
-    → TakesHalf old front.us new
-takes_front old new whole rest ahead front old_text new_text consumed is_front no_comment place lines bytes some_bytes some halves fault failures =
-    let parts = duration_parts (take front.len ahead) front.us is_front.spells in
-    let used : take (front.len + 1) ahead ≡ take front.len ahead ++ get_or ahead front.len 0 ∷ [] = take_more ahead front.len 0 is_front.inside in
-    let count : length (take front.len ahead) ≡ front.len = let inside = is_front.inside in simp length-take (omega arith) in
+-- the word at the front was passed
+passes_word : (old new : InputState) (whole rest : Option (List ℕ)) (ahead : List ℕ) (len : ℕ) (ends_line : Bool)
+    → old.text ≡ closed_text false whole → new.text ≡ closed_text false rest → Consumes whole rest (take (len + 1) ahead)
+    → BeginsWithWord ahead len ends_line → old.place.in_comment ≡ false → new.place ≡ outside (line_behind old.place.line (get_or ahead len 0)) → new.lines ≡ old.place.line
+    → new.bytes + (len + 1) ≡ old.bytes → 0 < new.bytes → new.halves ≡ old.halves → new.fault ≡ None → new.failures ≡ old.failures
+    → Passed old (record { line = old.place.line; bytes = take len ahead } ∷ []) new
+passes_word old new whole rest ahead len ends_line old_text new_text consumed begins no_comment place lines bytes some_bytes halves fault failures =
+    let used : take (len + 1) ahead ≡ take len ahead ++ get_or ahead len 0 ∷ [] = take_more ahead len 0 begins.inside in
+    let count : length (take len ahead) ≡ len = let inside = begins.inside in simp length-take (omega arith) in
     record {
-      word = take front.len ahead;
-      digits = parts;
-      spells = is_front.spells;
-      mid = mid;
-      passed = record {
-        text = subst (λ (xs : Option (List ℕ)). IfSome xs (λ text. IsSomeAnd new.text (λ left. Uses old mid words text left))) (sym old_text)
-            (subst (λ (xs : Option (List ℕ)). IfSome (closed_text false whole) (λ text. IsSomeAnd xs (λ left. Uses old mid words text left))) (sym new_text)
-            (go parts used count whole rest consumed));
-        halves = refl;
-        bytes = omega (arith, bytes);
-        fault = fault;
-        failures = failures;
-      };
-      some = some;
-      counted = ap (λ (n : ℕ). record { text = new.text; ahead = new.ahead; place = new.place; lines = new.lines; halves = n; bytes = new.bytes; fault = new.fault; failures = new.failures }) halves;
-      fewer = omega (arith, bytes);
+      text = subst (λ (xs : Option (List ℕ)). IfSome xs (λ text. IsSomeAnd new.text (λ left. Uses old new words text left))) (sym old_text)
+          (subst (λ (xs : Option (List ℕ)). IfSome (closed_text false whole) (λ text. IsSomeAnd xs (λ left. Uses old new words text left))) (sym new_text)
+          (go used count whole rest consumed));
+      halves = halves;
+      bytes = omega (arith, bytes);
+      fault = fault;
+      failures = failures;
     }
   where
-    mid : InputState
-    mid = record { text = new.text; ahead = new.ahead; place = new.place; lines = new.lines; halves = old.halves; bytes = new.bytes; fault = new.fault; failures = new.failures }
-
     words : List Word
-    words = record { line = old.place.line; bytes = take front.len ahead } ∷ []
+    words = record { line = old.place.line; bytes = take len ahead } ∷ []
 
-    go : IsDuration (take front.len ahead) → take (front.len + 1) ahead ≡ take front.len ahead ++ get_or ahead front.len 0 ∷ [] → length (take front.len ahead) ≡ front.len
-        → (xs ys : Option (List ℕ)) → Consumes xs ys (take (front.len + 1) ahead)
-        → IfSome (closed_text false xs) (λ text. IsSomeAnd (closed_text false ys) (λ left. Uses old mid words text left))
-    go parts used count None ys taken = tt
-    go parts used count (Some xs) None taken = absurd taken
-    go parts used count (Some xs) (Some ys) taken = record {
-      used = take front.len ahead ++ get_or ahead front.len 0 ∷ [];
+    go : take (len + 1) ahead ≡ take len ahead ++ get_or ahead len 0 ∷ [] → length (take len ahead) ≡ len
+        → (xs ys : Option (List ℕ)) → Consumes xs ys (take (len + 1) ahead)
+        → IfSome (closed_text false xs) (λ text. IsSomeAnd (closed_text false ys) (λ left. Uses old new words text left))
+    go used count None ys taken = tt
+    go used count (Some xs) None taken = absurd taken
+    go used count (Some xs) (Some ys) taken = let some = begins.some in record {
+      used = take len ahead ++ get_or ahead len 0 ∷ [];
       whole = ap (λ (zs : List ℕ). zs ++ 10 ∷ []) (taken ∙ ap (λ (zs : List ℕ). zs ++ ys) used)
-          ∙ append_assoc (take front.len ahead ++ get_or ahead front.len 0 ∷ []) ys (10 ∷ []);
-      passes = λ more. ap (λ (in_comment : Bool). ended_words (record { line = old.place.line; in_comment = in_comment }) ((take front.len ahead ++ get_or ahead front.len 0 ∷ []) ++ more)) no_comment
-          ∙ passes_front old.place.line (get_or ahead front.len 0) (take front.len ahead) parts.digits parts.some is_front.gap more
+          ∙ append_assoc (take len ahead ++ get_or ahead len 0 ∷ []) ys (10 ∷ []);
+      passes = λ more. ap (λ (in_comment : Bool). ended_words (record { line = old.place.line; in_comment = in_comment }) ((take len ahead ++ get_or ahead len 0 ∷ []) ++ more)) no_comment
+          ∙ passes_front old.place.line (get_or ahead len 0) (take len ahead) begins.plain (omega (arith, count, some)) begins.gap more
           ∙ ap (λ (at : Place). words ++ ended_words at more) (sym place);
       bytes = simp length-append (omega (arith, bytes, count));
       room = λ one none. absurd (omega arith);
       lines = ap (λ n. lines_through n new.place.line (ys ++ 10 ∷ [])) lines
           ∙ ap (λ (at : Place). lines_through old.place.line at.line (ys ++ 10 ∷ [])) place
-          ∙ sym (lines_of_front old.lines old.place.line (get_or ahead front.len 0) (take front.len ahead) ys parts.digits)
+          ∙ sym (lines_of_front old.lines old.place.line (get_or ahead len 0) (take len ahead) ys begins.plain)
           ∙ ap (λ (zs : List ℕ). lines_through old.lines old.place.line zs)
-          (sym (append_assoc (take front.len ahead ++ get_or ahead front.len 0 ∷ []) ys (10 ∷ [])) ∙ ap (λ (zs : List ℕ). zs ++ 10 ∷ []) (sym (taken ∙ ap (λ (zs : List ℕ). zs ++ ys) used)));
+          (sym (append_assoc (take len ahead ++ get_or ahead len 0 ∷ []) ys (10 ∷ [])) ∙ ap (λ (zs : List ℕ). zs ++ 10 ∷ []) (sym (taken ∙ ap (λ (zs : List ℕ). zs ++ ys) used)));
     }
+
+-- a duration at the front is a word there
+pub begins_with : (bytes : List ℕ) (front : FrontWord) → IsFrontWord bytes front → BeginsWithWord bytes front.len front.ends_line
+begins_with bytes front is =
+    let parts = duration_parts (take front.len bytes) front.us is.spells in
+    let inside = is.inside in
+    let count : length (take front.len bytes) ≡ front.len = simp length-take (omega arith) in
+    let some = parts.some in
+    record { inside = is.inside; some = omega (arith, count, some); plain = plain_digits (take front.len bytes) parts.digits; gap = is.gap; ends = is.ends_line }
+
+-- and one of its halves was taken
+pub takes_half : (old mid new : InputState) (bytes : List ℕ) (front : FrontWord) → IsFrontWord bytes front
+    → Passed old (record { line = old.place.line; bytes = take front.len bytes } ∷ []) mid → mid.bytes < old.bytes → 0 < mid.halves
+    → new ≡ record { text = mid.text; ahead = mid.ahead; place = mid.place; lines = mid.lines; halves = mid.halves - 1; bytes = mid.bytes; fault = mid.fault; failures = mid.failures }
+    → TakesHalf old front.us new
+takes_half old mid new bytes front is passed fewer some counted = record {
+  word = take front.len bytes;
+  digits = duration_parts (take front.len bytes) front.us is.spells;
+  spells = is.spells;
+  mid = mid;
+  passed = passed;
+  some = some;
+  counted = counted;
+  fewer = let same : new.bytes ≡ mid.bytes = ap (λ (state : InputState). state.bytes) counted in omega (arith, same, fewer);
+}
 
 -- what an input with these fields is
 abbrev pub state_of : Told → ℕ → ℕ → Bool → Bool → ℕ → ℕ → Option KeptFault → InputState
@@ -247,17 +273,17 @@ state_of source line lines in_comment closed halves bytes fault = record {
   failures = source.failures;
 }
 
-pub takes_front_at : (source later : Told) (line next lines halves bytes : ℕ) (in_comment closed : Bool) (fault : Option KeptFault) (front : FrontWord)
-    → closed ≡ false → in_comment ≡ false → halves ≢ 0 → front.len < bytes → IsFrontWord source.ahead front
-    → Consumes source.text later.text (take (front.len + 1) source.ahead) → later.failures ≡ source.failures → fault ≡ None
-    → next ≡ line_behind line (get_or source.ahead front.len 0)
-    → TakesHalf (state_of source line lines in_comment closed halves bytes fault) front.us
-    (state_of later next line in_comment closed (halves - 1) (bytes - (front.len + 1)) fault)
-takes_front_at source later line next lines halves bytes in_comment closed fault front is_open no_comment some fits is_front consumed failures none behind_gap =
-    takes_front (state_of source line lines in_comment closed halves bytes fault) (state_of later next line in_comment closed (halves - 1) (bytes - (front.len + 1)) fault)
-    source.text later.text source.ahead front
-    (ap (λ (b : Bool). closed_text b source.text) is_open) (ap (λ (b : Bool). closed_text b later.text) is_open) consumed is_front no_comment
-    (rw (no_comment, behind_gap) refl) refl (omega arith) (rw is_open (omega arith)) (omega arith) refl none failures
+pub passes_word_at : (source later : Told) (line next lines halves bytes len : ℕ) (in_comment closed ends_line : Bool) (fault : Option KeptFault)
+    → closed ≡ false → in_comment ≡ false → len < bytes → BeginsWithWord source.ahead len ends_line
+    → Consumes source.text later.text (take (len + 1) source.ahead) → later.failures ≡ source.failures → fault ≡ None
+    → next ≡ line_behind line (get_or source.ahead len 0)
+    → Passed (state_of source line lines in_comment closed halves bytes fault) (record { line = line; bytes = take len source.ahead } ∷ [])
+    (state_of later next line in_comment closed halves (bytes - (len + 1)) fault)
+passes_word_at source later line next lines halves bytes len in_comment closed ends_line fault is_open no_comment fits begins consumed failures none behind_gap =
+    passes_word (state_of source line lines in_comment closed halves bytes fault) (state_of later next line in_comment closed halves (bytes - (len + 1)) fault)
+    source.text later.text source.ahead len ends_line
+    (ap (λ (b : Bool). closed_text b source.text) is_open) (ap (λ (b : Bool). closed_text b later.text) is_open) consumed begins no_comment
+    (rw (no_comment, behind_gap) refl) refl (omega arith) (rw is_open (omega arith)) refl none failures
 
 pub line_of_gap : (line gap : ℕ) (ends_line : Bool) → ends_line ≡ eqb gap 10 → ends_line ≡ true → line + 1 ≡ line_behind line gap
 line_of_gap line gap ends_line is ends = rw (sym is ∙ ends) refl

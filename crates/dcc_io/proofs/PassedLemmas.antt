@@ -344,3 +344,37 @@ from_not_true false result is_not told = refl
 pub from_not_false : (b result : Bool) → result ≡ not b → result ≡ false → b ≡ true
 from_not_false true result is_not told = refl
 from_not_false false result is_not told = cc
+
+-- nothing but gaps was passed, and then these words
+pub Passed-join : (old mid new : InputState) (words : List Word) → Passed old [] mid → Passed mid words new → new.bytes < mid.bytes → Passed old words new
+Passed-join old mid new words first next fewer = record {
+  text = go old.text mid.text new.text first.text next.text;
+  halves = next.halves ∙ first.halves;
+  bytes = omega (arith, next.bytes, first.bytes);
+  fault = next.fault;
+  failures = next.failures ∙ first.failures;
+}
+  where
+    go : (whole middle rest : Option (List ℕ)) → IfSome whole (λ text. IsSomeAnd middle (λ more. Uses old mid [] text more))
+        → IfSome middle (λ text. IsSomeAnd rest (λ more. Uses mid new words text more)) → IfSome whole (λ text. IsSomeAnd rest (λ more. Uses old new words text more))
+    go None middle rest a b = tt
+    go (Some text) None rest a b = absurd a
+    go (Some text) (Some more) None a b = absurd b
+    go (Some text) (Some more) (Some last) a b = record {
+      used = a.used ++ b.used;
+      whole = a.whole ∙ ap (λ (xs : List ℕ). a.used ++ xs) b.whole ∙ sym (append_assoc a.used b.used last);
+      passes = λ after. ap (ended_words old.place) (append_assoc a.used b.used after) ∙ a.passes (b.used ++ after) ∙ b.passes after;
+      bytes = simp length-append (omega (arith, a.bytes, b.bytes));
+      room = λ some. b.room (let bytes = b.bytes in omega (arith, bytes, fewer));
+      lines = b.lines ∙ a.lines;
+    }
+
+-- a word that has ended behind gaps
+pub ends_behind_gaps : (old mid new : InputState) (line : ℕ) (so_far : RunWord) → Passed old [] mid → EndsWord mid line so_far new → EndsWord old line so_far new
+ends_behind_gaps old mid new line so_far gaps ends = record {
+  word = ends.word;
+  spelled = ends.spelled;
+  passed = Passed-join old mid new (record { line = line; bytes = ends.word } ∷ []) gaps ends.passed ends.fewer;
+  fewer = let fewer = ends.fewer in omega (arith, fewer, gaps.bytes);
+  behind = ends.behind;
+}

@@ -1,6 +1,9 @@
 -- A word at the front of some bytes.
-use Rattle.std.specs.Prelude.{◌≡◌, ℕ, ◌<◌, ◌≤◌, min, List, true, Some, ◌==◌, length, take, slice_index_or}
+use Rattle.std.specs.Prelude.{◌≡◌, ℕ, Bool, ◌<◌, ◌≤◌, min, List, true, not, Some, ◌==◌, ◌||◌, length, take, slice_index_or}
+use Rattle.std.specs.List.{list_all}
 use Rattle.dcc_io.specs.declared.word.FrontWord.{FrontWord}
+use Rattle.dcc_io.specs.declared.word.WholeWord.{WholeWord}
+use Rattle.dcc_io.specs.Spells.{Spells}
 use Rattle.dcc_io.specs.Words.{is_gap, duration_of}
 
 -- these bytes begin with a word that spells the duration, and a gap
@@ -18,3 +21,20 @@ pub record EndedWord (number len behind : ℕ) (front : FrontWord) : Type 0 wher
   pub us : front.us ≡ min number 65535
   pub same_len : front.len ≡ len
   pub ends_line : front.ends_line ≡ (behind == 10)
+
+-- a byte of a word: no gap, and none that begins a comment
+abbrev pub is_plain : ℕ → Bool
+is_plain byte = not (is_gap byte || byte == 35)
+
+-- these bytes begin with a word of so many bytes and a gap
+pub record BeginsWithWord (bytes : List ℕ) (len : ℕ) (ends_line : Bool) : Type 0 where
+  pub inside : len < length bytes
+  pub some : 0 < len
+  pub plain : list_all is_plain (take len bytes) ≡ true
+  pub gap : is_gap (slice_index_or bytes len 0) ≡ true
+  pub ends : ends_line ≡ (slice_index_or bytes len 0 == 10)
+
+-- such a word, and what it spells
+pub record IsWholeWord (bytes : List ℕ) (front : WholeWord) : Type 0 where
+  pub begins : BeginsWithWord bytes front.len front.ends_line
+  pub spelled : Spells front.word (take front.len bytes)

@@ -1,9 +1,9 @@
 //! What a call of the program reads from.
-ghost use Rattle.std.specs.Prelude.{◌≡◌, ◌≢◌, ◌+◌, ◌<◌, ◌≤◌, ◌^◌, ℕ, List, [], length, None, Some, true, false, IsTrue, IfSome, IfNone, if◌then◌else◌, ◌||◌};
+ghost use Rattle.std.specs.Prelude.{◌≡◌, ◌≢◌, ◌+◌, ◌<◌, ◌≤◌, ◌^◌, ◌∷◌, ℕ, List, [], length, take, None, Some, true, false, IsTrue, IfSome, IfNone, if◌then◌else◌, ◌||◌};
 ghost use Rattle.dcc_io.specs.Told.{IsFront};
 ghost use Rattle.dcc_io.specs.Words.{comments, is_gap, ended_words};
-ghost use Rattle.dcc_io.specs.Front.{IsFrontWord};
-ghost use Rattle.dcc_io.specs.Passed.{AnswersWord};
+ghost use Rattle.dcc_io.specs.Front.{BeginsWithWord, IsFrontWord};
+ghost use Rattle.dcc_io.specs.Passed.{AnswersWord, EndsWord, Passed};
 ghost use Rattle.dcc_io.specs.KeptAnswers.{AnswersKept};
 ghost use Rattle.dcc_io.specs.LineRead.{AnswersLine, EndsLine};
 ghost use Rattle.dcc_io.specs.PacketRead.{AnswersPacket, ReadsPacket};
@@ -16,7 +16,9 @@ use crate::buffered::Buffered;
 use crate::fault::KeptFault;
 use crate::stream::Source;
 use crate::text_line::{TextLine, front_line};
-use crate::word::{FrontWord, Run, RunWord, front_word, is_separator, short_front_word};
+use crate::word::{
+    FrontWord, Run, RunWord, front_word, is_separator, short_front_word, whole_word,
+};
 use dcc_packet::{Packet, PacketFault};
 use std::marker::Model;
 
@@ -190,6 +192,56 @@ impl<R: Source> Input<R> {
         requires { self.old.fault ≡ None }
         ensures { AnswersWord self.old result self.new }
     {
+        match self.word_at_hand() {
+            Some(word) => Ok(Some(word)),
+            None => self.read_word(),
+        }
+    }
+
+    /// The next word and its line, where the bytes at hand begin with it and hold it whole.
+    #[inline(always)]
+    fn word_at_hand(&mut self) -> Option<(u64, RunWord)>
+        requires { self.old.fault ≡ None }
+        ensures some { IfSome result (λ word. EndsWord self.old word.0 word.1 self.new) }
+        ensures none { IfNone result (self.new ≡ self.old) }
+    {
+        if self.in_comment {
+            return None;
+        }
+        let front = whole_word(self.source.ahead())?;
+        if self.bytes_left as usize <= front.len {
+            return None;
+        }
+        let line = self.line;
+        self.pass_word(front.len, front.ends_line);
+        Some((line, front.word))
+    }
+
+    /// Takes the word of so many bytes at the front of those at hand, and the gap behind it.
+    #[inline(always)]
+    fn pass_word(&mut self, len: usize, ends_line: bool)
+        requires fault { self.old.fault ≡ None }
+        requires no_comment { self.old.place.in_comment ≡ false }
+        requires room { len + 1 < self.old.bytes }
+        requires begins { BeginsWithWord self.old.ahead len ends_line }
+        ensures passed { Passed self.old (record { line = self.old.place.line; bytes = take len self.old.ahead } ∷ []) self.new }
+        ensures fewer { self.new.bytes < self.old.bytes }
+        ensures behind { self.old.place.line ≤ self.new.place.line }
+    {
+        let used = len + 1;
+        self.source.skip(used);
+        self.bytes_left -= used as u32;
+        self.lines = self.line as u32;
+        if ends_line {
+            self.line += 1;
+        }
+    }
+
+    /// The same, taken byte by byte up to where it stands whole among the bytes at hand.
+    fn read_word(&mut self) -> Result<Option<(u64, RunWord)>, KeptFault>
+        requires { self.old.fault ≡ None }
+        ensures { AnswersWord self.old result self.new }
+    {
         let mut word = RunWord::new();
         'bytes: loop {
             let line = self.line();
@@ -199,6 +251,8 @@ impl<R: Source> Input<R> {
                         word.push(byte);
                     } else if !word.is_empty() {
                         return Ok(Some((line, word)));
+                    } else if let Some(found) = self.word_at_hand() {
+                        return Ok(Some(found));
                     }
                 }
                 Ok(None) => return Ok(None),
@@ -279,13 +333,8 @@ impl<R: Source> Input<R> {
         if self.bytes_left as usize <= front.len {
             return None;
         }
-        self.source.skip(front.len + 1);
-        self.bytes_left -= front.len as u32 + 1;
+        self.pass_word(front.len, front.ends_line);
         self.halves_left -= 1;
-        self.lines = self.line as u32;
-        if front.ends_line {
-            self.line += 1;
-        }
         Some(front.us)
     }
 

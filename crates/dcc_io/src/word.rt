@@ -1,7 +1,7 @@
 //! A word of a capture, taken byte by byte.
 ghost use Rattle.std.specs.Prelude.{◌≡◌, ◌↔◌, ◌<◌, ◌≤◌, min, ℕ, List, [], ◌∷◌, ◌++◌, not, true, ◌==◌, ◌&&◌, IfSome, IsTrue};
 ghost use Rattle.dcc_io.specs.Words.{is_gap, is_mark, is_some_byte, run_of};
-ghost use Rattle.dcc_io.specs.Front.{IsFrontWord, EndedWord};
+ghost use Rattle.dcc_io.specs.Front.{IsFrontWord, IsWholeWord, EndedWord};
 
 use crate::digits::Digits;
 
@@ -172,6 +172,43 @@ fn ended_word(number: u32, len: usize, behind: u8) -> Option<FrontWord>
         len,
         ends_line: behind == b'\n',
     })
+}
+
+/// A word of any kind at the front of some bytes, and the gap behind it.
+#[derive(Clone, Copy, Debug)]
+pub struct WholeWord {
+    pub word: RunWord,
+
+    /// How many bytes the word has.
+    pub len: usize,
+
+    /// Whether the gap is a line feed.
+    pub ends_line: bool,
+}
+
+/// The word at the front of these bytes, if a gap ends it there.
+pub fn whole_word(bytes: &[u8]) -> Option<WholeWord>
+    ensures { IfSome result (λ front. IsWholeWord bytes.now front) }
+{
+    let mut word = RunWord::new();
+    for (len, byte) in bytes.iter().enumerate() {
+        if is_separator(*byte) {
+            if len == 0 {
+                return None;
+            }
+            let ends_line = *byte == b'\n';
+            return Some(WholeWord {
+                word,
+                len,
+                ends_line,
+            });
+        }
+        if *byte == b'#' {
+            return None;
+        }
+        word.push(*byte);
+    }
+    None
 }
 
 /// Whether a byte is a gap between words: a space, a tab, CR or LF.

@@ -1,6 +1,6 @@
 use Rattle.std.proofs.Common.{sym, ◌∙◌}
-use Rattle.dcc_io.proofs.PassedLemmas.{Opens-word, Opens-gap, EndsWord-gap, Passed-end, answers_err, takes_noted, from_not_true, from_not_false}
-use Rattle.dcc_io.proofs.input.Input.next_word.Goals as goal
+use Rattle.dcc_io.proofs.PassedLemmas.{Opens-word, Opens-gap, Passed-gap, ends_behind_gaps, EndsWord-gap, Passed-end, answers_err, takes_noted, from_not_true, from_not_false}
+use Rattle.dcc_io.proofs.input.Input.read_word.Goals as goal
 
 pub returns-in-Ok-None : goal.returns-in-Ok-None
 returns-in-Ok-None g c =
@@ -31,4 +31,13 @@ bytes-preserved g c =
     let noted = takes_noted c.bytes.self c.next_byte.new.self c.passes_gap.new.self c.in-Ok-Some.byte takes c.passes_gap.ensures.place in
     let gap = rw takes.in_comment at (sym c.passes_gap.ensures.gap ∙ c.if-not-passes_gap.false) in
     let none = from_not_true _ _ (c.is_empty.ensures c.bytes.invariant.word c.bytes.invariant.spelled) c.if-not-is_empty.false in
-    Opens-gap c.args.self.now c.bytes.self c.passes_gap.new.self c.bytes.word c.in-Ok-Some.byte c.bytes.invariant noted gap none
+    rw c.in_default.ensures.none (Opens-gap c.args.self.now c.bytes.self c.passes_gap.new.self c.bytes.word c.in-Ok-Some.byte c.bytes.invariant noted gap none)
+
+pub returns-in-Some : goal.returns-in-Some
+returns-in-Some g c =
+    let takes = rw c.in-Ok-Some.field-0-is at c.in-Ok-Some.ensures in
+    let noted = takes_noted c.bytes.self c.next_byte.new.self c.passes_gap.new.self c.in-Ok-Some.byte takes c.passes_gap.ensures.place in
+    let gap = rw takes.in_comment at (sym c.passes_gap.ensures.gap ∙ c.if-not-passes_gap.false) in
+    let none = from_not_true _ _ (c.is_empty.ensures c.bytes.invariant.word c.bytes.invariant.spelled) c.if-not-is_empty.false in
+    let gaps = Passed-gap c.args.self.now c.bytes.self c.passes_gap.new.self c.bytes.word c.in-Ok-Some.byte c.bytes.invariant noted gap none in
+    ends_behind_gaps c.args.self.now c.passes_gap.new.self c.word_at_hand.new.self c.in-Some.found.0 c.in-Some.found.1 gaps c.in-Some.ensures.some

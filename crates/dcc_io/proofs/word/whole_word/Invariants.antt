@@ -1,0 +1,11 @@
+use Rattle.std.proofs.Common.{◌≡◌, true, take}
+use Rattle.std.specs.List.{list_all}
+use Rattle.dcc_io.specs.Front.{is_plain}
+use Rattle.dcc_io.specs.Spells.{Spells}
+use Rattle.dcc_io.proofs.word.whole_word.Given as goal
+
+abbrev pub invariant-loop-len : goal.invariant-loop-len
+invariant-loop-len l = record {
+  plain : list_all is_plain (take l.len l.bytes) ≡ true;
+  spelled : Spells l.word (take l.len l.bytes);
+}
