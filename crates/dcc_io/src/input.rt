@@ -219,18 +219,17 @@ impl<R: Source> Input<R> {
 
     /// Takes the word of so many bytes at the front of those at hand, and the gap behind it.
     #[inline(always)]
-    fn pass_word(&mut self, len: usize, ends_line: bool)
+    fn pass_word(&mut self, word_len: usize, ends_line: bool)
         requires fault { self.old.fault ≡ None }
         requires no_comment { self.old.place.in_comment ≡ false }
-        requires room { len + 1 < self.old.bytes }
-        requires begins { BeginsWithWord self.old.ahead len ends_line }
-        ensures passed { Passed self.old (record { line = self.old.place.line; bytes = take len self.old.ahead } ∷ []) self.new }
+        requires room { word_len + 1 < self.old.bytes }
+        requires begins { BeginsWithWord self.old.ahead word_len ends_line }
+        ensures passed { Passed self.old (record { line = self.old.place.line; bytes = take word_len self.old.ahead } ∷ []) self.new }
         ensures fewer { self.new.bytes < self.old.bytes }
         ensures behind { self.old.place.line ≤ self.new.place.line }
     {
-        let used = len + 1;
-        self.source.skip(used);
-        self.bytes_left -= used as u32;
+        self.source.skip(word_len + 1);
+        self.bytes_left -= word_len as u32 + 1;
         self.lines = self.line as u32;
         if ends_line {
             self.line += 1;

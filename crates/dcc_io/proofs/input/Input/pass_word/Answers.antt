@@ -6,7 +6,7 @@ use Rattle.dcc_io.proofs.input.Input.pass_word.Goals as goal
 
 pub returns-then-ends_line-clause-passed : goal.returns-then-ends_line-clause-passed
 returns-then-ends_line-clause-passed g c =
-    let len = c.args.len in
+    let len = c.args.word_len in
     let begins = subst (λ (state : InputState). BeginsWithWord state.ahead len c.args.ends_line) (sym c.self.view_is) c.requires.begins in
     let is_open = open_with c.self.inside.closed c.self.inside.source.ahead len c.self.invariant.2 begins.inside in
     let room = subst (λ (state : InputState). len + 1 < state.bytes) (sym c.self.view_is) c.requires.room in
@@ -18,7 +18,7 @@ returns-then-ends_line-clause-passed g c =
 
 pub returns-else-ends_line-clause-passed : goal.returns-else-ends_line-clause-passed
 returns-else-ends_line-clause-passed g c =
-    let len = c.args.len in
+    let len = c.args.word_len in
     let begins = subst (λ (state : InputState). BeginsWithWord state.ahead len c.args.ends_line) (sym c.self.view_is) c.requires.begins in
     let is_open = open_with c.self.inside.closed c.self.inside.source.ahead len c.self.invariant.2 begins.inside in
     let room = subst (λ (state : InputState). len + 1 < state.bytes) (sym c.self.view_is) c.requires.room in
