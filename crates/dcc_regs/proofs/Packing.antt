@@ -1,9 +1,10 @@
 -- Truth values that are packed into a number, one to a bit, from the lowest bit up.
-use Rattle.std.proofs.Common.{◌≡◌, ◌≢◌, ℕ, ◌+◌, ◌*◌, ◌^◌, ◌%◌, ◌<◌, ◌≤◌, Bool, true, false, refl, ◌∙◌, arith, below_more, bit_or, bit_and, ◌-◌}
+use Rattle.std.proofs.Common.{◌≡◌, ◌≢◌, ℕ, zero, suc, ◌+◌, ◌-◌, ◌*◌, ◌/◌, ◌^◌, ◌%◌, ◌<◌, ◌≤◌, Bool, true, false, refl, sym, ◌∙◌, ap, arith, below_more, bit_and, bit_or}
 use Rattle.std.specs.Prelude.{◌==◌, if◌then◌else◌}
 use Rattle.std.specs.Int.{bit_at, w128}
 use Rattle.std.proofs.lemmas.Grind.{common_steps}
-use Rattle.std.proofs.lemmas.Nat.Bits.{bit_at_or, bit_at-zero, bit_at_clear_same, bit_at_clear_other}
+use Rattle.std.proofs.lemmas.Nat.{or_lt, pow_below, pow_pos, and_le_r}
+use Rattle.std.proofs.lemmas.Nat.Bits.{bit_at_or, bit_at_and, bit_at-zero, bit_at-lt, bit_at-suc, bit_at_above, bit_at_ones, bit_at_clear_same, bit_at_clear_other}
 use mir.Val.{bool_byte}
 use Rattle.dcc_regs.specs.Bits.{is_one}
 use Rattle.dcc_regs.proofs.Bits.{same_bit, other_bit, by_number}
@@ -43,7 +44,46 @@ packed_more word n limit on f fits before free here =
 -- above them all bits are zero
 pub zero_above : (word n limit : ℕ) (on : Bool) → 1 * 2 ^ n % limit ≡ 2 ^ n → ((k : ℕ) → n ≤ k → is_one word k ≡ false)
     → (k : ℕ) → n + 1 ≤ k → is_one (bit_or word (bool_byte on * 2 ^ n % limit)) k ≡ false
-zero_above word n limit on fits zero k h = put_elsewhere word n _ k on (shifted on n limit fits) (omega arith) ∙ zero k (omega arith)
+zero_above word n limit on fits none k h = put_elsewhere word n _ k on (shifted on n limit fits) (omega arith) ∙ none k (omega arith)
+
+-- a number below a power of two has no bit from there on
+pub zero_from : (word n : ℕ) → word < 2 ^ n → is_one word n ≡ false
+zero_from word n h = rw (bit_at_above word n n h (omega arith)) refl
+
+put_below : (word n mask : ℕ) (on : Bool) → mask ≡ (if on then 2 ^ n else 0) → word < 2 ^ n → bit_or word mask < 2 ^ (n + 1)
+put_below word n mask true e h =
+    let more : 2 ^ n < 2 ^ (n + 1) = pow_below n (n + 1) (omega arith) in
+    or_lt (n + 1) word mask (omega arith) (rw e more)
+put_below word n mask false e h =
+    let more : 2 ^ n < 2 ^ (n + 1) = pow_below n (n + 1) (omega arith) in
+    or_lt (n + 1) word mask (omega arith) (rw e (pow_pos (n + 1)))
+
+-- truth values below n make a number below the power of n, and so with the one at n
+pub packed_below : (word n limit : ℕ) (on : Bool) → 1 * 2 ^ n % limit ≡ 2 ^ n → word < 2 ^ n → bit_or word (bool_byte on * 2 ^ n % limit) < 2 ^ (n + 1)
+packed_below word n limit on fits h = put_below word n _ on (shifted on n limit fits) h
+
+-- the lowest n bits alone
+pub low_bits : (word mask n k : ℕ) → mask ≡ 2 ^ n - 1 → k < n → is_one (bit_and word mask) k ≡ is_one word k
+low_bits word mask n k e h =
+    let one : bit_at mask k ≡ 1 = rw e (bit_at_ones n k h) in
+    let small : bit_at word k < 2 = bit_at-lt word k in
+    let b : bit_at (bit_and word mask) k ≡ bit_at word k = rw (bit_at_and word mask k) (omega arith) in
+    rw b refl
+
+pub low_below : (word mask n : ℕ) → mask ≡ 2 ^ n - 1 → bit_and word mask < 2 ^ n
+low_below word mask n e =
+    let most : bit_and word mask ≤ mask = and_le_r word mask in
+    let some : 0 < 2 ^ n = pow_pos n in
+    omega arith
+
+-- all bits but the lowest
+pub high_bits : (word k : ℕ) → 1 ≤ k → is_one (word - word % 2) k ≡ is_one word k
+high_bits word zero h = absurd (omega arith)
+high_bits word (suc k) h =
+    let half : (word - word % 2) / 2 ≡ word / 2 = omega arith in
+    let b : bit_at (word - word % 2) (suc k) ≡ bit_at word (suc k) =
+    bit_at-suc (word - word % 2) k ∙ ap (λ x. bit_at x k) half ∙ sym (bit_at-suc word k) in
+    rw b refl
 
 -- a word of 128 bits with one bit turned off
 pub turned_off : (word n k : ℕ) → n ≤ 127 → k ≤ 127

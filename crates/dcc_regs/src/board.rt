@@ -5,6 +5,7 @@ ghost use Rattle.dcc_regs.specs.Outputs as table;
 use crate::board_state::{BoardState, outs_of};
 use crate::decoder::Decoder;
 use crate::heard::hears;
+use crate::loco_state::packed;
 use crate::outputs::{aspect_set, out_set, position_set};
 use crate::register::{Register, Value, Who};
 use dcc_packet::{Board, Packet, PacketFault};
@@ -59,6 +60,20 @@ impl BoardDecoder {
             })
         } else {
             Err(PacketFault::Board)
+        }
+    }
+
+    /// What the decoder holds, as plain data: of it `restore` makes a decoder that is as this one.
+    pub fn state(&self) -> BoardState
+        ensures possible { nat_le result.board.number 510 ≡ true }
+        ensures who { ⟦<BoardDecoder as Decoder>⟧.who self.now ≡ BoardWho result.board }
+        ensures registers { ⟦<BoardDecoder as Decoder>⟧.registers self.now ≡ board_registers (content_of result) }
+    {
+        BoardState {
+            board: self.board,
+            outs: packed(&self.outs) as u8,
+            positions: self.positions,
+            aspects: self.aspects,
         }
     }
 

@@ -28,3 +28,14 @@ pub fn outs_of(bits: u8) -> [bool; 8]
     }
     outs
 }
+
+/// The sides of the pairs that the bits of a number tell.
+pub fn sides_of(bits: u8) -> [bool; 4]
+    ensures { (n : ℕ) → n ≤ 3 → slice_index_or result n false ≡ is_one bits n }
+{
+    let mut sides = [false; 4];
+    for n in 0..4 {
+        sides[n] = bits >> n & 1 == 1;
+    }
+    sides
+}

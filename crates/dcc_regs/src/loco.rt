@@ -10,7 +10,7 @@ use crate::cvs::Cvs;
 use crate::decoder::Decoder;
 use crate::function_bits::function_set;
 use crate::heard::hears;
-use crate::loco_state::{LocoState, functions_of, states_of};
+use crate::loco_state::{LocoState, functions_of, packed, states_in, states_of};
 use crate::register::{Register, Speed, SpeedMode, Value, Who};
 use crate::speeds::{direction_set, speed_set};
 use crate::states::state_set;
@@ -78,6 +78,23 @@ impl LocoDecoder {
         }
     }
 
+    /// What the decoder holds, as plain data: of it `restore` makes a decoder that is as this one.
+    pub fn state(&self) -> LocoState
+        ensures possible { is_state result ≡ true }
+        ensures who { ⟦<LocoDecoder as Decoder>⟧.who self.now ≡ LocoWho result.address }
+        ensures registers { ⟦<LocoDecoder as Decoder>⟧.registers self.now ≡ loco_registers (content_of result) }
+    {
+        LocoState {
+            address: self.address,
+            speed: self.speed,
+            forward: self.forward,
+            functions: packed(&self.functions),
+            states: states_in(packed(&self.states)),
+            pending: self.pending,
+            cvs: self.cvs.bytes,
+        }
+    }
+
     /// Powers the decoder up: it is as `new` makes one of its present CVs.
     pub fn power_up(&mut self)
         ensures who { ⟦<LocoDecoder as Decoder>⟧.who self.new ≡ LocoWho (active_address (cv_of (⟦<LocoDecoder as Decoder>⟧.registers self.old))) }
@@ -110,7 +127,7 @@ impl LocoDecoder {
     }
 
     /// A binary state, where there is such a state.
-    fn state(&self, n: u8) -> Option<bool>
+    fn binary_state(&self, n: u8) -> Option<bool>
         ensures { result ≡ (if is_binary_state n then Some (slice_index_or self.now.states n false) else None) }
     {
         if (1..=127).contains(&n) {
@@ -166,7 +183,7 @@ impl Decoder for LocoDecoder {
             Register::Speed => Some(Value::Speed(self.speed)),
             Register::Direction => Some(Value::Forward(self.forward)),
             Register::Function(n) if n <= 68 => Some(Value::Flag(self.functions[n as usize])),
-            Register::State(n) => self.state(n).map(Value::Flag),
+            Register::State(n) => self.binary_state(n).map(Value::Flag),
             Register::CvBit(cv, place) => self.cvs.bit(cv, place).map(Value::Flag),
             Register::Pending => Some(Value::Pending(self.pending)),
             _ => None,

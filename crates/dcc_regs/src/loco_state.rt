@@ -1,6 +1,6 @@
 //! A locomotive decoder's state as plain data.
 
-ghost use Rattle.std.specs.Prelude.{◌≡◌, ℕ, ◌<◌, ◌≤◌, slice_index_or, false};
+ghost use Rattle.std.specs.Prelude.{◌≡◌, ℕ, ◌<◌, ◌≤◌, ◌^◌, ◌%◌, length, slice_index_or, false};
 ghost use Rattle.dcc_regs.specs.Addresses.{is_active as is_active_address};
 ghost use Rattle.dcc_regs.specs.Bits.{is_one};
 ghost use Rattle.dcc_regs.specs.Loco.{is_pending_for as is_pending_packet_for, is_speed as is_speed_in_range};
@@ -90,4 +90,33 @@ pub fn states_of(bits: u128) -> [bool; 128]
         states[n] = bits >> n & 1 == 1;
     }
     states
+}
+
+/// The number whose bits are these truth values.
+pub fn packed(flags: &[bool]) -> u128
+    requires { length flags.now ≤ 128 }
+    ensures bits { (n : ℕ) → n < length flags.now → is_one result n ≡ slice_index_or flags.now n false }
+    ensures small { result < 2 ^ length flags.now }
+{
+    let mut bits = 0;
+    for n in 0..flags.len() {
+        bits |= (flags[n] as u128) << n;
+    }
+    bits
+}
+
+/// The bits of F0 to F68 alone.
+pub fn functions_in(bits: u128) -> u128
+    ensures bits { (n : ℕ) → n ≤ 68 → is_one result n ≡ is_one bits n }
+    ensures small { result < 2 ^ 69 }
+{
+    bits & ((1 << 69) - 1)
+}
+
+/// The bits of the states 1 to 127 alone.
+pub fn states_in(bits: u128) -> u128
+    ensures bits { (n : ℕ) → 1 ≤ n → is_one result n ≡ is_one bits n }
+    ensures even { result % 2 ≡ 0 }
+{
+    bits - bits % 2
 }

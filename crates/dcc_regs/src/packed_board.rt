@@ -4,7 +4,7 @@ ghost use Rattle.dcc_regs.specs.Bits.{is_one};
 ghost use Rattle.dcc_regs.specs.Outputs as table;
 
 use crate::board::{are_bytes, set_aspects};
-use crate::board_state::BoardState;
+use crate::board_state::{BoardState, sides_of};
 use crate::decoder::Decoder;
 use crate::heard::hears;
 use crate::outputs::{out_set, position_set};
@@ -62,6 +62,20 @@ impl PackedBoard {
             })
         } else {
             Err(PacketFault::Board)
+        }
+    }
+
+    /// What the decoder holds, as plain data: of it `restore` makes a decoder that is as this one.
+    pub fn state(&self) -> BoardState
+        ensures possible { nat_le result.board.number 510 ≡ true }
+        ensures who { ⟦<PackedBoard as Decoder>⟧.who self.now ≡ BoardWho result.board }
+        ensures registers { ⟦<PackedBoard as Decoder>⟧.registers self.now ≡ board_registers (content_of result) }
+    {
+        BoardState {
+            board: self.board,
+            outs: self.outs,
+            positions: sides_of(self.positions),
+            aspects: self.aspects,
         }
     }
 

@@ -10,7 +10,7 @@ use crate::cvs::Cvs;
 use crate::decoder::Decoder;
 use crate::function_bits::{function_set, functions_told};
 use crate::heard::hears;
-use crate::loco_state::LocoState;
+use crate::loco_state::{LocoState, functions_in, states_in};
 use crate::register::{Register, Speed, SpeedMode, Value, Who};
 use crate::speeds::{direction_set, speed_set};
 use crate::states::{state_set, states_told};
@@ -76,6 +76,23 @@ impl PackedLoco {
             })
         } else {
             Err(PacketFault::State)
+        }
+    }
+
+    /// What the decoder holds, as plain data: of it `restore` makes a decoder that is as this one.
+    pub fn state(&self) -> LocoState
+        ensures possible { is_state result ≡ true }
+        ensures who { ⟦<PackedLoco as Decoder>⟧.who self.now ≡ LocoWho result.address }
+        ensures registers { ⟦<PackedLoco as Decoder>⟧.registers self.now ≡ loco_registers (content_of result) }
+    {
+        LocoState {
+            address: self.address,
+            speed: self.speed,
+            forward: self.forward,
+            functions: functions_in(self.functions),
+            states: states_in(self.states),
+            pending: self.pending,
+            cvs: self.cvs.bytes,
         }
     }
 

@@ -13,9 +13,9 @@ use std::marker::Model;
 /// packet pending or none, and its CVs.
 #[derive(Drop)]
 pub struct ServiceDecoder {
-    in_service: bool,
-    pending: Option<ServicePacket>,
-    cvs: Cvs,
+    pub(crate) in_service: bool,
+    pub(crate) pending: Option<ServicePacket>,
+    pub(crate) cvs: Cvs,
 }
 
 impl Model for ServiceDecoder {

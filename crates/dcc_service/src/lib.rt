@@ -11,6 +11,7 @@ mod packet;
 mod question;
 mod reader;
 mod reading;
+mod state;
 mod writing;
 
 pub use decoder::ServiceDecoder;

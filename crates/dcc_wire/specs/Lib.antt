@@ -17,3 +17,4 @@ pub mod Sending
 pub mod HalvesLeft
 pub mod OutcomeTable
 pub mod OutcomeLaws
+pub mod Kept

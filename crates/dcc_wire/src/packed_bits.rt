@@ -11,13 +11,13 @@ use std::marker::Model;
 /// The bits of an unfinished body: its whole bytes, and the bits that came behind them.
 #[derive(Drop)]
 pub struct PackedBits {
-    bytes: ArrayVec<u8, 6>,
+    pub(crate) bytes: ArrayVec<u8, 6>,
     /// The exclusive or of the bytes.
-    xor: u8,
+    pub(crate) xor: u8,
     /// The bits behind the bytes, shifted in one by one: the zero before the next byte is the first.
-    shift: u8,
+    pub(crate) shift: u8,
     /// How many bits are behind the bytes, 8 at most.
-    count: u8,
+    pub(crate) count: u8,
 }
 
 impl Model for PackedBits {

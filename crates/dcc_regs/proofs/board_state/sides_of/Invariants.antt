@@ -1,0 +1,9 @@
+use Rattle.std.proofs.Common.{◌≡◌, ℕ, ◌<◌, slice_index_or, false, length}
+use Rattle.dcc_regs.specs.Bits.{is_one}
+use Rattle.dcc_regs.proofs.board_state.sides_of.Given as goal
+
+abbrev pub invariant-loop-n : goal.invariant-loop-n
+invariant-loop-n l = record {
+  long : length l.sides ≡ 4;
+  done : (k : ℕ) → k < l.n → slice_index_or l.sides k false ≡ is_one l.bits k;
+}

@@ -1,0 +1,9 @@
+use Rattle.std.proofs.Common.{◌≡◌, ℕ, ◌<◌, ◌^◌, slice_index_or, false}
+use Rattle.dcc_regs.specs.Bits.{is_one}
+use Rattle.dcc_regs.proofs.loco_state.packed.Given as goal
+
+abbrev pub invariant-loop-n : goal.invariant-loop-n
+invariant-loop-n l = record {
+  done : (k : ℕ) → k < l.n → is_one l.bits k ≡ slice_index_or l.flags k false;
+  small : l.bits < 2 ^ l.n;
+}
