@@ -1,0 +1,4 @@
+pub mod HalvesLemmas
+pub mod LocoLemmas
+pub mod ApplyLemmas
+pub mod BoardLemmas

@@ -1,0 +1,9 @@
+pub mod Frames
+pub mod Outcomes
+pub mod Packets
+pub mod Lines
+pub mod Halves
+pub mod Locos
+pub mod Applied
+pub mod Boards
+pub mod Services

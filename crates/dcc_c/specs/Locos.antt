@@ -1,0 +1,71 @@
+-- The numbers of a locomotive decoder.
+use Rattle.std.specs.Prelude.{ℕ, ◌%◌, ◌/◌, ◌^◌, Option, None, Some, List, [], ◌∷◌}
+use Rattle.dcc_packet.specs.declared.address.Address.{Address}
+use Rattle.dcc_packet.specs.declared.packet.Packet.{Packet}
+use Rattle.dcc_packet.specs.Spelling.{spelling}
+use Rattle.dcc_regs.specs.declared.loco_state.LocoState.{LocoState}
+use Rattle.dcc_regs.specs.declared.register.Speed.{Speed}
+use Rattle.dcc_regs.specs.declared.register.Speed.TheVariants.{Stop, Emergency, Step14, Step28, Step126}
+use Rattle.dcc_regs.specs.declared.register.Who.{Who}
+use Rattle.dcc_regs.specs.declared.register.Who.TheVariants.{Loco as LocoWho}
+use Rattle.dcc_regs.specs.Loco.{loco_registers}
+use Rattle.dcc_regs.specs.LocoState.{content}
+use Rattle.dcc_regs.specs.Result.{RegisterMap}
+use Rattle.dcc_c.specs.declared.frame.DccFrame.{DccFrame}
+use Rattle.dcc_c.specs.declared.loco_numbers.DccLoco.{DccLoco}
+use Rattle.dcc_c.specs.Frames.{frame_numbers}
+use Rattle.dcc_c.specs.Packets.{address_kind, address_number}
+
+-- the active address: its kind, 0 where there is none, and its number
+abbrev pub own_kind : Option Address → ℕ
+own_kind None = 0
+own_kind (Some own) = address_kind own
+
+abbrev pub own_number : Option Address → ℕ
+own_number None = 0
+own_number (Some own) = address_number own
+
+-- the speed: 0 stop, 1 emergency stop, or how many steps there are, and the step
+abbrev pub speed_mode : Speed → ℕ
+speed_mode Stop = 0
+speed_mode Emergency = 1
+speed_mode (Step14 step) = 14
+speed_mode (Step28 step) = 28
+speed_mode (Step126 step) = 126
+
+abbrev pub speed_step : Speed → ℕ
+speed_step Stop = 0
+speed_step Emergency = 0
+speed_step (Step14 step) = step
+speed_step (Step28 step) = step
+speed_step (Step126 step) = step
+
+-- bits 0 to 63 of a number, and those from 64 on
+abbrev pub words_of : ℕ → List ℕ
+words_of bits = bits % 2 ^ 64 ∷ bits / 2 ^ 64 ∷ []
+
+-- the bytes of the pending write, or none
+abbrev pub pending_numbers : Option Packet → DccFrame
+pending_numbers None = frame_numbers []
+pending_numbers (Some packet) = frame_numbers (spelling packet)
+
+-- the numbers of a decoder in a state
+abbrev pub loco_numbers : LocoState → DccLoco
+loco_numbers s = record {
+  address_kind = own_kind s.address;
+  address = own_number s.address;
+  speed_mode = speed_mode s.speed;
+  step = speed_step s.speed;
+  forward = s.forward;
+  pending = pending_numbers s.pending;
+  functions = words_of s.functions;
+  states = words_of s.states;
+  cvs = s.cvs;
+}
+
+-- what a decoder in this state is, and what its registers hold
+abbrev pub loco_who : LocoState → Who
+loco_who s = LocoWho s.address
+
+abbrev pub loco_map : LocoState → RegisterMap
+loco_map s = loco_registers (content s)

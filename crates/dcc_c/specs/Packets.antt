@@ -1,0 +1,74 @@
+-- The numbers of a packet. What its kind has no use for is 0.
+use Rattle.std.specs.Prelude.{ℕ, false}
+use Rattle.dcc_packet.specs.declared.address.Address.{Address}
+use Rattle.dcc_packet.specs.declared.address.Address.TheVariants.{Broadcast, Short, Long}
+use Rattle.dcc_packet.specs.declared.functions.Group.{Group}
+use Rattle.dcc_packet.specs.declared.functions.Group.TheVariants.{F0, F5, F9, F13, F21, F29, F37, F45, F53, F61}
+use Rattle.dcc_packet.specs.declared.instruction.What.{What}
+use Rattle.dcc_packet.specs.declared.instruction.What.TheVariants.{Reset, Speed28, Speed128, Functions, BinaryState, CvWrite, CvVerify, CvBitWrite, CvBitVerify}
+use Rattle.dcc_packet.specs.declared.packet.Packet.{Packet}
+use Rattle.dcc_packet.specs.declared.packet.Packet.TheVariants.{Idle, Loco, Accessory, Signal, Other}
+use Rattle.dcc_c.specs.declared.packet.DccPacket.{DccPacket}
+
+-- the kind of an address: 0 all, 1 short, 2 long
+abbrev pub address_kind : Address → ℕ
+address_kind Broadcast = 0
+address_kind (Short address) = 1
+address_kind (Long address) = 2
+
+abbrev pub address_number : Address → ℕ
+address_number Broadcast = 0
+address_number (Short address) = address.number
+address_number (Long address) = address.number
+
+-- a group by its first function
+abbrev pub group_number : Group → ℕ
+group_number F0 = 0
+group_number F5 = 5
+group_number F9 = 9
+group_number F13 = 13
+group_number F21 = 21
+group_number F29 = 29
+group_number F37 = 37
+group_number F45 = 45
+group_number F53 = 53
+group_number F61 = 61
+
+-- a packet of a kind, and nothing else
+abbrev pub of_kind : ℕ → DccPacket
+of_kind kind = record {
+  kind = kind;
+  to = 0;
+  address = 0;
+  forward = false;
+  bits = 0;
+  group = 0;
+  state = 0;
+  on = false;
+  cv = 0;
+  value = 0;
+  place = 0;
+  one = false;
+  output = 0;
+  aspect = 0;
+}
+
+-- an instruction to locomotive decoders
+abbrev pub instruction_numbers : What → DccPacket
+instruction_numbers Reset = of_kind 1
+instruction_numbers (Speed28 forward speed) = record (of_kind 2) { forward = forward; bits = speed.bits }
+instruction_numbers (Speed128 forward speed) = record (of_kind 3) { forward = forward; bits = speed.bits }
+instruction_numbers (Functions functions) = record (of_kind 4) { group = group_number functions.group; bits = functions.bits }
+instruction_numbers (BinaryState state on) = record (of_kind 5) { state = state.number; on = on }
+instruction_numbers (CvWrite cv value) = record (of_kind 6) { cv = cv.number; value = value }
+instruction_numbers (CvVerify cv value) = record (of_kind 7) { cv = cv.number; value = value }
+instruction_numbers (CvBitWrite cv place one) = record (of_kind 8) { cv = cv.number; place = place.place; one = one }
+instruction_numbers (CvBitVerify cv place one) = record (of_kind 9) { cv = cv.number; place = place.place; one = one }
+
+-- a packet
+abbrev pub packet_numbers : Packet → DccPacket
+packet_numbers Idle = of_kind 0
+packet_numbers (Loco to what) = record (instruction_numbers what) { to = address_kind to; address = address_number to }
+packet_numbers (Accessory board output on) = record (of_kind 10) { address = board.number; output = output.number; on = on }
+packet_numbers (Signal address aspect) = record (of_kind 11) { address = address.number; aspect = aspect }
+packet_numbers (Other frame) = of_kind 12

@@ -1,0 +1,135 @@
+//! Accessory decoders.
+
+ghost use Rattle.std.specs.Prelude.{◌≡◌, ◌≢◌, true, false, nat_le, Some, Ok, Err};
+ghost use Rattle.dcc_packet.specs.declared.accessory.Board.{Board};
+ghost use Rattle.dcc_packet.specs.declared.packet.Packet.{Packet};
+ghost use Rattle.dcc_packet.specs.Spelling.{spelling};
+ghost use Rattle.dcc_regs.specs.declared.board_state.BoardState.{BoardState};
+ghost use Rattle.dcc_regs.specs.Board.{board_registers, made};
+ghost use Rattle.dcc_c.specs.Applied.{HasApplied};
+ghost use Rattle.dcc_c.specs.Boards.{is_single, board_map, board_numbers, board_who};
+ghost use Rattle.dcc_c.specs.Frames.{frame_answer};
+
+use crate::frame::frame_of;
+use dcc_packet::{Board, Packet, PacketFault};
+use dcc_regs::{BoardState, Decoder, PackedBoard};
+
+/// What an accessory decoder holds.
+#[repr(C)]
+#[derive(Clone, Copy, Drop)]
+pub struct DccBoard {
+    /// Its board, 0 to 510.
+    pub number: u16,
+    /// Bit n is output n, 0 to 7.
+    pub outs: u8,
+    /// The sides of its four pairs of outputs: true is side 1.
+    pub positions: [bool; 4],
+    /// The aspects of its four signals.
+    pub aspects: [u8; 4],
+}
+
+/// Makes a decoder: all outputs off, all pairs at side 0, all aspects 0. The answer is 0, or 3 where there is no single board
+/// of this number, 0 to 510 (P3), and then nothing is written.
+#[unsafe(no_mangle)]
+pub extern "C" fn dcc_board_new(board: &mut DccBoard, number: u16) -> u8
+    ensures made { nat_le number 510 ≡ true → (state : BoardState) × (state.board.number ≡ number) × (board.new ≡ board_numbers state)
+        × (board_map state ≡ board_registers made) × (result ≡ 0) }
+    ensures refused { nat_le number 510 ≡ false → result ≡ 3 }
+    ensures kept { nat_le number 510 ≡ false → board.new ≡ board.old }
+{
+    match new(number) {
+        Ok(state) => {
+            *board = numbers(&state);
+            0
+        }
+        Err(fault) => fault.number(),
+    }
+}
+
+fn new(number: u16) -> Result<BoardState, PacketFault>
+    ensures made { nat_le number 510 ≡ true → (state : BoardState) × (result ≡ Ok state) × (state.board.number ≡ number)
+        × (board_map state ≡ board_registers made) }
+    ensures refused { nat_le number 510 ≡ false → result ≡ Err PacketFault.Board }
+{
+    match PackedBoard::new(Board::new(number)?) {
+        Ok(decoder) => Ok(decoder.state()),
+        Err(fault) => Err(fault),
+    }
+}
+
+/// The decoder hears the packet that these bytes spell, and does what it says where it is for it. The answer is 0; 1 or 2 where
+/// the bytes are no frame (L1, L2), 13 where the numbers are of no decoder (P13). In these cases nothing changes.
+#[unsafe(no_mangle)]
+pub extern "C" fn dcc_board_apply(board: &mut DccBoard, frame: &[u8]) -> u8
+    ensures no_frame { frame_answer frame.now ≢ 0 → result ≡ frame_answer frame.now }
+    ensures applies { frame_answer frame.now ≡ 0 → (before : BoardState) → is_single before ≡ true → board.old ≡ board_numbers before →
+        (packet : Packet) × (after : BoardState) × (spelling packet ≡ frame.now) × (is_single after ≡ true) × (board.new ≡ board_numbers after)
+        × (result ≡ 0) × HasApplied packet (board_who before) (board_map before) (board_who after) (board_map after) }
+    ensures refused { result ≢ 0 → result ≢ frame_answer frame.now → result ≡ 13 }
+    ensures kept { result ≢ 0 → board.new ≡ board.old }
+{
+    match frame_of(frame) {
+        Ok(frame) => match after(board, &Packet::read(&frame)) {
+            Some(state) => {
+                *board = numbers(&state);
+                0
+            }
+            None => PacketFault::State.number(),
+        },
+        Err(number) => number,
+    }
+}
+
+/// The state of a decoder with these numbers after a packet.
+fn after(board: &DccBoard, packet: &Packet) -> Option<BoardState>
+    ensures { (before : BoardState) → is_single before ≡ true → board.now ≡ board_numbers before →
+        (after : BoardState) × (result ≡ Some after) × (is_single after ≡ true)
+        × HasApplied packet.now (board_who before) (board_map before) (board_who after) (board_map after) }
+{
+    heard(&state_of(board)?, packet)
+}
+
+/// The state of a decoder that was in a state and heard a packet.
+fn heard(before: &BoardState, packet: &Packet) -> Option<BoardState>
+    ensures { is_single before.now ≡ true →
+        (after : BoardState) × (result ≡ Some after) × (is_single after ≡ true)
+        × HasApplied packet.now (board_who before.now) (board_map before.now) (board_who after) (board_map after) }
+{
+    match PackedBoard::restore(before) {
+        Ok(mut decoder) => {
+            decoder.apply(packet);
+            Some(decoder.state())
+        }
+        Err(_) => None,
+    }
+}
+
+/// The numbers of a state.
+fn numbers(state: &BoardState) -> DccBoard
+    ensures { result ≡ board_numbers state.now }
+{
+    DccBoard {
+        number: state.board.number(),
+        outs: state.outs,
+        positions: state.positions,
+        aspects: state.aspects,
+    }
+}
+
+/// The state of these numbers, where a decoder has such a state.
+fn state_of(board: &DccBoard) -> Option<BoardState>
+    ensures { (state : BoardState) → board.now ≡ board_numbers state → result ≡ Some state }
+{
+    Some(BoardState {
+        board: single(board.number)?,
+        outs: board.outs,
+        positions: board.positions,
+        aspects: board.aspects,
+    })
+}
+
+fn single(number: u16) -> Option<Board>
+    ensures { (board : Board) → number ≡ board.number → result ≡ Some board }
+{
+    Board::new(number).ok()
+}

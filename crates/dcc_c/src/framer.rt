@@ -1,0 +1,100 @@
+//! A framer in the caller's memory.
+
+ghost use Rattle.std.specs.Prelude.{◌≡◌, ◌≢◌, ◌≤◌, ◌+◌, ◌-◌, ◌++◌, ◌∷◌, [], ℕ, List, length, replicate};
+ghost use Rattle.dcc_wire.specs.declared.fault.Seen.TheVariants.{Nothing};
+ghost use Rattle.dcc_wire.specs.Framing.{Hunting, StandsFor, seen, reported};
+ghost use Rattle.dcc_wire.specs.Half.{class_of};
+ghost use Rattle.dcc_wire.specs.Kept.{kept_rest};
+ghost use Rattle.dcc_wire.specs.Outcomes.{ones_left};
+ghost use Rattle.dcc_wire.specs.Runs.{rest_after_run};
+ghost use Rattle.dcc_c.specs.Outcomes.{answered};
+
+use crate::outcome::{DccOutcome, told};
+use dcc_wire::{Framer, KeptFramer, RunSeen, Seen};
+
+/// A framer that was given no halves.
+#[unsafe(no_mangle)]
+pub extern "C" fn dcc_framer_new() -> KeptFramer
+    ensures { StandsFor (kept_rest result) [] }
+{
+    Framer::new().keep()
+}
+
+/// A half for a framer that is kept, with the promise of `Framer::push`.
+fn push(kept: &mut KeptFramer, us: u16) -> Seen
+    ensures history { (halves : List ℕ) × StandsFor (kept_rest kept.old) halves }
+    ensures stands { (halves : List ℕ) → StandsFor (kept_rest kept.old) halves → StandsFor (kept_rest kept.new) (halves ++ us ∷ []) }
+    ensures sees { (halves : List ℕ) → StandsFor (kept_rest kept.old) halves →
+        seen (halves ++ us ∷ []) ≡ seen halves ++ reported (length halves) result }
+    ensures hunts { result ≢ Seen.Nothing → kept_rest kept.new ≡ Hunting (ones_left result) }
+{
+    let mut framer = kept.framer();
+    let answer = framer.push(us);
+    *kept = framer.keep();
+    answer
+}
+
+/// Takes a half of this many microseconds, as `Framer::push` does. The answer is 1 where an outcome ends with it, which is
+/// written then, and else 0.
+#[unsafe(no_mangle)]
+pub extern "C" fn dcc_push(framer: &mut KeptFramer, us: u16, outcome: &mut DccOutcome) -> u8
+    ensures history { (halves : List ℕ) × StandsFor (kept_rest framer.old) halves }
+    ensures stands { (halves : List ℕ) → StandsFor (kept_rest framer.old) halves → StandsFor (kept_rest framer.new) (halves ++ us ∷ []) }
+    ensures sees { (halves : List ℕ) → StandsFor (kept_rest framer.old) halves →
+        seen (halves ++ us ∷ []) ≡ seen halves ++ reported (length halves) (answered result outcome.new) }
+    ensures hunts { result ≢ 0 → kept_rest framer.new ≡ Hunting (ones_left (answered result outcome.new)) }
+    ensures at { result ≢ 0 → outcome.new.at ≡ 1 }
+    ensures bit { result ≤ 1 }
+    ensures kept { result ≡ 0 → outcome.new ≡ outcome.old }
+{
+    let answer = push(framer, us);
+    if answer.is_nothing() {
+        return 0;
+    }
+    *outcome = told(1, &answer);
+    1
+}
+
+/// A run of halves for a framer that is kept, with the promise of `Framer::push_run`.
+fn push_run(kept: &mut KeptFramer, us: u16, n: u32) -> RunSeen
+    ensures history { (halves : List ℕ) × StandsFor (kept_rest kept.old) halves }
+    ensures stands { (halves : List ℕ) → StandsFor (kept_rest kept.old) halves → StandsFor (kept_rest kept.new) (halves ++ replicate n us) }
+    ensures sees { (halves : List ℕ) → StandsFor (kept_rest kept.old) halves →
+        seen (halves ++ replicate n us) ≡ seen halves ++ reported (length halves + result.at - 1) result.seen }
+    ensures before { (halves : List ℕ) → StandsFor (kept_rest kept.old) halves → seen (halves ++ replicate (result.at - 1) us) ≡ seen halves }
+    ensures something { result.seen ≢ Seen.Nothing → (1 ≤ result.at) × (result.at ≤ n) }
+    ensures hunts { result.seen ≢ Seen.Nothing → kept_rest kept.new ≡ rest_after_run (Hunting (ones_left result.seen)) (class_of us) (n - result.at) }
+{
+    let mut framer = kept.framer();
+    let answer = framer.push_run(us, n);
+    *kept = framer.keep();
+    answer
+}
+
+/// Takes n halves of this many microseconds, as n calls of `dcc_push` would. The answer is 1 where an outcome ends with one of
+/// them, which is written then with that half's number, and else 0. At most one of them ends an outcome.
+#[tactic(auto, unfolding(dcc_wire::specs::Framing::reported))]
+#[unsafe(no_mangle)]
+pub extern "C" fn dcc_push_run(
+    framer: &mut KeptFramer,
+    us: u16,
+    n: u32,
+    outcome: &mut DccOutcome,
+) -> u8
+    ensures history { (halves : List ℕ) × StandsFor (kept_rest framer.old) halves }
+    ensures stands { (halves : List ℕ) → StandsFor (kept_rest framer.old) halves → StandsFor (kept_rest framer.new) (halves ++ replicate n us) }
+    ensures sees { (halves : List ℕ) → StandsFor (kept_rest framer.old) halves →
+        seen (halves ++ replicate n us) ≡ seen halves ++ reported (length halves + outcome.new.at - 1) (answered result outcome.new) }
+    ensures before { result ≢ 0 → (halves : List ℕ) → StandsFor (kept_rest framer.old) halves → seen (halves ++ replicate (outcome.new.at - 1) us) ≡ seen halves }
+    ensures something { result ≢ 0 → (1 ≤ outcome.new.at) × (outcome.new.at ≤ n) }
+    ensures hunts { result ≢ 0 → kept_rest framer.new ≡ rest_after_run (Hunting (ones_left (answered result outcome.new))) (class_of us) (n - outcome.new.at) }
+    ensures bit { result ≤ 1 }
+    ensures kept { result ≡ 0 → outcome.new ≡ outcome.old }
+{
+    let answer = push_run(framer, us, n);
+    if answer.seen.is_nothing() {
+        return 0;
+    }
+    *outcome = told(answer.at, &answer.seen);
+    1
+}

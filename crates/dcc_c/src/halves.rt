@@ -1,0 +1,53 @@
+//! The halves of a packet that is sent.
+
+ghost use Rattle.std.specs.Prelude.{◌≡◌, ◌≤◌, length, take, true, false, IfSome, IfNone};
+ghost use Rattle.dcc_wire.specs.declared.timing.Timing.{Timing};
+ghost use Rattle.dcc_wire.specs.Sending.{sent};
+ghost use Rattle.dcc_wire.specs.Timings.{is_preamble};
+ghost use Rattle.dcc_c.specs.Halves.{IsNominal, is_sendable};
+
+use crate::frame::frame_of;
+use dcc_wire::{Frame, Halves, Timing};
+
+/// Writes what is sent for the frame of these bytes, behind so many ones, 14 to 40: the halves in microseconds, 58 of a one and
+/// 100 of a zero. The answer is their number, 190 at most, or 0 where the bytes are no frame or the ones not so many; then
+/// nothing is written.
+#[unsafe(no_mangle)]
+pub extern "C" fn dcc_halves(frame: &[u8], preamble: u8, halves: &mut [u16; 190]) -> u8
+    ensures sent { is_sendable frame.now preamble ≡ true →
+        (timing : Timing) × IsNominal preamble timing × (take result halves.new ≡ sent frame.now timing) }
+    ensures refused { is_sendable frame.now preamble ≡ false → result ≡ 0 }
+    ensures kept { is_sendable frame.now preamble ≡ false → halves.new ≡ halves.old }
+{
+    match (frame_of(frame), nominal(preamble)) {
+        (Ok(frame), Some(timing)) => put_halves(frame, timing, halves),
+        _ => 0,
+    }
+}
+
+/// The nominal timing with so many ones, where a station may send them.
+#[tactic(auto, using(crate::proofs::HalvesLemmas::sent_with))]
+fn nominal(preamble: u8) -> Option<Timing>
+    ensures timing { IfSome result (IsNominal preamble) }
+    ensures short { IfSome result (λ timing. timing.preamble ≤ 40) }
+    ensures some { IfSome result (λ timing. is_preamble preamble ≡ true) }
+    ensures none { IfNone result (is_preamble preamble ≡ false) }
+{
+    match Timing::new(58, 100, 100, preamble) {
+        Ok(timing) => Some(timing),
+        Err(_) => None,
+    }
+}
+
+fn put_halves(frame: Frame, timing: Timing, halves: &mut [u16; 190]) -> u8
+    requires few { length frame ≤ 6 }
+    requires short { timing.preamble ≤ 40 }
+    ensures { take result halves.new ≡ sent frame timing }
+{
+    let mut count = 0;
+    for us in Halves::new(frame, timing) {
+        halves[count] = us;
+        count += 1;
+    }
+    count as u8
+}

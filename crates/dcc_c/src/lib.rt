@@ -1,0 +1,23 @@
+//! The toolkit for programs in C: packets found in half-bits, read and sent, and decoders that hear them, as numbers in the
+//! caller's memory. Nothing here takes memory or keeps any. `include/dcc.h` declares these calls, and says what a caller owes.
+#![tactic(auto)]
+
+mod board;
+mod frame;
+mod framer;
+mod halves;
+mod line;
+mod loco;
+mod loco_numbers;
+mod outcome;
+mod packet;
+mod service;
+// #[cfg(test)]
+// mod tests;
+
+pub use board::DccBoard;
+pub use frame::DccFrame;
+pub use loco_numbers::DccLoco;
+pub use outcome::DccOutcome;
+pub use packet::DccPacket;
+pub use service::DccService;

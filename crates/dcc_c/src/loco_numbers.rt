@@ -1,0 +1,188 @@
+//! The numbers of a locomotive decoder, and the state that they stand for.
+
+ghost use Rattle.std.specs.Prelude.{◌≡◌, ℕ, ◌≤◌, ◌^◌, ◌<◌, true, Option, Some, None};
+ghost use Rattle.dcc_packet.specs.declared.address.Address.{Address};
+ghost use Rattle.dcc_packet.specs.declared.address.LongAddress.{LongAddress};
+ghost use Rattle.dcc_packet.specs.declared.address.ShortAddress.{ShortAddress};
+ghost use Rattle.dcc_packet.specs.declared.packet.Packet.{Packet};
+ghost use Rattle.dcc_regs.specs.declared.loco_state.LocoState.{LocoState};
+ghost use Rattle.dcc_regs.specs.declared.register.Speed.{Speed};
+ghost use Rattle.dcc_regs.specs.Addresses.{is_active};
+ghost use Rattle.dcc_regs.specs.Loco.{is_pending_for};
+ghost use Rattle.dcc_regs.specs.LocoState.{is_state};
+ghost use Rattle.dcc_c.specs.Locos.{loco_numbers, own_kind, own_number, pending_numbers, speed_mode, speed_step, words_of};
+
+use crate::frame::DccFrame;
+use crate::packet::{address_kind, address_number};
+use dcc_packet::{Address, Packet};
+use dcc_regs::{LocoState, Speed};
+use dcc_wire::Frame;
+
+/// What a locomotive decoder holds.
+#[repr(C)]
+#[derive(Clone, Copy, Drop)]
+pub struct DccLoco {
+    /// The kind of its address: 0 it has none, 1 short, 2 long.
+    pub address_kind: u8,
+    /// 0 stopped, 1 stopped at once, or 14, 28 or 126: at a step of so many.
+    pub speed_mode: u8,
+    /// That step, from 1; 0 where it is stopped.
+    pub step: u8,
+    /// Whether the direction is forward.
+    pub forward: bool,
+    /// The number of its address, 0 where it has none.
+    pub address: u16,
+    /// The CV write that it does when it hears it again, or no bytes.
+    pub pending: DccFrame,
+    /// Bit n of the first is function n, bit n of the second function 64 + n.
+    pub functions: [u64; 2],
+    /// Bit n of the first is the binary state n, bit n of the second state 64 + n.
+    pub states: [u64; 2],
+    /// CV1 to CV1024.
+    pub cvs: [u8; 1024],
+}
+
+/// How many numbers 64 bits have.
+const WORD: u128 = 1 << 64;
+
+/// The numbers of a state.
+pub(crate) fn numbers(state: &LocoState) -> DccLoco
+    ensures { result ≡ loco_numbers state.now }
+{
+    DccLoco {
+        address_kind: own_kind(&state.address),
+        speed_mode: speed_mode(state.speed),
+        step: speed_step(state.speed),
+        forward: state.forward,
+        address: own_number(&state.address),
+        pending: pending_numbers(&state.pending),
+        functions: words_of(state.functions),
+        states: words_of(state.states),
+        cvs: state.cvs,
+    }
+}
+
+fn own_kind(own: &Option<Address>) -> u8
+    ensures { result ≡ own_kind own.now }
+{
+    match own {
+        None => 0,
+        Some(own) => address_kind(own),
+    }
+}
+
+fn own_number(own: &Option<Address>) -> u16
+    ensures { result ≡ own_number own.now }
+{
+    match own {
+        None => 0,
+        Some(own) => address_number(own),
+    }
+}
+
+fn speed_mode(speed: Speed) -> u8
+    ensures { result ≡ speed_mode speed }
+{
+    match speed {
+        Speed::Stop => 0,
+        Speed::Emergency => 1,
+        Speed::Step14(_) => 14,
+        Speed::Step28(_) => 28,
+        Speed::Step126(_) => 126,
+    }
+}
+
+fn speed_step(speed: Speed) -> u8
+    ensures { result ≡ speed_step speed }
+{
+    match speed {
+        Speed::Stop | Speed::Emergency => 0,
+        Speed::Step14(step) | Speed::Step28(step) | Speed::Step126(step) => step,
+    }
+}
+
+fn pending_numbers(pending: &Option<Packet>) -> DccFrame
+    ensures { result ≡ pending_numbers pending.now }
+{
+    match pending {
+        None => DccFrame::of(&[]),
+        Some(packet) => DccFrame::of(packet.frame().bytes()),
+    }
+}
+
+fn words_of(bits: u128) -> [u64; 2]
+    ensures { result ≡ words_of bits }
+{
+    [(bits % WORD) as u64, (bits / WORD) as u64]
+}
+
+/// The state of these numbers, where a decoder has such a state.
+pub(crate) fn state_of(loco: &DccLoco) -> Option<LocoState>
+    ensures { (state : LocoState) → is_state state ≡ true → loco.now ≡ loco_numbers state → result ≡ Some state }
+{
+    Some(LocoState {
+        address: address_of(loco.address_kind, loco.address)?,
+        speed: speed_of(loco.speed_mode, loco.step)?,
+        forward: loco.forward,
+        functions: bits_of(&loco.functions),
+        states: bits_of(&loco.states),
+        pending: pending_of(&loco.pending)?,
+        cvs: loco.cvs,
+    })
+}
+
+fn address_of(kind: u8, number: u16) -> Option<Option<Address>>
+    ensures { (own : Option Address) → is_active own ≡ true → kind ≡ own_kind own → number ≡ own_number own → result ≡ Some own }
+{
+    match kind {
+        0 => Some(None),
+        1 => Some(Some(short(number)?)),
+        2 => Some(Some(long(number)?)),
+        _ => None,
+    }
+}
+
+fn short(number: u16) -> Option<Address>
+    ensures { (own : ShortAddress) → number ≡ own.number → result ≡ Some (Address.Short own) }
+{
+    if number > 127 {
+        return None;
+    }
+    Address::short(number as u8).ok()
+}
+
+fn long(number: u16) -> Option<Address>
+    ensures { (own : LongAddress) → number ≡ own.number → result ≡ Some (Address.Long own) }
+{
+    Address::long(number).ok()
+}
+
+fn speed_of(mode: u8, step: u8) -> Option<Speed>
+    ensures { (speed : Speed) → mode ≡ speed_mode speed → step ≡ speed_step speed → result ≡ Some speed }
+{
+    match mode {
+        0 => Some(Speed::Stop),
+        1 => Some(Speed::Emergency),
+        14 => Some(Speed::Step14(step)),
+        28 => Some(Speed::Step28(step)),
+        126 => Some(Speed::Step126(step)),
+        _ => None,
+    }
+}
+
+fn bits_of(words: &[u64; 2]) -> u128
+    ensures { (bits : ℕ) → words.now ≡ words_of bits → result ≡ bits }
+{
+    u128::from(words[1]) * WORD + u128::from(words[0])
+}
+
+fn pending_of(pending: &DccFrame) -> Option<Option<Packet>>
+    ensures { (own : Option Address) (packet : Option Packet) → is_pending_for own packet ≡ true
+        → pending.now ≡ pending_numbers packet → result ≡ Some packet }
+{
+    if pending.len == 0 {
+        return Some(None);
+    }
+    let frame = Frame::of(pending.as_slice()).ok()?;
+    Some(Some(Packet::read(&frame)))
+}
