@@ -12,8 +12,8 @@ mod loco_numbers;
 mod outcome;
 mod packet;
 mod service;
-// #[cfg(test)]
-// mod tests;
+#[cfg(test)]
+mod tests;
 
 pub use board::DccBoard;
 pub use frame::DccFrame;
