@@ -36,8 +36,9 @@ fn put_line(packet: &Packet, line: &mut [u8; 41])
 {
     let text = packet.to_line();
     let bytes = text.as_str().as_bytes();
-    line[..bytes.len()].copy_from_slice(bytes);
-    line[bytes.len()..].fill(0);
+    let mut padded = [0; 41];
+    padded[..bytes.len()].copy_from_slice(bytes);
+    *line = padded;
 }
 
 /// Writes the frame of a packet line. The answer is 0, or the number of the line's first fault, 1 to 14 for P1 to P14, and then
