@@ -1,7 +1,6 @@
 //! Packets as lines of text.
 
-ghost use Rattle.std.specs.Prelude.{◌≡◌, ◌≢◌, IfOk, Result, Err};
-ghost use Rattle.std.specs.Str.{IsUtf8};
+ghost use Rattle.std.specs.Prelude.{◌≡◌, ◌≢◌, IfOk, Result};
 ghost use Rattle.dcc_packet.specs.declared.fault.PacketFault.{PacketFault};
 ghost use Rattle.dcc_packet.specs.declared.packet.Packet.{Packet};
 ghost use Rattle.dcc_packet.specs.Line.{Says};
@@ -12,7 +11,7 @@ ghost use Rattle.dcc_c.specs.Frames.{frame_answer, frame_numbers, zeros_behind};
 ghost use Rattle.dcc_c.specs.Lines.{line_answer};
 
 use crate::frame::{DccFrame, frame_of};
-use dcc_packet::{Packet, PacketFault};
+use dcc_packet::Packet;
 
 /// Writes the packet line of these bytes, and zeros behind it: it has 40 bytes at most, so a zero ends it. The answer is 0; 1
 /// or 2 where they are no frame (L1, L2), and then nothing is written.
@@ -42,29 +41,18 @@ fn put_line(packet: &Packet, line: &mut [u8; 41])
 }
 
 /// Writes the frame of a packet line. The answer is 0, or the number of the line's first fault, 1 to 14 for P1 to P14, and then
-/// nothing is written. Bytes that are no text in UTF-8 are a wrong word (P10).
+/// nothing is written.
 #[unsafe(no_mangle)]
 pub extern "C" fn dcc_frame_of_line(line: &[u8], frame: &mut DccFrame) -> u8
-    ensures answer { IsUtf8 line.now → (read : Result Packet PacketFault) × Says (words line.now) read
-        × (result ≡ line_answer read) × IfOk read (λ packet. frame.new ≡ frame_numbers (spelling packet)) }
-    ensures no_text { ¬ (IsUtf8 line.now) → result ≡ 10 }
+    ensures answer { (read : Result Packet PacketFault) × Says (words line.now) read × (result ≡ line_answer read)
+        × IfOk read (λ packet. frame.new ≡ frame_numbers (spelling packet)) }
     ensures kept { result ≢ 0 → frame.new ≡ frame.old }
 {
-    match packet_of(line) {
+    match Packet::from_line_bytes(line) {
         Ok(packet) => {
             *frame = DccFrame::of(packet.frame().bytes());
             0
         }
         Err(fault) => fault.number(),
-    }
-}
-
-fn packet_of(line: &[u8]) -> Result<Packet, PacketFault>
-    ensures says { IsUtf8 line.now → Says (words line.now) result }
-    ensures no_text { ¬ (IsUtf8 line.now) → result ≡ Err PacketFault.Word }
-{
-    match str::from_utf8(line) {
-        Ok(text) => Packet::from_line(text),
-        Err(_) => Err(PacketFault::Word),
     }
 }
