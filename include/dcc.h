@@ -12,7 +12,7 @@
  *
  * Where he does not keep to this the call may do anything, as with memcpy: the proofs rest on it.
  *
- * Lengths are sizes of 64 bits: the proofs are for 64-bit Linux, x86-64 and aarch64.
+ * Lengths are sizes of 64 bits: the proofs are for 64-bit Linux on x86-64.
  */
 #ifndef DCC_H
 #define DCC_H

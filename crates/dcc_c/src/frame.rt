@@ -42,6 +42,7 @@ impl DccFrame {
 }
 
 /// The frame of these bytes, or the number of the fault for which they are none: 1 for L1, 2 for L2.
+// (once in the archive, for all calls)
 #[inline(never)]
 pub(crate) fn frame_of(bytes: &[u8]) -> Result<Frame, u8>
     ensures { MatchResult result
