@@ -5,7 +5,7 @@
  *
  * - Objects are whole and made here: by a call named _new, or copied whole from such a one. A dcc_framer is not written to by
  *   hand. The numbers of the other objects may be read and changed; where no decoder has such numbers, the call that hears a
- *   packet answers 13 or leaves other such numbers. A bool holds 0 or 1.
+ *   packet answers 13. A bool holds 0 or 1.
  * - Pointers are not null, are aligned, and point to so many items as the call says, also where a length is 0.
  * - What one call is given does not overlap.
  * - One thread an object at a time.

@@ -1,6 +1,6 @@
 -- A decoder that applied a packet, under other names.
 use Rattle.std.proofs.Common.{◌≡◌, true, subst}
-use Rattle.std.specs.Prelude.{Option, None, Some, Result, Ok}
+use Rattle.std.specs.Prelude.{Option, None, Some, IfSome, Result, Ok}
 use Rattle.dcc_packet.specs.declared.packet.Packet.{Packet}
 use Rattle.dcc_regs.specs.declared.loco_state.LocoState.{LocoState}
 use Rattle.dcc_regs.specs.declared.register.Who.{Who}
@@ -43,3 +43,7 @@ same_ok x y r e f = cc
 
 pub none_some : {A : Type 0} (o : Option A) (x : A) → o ≡ None → o ≡ Some x → ⊥
 none_some o x e f = cc
+
+pub if_some : {A : Type 0} (o : Option A) (P Q : A → Type 0) → ((x : A) → P x → Q x) → IfSome o P → IfSome o Q
+if_some None P Q f h = h
+if_some (Some x) P Q f h = f x h

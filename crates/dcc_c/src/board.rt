@@ -1,6 +1,6 @@
 //! Accessory decoders.
 
-ghost use Rattle.std.specs.Prelude.{◌≡◌, ◌≢◌, true, false, nat_le, Some, Ok, Err};
+ghost use Rattle.std.specs.Prelude.{◌≡◌, ◌≢◌, true, false, nat_le, Some, Ok, Err, IfSome};
 ghost use Rattle.dcc_packet.specs.declared.accessory.Board.{Board};
 ghost use Rattle.dcc_packet.specs.declared.packet.Packet.{Packet};
 ghost use Rattle.dcc_packet.specs.Spelling.{spelling};
@@ -63,8 +63,9 @@ fn new(number: u16) -> Result<BoardState, PacketFault>
 pub extern "C" fn dcc_board_apply(board: &mut DccBoard, frame: &[u8]) -> u8
     ensures no_frame { frame_answer frame.now ≢ 0 → result ≡ frame_answer frame.now }
     ensures applies { frame_answer frame.now ≡ 0 → (before : BoardState) → is_single before ≡ true → board.old ≡ board_numbers before →
-        (packet : Packet) × (after : BoardState) × (spelling packet ≡ frame.now) × (is_single after ≡ true) × (board.new ≡ board_numbers after)
-        × (result ≡ 0) × HasApplied packet (board_who before) (board_map before) (board_who after) (board_map after) }
+        (packet : Packet) × (after : BoardState) × (spelling packet ≡ frame.now) × (is_single after ≡ true)
+        × (board.new ≡ board_numbers after) × (result ≡ 0) × HasApplied packet (board_who before) (board_map before) (board_who after) (board_map after) }
+    ensures decoder { result ≡ 0 → (before : BoardState) × (is_single before ≡ true) × (board.old ≡ board_numbers before) }
     ensures refused { result ≢ 0 → result ≢ frame_answer frame.now → result ≡ 13 }
     ensures kept { result ≢ 0 → board.new ≡ board.old }
 {
@@ -82,7 +83,8 @@ pub extern "C" fn dcc_board_apply(board: &mut DccBoard, frame: &[u8]) -> u8
 
 /// The state of a decoder with these numbers after a packet.
 fn after(board: &DccBoard, packet: &Packet) -> Option<BoardState>
-    ensures { (before : BoardState) → is_single before ≡ true → board.now ≡ board_numbers before →
+    ensures decoder { IfSome result (λ _. (before : BoardState) × (is_single before ≡ true) × (board.now ≡ board_numbers before)) }
+    ensures applies { (before : BoardState) → is_single before ≡ true → board.now ≡ board_numbers before →
         (after : BoardState) × (result ≡ Some after) × (is_single after ≡ true)
         × HasApplied packet.now (board_who before) (board_map before) (board_who after) (board_map after) }
 {
@@ -91,7 +93,8 @@ fn after(board: &DccBoard, packet: &Packet) -> Option<BoardState>
 
 /// The state of a decoder that was in a state and heard a packet.
 fn heard(before: &BoardState, packet: &Packet) -> Option<BoardState>
-    ensures { is_single before.now ≡ true →
+    ensures possible { IfSome result (λ _. is_single before.now ≡ true) }
+    ensures applies { is_single before.now ≡ true →
         (after : BoardState) × (result ≡ Some after) × (is_single after ≡ true)
         × HasApplied packet.now (board_who before.now) (board_map before.now) (board_who after) (board_map after) }
 {
@@ -118,7 +121,8 @@ fn numbers(state: &BoardState) -> DccBoard
 
 /// The state of these numbers, where a decoder has such a state.
 fn state_of(board: &DccBoard) -> Option<BoardState>
-    ensures { (state : BoardState) → board.now ≡ board_numbers state → result ≡ Some state }
+    ensures found { (state : BoardState) → board.now ≡ board_numbers state → result ≡ Some state }
+    ensures numbers { IfSome result (λ state. board.now ≡ board_numbers state) }
 {
     Some(BoardState {
         board: single(board.number)?,
@@ -129,7 +133,8 @@ fn state_of(board: &DccBoard) -> Option<BoardState>
 }
 
 fn single(number: u16) -> Option<Board>
-    ensures { (board : Board) → number ≡ board.number → result ≡ Some board }
+    ensures found { (board : Board) → number ≡ board.number → result ≡ Some board }
+    ensures number { IfSome result (λ board. number ≡ board.number) }
 {
     Board::new(number).ok()
 }

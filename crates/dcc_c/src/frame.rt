@@ -8,7 +8,7 @@ use dcc_wire::Frame;
 
 /// The bytes of a frame, or none.
 #[repr(C)]
-#[derive(Clone, Copy, Drop)]
+#[derive(Clone, Copy, Drop, PartialEq)]
 pub struct DccFrame {
     /// How many bytes there are.
     pub len: u8,

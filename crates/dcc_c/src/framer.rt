@@ -61,9 +61,11 @@ fn push_run(kept: &mut KeptFramer, us: u16, n: u32) -> RunSeen
     ensures stands { (halves : List ℕ) → StandsFor (kept_rest kept.old) halves → StandsFor (kept_rest kept.new) (halves ++ replicate n us) }
     ensures sees { (halves : List ℕ) → StandsFor (kept_rest kept.old) halves →
         seen (halves ++ replicate n us) ≡ seen halves ++ reported (length halves + result.at - 1) result.seen }
-    ensures before { (halves : List ℕ) → StandsFor (kept_rest kept.old) halves → seen (halves ++ replicate (result.at - 1) us) ≡ seen halves }
+    ensures before { (halves : List ℕ) → StandsFor (kept_rest kept.old) halves →
+        seen (halves ++ replicate (result.at - 1) us) ≡ seen halves }
     ensures something { result.seen ≢ Seen.Nothing → (1 ≤ result.at) × (result.at ≤ n) }
-    ensures hunts { result.seen ≢ Seen.Nothing → kept_rest kept.new ≡ rest_after_run (Hunting (ones_left result.seen)) (class_of us) (n - result.at) }
+    ensures hunts { result.seen ≢ Seen.Nothing → kept_rest kept.new
+        ≡ rest_after_run (Hunting (ones_left result.seen)) (class_of us) (n - result.at) }
 {
     let mut framer = kept.framer();
     let answer = framer.push_run(us, n);
@@ -82,12 +84,15 @@ pub extern "C" fn dcc_push_run(
     outcome: &mut DccOutcome,
 ) -> u8
     ensures history { (halves : List ℕ) × StandsFor (kept_rest framer.old) halves }
-    ensures stands { (halves : List ℕ) → StandsFor (kept_rest framer.old) halves → StandsFor (kept_rest framer.new) (halves ++ replicate n us) }
+    ensures stands { (halves : List ℕ) → StandsFor (kept_rest framer.old) halves →
+        StandsFor (kept_rest framer.new) (halves ++ replicate n us) }
     ensures sees { (halves : List ℕ) → StandsFor (kept_rest framer.old) halves →
         seen (halves ++ replicate n us) ≡ seen halves ++ reported (length halves + outcome.new.at - 1) (answered result outcome.new) }
-    ensures before { result ≢ 0 → (halves : List ℕ) → StandsFor (kept_rest framer.old) halves → seen (halves ++ replicate (outcome.new.at - 1) us) ≡ seen halves }
+    ensures before { result ≢ 0 → (halves : List ℕ) → StandsFor (kept_rest framer.old) halves →
+        seen (halves ++ replicate (outcome.new.at - 1) us) ≡ seen halves }
     ensures something { result ≢ 0 → (1 ≤ outcome.new.at) × (outcome.new.at ≤ n) }
-    ensures hunts { result ≢ 0 → kept_rest framer.new ≡ rest_after_run (Hunting (ones_left (answered result outcome.new))) (class_of us) (n - outcome.new.at) }
+    ensures hunts { result ≢ 0 → kept_rest framer.new
+        ≡ rest_after_run (Hunting (ones_left (answered result outcome.new))) (class_of us) (n - outcome.new.at) }
     ensures bit { result ≤ 1 }
     ensures kept { result ≡ 0 → outcome.new ≡ outcome.old }
 {

@@ -1,6 +1,6 @@
 //! Locomotive decoders.
 
-ghost use Rattle.std.specs.Prelude.{◌≡◌, ◌≢◌, true, Some};
+ghost use Rattle.std.specs.Prelude.{◌≡◌, ◌≢◌, true, Some, IfSome};
 ghost use Rattle.dcc_packet.specs.declared.packet.Packet.{Packet};
 ghost use Rattle.dcc_packet.specs.Spelling.{spelling};
 ghost use Rattle.dcc_regs.specs.declared.loco_state.LocoState.{LocoState};
@@ -34,6 +34,7 @@ pub extern "C" fn dcc_loco_apply(loco: &mut DccLoco, frame: &[u8]) -> u8
     ensures applies { frame_answer frame.now ≡ 0 → (before : LocoState) → is_state before ≡ true → loco.old ≡ loco_numbers before →
         (packet : Packet) × (after : LocoState) × (spelling packet ≡ frame.now) × (is_state after ≡ true) × (loco.new ≡ loco_numbers after)
         × (result ≡ 0) × HasApplied packet (loco_who before) (loco_map before) (loco_who after) (loco_map after) }
+    ensures decoder { result ≡ 0 → (before : LocoState) × (is_state before ≡ true) × (loco.old ≡ loco_numbers before) }
     ensures refused { result ≢ 0 → result ≢ frame_answer frame.now → result ≡ 13 }
     ensures kept { result ≢ 0 → loco.new ≡ loco.old }
 {
@@ -51,7 +52,8 @@ pub extern "C" fn dcc_loco_apply(loco: &mut DccLoco, frame: &[u8]) -> u8
 
 /// The state of a decoder with these numbers after a packet.
 fn after(loco: &DccLoco, packet: &Packet) -> Option<LocoState>
-    ensures { (before : LocoState) → is_state before ≡ true → loco.now ≡ loco_numbers before →
+    ensures decoder { IfSome result (λ _. (before : LocoState) × (is_state before ≡ true) × (loco.now ≡ loco_numbers before)) }
+    ensures applies { (before : LocoState) → is_state before ≡ true → loco.now ≡ loco_numbers before →
         (after : LocoState) × (result ≡ Some after) × (is_state after ≡ true)
         × HasApplied packet.now (loco_who before) (loco_map before) (loco_who after) (loco_map after) }
 {
@@ -60,7 +62,8 @@ fn after(loco: &DccLoco, packet: &Packet) -> Option<LocoState>
 
 /// The state of a decoder that was in a state and heard a packet.
 fn heard(before: &LocoState, packet: &Packet) -> Option<LocoState>
-    ensures { is_state before.now ≡ true →
+    ensures possible { IfSome result (λ _. is_state before.now ≡ true) }
+    ensures applies { is_state before.now ≡ true →
         (after : LocoState) × (result ≡ Some after) × (is_state after ≡ true)
         × HasApplied packet.now (loco_who before.now) (loco_map before.now) (loco_who after) (loco_map after) }
 {

@@ -1,6 +1,6 @@
 //! The numbers of a locomotive decoder, and the state that they stand for.
 
-ghost use Rattle.std.specs.Prelude.{◌≡◌, ℕ, ◌≤◌, ◌^◌, ◌<◌, true, Option, Some, None};
+ghost use Rattle.std.specs.Prelude.{◌≡◌, ◌↔◌, ℕ, ◌≤◌, ◌^◌, ◌<◌, true, Option, Some, None, IfSome, IsTrue};
 ghost use Rattle.dcc_packet.specs.declared.address.Address.{Address};
 ghost use Rattle.dcc_packet.specs.declared.address.LongAddress.{LongAddress};
 ghost use Rattle.dcc_packet.specs.declared.address.ShortAddress.{ShortAddress};
@@ -20,7 +20,7 @@ use dcc_wire::Frame;
 
 /// What a locomotive decoder holds.
 #[repr(C)]
-#[derive(Clone, Copy, Drop)]
+#[derive(Clone, Copy, Drop, PartialEq)]
 pub struct DccLoco {
     /// The kind of its address: 0 it has none, 1 short, 2 long.
     pub address_kind: u8,
@@ -116,8 +116,27 @@ fn words_of(bits: u128) -> [u64; 2]
     [(bits % WORD) as u64, (bits / WORD) as u64]
 }
 
-/// The state of these numbers, where a decoder has such a state.
+/// The state of these numbers, where they are of one.
 pub(crate) fn state_of(loco: &DccLoco) -> Option<LocoState>
+    ensures found { (state : LocoState) → is_state state ≡ true → loco.now ≡ loco_numbers state → result ≡ Some state }
+    ensures numbers { IfSome result (λ state. loco.now ≡ loco_numbers state) }
+{
+    let state = read(loco)?;
+    if are_same(&numbers(&state), loco) {
+        Some(state)
+    } else {
+        None
+    }
+}
+
+fn are_same(a: &DccLoco, b: &DccLoco) -> bool
+    ensures { IsTrue result ↔ (a.now ≡ b.now) }
+{
+    a == b
+}
+
+/// The state of these numbers; of others it may be any.
+fn read(loco: &DccLoco) -> Option<LocoState>
     ensures { (state : LocoState) → is_state state ≡ true → loco.now ≡ loco_numbers state → result ≡ Some state }
 {
     Some(LocoState {

@@ -1,6 +1,6 @@
 //! Decoders on the programming track.
 
-ghost use Rattle.std.specs.Prelude.{◌≡◌, ◌≢◌, Option, None, Some, false};
+ghost use Rattle.std.specs.Prelude.{◌≡◌, ◌≢◌, ◌↔◌, Option, None, Some, false, IfSome, IsTrue};
 ghost use Rattle.dcc_service.specs.declared.packet.ServicePacket.{ServicePacket};
 ghost use Rattle.dcc_service.specs.Machine.{ServiceState, Step};
 ghost use Rattle.dcc_c.specs.Frames.{frame_answer};
@@ -13,7 +13,7 @@ use dcc_wire::Frame;
 
 /// What a decoder on the programming track holds.
 #[repr(C)]
-#[derive(Clone, Copy, Drop)]
+#[derive(Clone, Copy, Drop, PartialEq)]
 pub struct DccService {
     /// Whether it is in service.
     pub in_service: bool,
@@ -42,6 +42,7 @@ pub extern "C" fn dcc_service_apply(
     ensures no_frame { frame_answer frame.now ≢ 0 → result ≡ frame_answer frame.now }
     ensures steps { frame_answer frame.now ≡ 0 → (before : ServiceState) → service.old ≡ service_numbers before →
         (after : ServiceState) × (service.new ≡ service_numbers after) × (result ≡ 0) × Step before frame.now after acknowledged.new }
+    ensures decoder { result ≡ 0 → (before : ServiceState) × (service.old ≡ service_numbers before) }
     ensures refused { result ≢ 0 → result ≢ frame_answer frame.now → result ≡ 13 }
     ensures kept { result ≢ 0 → service.new ≡ service.old }
     ensures untold { result ≢ 0 → acknowledged.new ≡ acknowledged.old }
@@ -81,6 +82,25 @@ fn pending_bytes(pending: &Option<ServicePacket>) -> DccFrame
 
 /// The decoder of these numbers, where they are of one.
 fn decoder_of(service: &DccService) -> Option<ServiceDecoder>
+    ensures found { (state : ServiceState) → service.now ≡ service_numbers state → result ≡ Some state }
+    ensures numbers { IfSome result (λ state. service.now ≡ service_numbers state) }
+{
+    let decoder = taken_up(service)?;
+    if are_same(&numbers(&decoder), service) {
+        Some(decoder)
+    } else {
+        None
+    }
+}
+
+fn are_same(a: &DccService, b: &DccService) -> bool
+    ensures { IsTrue result ↔ (a.now ≡ b.now) }
+{
+    a == b
+}
+
+/// The decoder of these numbers; of others it may be any.
+fn taken_up(service: &DccService) -> Option<ServiceDecoder>
     ensures { (state : ServiceState) → service.now ≡ service_numbers state → result ≡ Some state }
 {
     let pending = pending_of(&service.pending)?;

@@ -35,12 +35,39 @@ impl Model for KeptFramer {
 
     ghost Value = { Kept };
 
-    ghost view = { λ k. record { in_body = k.in_body; ones = k.ones; has_first = k.has_first; first = k.first; xor = k.xor; shift = k.shift; count = k.count; bytes = k.bytes } };
+    ghost view = { λ k. record {
+      in_body = k.in_body;
+      ones = k.ones;
+      has_first = k.has_first;
+      first = k.first;
+      xor = k.xor;
+      shift = k.shift;
+      count = k.count;
+      bytes = k.bytes;
+    } };
 
     // Some framer holds this.
-    ghost invariant = { λ k. IsKept (record { in_body = k.in_body; ones = k.ones; has_first = k.has_first; first = k.first; xor = k.xor; shift = k.shift; count = k.count; bytes = k.bytes }) };
+    ghost invariant = { λ k. IsKept (record {
+      in_body = k.in_body;
+      ones = k.ones;
+      has_first = k.has_first;
+      first = k.first;
+      xor = k.xor;
+      shift = k.shift;
+      count = k.count;
+      bytes = k.bytes;
+    }) };
 
-    ghost inverse = { λ k. record { in_body = k.in_body; ones = k.ones; has_first = k.has_first; first = k.first; xor = k.xor; shift = k.shift; count = k.count; bytes = k.bytes } };
+    ghost inverse = { λ k. record {
+      in_body = k.in_body;
+      ones = k.ones;
+      has_first = k.has_first;
+      first = k.first;
+      xor = k.xor;
+      shift = k.shift;
+      count = k.count;
+      bytes = k.bytes;
+    } };
 }
 
 impl KeptFramer {

@@ -2,8 +2,8 @@ use Rattle.std.proofs.Common.{refl}
 use Rattle.dcc_c.proofs.ApplyLemmas.{applied}
 use Rattle.dcc_c.proofs.loco.heard.Goals as goal
 
-pub returns-in-Ok : goal.returns-in-Ok
-returns-in-Ok c possible =
+pub returns-in-Ok-clause-applies : goal.returns-in-Ok-clause-applies
+returns-in-Ok-clause-applies c possible =
     let a = c.apply.ensures in (
       c.state.result,
       refl,
