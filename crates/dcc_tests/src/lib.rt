@@ -8,6 +8,8 @@ mod io_decoder_text_tests;
 #[cfg(test)]
 mod io_who_tests;
 #[cfg(test)]
+mod kept_tests;
+#[cfg(test)]
 mod order_comparer_tests;
 #[cfg(test)]
 mod order_hearing_tests;
