@@ -1,96 +1,108 @@
 //! Decoder texts that are refused: which fault, and in which line.
 
-use dcc_io::{Counted, Input, Limits, ToolFault, read_decoders};
-use dcc_packet::PacketFault;
+use crate::rows::{column, number, rows_hold_in};
+use dcc_io::{Counted, Input, Limits, read_decoders};
 use std::alloc::Global;
 use std::process::Abort;
 use std::test::Fail;
 
 /// A locomotive decoder and a board, line by line.
-const LINES: [&[u8]; 12] = [
-    b"dcc-decoders 1",
-    b"loco s3",
-    b"speed stop f",
-    b"on",
-    b"pending none",
-    b"cv 1 3",
-    b"cv 29 2",
-    b"board 12",
-    b"out",
-    b"position 0 0 0 0",
-    b"aspect 0 0 0 0",
-    b"end",
-];
+const LINES: &str = "\
+    dcc-decoders 1
+    loco s3
+    speed stop f
+    on
+    pending none
+    cv 1 3
+    cv 29 2
+    board 12
+    out
+    position 0 0 0 0
+    aspect 0 0 0 0
+    end";
 
 /// The text with this line in the place of its own.
-fn with_line(alloc: Global, number: u64, line: &[u8]) -> Result<Vec<u8>, Fail> {
+fn with_line(alloc: Global, number: u32, line: &str) -> Result<Vec<u8>, Fail> {
     let mut text = Vec::new(alloc);
-    let mut at = 0u64;
-    for own in LINES {
+    let mut at = 0u32;
+    for own in LINES.lines() {
         at = at.wrapping_add(1);
-        text.extend_from_slice(if at == number { line } else { own })?;
+        let line = if at == number { line } else { own.trim() };
+        text.extend_from_slice(line.as_bytes())?;
         text.push(b'\n')?;
     }
     Ok(text)
 }
 
-/// Reads a text that is refused, twice.
-fn expect(rt: &impl Abort, alloc: Global, text: &[u8], line: u64, fault: PacketFault) {
-    let mut input = Input::new(Counted::new(text), Limits::full());
-    let answer = ToolFault::Line { line, fault };
-    assert_eq!(rt; read_decoders(alloc, &mut input).err(), Some(answer));
-    assert_eq!(rt; read_decoders(alloc, &mut input).err(), Some(answer));
+/// The fault that a text is refused with, nothing where it is read.
+fn refusal(alloc: Global, input: &mut Input<Counted<&[u8]>>) -> Result<String, Fail> {
+    match read_decoders(alloc, input) {
+        Ok(_) => Ok(String::new(alloc)),
+        Err(fault) => Ok(format!(in alloc; "{fault}")?),
+    }
 }
+
+/// Whether a text is refused with this fault, and refused again.
+pub fn is_refused(alloc: Global, text: &[u8], fault: &str) -> Result<bool, Fail> {
+    let mut input = Input::new(Counted::new(text), Limits::full());
+    let first = refusal(alloc, &mut input)?;
+    let again = refusal(alloc, &mut input)?;
+    Ok(first.as_str() == fault && again.as_str() == fault)
+}
+
+/// A row: a line's number, the line that stands there, and the fault.
+fn is_line_refused(alloc: Global, row: &str) -> Result<bool, Fail> {
+    let text = with_line(alloc, number(column(row, 0)), column(row, 1))?;
+    is_refused(alloc, text.as_slice(), column(row, 2))
+}
+
+const FIRST_FAULTS: &str = "\
+    1 | dcc-decoders 3 | dcc: U3 line 1: P10
+    1 | dcc-decoders 01 | dcc: U3 line 1: P10
+    2 |  | dcc: U3 line 2: P10
+    2 | # x | dcc: U3 line 2: P10
+    2 | loco all | dcc: U3 line 2: P10
+    2 | loco s0 | dcc: U3 line 2: P1
+    2 | loco s | dcc: U3 line 2: P11
+    2 | loco l10240 | dcc: U3 line 2: P2
+    3 | speed 28 29 f | dcc: U3 line 3: P13
+    3 | speed 28 29 x | dcc: U3 line 3: P13
+    3 | speed 28 0 f | dcc: U3 line 3: P13
+    3 | speed 14 15 r | dcc: U3 line 3: P13
+    3 | speed 15 1 r | dcc: U3 line 3: P10
+    4 | on 69 | dcc: U3 line 4: P13
+    4 | on 5 0 | dcc: U3 line 4: P10
+    4 | on 5 5 | dcc: U3 line 4: P10
+    5 | pending 04ec1c06f2 | dcc: U3 line 5: P13
+    5 | pending 036261 | dcc: U3 line 5: P13
+    5 | pending 0303 | dcc: U3 line 5: P12
+    6 | cv 1 256 | dcc: U3 line 6: P11
+    6 | cv 1025 1 | dcc: U3 line 6: P6
+    7 | cv 1 3 | dcc: U3 line 7: P10
+    8 | board 511 | dcc: U3 line 8: P3
+    9 | out 8 | dcc: U3 line 9: P4
+    10 | position 0 0 2 0 | dcc: U3 line 10: P10
+    10 | position 0 0 0 | dcc: U3 line 10: P10
+    11 | aspect 0 0 0 256 | dcc: U3 line 11: P11
+    11 | aspect 0 0 0 0 0 | dcc: U3 line 11: P10
+    12 | end x | dcc: U3 line 12: P10";
 
 #[test]
 fn a_line_is_refused_by_its_first_fault(rt: HostRuntime) -> Result<(), Fail> {
-    let rows: [(u64, &[u8], PacketFault); 29] = [
-        (1, b"dcc-decoders 3", PacketFault::Word),
-        (1, b"dcc-decoders 01", PacketFault::Word),
-        (2, b"", PacketFault::Word),
-        (2, b"# x", PacketFault::Word),
-        (2, b"loco all", PacketFault::Word),
-        (2, b"loco s0", PacketFault::Short),
-        (2, b"loco s", PacketFault::Number),
-        (2, b"loco l10240", PacketFault::Long),
-        (3, b"speed 28 29 f", PacketFault::State),
-        (3, b"speed 28 29 x", PacketFault::State),
-        (3, b"speed 28 0 f", PacketFault::State),
-        (3, b"speed 14 15 r", PacketFault::State),
-        (3, b"speed 15 1 r", PacketFault::Word),
-        (4, b"on 69", PacketFault::State),
-        (4, b"on 5 0", PacketFault::Word),
-        (4, b"on 5 5", PacketFault::Word),
-        (5, b"pending 04ec1c06f2", PacketFault::State),
-        (5, b"pending 036261", PacketFault::State),
-        (5, b"pending 0303", PacketFault::Frame),
-        (6, b"cv 1 256", PacketFault::Number),
-        (6, b"cv 1025 1", PacketFault::CvNumber),
-        (7, b"cv 1 3", PacketFault::Word),
-        (8, b"board 511", PacketFault::Board),
-        (9, b"out 8", PacketFault::Output),
-        (10, b"position 0 0 2 0", PacketFault::Word),
-        (10, b"position 0 0 0", PacketFault::Word),
-        (11, b"aspect 0 0 0 256", PacketFault::Number),
-        (11, b"aspect 0 0 0 0 0", PacketFault::Word),
-        (12, b"end x", PacketFault::Word),
-    ];
-    for (number, line, fault) in rows {
-        let text = with_line(rt.alloc(), number, line)?;
-        expect(&rt, rt.alloc(), text.as_slice(), number, fault);
-    }
+    rows_hold_in(&rt, rt.alloc(), FIRST_FAULTS, is_line_refused)
+}
+
+fn expect_cut_off(rt: &impl Abort, alloc: Global, text: &str, fault: &str) -> Result<(), Fail> {
+    assert!(rt; is_refused(alloc, text.as_bytes(), fault)?, "{text}");
     Ok(())
 }
 
 #[test]
-fn a_text_that_is_cut_off_lacks_its_next_line(rt: HostRuntime) {
-    let rows: [(&[u8], u64); 4] = [
-        (b"", 1),
-        (b"dcc-decoders 1", 2),
-        (b"dcc-decoders 1\n", 2),
-        (b"dcc-decoders 1\nloco s3\nspeed stop f\non", 5),
-    ];
-    for (text, line) in rows {
-        expect(&rt, rt.alloc(), text, line, PacketFault::Word);
-    }
+fn a_text_that_is_cut_off_lacks_its_next_line(rt: HostRuntime) -> Result<(), Fail> {
+    let alloc = rt.alloc();
+    expect_cut_off(&rt, alloc, "", "dcc: U3 line 1: P10")?;
+    expect_cut_off(&rt, alloc, "dcc-decoders 1", "dcc: U3 line 2: P10")?;
+    expect_cut_off(&rt, alloc, "dcc-decoders 1\n", "dcc: U3 line 2: P10")?;
+    let four = "dcc-decoders 1\nloco s3\nspeed stop f\non";
+    expect_cut_off(&rt, alloc, four, "dcc: U3 line 5: P10")
 }

@@ -14,9 +14,13 @@ mod order_comparer_tests;
 #[cfg(test)]
 mod order_hearing_tests;
 #[cfg(test)]
+mod order_rows;
+#[cfg(test)]
 mod order_track_tests;
 #[cfg(test)]
 mod order_verdict_tests;
+#[cfg(test)]
+mod packet_rows;
 #[cfg(test)]
 mod packet_tests;
 #[cfg(test)]
@@ -36,9 +40,13 @@ mod regs_restore_tests;
 #[cfg(test)]
 mod regs_tests;
 #[cfg(test)]
+mod rows;
+#[cfg(test)]
 mod service_tests;
 #[cfg(test)]
 mod state_tests;
+#[cfg(test)]
+mod station_rows;
 #[cfg(test)]
 mod station_tests;
 #[cfg(test)]

@@ -1,182 +1,118 @@
 //! Lists that are compared while they are given.
 
+use crate::order_rows::{is_told, packet_of};
+use crate::rows::{column, number, rows_hold_in};
+use dcc_io::read_who;
 use dcc_order::*;
-use dcc_packet::{Address, Board, Packet, PacketFault};
+use dcc_packet::{Packet, PacketFault};
 use dcc_regs::Who;
 use std::alloc::Global;
 use std::test::Fail;
-use thiserror::Error;
-
-/// A list is longer than any of these tests needs.
-#[derive(Debug, Drop, Error)]
-#[error("too long")]
-struct TooLong;
-
-const X: &str = "frame 037477";
-
-const C: &str = "frame 03e81cf106";
-
-const D: &str = "frame 03e81cf90e";
-
-const P: &str = "frame 036261";
-
-const Q: &str = "frame 037f7c";
-
-const ONE_SIDE: &str = "frame 8cfd71";
-
-const OTHER_SIDE: &str = "frame 8cf579";
-
-fn s3() -> Result<Who, PacketFault> {
-    Ok(Who::Loco(Some(Address::short(3)?)))
-}
 
 /// The next packet of a list, or its end.
-fn next(lines: &[&str], at: u32) -> Result<Option<Packet>, Fail> {
-    match lines.get(at as usize) {
-        Some(line) => Ok(Some(Packet::from_line(line)?)),
+fn next(letters: &str, at: u32) -> Result<Option<Packet>, PacketFault> {
+    match letters.as_bytes().get(at as usize) {
+        Some(letter) => Ok(Some(packet_of(*letter)?)),
         None => Ok(None),
     }
 }
 
-/// Gives what is wanted of two lists, tried again once where there was no memory, and answers the verdict and the most that was held.
+/// Gives an item. The answer is whether it was taken, or was refused for want of memory and left what was given as it was.
+fn give(comparer: &mut Comparer, item: Option<Packet>) -> bool {
+    let given = comparer.given();
+    if given.0 > 100 || given.1 > 100 {
+        return false;
+    }
+    match comparer.give(item) {
+        Ok(()) => true,
+        Err(_) => comparer.given() == given,
+    }
+}
+
+/// Gives what is wanted of two lists, tried again once where there was no memory, and answers the verdict and the most that
+/// was held. There is no verdict where a list is longer than any of these tests needs.
 fn stepped(
     alloc: Global,
     who: Who,
-    left: &[&str],
-    right: &[&str],
-) -> Result<(Option<Verdict>, u64), Fail> {
+    left: &str,
+    right: &str,
+) -> Result<(Option<Verdict>, u64), PacketFault> {
     let mut comparer = Comparer::new(alloc, who);
     let mut most = 0;
     for _ in 0..200 {
         let (left_given, right_given) = comparer.given();
-        if left_given > 100 || right_given > 100 {
-            return Err(TooLong)?;
-        }
         let item = match comparer.wants() {
             Wants::Left => next(left, left_given)?,
             Wants::Right => next(right, right_given)?,
             Wants::Done(verdict) => return Ok((Some(verdict), most)),
         };
-        match comparer.give(item) {
-            Ok(()) => (),
-            Err(_) => {
-                if comparer.given() != (left_given, right_given) {
-                    return Err(TooLong)?;
-                }
-            }
+        if !give(&mut comparer, item) {
+            return Ok((None, most));
         }
         most = most.max(comparer.held());
     }
     Ok((None, most))
 }
 
-/// What the row shows, two lists, and their verdict.
-type Row<'a> = (&'a str, &'a [&'a str], &'a [&'a str], Verdict);
+/// A row: what it shows, for which decoder, two lists, their verdict, and the most that is held if that is said.
+fn is_stepped(alloc: Global, row: &str) -> Result<bool, Fail> {
+    let who = read_who(column(row, 1))?;
+    let (verdict, held) = stepped(alloc, who, column(row, 2), column(row, 3))?;
+    let as_held = column(row, 5) == "" || held == u64::from(number(column(row, 5)));
+    match verdict {
+        Some(verdict) => Ok(as_held && is_told(verdict, column(row, 4))),
+        None => Ok(false),
+    }
+}
+
+const IN_STEP: &str = "\
+    two_empty_lists | s3 | | | alike
+    a_speed_behind_a_change_of_mode | s3 | XCCXDDX | XCCDDX | members 2
+    repeats_count_for_nothing | s3 | PQ | PPQQ | alike
+    the_other_way_round | s3 | PQ | QP | order 0
+    one_more_turn | s3 | PQP | PQ | order 0
+    one_write_or_two | s3 | C | CC | writes
+    two_writes_or_three | s3 | CC | CCC | alike
+    two_writes_or_seven | s3 | CC | CCCCCCC | alike
+    capped_before_all_else | s3 | CPCQC | CPCCQC | members 2
+    another_write | s3 | CC | DD | writes
+    a_write_in_the_first_alone | s3 | PC | P | writes
+    a_write_in_the_second_alone | s3 | P | PC | writes
+    empty_blocks | s3 | CDC | CDC | alike
+    before_or_behind_a_write | s3 | PC | CP | members 0
+    idle_and_others_count_for_nothing | s3 | PCC | IPOCIC | alike
+    a_packet_the_first_lacks | s3 | PPP | PQP | members 0
+    a_packet_between_copies | s3 | CC | CPC | members 1";
 
 #[test]
 fn verdicts_in_step(rt: HostRuntime) -> Result<(), Fail> {
-    let rows: [Row; 17] = [
-        ("two_empty_lists", &[], &[], Verdict::Alike),
-        (
-            "a_speed_behind_a_change_of_mode",
-            &[X, C, C, X, D, D, X],
-            &[X, C, C, D, D, X],
-            Verdict::Members(2),
-        ),
-        (
-            "repeats_count_for_nothing",
-            &[P, Q],
-            &[P, P, Q, Q],
-            Verdict::Alike,
-        ),
-        ("the_other_way_round", &[P, Q], &[Q, P], Verdict::Order(0)),
-        ("one_more_turn", &[P, Q, P], &[P, Q], Verdict::Order(0)),
-        ("one_write_or_two", &[C], &[C, C], Verdict::Writes),
-        ("two_writes_or_three", &[C, C], &[C, C, C], Verdict::Alike),
-        (
-            "two_writes_or_seven",
-            &[C, C],
-            &[C, C, C, C, C, C, C],
-            Verdict::Alike,
-        ),
-        (
-            "capped_before_all_else",
-            &[C, P, C, Q, C],
-            &[C, P, C, C, Q, C],
-            Verdict::Members(2),
-        ),
-        ("another_write", &[C, C], &[D, D], Verdict::Writes),
-        ("a_write_in_the_first_alone", &[P, C], &[P], Verdict::Writes),
-        (
-            "a_write_in_the_second_alone",
-            &[P],
-            &[P, C],
-            Verdict::Writes,
-        ),
-        ("empty_blocks", &[C, D, C], &[C, D, C], Verdict::Alike),
-        (
-            "before_or_behind_a_write",
-            &[P, C],
-            &[C, P],
-            Verdict::Members(0),
-        ),
-        (
-            "idle_and_others_count_for_nothing",
-            &[P, C, C],
-            &["idle", P, "frame 046266", C, "idle", C],
-            Verdict::Alike,
-        ),
-        (
-            "a_packet_the_first_lacks",
-            &[P, P, P],
-            &[P, Q, P],
-            Verdict::Members(0),
-        ),
-        (
-            "a_packet_between_copies",
-            &[C, C],
-            &[C, P, C],
-            Verdict::Members(1),
-        ),
-    ];
-    for (name, left, right, wanted) in &rows {
-        let (verdict, _) = stepped(rt.alloc(), s3()?, left, right)?;
-        assert_eq!(rt; verdict, Some(*wanted), "{name}");
-    }
-    Ok(())
+    rows_hold_in(&rt, rt.alloc(), IN_STEP, is_stepped)
 }
+
+const BOARDS: &str = "\
+    both_sides_of_its_pair | b12 | 12 | 21 | order 0
+    packets_that_are_not_heard_are_not_held | b13 | 12 | 21 | alike | 0";
 
 #[test]
 fn boards_in_step(rt: HostRuntime) -> Result<(), Fail> {
-    let alloc = rt.alloc();
-    let left = [ONE_SIDE, OTHER_SIDE];
-    let right = [OTHER_SIDE, ONE_SIDE];
-    let (verdict, _) = stepped(alloc, Who::Board(Board::new(12)?), &left, &right)?;
-    assert_eq!(rt; verdict, Some(Verdict::Order(0)));
-    let (verdict, held) = stepped(alloc, Who::Board(Board::new(13)?), &left, &right)?;
-    assert_eq!(rt; verdict, Some(Verdict::Alike));
-    assert_eq!(rt; held, 0);
-    Ok(())
+    rows_hold_in(&rt, rt.alloc(), BOARDS, is_stepped)
 }
 
 #[test]
 fn one_block_of_each_side_is_held(rt: HostRuntime) -> Result<(), Fail> {
-    let list = [C, P, C, Q, C];
-    let (verdict, held) = stepped(rt.alloc(), s3()?, &list, &list)?;
-    assert_eq!(rt; verdict, Some(Verdict::Alike));
-    assert_eq!(rt; held, 2);
-    Ok(())
+    let row = "one_of_each_side | s3 | CPCQC | CPCQC | alike | 2";
+    rows_hold_in(&rt, rt.alloc(), row, is_stepped)
 }
 
 #[test]
 fn nothing_changes_once_it_is_done(rt: HostRuntime) -> Result<(), Fail> {
-    let mut comparer = Comparer::new(rt.alloc(), s3()?);
+    let mut comparer = Comparer::new(rt.alloc(), read_who("s3")?);
     comparer.give(None)?;
-    assert_eq!(rt; comparer.wants(), Wants::Right);
+    assert!(rt; comparer.wants() == Wants::Right);
     comparer.give(None)?;
-    assert_eq!(rt; comparer.wants(), Wants::Done(Verdict::Alike));
-    comparer.give(Some(Packet::from_line(P)?))?;
-    assert_eq!(rt; comparer.wants(), Wants::Done(Verdict::Alike));
-    assert_eq!(rt; comparer.given(), (0, 0));
+    assert!(rt; comparer.wants() == Wants::Done(Verdict::Alike));
+    comparer.give(Some(packet_of(b'P')?))?;
+    assert!(rt; comparer.wants() == Wants::Done(Verdict::Alike));
+    assert!(rt; comparer.given() == (0, 0));
     Ok(())
 }

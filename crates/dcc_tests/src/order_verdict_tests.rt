@@ -1,185 +1,102 @@
-//! Worked examples. A packet is written as the line of its frame.
+//! Worked examples of lists that are compared.
 
+use crate::order_rows::{is_told, packets_of};
+use crate::rows::{column, rows_hold_in};
+use dcc_io::read_who;
 use dcc_order::*;
-use dcc_packet::{Address, Board, Packet, PacketFault};
+use dcc_packet::Packet;
 use dcc_regs::Who;
-use dcc_wire::Frame;
+use dcc_wire::{Frame, FrameFault};
 use std::alloc::Global;
+use std::process::Abort;
 use std::test::Fail;
-use thiserror::Error;
 
-/// A list is longer than any of these tests needs.
-#[derive(Debug, Drop, Error)]
-#[error("too long")]
-struct TooLong;
-
-/// A speed for locomotive 3 that sets F0 where it is read for 14 steps.
-const X: &str = "frame 037477";
-
-/// Bit 1 of CV29 of locomotive 3 is to be 0, so that speeds are read for 14 steps.
-const C: &str = "frame 03e81cf106";
-
-/// That bit is to be 1.
-const D: &str = "frame 03e81cf90e";
-
-/// Two more speeds for locomotive 3.
-const P: &str = "frame 036261";
-
-const Q: &str = "frame 037f7c";
-
-/// Outputs 5 and 4 of board 12 switched on: one pair.
-const ONE_SIDE: &str = "frame 8cfd71";
-
-const OTHER_SIDE: &str = "frame 8cf579";
-
-fn s3() -> Result<Who, PacketFault> {
-    Ok(Who::Loco(Some(Address::short(3)?)))
-}
-
-fn board(number: u16) -> Result<Who, PacketFault> {
-    Ok(Who::Board(Board::new(number)?))
-}
-
-fn packets(alloc: Global, lines: &[&str]) -> Result<Vec<Packet>, Fail> {
-    let mut packets = Vec::new(alloc);
-    for line in lines {
-        packets.push(Packet::from_line(line)?)?;
-    }
-    Ok(packets)
-}
-
-/// The verdict on two lists that are not too long.
-fn compared(alloc: Global, who: Who, left: &[Packet], right: &[Packet]) -> Result<Verdict, Fail> {
+/// The verdict on two lists, none where they are too long.
+fn compared(
+    alloc: Global,
+    who: Who,
+    left: &[Packet],
+    right: &[Packet],
+) -> Result<Option<Verdict>, NoMemory> {
     if left.len() > 1_000_000 || right.len() > 1_000_000 {
-        return Err(TooLong)?;
+        return Ok(None);
     }
-    Ok(compare(alloc, who, left, right)?)
+    Ok(Some(compare(alloc, who, left, right)?))
 }
 
-/// The verdict on the packets of these lines.
-fn verdict(alloc: Global, who: Who, left: &[&str], right: &[&str]) -> Result<Verdict, Fail> {
-    let left = packets(alloc, left)?;
-    let right = packets(alloc, right)?;
-    compared(alloc, who, left.as_slice(), right.as_slice())
+/// Whether two lists have the verdict of these words for the decoder of this name.
+fn have_verdict(
+    alloc: Global,
+    name: &str,
+    left: &[Packet],
+    right: &[Packet],
+    words: &str,
+) -> Result<bool, Fail> {
+    match compared(alloc, read_who(name)?, left, right)? {
+        Some(verdict) => Ok(is_told(verdict, words)),
+        None => Ok(false),
+    }
 }
 
-/// What the row shows, two lists, and their verdict.
-type Row<'a> = (&'a str, &'a [&'a str], &'a [&'a str], Verdict);
+/// A row: what it shows, for which decoder, two lists, and their verdict.
+pub fn is_compared(alloc: Global, row: &str) -> Result<bool, Fail> {
+    let left = packets_of(alloc, column(row, 2))?;
+    let right = packets_of(alloc, column(row, 3))?;
+    have_verdict(
+        alloc,
+        column(row, 1),
+        left.as_slice(),
+        right.as_slice(),
+        column(row, 4),
+    )
+}
+
+const FOR_A_LOCOMOTIVE: &str = "\
+    two_empty_lists | s3 | | | alike
+    speed_and_functions_in_either_order | s3 | XF | FX | alike
+    a_speed_behind_a_change_of_mode | s3 | XCCXDDX | XCCDDX | members 2
+    repeats_count_for_nothing | s3 | PQ | PPQQ | alike
+    the_other_way_round | s3 | PQ | QP | order 0
+    one_more_turn | s3 | PQP | PQ | order 0
+    as_many_turns_and_another_last | s3 | PQPQ | QPQP | order 0
+    one_write_or_two | s3 | C | CC | writes
+    two_writes_or_three | s3 | CC | CCC | alike
+    two_writes_or_seven | s3 | CC | CCCCCCC | alike
+    capped_before_all_else | s3 | CPCQC | CPCCQC | members 2
+    another_write | s3 | CC | DD | writes
+    a_write_in_the_first_alone | s3 | PC | P | writes
+    a_write_in_the_second_alone | s3 | P | PC | writes
+    empty_blocks | s3 | CDC | CDC | alike
+    before_or_behind_a_write | s3 | PC | CP | members 0
+    idle_and_others_count_for_nothing | s3 | PCC | IPOCIC | alike
+    a_packet_between_copies | s3 | CC | CPC | members 1
+    packets_to_boards | s3 | 12 | 21 | alike";
 
 #[test]
 fn verdicts_for_a_locomotive(rt: HostRuntime) -> Result<(), Fail> {
-    let rows: [Row; 19] = [
-        ("two_empty_lists", &[], &[], Verdict::Alike),
-        (
-            "speed_and_functions_in_either_order",
-            &[X, "frame 038182"],
-            &["frame 038182", X],
-            Verdict::Alike,
-        ),
-        (
-            "a_speed_behind_a_change_of_mode",
-            &[X, C, C, X, D, D, X],
-            &[X, C, C, D, D, X],
-            Verdict::Members(2),
-        ),
-        (
-            "repeats_count_for_nothing",
-            &[P, Q],
-            &[P, P, Q, Q],
-            Verdict::Alike,
-        ),
-        ("the_other_way_round", &[P, Q], &[Q, P], Verdict::Order(0)),
-        ("one_more_turn", &[P, Q, P], &[P, Q], Verdict::Order(0)),
-        (
-            "as_many_turns_and_another_last",
-            &[P, Q, P, Q],
-            &[Q, P, Q, P],
-            Verdict::Order(0),
-        ),
-        ("one_write_or_two", &[C], &[C, C], Verdict::Writes),
-        ("two_writes_or_three", &[C, C], &[C, C, C], Verdict::Alike),
-        (
-            "two_writes_or_seven",
-            &[C, C],
-            &[C, C, C, C, C, C, C],
-            Verdict::Alike,
-        ),
-        (
-            "capped_before_all_else",
-            &[C, P, C, Q, C],
-            &[C, P, C, C, Q, C],
-            Verdict::Members(2),
-        ),
-        ("another_write", &[C, C], &[D, D], Verdict::Writes),
-        ("a_write_in_the_first_alone", &[P, C], &[P], Verdict::Writes),
-        (
-            "a_write_in_the_second_alone",
-            &[P],
-            &[P, C],
-            Verdict::Writes,
-        ),
-        ("empty_blocks", &[C, D, C], &[C, D, C], Verdict::Alike),
-        (
-            "before_or_behind_a_write",
-            &[P, C],
-            &[C, P],
-            Verdict::Members(0),
-        ),
-        (
-            "idle_and_others_count_for_nothing",
-            &[P, C, C],
-            &["idle", P, "frame 046266", C, "idle", C],
-            Verdict::Alike,
-        ),
-        (
-            "a_packet_between_copies",
-            &[C, C],
-            &[C, P, C],
-            Verdict::Members(1),
-        ),
-        (
-            "packets_to_boards",
-            &[ONE_SIDE, OTHER_SIDE],
-            &[OTHER_SIDE, ONE_SIDE],
-            Verdict::Alike,
-        ),
-    ];
-    for (name, left, right, wanted) in &rows {
-        assert_eq!(rt; verdict(rt.alloc(), s3()?, left, right)?, *wanted, "{name}");
-    }
-    Ok(())
+    rows_hold_in(&rt, rt.alloc(), FOR_A_LOCOMOTIVE, is_compared)
 }
+
+const FOR_BOARDS: &str = "\
+    both_sides_of_its_pair | b12 | 12 | 21 | order 0
+    the_pair_of_another_board | b13 | 12 | 21 | alike";
 
 #[test]
 fn verdicts_for_boards(rt: HostRuntime) -> Result<(), Fail> {
-    let alloc = rt.alloc();
-    let left = [ONE_SIDE, OTHER_SIDE];
-    let right = [OTHER_SIDE, ONE_SIDE];
-    assert_eq!(rt;
-        verdict(alloc, board(12)?, &left, &right)?,
-        Verdict::Order(0)
-    );
-    assert_eq!(rt; verdict(alloc, board(13)?, &left, &right)?, Verdict::Alike);
-    Ok(())
+    rows_hold_in(&rt, rt.alloc(), FOR_BOARDS, is_compared)
 }
+
+const WITHOUT_AN_ADDRESS: &str = "\
+    broadcasts_alone | none | PR | RQ | alike
+    a_broadcast_in_the_second_alone | none | P | R | members 0";
 
 #[test]
 fn verdicts_without_an_address(rt: HostRuntime) -> Result<(), Fail> {
-    let alloc = rt.alloc();
-    let nobody = Who::Loco(None);
-    assert_eq!(rt;
-        verdict(alloc, nobody, &[P, "frame 000000"], &["frame 000000", Q])?,
-        Verdict::Alike
-    );
-    assert_eq!(rt;
-        verdict(alloc, nobody, &[P], &["frame 000000"])?,
-        Verdict::Members(0)
-    );
-    Ok(())
+    rows_hold_in(&rt, rt.alloc(), WITHOUT_AN_ADDRESS, is_compared)
 }
 
 /// One of 256 speeds for locomotive 3, any two of which conflict.
-fn speed(number: u8, forward: bool) -> Result<Packet, Fail> {
+fn speed(number: u8, forward: bool) -> Result<Packet, FrameFault> {
     let bits = if forward {
         number | 0x80
     } else {
@@ -200,22 +117,32 @@ fn block(alloc: Global, count: u32) -> Result<Vec<Packet>, Fail> {
     Ok(packets)
 }
 
+/// A block of so many speeds, and two more behind it.
+fn block_and_two(alloc: Global, count: u32, first: u8, second: u8) -> Result<Vec<Packet>, Fail> {
+    let mut packets = block(alloc, count)?;
+    packets.push(speed(first, true)?)?;
+    packets.push(speed(second, true)?)?;
+    Ok(packets)
+}
+
+fn expect(
+    rt: &impl Abort,
+    alloc: Global,
+    left: &Vec<Packet>,
+    right: &Vec<Packet>,
+    words: &str,
+) -> Result<(), Fail> {
+    assert!(rt; have_verdict(alloc, "s3", left.as_slice(), right.as_slice(), words)?);
+    Ok(())
+}
+
 #[test]
 fn long_blocks(rt: HostRuntime) -> Result<(), Fail> {
     let alloc = rt.alloc();
-    let mut left = block(alloc, 1_000)?;
-    let mut right = block(alloc, 1_000)?;
-    assert_eq!(rt;
-        compared(alloc, s3()?, left.as_slice(), right.as_slice())?,
-        Verdict::Alike
-    );
-    left.push(speed(4, true)?)?;
-    left.push(speed(5, true)?)?;
-    right.push(speed(5, true)?)?;
-    right.push(speed(4, true)?)?;
-    assert_eq!(rt;
-        compared(alloc, s3()?, left.as_slice(), right.as_slice())?,
-        Verdict::Order(0)
-    );
-    Ok(())
+    let left = block(alloc, 1_000)?;
+    let right = block(alloc, 1_000)?;
+    expect(&rt, alloc, &left, &right, "alike")?;
+    let left = block_and_two(alloc, 1_000, 4, 5)?;
+    let right = block_and_two(alloc, 1_000, 5, 4)?;
+    expect(&rt, alloc, &left, &right, "order 0")
 }

@@ -1,6 +1,7 @@
 //! What a list of halves shows, by a plain and slow program over the whole list, to compare the framer with.
 
-use dcc_wire::{Fault, Half, Seen};
+use crate::rows::{is_hex, number};
+use dcc_wire::{Fault, Framer, Half, Seen};
 use std::alloc::{AllocError, Global};
 
 /// An outcome: the number of its refusal, 0 for a packet, and the bytes that are told with it.
@@ -19,6 +20,25 @@ impl Outcome {
             Seen::Packet(frame) => Some(Outcome::with_bytes(0, frame.bytes())),
             Seen::Refused(Fault::ErrorByte(body)) => Some(Outcome::with_bytes(5, body.bytes())),
             Seen::Refused(fault) => Some(Outcome::refused(fault.number())),
+        }
+    }
+
+    /// Whether a word tells it: the bytes of a packet, or `H`, the number of the refusal and, behind a colon, the bytes.
+    fn is_told(&self, word: &str) -> bool {
+        let (refusal, bytes) = match word.strip_prefix('H') {
+            None => ("0", word),
+            Some(told) => match told.split_once(':') {
+                None => (told, ""),
+                Some((refusal, bytes)) => (refusal, bytes),
+            },
+        };
+        number(refusal) == u32::from(self.refusal) && self.has_bytes(bytes)
+    }
+
+    fn has_bytes(&self, hex: &str) -> bool {
+        match self.bytes.get(..self.len) {
+            None => false,
+            Some(bytes) => is_hex(bytes, hex),
         }
     }
 
@@ -65,6 +85,43 @@ impl Outcome {
             _ => 0,
         }
     }
+}
+
+/// Whether outcomes are those of a text of words such as `84:036261` and `66:H3`.
+pub fn are_told(outcomes: &[(usize, Outcome)], text: &str) -> bool {
+    let mut told = 0;
+    for word in text.split_whitespace() {
+        match outcomes.get(told) {
+            None => return false,
+            Some((half, outcome)) => {
+                if !is_told_at(*half, outcome, word) {
+                    return false;
+                }
+            }
+        }
+        told = told.saturating_add(1);
+    }
+    told == outcomes.len()
+}
+
+/// Whether a word tells an outcome and the number of its half.
+fn is_told_at(half: usize, outcome: &Outcome, word: &str) -> bool {
+    match word.split_once(':') {
+        None => false,
+        Some((at, told)) => number(at) as usize == half && outcome.is_told(told),
+    }
+}
+
+/// What a new framer answers to durations, each answer with the number of its half, from 1.
+pub fn answers(alloc: Global, durations: &[u16]) -> Result<Vec<(usize, Outcome)>, AllocError> {
+    let mut framer = Framer::new();
+    let mut answers = Vec::new(alloc);
+    for (place, us) in durations.iter().enumerate() {
+        if let Some(outcome) = Outcome::of(&framer.push(*us)) {
+            answers.push((place.saturating_add(1), outcome))?;
+        }
+    }
+    Ok(answers)
 }
 
 /// The outcomes in a list of durations, each with the number of its last half, from 1.

@@ -1,117 +1,119 @@
 //! Worked examples of the definitions: who hears what, what is told, which packets conflict.
 
-use dcc_packet::{Address, Board, Packet};
+use crate::rows::{column, rows_hold, rows_hold_in};
+use dcc_io::read_who;
+use dcc_packet::{Packet, PacketFault};
 use dcc_regs::*;
+use std::alloc::Global;
 use std::test::Fail;
+
+/// A row: a packet, and which of five decoders hear it.
+const HEARD_BY: &str = "\
+    idle |
+    loco all reset | s3 s124 l1000 none b12
+    loco all speed28 f 0 | s3 s124 l1000 none
+    loco s3 reset | s3
+    loco l1000 reset | l1000
+    frame 7c000a76 | s124
+    frame c3e82b | l1000
+    accessory 12 0 on | b12
+    accessory 13 0 on |
+    accessory 511 0 on | b12
+    signal 2047 1 | b12
+    signal 2046 1 |";
+
+fn is_heard_by(_alloc: Global, row: &str) -> Result<bool, Fail> {
+    let packet = Packet::from_line(column(row, 0))?;
+    for name in ["s3", "s124", "l1000", "none", "b12"] {
+        if hears(read_who(name)?, &packet) != column(row, 1).find(name).is_some() {
+            return Ok(false);
+        }
+    }
+    Ok(true)
+}
 
 #[test]
 fn heard_by(rt: HostRuntime) -> Result<(), Fail> {
-    let s3 = Who::Loco(Some(Address::short(3)?));
-    let s124 = Who::Loco(Some(Address::short(124)?));
-    let l1000 = Who::Loco(Some(Address::long(1000)?));
-    let nobody = Who::Loco(None);
-    let b12 = Who::Board(Board::new(12)?);
-    let rows: [(&str, [bool; 5]); 12] = [
-        ("idle", [false, false, false, false, false]),
-        ("loco all reset", [true, true, true, true, true]),
-        ("loco all speed28 f 0", [true, true, true, true, false]),
-        ("loco s3 reset", [true, false, false, false, false]),
-        ("loco l1000 reset", [false, false, true, false, false]),
-        ("frame 7c000a76", [false, true, false, false, false]),
-        ("frame c3e82b", [false, false, true, false, false]),
-        ("accessory 12 0 on", [false, false, false, false, true]),
-        ("accessory 13 0 on", [false, false, false, false, false]),
-        ("accessory 511 0 on", [false, false, false, false, true]),
-        ("signal 2047 1", [false, false, false, false, true]),
-        ("signal 2046 1", [false, false, false, false, false]),
-    ];
-    for (line, expected) in rows {
-        let packet = Packet::from_line(line)?;
-        let whos = [s3, s124, l1000, nobody, b12];
-        for n in 0..5 {
-            assert_eq!(rt; hears(whos[n], &packet), expected[n], "{line} {n}");
-        }
+    rows_hold_in(&rt, rt.alloc(), HEARD_BY, is_heard_by)
+}
+
+const LINES: &str = "\
+    idle
+    loco all reset
+    loco s3 speed28 f 4
+    loco l1000 speed128 r 127
+    loco s3 functions 5 1
+    loco s3 cv write 29 6
+    loco s3 cv verify 29 6
+    loco s3 cv bitwrite 29 5 1
+    loco s3 cv bitverify 29 5 0
+    accessory 12 5 off
+    signal 1022 3
+    frame 7c000a76";
+
+/// Tells a listener the packet of a line. The answer is whether it was told that one.
+pub fn is_noted(note: &mut LastNote, line: &str) -> Result<bool, PacketFault> {
+    let packet = Packet::from_line(line)?;
+    announce(&packet, note);
+    match note.last() {
+        Some(told) => Ok(told.is(&packet)),
+        None => Ok(false),
     }
-    Ok(())
 }
 
 #[test]
 fn notes(rt: HostRuntime) -> Result<(), Fail> {
-    let lines = [
-        "idle",
-        "loco all reset",
-        "loco s3 speed28 f 4",
-        "loco l1000 speed128 r 127",
-        "loco s3 functions 5 1",
-        "loco s3 cv write 29 6",
-        "loco s3 cv verify 29 6",
-        "loco s3 cv bitwrite 29 5 1",
-        "loco s3 cv bitverify 29 5 0",
-        "accessory 12 5 off",
-        "signal 1022 3",
-        "frame 7c000a76",
-    ];
     let mut note = LastNote::new();
     assert!(rt; note.last().is_none());
-    for line in lines {
-        let packet = Packet::from_line(line)?;
-        announce(&packet, &mut note);
-        match note.last() {
-            Some(told) => assert!(rt; told.is(&packet), "{line}"),
-            None => assert!(rt; false, "{line}"),
-        }
+    for line in LINES.lines() {
+        assert!(rt; is_noted(&mut note, line)?, "{line}");
     }
     Ok(())
 }
 
-#[test]
-fn conflicts(rt: HostRuntime) -> Result<(), Fail> {
-    let slow = "loco s3 speed28 f 4";
-    let fast = "loco s3 speed28 f 31";
-    let on = "accessory 12 5 on";
-    let all = "signal 2047 5";
-    let rows = [
-        (slow, fast, true),
-        (slow, slow, false),
-        (slow, "loco l3 speed28 f 31", false),
-        (slow, "loco all speed28 f 0", true),
-        // a step to the broadcast address sets nothing
-        (slow, "loco all speed28 r 9", false),
-        (slow, "loco s3 cv write 29 6", false),
-        // in 14 steps F0 is off in the one and on in the other
-        ("loco all reset", "loco s3 speed28 f 0", false),
-        ("loco all reset", "loco s3 speed28 f 1", true),
-        // F0 is set by the one in 28 steps and by the other in 14
-        ("loco s3 functions 0 16", "loco s3 speed28 f 4", false),
-        ("loco s3 functions 0 1", "loco s3 functions 0 3", true),
-        ("loco s3 functions 0 1", "loco s3 functions 5 3", false),
-        ("loco s3 functions 61 128", "loco s3 reset", true),
-        ("loco all reset", on, true),
-        ("loco s3 reset", on, false),
-        ("loco all reset", "accessory 12 5 off", false),
-        (on, "accessory 511 5 off", true),
-        (on, "accessory 12 4 on", true),
-        (on, "accessory 12 4 off", false),
-        (on, "accessory 13 5 off", false),
-        (all, "signal 1022 3", true),
-        (all, "signal 2045 3", false),
-        (all, "signal 1022 5", false),
-        (on, "signal 48 3", false),
-        ("signal 48 1", "signal 49 2", false),
-    ];
-    for (one, other, expected) in rows {
-        let one_packet = Packet::from_line(one)?;
-        let other_packet = Packet::from_line(other)?;
-        assert_eq!(rt;
-            conflict(&one_packet, &other_packet),
-            expected,
-            "{one} {other}"
-        );
-        assert_eq!(rt;
-            conflict(&other_packet, &one_packet),
-            expected,
-            "{other} {one}"
-        );
+/// A row: whether two packets conflict, and their lines.
+pub fn conflict_or_not(row: &str) -> bool {
+    match (
+        Packet::from_line(column(row, 1)),
+        Packet::from_line(column(row, 2)),
+    ) {
+        (Ok(one), Ok(other)) => {
+            let wanted = column(row, 0) == "yes";
+            conflict(&one, &other) == wanted && conflict(&other, &one) == wanted
+        }
+        _ => false,
     }
-    Ok(())
+}
+
+/// A step to the broadcast address sets nothing. In 14 steps F0 is off in the one and on in the other; it is set by the
+/// one in 28 steps and by the other in 14.
+const CONFLICTS: &str = "\
+    yes | loco s3 speed28 f 4 | loco s3 speed28 f 31
+    no | loco s3 speed28 f 4 | loco s3 speed28 f 4
+    no | loco s3 speed28 f 4 | loco l3 speed28 f 31
+    yes | loco s3 speed28 f 4 | loco all speed28 f 0
+    no | loco s3 speed28 f 4 | loco all speed28 r 9
+    no | loco s3 speed28 f 4 | loco s3 cv write 29 6
+    no | loco all reset | loco s3 speed28 f 0
+    yes | loco all reset | loco s3 speed28 f 1
+    no | loco s3 functions 0 16 | loco s3 speed28 f 4
+    yes | loco s3 functions 0 1 | loco s3 functions 0 3
+    no | loco s3 functions 0 1 | loco s3 functions 5 3
+    yes | loco s3 functions 61 128 | loco s3 reset
+    yes | loco all reset | accessory 12 5 on
+    no | loco s3 reset | accessory 12 5 on
+    no | loco all reset | accessory 12 5 off
+    yes | accessory 12 5 on | accessory 511 5 off
+    yes | accessory 12 5 on | accessory 12 4 on
+    no | accessory 12 5 on | accessory 12 4 off
+    no | accessory 12 5 on | accessory 13 5 off
+    yes | signal 2047 5 | signal 1022 3
+    no | signal 2047 5 | signal 2045 3
+    no | signal 2047 5 | signal 1022 5
+    no | accessory 12 5 on | signal 48 3
+    no | signal 48 1 | signal 49 2";
+
+#[test]
+fn conflicts(rt: HostRuntime) {
+    rows_hold(&rt, CONFLICTS, conflict_or_not);
 }

@@ -1,15 +1,17 @@
 //! Worked examples of binary states: packets, registers, lists of packets, a station and decoder texts.
 
+use crate::io_decoder_text_tests;
+use crate::order_verdict_tests::is_compared;
+use crate::packet_rows::{is_refused, is_spelled};
 use crate::regs_examples::*;
-use dcc_io::{Counted, Input, Limits, Saved, ToolFault, read_decoders};
-use dcc_order::{Verdict, compare};
-use dcc_packet::{Address, Packet, PacketFault, StateNumber, What};
+use crate::regs_tests::{conflict_or_not, is_noted};
+use crate::rows::{column, rows_hold, rows_hold_in};
+use crate::station_tests::goes_on;
+use dcc_io::{Counted, Input, Limits, Saved, read_decoders};
+use dcc_packet::{Address, PacketFault, StateNumber, What};
 use dcc_regs::{
-    Decoder, LastNote, LocoDecoder, LocoState, PackedLoco, Register, Speed, Who, announce,
-    conflict, same_registers,
+    Decoder, LastNote, LocoDecoder, LocoState, PackedLoco, Register, Speed, same_registers,
 };
-use dcc_station::Station;
-use dcc_wire::Frame;
 use std::alloc::Global;
 use std::process::Abort;
 use std::test::Fail;
@@ -25,51 +27,34 @@ const FIVE_UP_FOR_ALL: &str = "frame 00dd8558";
 
 const RESET: &str = "frame 030003";
 
-/// Whether the written line of a packet is this one.
-fn is_written(packet: &Packet, line: &str) -> bool {
-    packet.to_line().as_str() == line
-}
+const SPELLED: &str = "\
+    03dd855b | loco s3 state 5 on
+    03dd05db | loco s3 state 5 off
+    03dd805e | loco s3 state 0 on
+    00dd8558 | loco all state 5 on
+    03ddff21 | loco s3 state 127 on
+    c3e8dd01f7 | loco l1000 state 1 off";
 
 #[test]
-fn binary_states_are_spelled(rt: HostRuntime) -> Result<(), Fail> {
-    let rows: [(&[u8], &str); 6] = [
-        (&[0x03, 0xDD, 0x85, 0x5B], "loco s3 state 5 on"),
-        (&[0x03, 0xDD, 0x05, 0xDB], "loco s3 state 5 off"),
-        (&[0x03, 0xDD, 0x80, 0x5E], "loco s3 state 0 on"),
-        (&[0x00, 0xDD, 0x85, 0x58], "loco all state 5 on"),
-        (&[0x03, 0xDD, 0xFF, 0x21], "loco s3 state 127 on"),
-        (&[0xC3, 0xE8, 0xDD, 0x01, 0xF7], "loco l1000 state 1 off"),
-    ];
-    for (bytes, line) in rows {
-        let packet = Packet::from_line(line)?;
-        assert_eq!(rt; packet.frame().bytes(), bytes, "{line}");
-        let read = Packet::read(&Frame::of(bytes)?);
-        assert!(rt; read.is(&packet), "{line}");
-        assert!(rt; is_written(&read, line), "{line}");
-    }
-    Ok(())
+fn binary_states_are_spelled(rt: HostRuntime) {
+    rows_hold(&rt, SPELLED, is_spelled);
 }
+
+const WRONG: &str = "\
+    14 | loco s3 state 128 on
+    14 | loco s3 state 255 on
+    14 | loco s3 state 128 yes
+    11 | loco s3 state 256 on
+    11 | loco s3 state x on
+    10 | loco s3 state 5 yes
+    10 | loco s3 state 5
+    10 | loco s3 state
+    10 | loco s3 state 5 on 1";
 
 #[test]
 fn wrong_binary_states_are_refused(rt: HostRuntime) {
-    let rows = [
-        ("loco s3 state 128 on", 14),
-        ("loco s3 state 255 on", 14),
-        ("loco s3 state 128 yes", 14),
-        ("loco s3 state 256 on", 11),
-        ("loco s3 state x on", 11),
-        ("loco s3 state 5 yes", 10),
-        ("loco s3 state 5", 10),
-        ("loco s3 state", 10),
-        ("loco s3 state 5 on 1", 10),
-    ];
-    for (line, number) in rows {
-        match Packet::from_line(line) {
-            Ok(_) => assert!(rt; false, "{line}"),
-            Err(fault) => assert_eq!(rt; fault.number(), number, "{line}"),
-        }
-    }
-    assert_eq!(rt; StateNumber::new(128).err(), Some(PacketFault::StateNumber));
+    rows_hold(&rt, WRONG, is_refused);
+    assert!(rt; StateNumber::new(128).err() == Some(PacketFault::StateNumber));
 }
 
 #[test]
@@ -234,144 +219,93 @@ fn saved_binary_states(rt: HostRuntime) -> Result<(), Fail> {
 fn binary_states_are_told(rt: HostRuntime) -> Result<(), Fail> {
     let mut note = LastNote::new();
     for line in [FIVE_UP, FIVE_DOWN, ALL_UP, FIVE_UP_FOR_ALL] {
-        let packet = Packet::from_line(line)?;
-        announce(&packet, &mut note);
-        match note.last() {
-            Some(told) => assert!(rt; told.is(&packet), "{line}"),
-            None => assert!(rt; false, "{line}"),
-        }
+        assert!(rt; is_noted(&mut note, line)?, "{line}");
     }
     Ok(())
 }
 
+const CONFLICTS: &str = "\
+    yes | loco s3 reset | loco s3 state 5 on
+    no | loco s3 reset | loco s3 state 5 off
+    yes | loco s3 reset | loco s3 state 0 on
+    yes | loco all reset | loco s3 state 5 on
+    yes | loco s3 state 5 on | loco s3 state 5 off
+    no | loco s3 state 5 on | loco s3 state 5 on
+    no | loco s3 state 5 on | loco s3 state 6 off
+    no | loco s3 state 0 on | loco s3 state 5 on
+    yes | loco s3 state 0 on | loco s3 state 5 off
+    yes | loco s3 state 0 on | loco s3 state 0 off
+    no | loco s3 state 0 on | loco s4 state 0 off
+    yes | loco all state 5 on | loco s3 state 5 off
+    yes | loco all state 5 on | loco l1000 state 5 off
+    no | loco s3 state 5 on | loco s3 functions 5 0
+    no | loco s3 state 5 on | loco s3 speed28 f 0
+    no | loco s3 state 5 on | frame 03ec1c06f5
+    no | loco all state 5 on | accessory 12 5 on";
+
 #[test]
-fn binary_states_conflict(rt: HostRuntime) -> Result<(), Fail> {
-    let rows = [
-        (RESET, FIVE_UP, true),
-        (RESET, FIVE_DOWN, false),
-        (RESET, ALL_UP, true),
-        ("loco all reset", FIVE_UP, true),
-        (FIVE_UP, FIVE_DOWN, true),
-        (FIVE_UP, FIVE_UP, false),
-        (FIVE_UP, "loco s3 state 6 off", false),
-        (ALL_UP, FIVE_UP, false),
-        (ALL_UP, FIVE_DOWN, true),
-        (ALL_UP, "loco s3 state 0 off", true),
-        (ALL_UP, "loco s4 state 0 off", false),
-        (FIVE_UP_FOR_ALL, FIVE_DOWN, true),
-        (FIVE_UP_FOR_ALL, "loco l1000 state 5 off", true),
-        (FIVE_UP, "loco s3 functions 5 0", false),
-        (FIVE_UP, "loco s3 speed28 f 0", false),
-        (FIVE_UP, WRITE, false),
-        (FIVE_UP_FOR_ALL, "accessory 12 5 on", false),
-    ];
-    for (one, other, expected) in rows {
-        let p = Packet::from_line(one)?;
-        let q = Packet::from_line(other)?;
-        assert_eq!(rt; conflict(&p, &q), expected, "{one} {other}");
-        assert_eq!(rt; conflict(&q, &p), expected, "{other} {one}");
-    }
-    Ok(())
+fn binary_states_conflict(rt: HostRuntime) {
+    rows_hold(&rt, CONFLICTS, conflict_or_not);
 }
+
+const TURNS: &str = "\
+    turned | s3 | UV | VU | order 0
+    repeated | s3 | UU | U | alike
+    not_heard | l1000 | UV | VU | alike";
 
 #[test]
 fn binary_states_take_turns(rt: HostRuntime) -> Result<(), Fail> {
-    let up = Packet::from_line(FIVE_UP)?;
-    let down = Packet::from_line(FIVE_DOWN)?;
-    let s3 = Who::Loco(Some(Address::short(3)?));
-    let l1000 = Who::Loco(Some(Address::long(1000)?));
-    let alloc = rt.alloc();
-    let turned = compare(alloc, s3, &[up, down], &[down, up])?;
-    assert_eq!(rt; turned, Verdict::Order(0));
-    let repeated = compare(alloc, s3, &[up, up], &[up])?;
-    assert_eq!(rt; repeated, Verdict::Alike);
-    let unheard = compare(alloc, l1000, &[up, down], &[down, up])?;
-    assert_eq!(rt; unheard, Verdict::Alike);
-    Ok(())
+    rows_hold_in(&rt, rt.alloc(), TURNS, is_compared)
 }
+
+/// As often in a row as any other command, and to all locomotives too.
+const SENT: &str = "\
+    beside_a_speed | 4 | 4 | 1 | +A +U =A =U =A =A 0:1
+    to_all | 4 | 4 | 2 | +Z =Z =Z =I 0:0";
 
 #[test]
 fn a_binary_state_is_sent_and_never_refreshed(rt: HostRuntime) -> Result<(), Fail> {
-    let speed = Packet::from_line("frame 036261")?;
-    let up = Packet::from_line(FIVE_UP)?;
-    let mut station = Station::new(rt.alloc(), 4, 4, 1)?;
-    assert!(rt; station.command(speed).is_ok());
-    assert!(rt; station.command(up).is_ok());
-    assert!(rt; station.next().is(&speed));
-    assert!(rt; station.next().is(&up));
-    assert!(rt; station.next().is(&speed));
-    assert!(rt; station.next().is(&speed));
-    assert_eq!(rt; station.entries(), 1);
-    // as often in a row as any other command, and to all locomotives too
-    let mut station = Station::new(rt.alloc(), 4, 4, 2)?;
-    let for_all = Packet::from_line(FIVE_UP_FOR_ALL)?;
-    assert!(rt; station.command(for_all).is_ok());
-    assert!(rt; station.next().is(&for_all));
-    assert!(rt; station.next().is(&for_all));
-    assert!(rt; station.next().is(&Packet::Idle));
-    assert_eq!(rt; station.entries(), 0);
-    Ok(())
+    rows_hold_in(&rt, rt.alloc(), SENT, goes_on)
 }
 
-/// A decoder text with these lines in place of the first and of the fifth, if there is a fifth.
-fn text(alloc: Global, version: &[u8], states: Option<&[u8]>) -> Result<Vec<u8>, Fail> {
+/// A locomotive's text, whose first line and line of states are as given; it has no such line where that is empty.
+fn text(alloc: Global, version: &str, states: &str) -> Result<Vec<u8>, Fail> {
     let mut text = Vec::new(alloc);
-    text.extend_from_slice(version)?;
+    text.extend_from_slice(version.as_bytes())?;
     text.extend_from_slice(b"\nloco s3\nspeed stop f\non\n")?;
-    if let Some(states) = states {
-        text.extend_from_slice(states)?;
+    if !states.is_empty() {
+        text.extend_from_slice(states.as_bytes())?;
         text.push(b'\n')?;
     }
     text.extend_from_slice(b"pending none\ncv 1 3\ncv 29 2\nend\n")?;
     Ok(text)
 }
 
+/// A row: the first line, the line of states, and the fault.
+fn is_text_refused(alloc: Global, row: &str) -> Result<bool, Fail> {
+    let text = text(alloc, column(row, 0), column(row, 1))?;
+    io_decoder_text_tests::is_refused(alloc, text.as_slice(), column(row, 2))
+}
+
+const WRONG_LINES: &str = "\
+    dcc-decoders 2 | states 0 | dcc: U3 line 5: P14
+    dcc-decoders 2 | states 128 | dcc: U3 line 5: P14
+    dcc-decoders 2 | states 5 128 | dcc: U3 line 5: P14
+    dcc-decoders 2 | states 256 | dcc: U3 line 5: P11
+    dcc-decoders 2 | states x | dcc: U3 line 5: P11
+    dcc-decoders 2 | states 5 5 | dcc: U3 line 5: P10
+    dcc-decoders 2 | states 7 5 | dcc: U3 line 5: P10
+    dcc-decoders 2 | state 5 | dcc: U3 line 5: P10
+    dcc-decoders 2 |  | dcc: U3 line 5: P10
+    dcc-decoders 1 | states | dcc: U3 line 5: P10
+    dcc-decoders 3 | states | dcc: U3 line 1: P10
+    dcc-decoders 02 | states | dcc: U3 line 1: P10
+    dcc-decoders 2 2 | states | dcc: U3 line 1: P10
+    dcc-decoders | states | dcc: U3 line 1: P10";
+
 #[test]
 fn wrong_lines_of_states_are_refused(rt: HostRuntime) -> Result<(), Fail> {
-    let alloc = rt.alloc();
-    let rows: [(&[u8], Option<&[u8]>, u64, PacketFault); 14] = [
-        (
-            b"dcc-decoders 2",
-            Some(b"states 0"),
-            5,
-            PacketFault::StateNumber,
-        ),
-        (
-            b"dcc-decoders 2",
-            Some(b"states 128"),
-            5,
-            PacketFault::StateNumber,
-        ),
-        (
-            b"dcc-decoders 2",
-            Some(b"states 5 128"),
-            5,
-            PacketFault::StateNumber,
-        ),
-        (
-            b"dcc-decoders 2",
-            Some(b"states 256"),
-            5,
-            PacketFault::Number,
-        ),
-        (b"dcc-decoders 2", Some(b"states x"), 5, PacketFault::Number),
-        (b"dcc-decoders 2", Some(b"states 5 5"), 5, PacketFault::Word),
-        (b"dcc-decoders 2", Some(b"states 7 5"), 5, PacketFault::Word),
-        (b"dcc-decoders 2", Some(b"state 5"), 5, PacketFault::Word),
-        (b"dcc-decoders 2", None, 5, PacketFault::Word),
-        (b"dcc-decoders 1", Some(b"states"), 5, PacketFault::Word),
-        (b"dcc-decoders 3", Some(b"states"), 1, PacketFault::Word),
-        (b"dcc-decoders 02", Some(b"states"), 1, PacketFault::Word),
-        (b"dcc-decoders 2 2", Some(b"states"), 1, PacketFault::Word),
-        (b"dcc-decoders", Some(b"states"), 1, PacketFault::Word),
-    ];
-    for (version, states, line, fault) in rows {
-        let text = text(alloc, version, states)?;
-        let mut input = Input::new(Counted::new(text.as_slice()), Limits::full());
-        let answer = ToolFault::Line { line, fault };
-        assert_eq!(rt; read_decoders(alloc, &mut input).err(), Some(answer));
-    }
-    Ok(())
+    rows_hold_in(&rt, rt.alloc(), WRONG_LINES, is_text_refused)
 }
 
 /// The states of the locomotive that the text saves.
@@ -386,20 +320,19 @@ fn states_of(alloc: Global, text: &[u8]) -> Result<Option<u128>, Fail> {
     Ok(None)
 }
 
+/// Whether the text of this first line and line of states saves these states.
+fn saves(alloc: Global, version: &str, line: &str, states: u128) -> Result<bool, Fail> {
+    let text = text(alloc, version, line)?;
+    Ok(states_of(alloc, text.as_slice())? == Some(states))
+}
+
 #[test]
 fn saved_texts_of_both_versions_are_read(rt: HostRuntime) -> Result<(), Fail> {
     let alloc = rt.alloc();
-    let old = text(alloc, b"dcc-decoders 1", None)?;
-    assert_eq!(rt; states_of(alloc, old.as_slice())?, Some(0));
-    let rows: [(&[u8], u128); 4] = [
-        (b"states", 0),
-        (b"states 1", 2),
-        (b"states 5 127", 1 << 127 | 1 << 5),
-        (b"states 1 2 3", 14),
-    ];
-    for (line, states) in rows {
-        let new = text(alloc, b"dcc-decoders 2", Some(line))?;
-        assert_eq!(rt; states_of(alloc, new.as_slice())?, Some(states));
-    }
+    assert!(rt; saves(alloc, "dcc-decoders 1", "", 0)?);
+    assert!(rt; saves(alloc, "dcc-decoders 2", "states", 0)?);
+    assert!(rt; saves(alloc, "dcc-decoders 2", "states 1", 2)?);
+    assert!(rt; saves(alloc, "dcc-decoders 2", "states 5 127", 1 << 127 | 1 << 5)?);
+    assert!(rt; saves(alloc, "dcc-decoders 2", "states 1 2 3", 14)?);
     Ok(())
 }

@@ -1,7 +1,7 @@
 //! Tracks full of noise: the framer compared with a plain program over the whole list.
 
-use crate::plain::{Outcome, outcomes};
-use dcc_wire::{Frame, Framer, Halves, Timing};
+use crate::plain::{answers, outcomes};
+use dcc_wire::{Frame, Halves, Timing};
 use std::alloc::{AllocError, Global};
 use std::process::Abort;
 use std::test::Fail;
@@ -26,18 +26,6 @@ impl Noise {
             .wrapping_add(1_013_904_223);
         (self.state >> 16) % n
     }
-}
-
-/// What a new framer answers to durations, each answer with the number of its half, from 1.
-fn answers(alloc: Global, durations: &[u16]) -> Result<Vec<(usize, Outcome)>, AllocError> {
-    let mut framer = Framer::new();
-    let mut answers = Vec::new(alloc);
-    for (place, us) in durations.iter().enumerate() {
-        if let Some(outcome) = Outcome::of(&framer.push(*us)) {
-            answers.push((place.saturating_add(1), outcome))?;
-        }
-    }
-    Ok(answers)
 }
 
 /// Asserts that the framer and the plain program say the same, and answers how many outcomes there are.

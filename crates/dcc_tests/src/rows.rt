@@ -1,0 +1,96 @@
+//! Tables of worked examples: a row a line, its columns between bars.
+
+use dcc_wire::Frame;
+use std::alloc::{AllocError, Global};
+use std::process::Abort;
+use std::test::Fail;
+
+/// Asserts that each row of a table holds.
+pub fn rows_hold<F: Fn(&str) -> bool>(rt: &impl Abort, table: &str, holds: F)
+    requires { F.IsAlwaysCallable holds }
+{
+    for row in table.lines() {
+        assert!(rt; holds(row), "{row}");
+    }
+}
+
+/// Asserts that each row of a table holds, where to see it may fail or takes memory.
+pub fn rows_hold_in<F: Fn(Global, &str) -> Result<bool, Fail>>(
+    rt: &impl Abort,
+    alloc: Global,
+    table: &str,
+    holds: F,
+) -> Result<(), Fail>
+    requires { F.IsAlwaysCallable holds }
+{
+    for row in table.lines() {
+        assert!(rt; holds(alloc, row)?, "{row}");
+    }
+    Ok(())
+}
+
+/// The column of this number, from 0, without the blanks around it: an empty one where the row has fewer.
+pub fn column(row: &str, number: usize) -> &str {
+    let mut rest = row;
+    for _ in 0..number {
+        rest = split(rest).1;
+    }
+    split(rest).0.trim()
+}
+
+/// What stands before the first bar and behind it.
+fn split(row: &str) -> (&str, &str) {
+    match row.split_once('|') {
+        Some(parts) => parts,
+        None => (row, ""),
+    }
+}
+
+/// The number that a word is, the largest one where it is none.
+pub fn number(word: &str) -> u32 {
+    match word.parse() {
+        Ok(number) => number,
+        Err(_) => u32::MAX,
+    }
+}
+
+/// Whether bytes are these in lower case hex, six of them at most.
+pub fn is_hex(bytes: &[u8], hex: &str) -> bool {
+    let mut digits = [0; 12];
+    match digits.get_mut(..bytes.len().saturating_mul(2)) {
+        None => false,
+        Some(digits) => {
+            hex::encode_to_slice(bytes, digits).is_ok() && &*digits == hex.as_bytes()
+        }
+    }
+}
+
+/// The frame of bytes in hex.
+pub fn frame_of(hex: &str) -> Option<Frame> {
+    let mut bytes = [0; 6];
+    let bytes = bytes.get_mut(..hex.len() / 2)?;
+    match hex::decode_to_slice(hex, bytes) {
+        Ok(()) => Frame::of(bytes).ok(),
+        Err(_) => None,
+    }
+}
+
+/// Adds the halves of a text of words, each a duration in microseconds or a run such as `58*28`.
+pub fn push_halves(halves: &mut Vec<u16>, text: &str) -> Result<(), AllocError> {
+    for word in text.split_whitespace() {
+        push_word(halves, word)?;
+    }
+    Ok(())
+}
+
+fn push_word(halves: &mut Vec<u16>, word: &str) -> Result<(), AllocError> {
+    let (us, count) = match word.split_once('*') {
+        None => (word, "1"),
+        Some((us, count)) => (us, count),
+    };
+    let us = us.parse::<u16>().unwrap_or(0);
+    for _ in 0..count.parse::<u16>().unwrap_or(0) {
+        halves.push(us)?;
+    }
+    Ok(())
+}
