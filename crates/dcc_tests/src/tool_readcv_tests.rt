@@ -1,9 +1,9 @@
 //! Readings on the programming track with what is written for them, and writers that fail.
 
-use crate::fakes::Taking;
-use crate::{Counted, Ending, ToolFault, exit_status, readcv};
+use crate::tool_fakes::Taking;
 use dcc_packet::CvNumber;
 use dcc_service::{ServiceDecoder, ServicePacket, ask};
+use dcc_tool::{Counted, Ending, ToolFault, exit_status, readcv};
 use std::process::Abort;
 
 const TEN: &[u8] =

@@ -1,7 +1,7 @@
 //! Decoder texts and the decoder that they put on the programming track.
 
-use crate::{Counted, Input, Limits, ToolFault, programming_track, read_decoders, readcv};
 use dcc_packet::{CvNumber, PacketFault};
+use dcc_tool::{Counted, Input, Limits, ToolFault, programming_track, read_decoders, readcv};
 use std::test::Fail;
 
 const BOARD: &[u8] = b"dcc-decoders 1\nboard 12\nout\nposition 0 0 0 0\naspect 0 0 0 0\nend\n";

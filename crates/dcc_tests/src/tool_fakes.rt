@@ -1,19 +1,19 @@
 //! Captures, readers and writers for the tests.
 ghost use Rattle.std.specs.Prelude.{None};
 
-use dcc_io::{Failed, Sink, Source};
+use dcc_tool::{Failed, Sink, Source};
 use std::alloc::{AllocError, Global};
 use std::cell::Cell;
 
 /// A capture that is written half by half, with this gap behind each word.
 #[derive(Drop)]
-pub struct Text {
+pub struct Text<'a> {
     pub bytes: Vec<u8>,
-    gap: &'static [u8],
+    gap: &'a [u8],
 }
 
-impl Text {
-    pub fn new(alloc: Global, gap: &'static [u8]) -> Text {
+impl<'a> Text<'a> {
+    pub fn new(alloc: Global, gap: &'a [u8]) -> Text<'a> {
         Text {
             bytes: Vec::new(alloc),
             gap,

@@ -1,12 +1,12 @@
 //! The order of reads and writes, which no contract can name.
 
-use crate::fakes::{Counting, Text, Track, Watching};
-use crate::{Counted, Input, Limits, show};
+use crate::tool_fakes::{Counting, Text, Track, Watching};
+use dcc_tool::{Counted, Input, Limits, show};
 use std::alloc::{AllocError, Global};
 use std::test::Fail;
 
 /// Blocks of 31 halves, each of which shows a line of 14 bytes.
-fn blocks(alloc: Global, count: u32) -> Result<Text, AllocError> {
+fn blocks(alloc: Global, count: u32) -> Result<Text<'static>, AllocError> {
     let mut text = Text::new(alloc, b" ");
     for _ in 0..count {
         text.one_halves(28)?;
