@@ -1,10 +1,11 @@
 //! Readings on the programming track with what is written for them, and writers that fail.
 
 use crate::tool_fakes::Taking;
-use dcc_packet::CvNumber;
+use dcc_packet::{CvNumber, PacketFault};
 use dcc_service::{ServiceDecoder, ServicePacket, ask};
-use dcc_tool::{Counted, Ending, ToolFault, exit_status, readcv};
-use std::process::Abort;
+use dcc_tool::{Counted, Ending, Sink, ToolFault, exit_status, readcv};
+use std::alloc::Global;
+use std::test::Fail;
 
 const TEN: &[u8] =
     b"7800e890 no\n7800e991 yes\n7800ea92 no\n7800eb93 yes\n7800ec94 no\n7800ed95 no\n\
@@ -28,90 +29,110 @@ fn with_cv1(value: u8) -> ServiceDecoder {
     ServiceDecoder::new(&cvs)
 }
 
-fn cv(rt: &impl Abort, number: u16) -> CvNumber {
-    CvNumber::new(number).expect(rt, "a CV")
+/// The reading of CV1, without what its contract says.
+fn read_cv1<W: Sink>(
+    decoder: Option<&mut ServiceDecoder>,
+    writer: &mut W,
+) -> Result<Option<u8>, ToolFault> {
+    match CvNumber::new(1) {
+        Ok(cv) => readcv(decoder, cv, writer),
+        Err(_) => Err(ToolFault::NoMemory),
+    }
+}
+
+/// Whether a reading of CV1 tells this value and writes this.
+fn tells(
+    alloc: Global,
+    decoder: Option<&mut ServiceDecoder>,
+    value: Option<u8>,
+    text: &[u8],
+) -> bool {
+    let mut writer = Counted::new(Vec::new(alloc));
+    let answer = read_cv1(decoder, &mut writer);
+    answer == Ok(value) && writer.inner.as_slice() == text
+}
+
+/// Whether CV1 is told to have this value, and has it afterwards.
+fn tells_of(alloc: Global, value: u8, text: &[u8]) -> bool {
+    let mut decoder = with_cv1(value);
+    tells(alloc, Some(&mut decoder), Some(value), text) && decoder.cvs()[0] == value
 }
 
 #[test]
 fn a_decoder_tells_its_value(rt: HostRuntime) {
-    let rows = [(10, TEN), (0, ZERO), (255, ALL_ONES)];
-    for (value, text) in rows {
-        let mut decoder = with_cv1(value);
-        let mut writer = Counted::new(Vec::new(rt.alloc()));
-        let answer = readcv(Some(&mut decoder), cv(&rt, 1), &mut writer);
-        assert_eq!(rt; answer, Ok(Some(value)));
-        assert_eq!(rt; writer.inner.as_slice(), text);
-        assert_eq!(rt; decoder.cvs()[0], value);
-    }
+    assert!(rt; tells_of(rt.alloc(), 10, TEN));
+    assert!(rt; tells_of(rt.alloc(), 0, ZERO));
+    assert!(rt; tells_of(rt.alloc(), 255, ALL_ONES));
+}
+
+/// Whether a write of CV1 is answered, which leaves the decoder in service.
+fn is_written(decoder: &mut ServiceDecoder, value: u8) -> Result<bool, PacketFault> {
+    let cv = CvNumber::new(1)?;
+    Ok(ask(decoder, &ServicePacket::Write { cv, value }))
 }
 
 #[test]
-fn a_decoder_in_service_tells_its_value(rt: HostRuntime) {
+fn a_decoder_in_service_tells_its_value(rt: HostRuntime) -> Result<(), Fail> {
     let mut decoder = with_cv1(3);
-    let write = ServicePacket::Write {
-        cv: cv(&rt, 1),
-        value: 10,
-    };
-    assert!(rt; ask(&mut decoder, &write));
+    assert!(rt; is_written(&mut decoder, 10)?);
     for _ in 0..2u32 {
-        let mut writer = Counted::new(Vec::new(rt.alloc()));
-        let answer = readcv(Some(&mut decoder), cv(&rt, 1), &mut writer);
-        assert_eq!(rt; answer, Ok(Some(10)));
-        assert_eq!(rt; writer.inner.as_slice(), TEN);
+        assert!(rt; tells(rt.alloc(), Some(&mut decoder), Some(10), TEN));
     }
+    Ok(())
 }
 
 #[test]
 fn an_empty_track_gives_no_answer(rt: HostRuntime) {
-    let mut writer = Counted::new(Vec::new(rt.alloc()));
-    assert_eq!(rt; readcv(None, cv(&rt, 1), &mut writer), Ok(None));
-    assert_eq!(rt; writer.inner.as_slice(), EMPTY);
+    assert!(rt; tells(rt.alloc(), None, None, EMPTY));
+}
+
+/// Whether the reading of CV1024, which is 0, writes the number lowered by one.
+fn is_lowered(alloc: Global) -> Result<bool, Fail> {
+    let mut decoder = with_cv1(3);
+    let mut writer = Counted::new(Vec::new(alloc));
+    let answer = readcv(Some(&mut decoder), CvNumber::new(1024)?, &mut writer);
+    let written = writer.inner.as_slice();
+    let front = written.starts_with(b"7bffe86c no\n");
+    Ok(answer == Ok(Some(0)) && front && written.ends_with(b"77ff0088 yes\nvalue 0\n"))
 }
 
 #[test]
-fn the_number_of_a_variable_is_lowered_by_one(rt: HostRuntime) {
-    let mut decoder = with_cv1(3);
-    let mut writer = Counted::new(Vec::new(rt.alloc()));
-    let answer = readcv(Some(&mut decoder), cv(&rt, 1024), &mut writer);
-    assert_eq!(rt; answer, Ok(Some(0)));
-    assert!(rt; writer.inner.as_slice().starts_with(b"7bffe86c no\n"));
-    assert!(rt;
-        writer
-            .inner
-            .as_slice()
-            .ends_with(b"77ff0088 yes\nvalue 0\n")
-    );
+fn the_number_of_a_variable_is_lowered_by_one(rt: HostRuntime) -> Result<(), Fail> {
+    assert!(rt; is_lowered(rt.alloc())?);
+    Ok(())
+}
+
+/// Whether a writer takes this of a reading of CV1, which is 10 and stays so, and the reading ends so.
+fn takes(mut writer: Taking, answer: Result<Option<u8>, ToolFault>, taken: &[u8]) -> bool {
+    let mut decoder = with_cv1(10);
+    let read = read_cv1(Some(&mut decoder), &mut writer);
+    read == answer && writer.taken.as_slice() == taken && decoder.cvs()[0] == 10
 }
 
 #[test]
 fn a_writer_takes_a_reading_in_parts(rt: HostRuntime) {
-    let mut decoder = with_cv1(10);
-    let mut writer = Taking::new(rt.alloc(), 1, 1000);
-    let answer = readcv(Some(&mut decoder), cv(&rt, 1), &mut writer);
-    assert_eq!(rt; answer, Ok(Some(10)));
-    assert_eq!(rt; writer.taken.as_slice(), TEN);
+    assert!(rt; takes(Taking::new(rt.alloc(), 1, 1000), Ok(Some(10)), TEN));
+}
+
+/// Whether a reading of an empty track by a writer that takes nothing is a failed write.
+fn is_failed(mut writer: Taking) -> bool {
+    read_cv1(None, &mut writer) == Err(ToolFault::Write) && writer.taken.is_empty()
 }
 
 #[test]
 fn a_failed_write_ends_a_reading(rt: HostRuntime) {
     for calls in 0..TEN.len() as u32 {
-        let mut decoder = with_cv1(10);
-        let mut writer = Taking::new(rt.alloc(), 1, calls);
-        let answer = readcv(Some(&mut decoder), cv(&rt, 1), &mut writer);
-        assert_eq!(rt; answer, Err(ToolFault::Write));
-        assert_eq!(rt; writer.taken.as_slice(), &TEN[..calls as usize]);
-        assert_eq!(rt; decoder.cvs()[0], 10);
+        let writer = Taking::new(rt.alloc(), 1, calls);
+        assert!(rt;
+            takes(writer, Err(ToolFault::Write), &TEN[..calls as usize]),
+            "{calls}"
+        );
     }
-    let mut writer = Taking::new(rt.alloc(), 0, 1);
-    assert_eq!(rt;
-        readcv(None, cv(&rt, 1), &mut writer),
-        Err(ToolFault::Write)
-    );
-    assert!(rt; writer.taken.as_slice().is_empty());
+    assert!(rt; is_failed(Taking::new(rt.alloc(), 0, 1)));
 }
 
 #[test]
 fn a_value_ends_with_0_and_none_with_1(rt: HostRuntime) {
-    assert_eq!(rt; exit_status(&Ok(Ending::Value(Some(0)))), 0);
-    assert_eq!(rt; exit_status(&Ok(Ending::Value(None))), 1);
+    assert!(rt; exit_status(&Ok(Ending::Value(Some(0)))) == 0);
+    assert!(rt; exit_status(&Ok(Ending::Value(None))) == 1);
 }
