@@ -1,4 +1,4 @@
-use Rattle.std.proofs.Common.{◌≡◌, ◌≤◌, ◌<◌, ◌^◌, ◌+◌, ◌*◌, ◌%◌, Bool, true, false, refl, arith, slice_index_or, IsTrue}
+use Rattle.std.proofs.Common.{false, refl, arith, slice_index_or}
 use Rattle.dcc_regs.proofs.Packing.{shifted_one_128, packed_more, zero_from, packed_below}
 use Rattle.dcc_regs.proofs.loco_state.packed.Goals as goal
 
