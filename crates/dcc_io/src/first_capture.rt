@@ -15,7 +15,7 @@ use dcc_packet::PacketFault;
 impl<R: Source> Input<R> {
     /// The next run of the first of two captures and its line, or none where the line `---` ends it; then all of
     /// that line is read. The word before stands on the given line, 0 where there is none. A fault is kept.
-    pub fn next_of_first(&mut self, before: u64) -> Result<Option<(u64, Run)>, KeptFault>
+    pub(crate) fn next_of_first(&mut self, before: u64) -> Result<Option<(u64, Run)>, KeptFault>
         ensures kept { AnswersKept self.old result self.new }
         ensures reads { self.old.fault ≡ None → AnswersFirst before self.old result self.new }
     {

@@ -261,7 +261,7 @@ impl<R: Source> Input<R> {
     }
 
     /// The next run of halves, or none at the end. A fault is kept.
-    pub fn next_run(&mut self) -> Result<Option<Run>, KeptFault>
+    pub(crate) fn next_run(&mut self) -> Result<Option<Run>, KeptFault>
         requires { self.old.fault ≡ None }
         ensures { AnswersRun self.old result self.new }
     {
@@ -272,7 +272,7 @@ impl<R: Source> Input<R> {
     }
 
     /// The run that the next word spells, or none at the end. A fault is kept.
-    pub fn read_run(&mut self) -> Result<Option<Run>, KeptFault>
+    pub(crate) fn read_run(&mut self) -> Result<Option<Run>, KeptFault>
         requires { self.old.fault ≡ None }
         ensures { AnswersRun self.old result self.new }
     {
@@ -289,7 +289,7 @@ impl<R: Source> Input<R> {
     /// The next half, where its word is a duration alone that stands at the front of the bytes that were read and has ended.
     /// So most halves cost one look at each byte.
     #[inline(always)]
-    pub fn half_at_hand(&mut self) -> Option<u16>
+    pub(crate) fn half_at_hand(&mut self) -> Option<u16>
         requires { self.old.fault ≡ None }
         ensures some { IfSome result (λ us. AnswersRun self.old (Ok (Some (record { us = us; n = 1 }))) self.new) }
         ensures first { IfSome result (λ us. (before : ℕ) → AnswersFirst before self.old (Ok (Some (self.old.place.line, record { us = us; n = 1 }))) self.new) }
@@ -375,7 +375,7 @@ impl<R: Source> Input<R> {
     }
 
     /// The packet of the next line that says one, or none at the end. A fault is kept.
-    pub fn next_packet(&mut self) -> Result<Option<Packet>, KeptFault>
+    pub(crate) fn next_packet(&mut self) -> Result<Option<Packet>, KeptFault>
         ensures kept { AnswersKept self.old result self.new }
         ensures reads { self.old.fault ≡ None → AnswersPacket self.old result self.new }
     {
@@ -418,7 +418,7 @@ impl<R: Source> Input<R> {
 
     /// The packet of the next line, if that line stands whole in the bytes that were read and says one. So most lines take no
     /// read, and no copy of them is made. Any other line is left to `next_packet`, a skipped or a bad one too.
-    pub fn packet_at_hand(&mut self) -> Option<Packet>
+    pub(crate) fn packet_at_hand(&mut self) -> Option<Packet>
         requires { self.old.fault ≡ None }
         ensures some { IfSome result (λ packet. AnswersPacket self.old (Ok (Some packet)) self.new) }
         ensures none { IfNone result (self.new ≡ self.old) }

@@ -12,6 +12,7 @@ mod first_capture;
 mod held_lines;
 mod input;
 pub mod laws;
+pub mod reading;
 mod saved;
 mod saved_decoders;
 mod station_line;

@@ -72,7 +72,7 @@ fn send_count(word: &[u8]) -> Result<u16, PacketFault>
 
 impl<R: Source> Input<R> {
     /// What the next line asks of a station that asks anything, or none at the end. A fault is kept.
-    pub fn next_station_line(&mut self) -> Result<Option<StationLine>, KeptFault>
+    pub(crate) fn next_station_line(&mut self) -> Result<Option<StationLine>, KeptFault>
         ensures kept { AnswersKept self.old result self.new }
         ensures reads { self.old.fault ≡ None → AnswersSaid station_words asked_by self.old result self.new }
     {
@@ -84,7 +84,7 @@ impl<R: Source> Input<R> {
 
     /// What the next line asks of a station, if that line stands whole in the bytes that were read and asks anything. Any other
     /// line is left to `next_station_line`, a skipped or a bad one too.
-    pub fn station_line_at_hand(&mut self) -> Option<StationLine>
+    pub(crate) fn station_line_at_hand(&mut self) -> Option<StationLine>
         requires { self.old.fault ≡ None }
         ensures some { IfSome result (λ line. AnswersSaid station_words asked_by self.old (Ok (Some line)) self.new) }
         ensures none { IfNone result (self.new ≡ self.old) }

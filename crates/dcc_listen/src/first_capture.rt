@@ -3,6 +3,7 @@ ghost use Rattle.std.specs.Prelude.{◌<◌, ◌^◌, IfOk, IfErr, length};
 ghost use Rattle.dcc_listen.specs.GatheredBoth.{BothFail, GatheredFirst};
 
 use crate::gathering::hold_seen;
+use dcc_io::reading::next_of_first;
 use dcc_io::{Input, Source, ToolFault};
 use dcc_packet::Packet;
 use dcc_wire::Framer;
@@ -25,7 +26,7 @@ pub fn gather_first<R: Source>(
     let mut packets = Vec::new(alloc);
     let mut before = 0;
     'runs: loop {
-        match input.next_of_first(before) {
+        match next_of_first(input, before) {
             Ok(Some((line, run))) => {
                 before = line;
                 let shown = framer.push_run(run.us, run.n);

@@ -5,6 +5,7 @@ ghost use Rattle.dcc_listen.specs.FleetRun.{Runs};
 ghost use Rattle.dcc_io.specs.InputState.{HasCause};
 
 use crate::fleet_text::write_fleet;
+use dcc_io::reading::{half_at_hand, read_run};
 use dcc_io::{Input, Sink, Source, ToolFault};
 use dcc_order::{hear_half, hear_half_run};
 use dcc_regs::Decoder;
@@ -33,11 +34,11 @@ pub fn run<R: Source, W: Sink>(
     }
     let mut framer = Framer::new();
     'runs: loop {
-        match input.half_at_hand() {
+        match half_at_hand(input) {
             Some(us) => {
                 let _ = hear_half(decoders, &mut framer, us);
             }
-            None => match input.read_run() {
+            None => match read_run(input) {
                 Ok(Some(run)) => {
                     let _ = hear_half_run(decoders, &mut framer, run.us, run.n);
                 }

@@ -10,6 +10,7 @@ ghost use Rattle.dcc_listen.specs.Listing.{IsLine};
 ghost use Rattle.dcc_listen.specs.Shown.{Shows};
 
 use crate::listing::outcome_line;
+use dcc_io::reading::{half_at_hand, read_run};
 use dcc_io::{Failed, HeldLines, Input, KeptFault, Run, Sink, Source, ToolFault};
 use dcc_wire::{Framer, Seen};
 
@@ -42,7 +43,7 @@ pub fn show<R: Source, W: Sink>(
     let mut framer = Framer::new();
     let mut held = HeldLines::new();
     'runs: loop {
-        match input.half_at_hand() {
+        match half_at_hand(input) {
             Some(us) => {
                 let seen = framer.push(us);
                 let half = most - input.halves_left();
@@ -79,7 +80,7 @@ fn next_run<R: Source, W: Sink>(
         (W.contents writer.new) (W.failures writer.new) }
 {
     match write_before_read(held, input, writer) {
-        Ok(()) => Ok(input.read_run()),
+        Ok(()) => Ok(read_run(input)),
         Err(failed) => Err(failed),
     }
 }

@@ -6,6 +6,7 @@ ghost use Rattle.dcc_order.specs.Hearing.{AreSpelled, frames_of};
 ghost use Rattle.dcc_io.specs.InputState.{InputState};
 ghost use Rattle.dcc_listen.specs.Taking.{Gathering, PassesRest, TakesPacket};
 
+use dcc_io::reading::next_run;
 use dcc_io::{Input, KeptFault, Source};
 use dcc_packet::Packet;
 use dcc_wire::{Framer, Seen};
@@ -21,7 +22,7 @@ pub(crate) fn next_packet<R: Source>(
     ensures bytes { IfOk result (λ item. input.new.bytes + length (option_to_list item) ≤ input.old.bytes) }
 {
     'runs: loop {
-        match input.next_run() {
+        match next_run(input) {
             Ok(Some(run)) => {
                 let shown = framer.push_run(run.us, run.n);
                 match packet_in(&shown.seen) {

@@ -12,7 +12,7 @@ ghost use Rattle.dcc_send.specs.Held.{TakesNext};
 use crate::encoded_line::hold_frame;
 use crate::encoding::Encode;
 use crate::station_encoding::encode_by_station;
-use dcc_io::{Failed, HeldLines, Input, KeptFault, Sink, Source, ToolFault, Usage};
+use dcc_io::{Failed, HeldLines, Input, KeptFault, Sink, Source, ToolFault, Usage, reading};
 use dcc_packet::Packet;
 use dcc_station::{Station, StationFault};
 use std::alloc::Global;
@@ -103,12 +103,12 @@ fn next_packet<R: Source, W: Sink>(
     ensures { TakesNext AnswersPacket input.old (W.contents writer.old) (W.failures writer.old) held.old result input.new held.new
         (W.contents writer.new) (W.failures writer.new) }
 {
-    match input.packet_at_hand() {
+    match reading::packet_at_hand(input) {
         Some(packet) => return Ok(Ok(Some(packet))),
         None => (),
     }
     match held.write_out(writer) {
-        Ok(()) => Ok(input.next_packet()),
+        Ok(()) => Ok(reading::next_packet(input)),
         Err(failed) => Err(failed),
     }
 }

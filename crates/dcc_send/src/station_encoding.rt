@@ -11,6 +11,7 @@ ghost use Rattle.dcc_send.specs.Held.{TakesNext, HoldsAnswersOrFails};
 
 use crate::encoded_line::hold_frame;
 use crate::encoding::Encode;
+use dcc_io::reading::{next_station_line, station_line_at_hand};
 use dcc_io::{Failed, HeldLines, Input, KeptFault, Sink, Source, StationLine, ToolFault};
 use dcc_packet::Packet;
 use dcc_station::{Refused, Station};
@@ -56,12 +57,12 @@ fn next_line<R: Source, W: Sink>(
     ensures { TakesNext (AnswersSaid station_words asked_by) input.old (W.contents writer.old) (W.failures writer.old) held.old result
         input.new held.new (W.contents writer.new) (W.failures writer.new) }
 {
-    match input.station_line_at_hand() {
+    match station_line_at_hand(input) {
         Some(line) => return Ok(Ok(Some(line))),
         None => (),
     }
     match held.write_out(writer) {
-        Ok(()) => Ok(input.next_station_line()),
+        Ok(()) => Ok(next_station_line(input)),
         Err(failed) => Err(failed),
     }
 }

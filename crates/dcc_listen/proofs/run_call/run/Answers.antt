@@ -29,7 +29,7 @@ runs-preserved g c =
     let before = c.runs.invariant in
     record {
       halves = before.halves ++ replicate c.in-Ok-Some.run'.n c.in-Ok-Some.run'.us;
-      gave = Gave-append captures c.args.input.now c.runs.input c.read_run.new.self before.halves (replicate c.in-Ok-Some.run'.n c.in-Ok-Some.run'.us) before.gave took.0.items;
+      gave = Gave-append captures c.args.input.now c.runs.input c.read_run.new.input before.halves (replicate c.in-Ok-Some.run'.n c.in-Ok-Some.run'.us) before.gave took.0.items;
       stands = c.hear_half_run.ensures.stands before.halves before.stands;
       members = c.hear_half_run.ensures.since before.halves before.stands (map (λ decoder. let is = goal.Decoder-dyn g (decoder.vtable, decoder.value) in (is.who decoder.value, is.registers decoder.value)) c.args.decoders.now) before.members;
     }
@@ -39,7 +39,7 @@ runs-preserved-in-Some-half_at_hand g c =
     let before = c.runs.invariant in
     record {
       halves = before.halves ++ c.in-Some-half_at_hand.us ∷ [];
-      gave = Gave-append captures c.args.input.now c.runs.input c.half_at_hand.new.self before.halves (c.in-Some-half_at_hand.us ∷ []) before.gave c.in-Some-half_at_hand.ensures.some.0.items;
+      gave = Gave-append captures c.args.input.now c.runs.input c.half_at_hand.new.input before.halves (c.in-Some-half_at_hand.us ∷ []) before.gave c.in-Some-half_at_hand.ensures.some.0.items;
       stands = c.hear_half.ensures.stands before.halves before.stands;
       members = c.hear_half.ensures.since before.halves before.stands (map (λ decoder. let is = goal.Decoder-dyn g (decoder.vtable, decoder.value) in (is.who decoder.value, is.registers decoder.value)) c.args.decoders.now) before.members;
     }
@@ -49,7 +49,7 @@ returns-in-Err-clause-runs g c none =
     let before = c.runs.invariant in
     let halves : List ℕ = before.halves in
     let gave = subst (λ (now : InputState). Gave captures c.args.input.now halves now) (sym c.in-None.ensures.none) before.gave in
-    rw c.told-in-Err.ensures (hears_up_to (map (λ decoder. let is = goal.Decoder-dyn g (decoder.vtable, decoder.value) in (is.who decoder.value, is.registers decoder.value)) c.args.decoders.now) (map (λ decoder. let is = goal.Decoder-dyn g (decoder.vtable, decoder.value) in (is.who decoder.value, is.registers decoder.value)) c.runs.decoders) c.args.input.now c.half_at_hand.new.self c.read_run.new.self (g.W.Sink.contents c.args.writer.now) (g.W.Sink.failures c.args.writer.now)
+    rw c.told-in-Err.ensures (hears_up_to (map (λ decoder. let is = goal.Decoder-dyn g (decoder.vtable, decoder.value) in (is.who decoder.value, is.registers decoder.value)) c.args.decoders.now) (map (λ decoder. let is = goal.Decoder-dyn g (decoder.vtable, decoder.value) in (is.who decoder.value, is.registers decoder.value)) c.runs.decoders) c.args.input.now c.half_at_hand.new.input c.read_run.new.input (g.W.Sink.contents c.args.writer.now) (g.W.Sink.failures c.args.writer.now)
     before.halves c.in-Err.fault gave (AllZip-views (λ start end. HasHeardHalves halves start.0 start.1 end.0 end.1) (λ decoder. let is = goal.Decoder-dyn g (decoder.vtable, decoder.value) in (is.who decoder.value, is.registers decoder.value)) (map (λ decoder. let is = goal.Decoder-dyn g (decoder.vtable, decoder.value) in (is.who decoder.value, is.registers decoder.value)) c.args.decoders.now) c.runs.decoders before.members) c.in-Err.ensures)
 
 pub returns-in-Ok-clause-runs : goal.returns-in-Ok-clause-runs
@@ -57,9 +57,9 @@ returns-in-Ok-clause-runs g c none =
     let took = rw (c.in-Ok-None.field-0-is, c.in-None.ensures.none) at c.in-Ok-None.ensures in
     let before = c.runs.invariant in
     let halves : List ℕ = before.halves in
-    ran (map (λ decoder. let is = goal.Decoder-dyn g (decoder.vtable, decoder.value) in (is.who decoder.value, is.registers decoder.value)) c.args.decoders.now) (map (λ decoder. let is = goal.Decoder-dyn g (decoder.vtable, decoder.value) in (is.who decoder.value, is.registers decoder.value)) c.runs.decoders) c.args.input.now c.read_run.new.self (g.W.Sink.contents c.args.writer.now) (g.W.Sink.contents c.write_fleet.new.writer)
+    ran (map (λ decoder. let is = goal.Decoder-dyn g (decoder.vtable, decoder.value) in (is.who decoder.value, is.registers decoder.value)) c.args.decoders.now) (map (λ decoder. let is = goal.Decoder-dyn g (decoder.vtable, decoder.value) in (is.who decoder.value, is.registers decoder.value)) c.runs.decoders) c.args.input.now c.read_run.new.input (g.W.Sink.contents c.args.writer.now) (g.W.Sink.contents c.write_fleet.new.writer)
     (g.W.Sink.failures c.args.writer.now) (g.W.Sink.failures c.write_fleet.new.writer)
-    (hears_all (map (λ decoder. let is = goal.Decoder-dyn g (decoder.vtable, decoder.value) in (is.who decoder.value, is.registers decoder.value)) c.args.decoders.now) (map (λ decoder. let is = goal.Decoder-dyn g (decoder.vtable, decoder.value) in (is.who decoder.value, is.registers decoder.value)) c.runs.decoders) c.args.input.now c.runs.input c.read_run.new.self before.halves before.gave (AllZip-views (λ start end. HasHeardHalves halves start.0 start.1 end.0 end.1) (λ decoder. let is = goal.Decoder-dyn g (decoder.vtable, decoder.value) in (is.who decoder.value, is.registers decoder.value)) (map (λ decoder. let is = goal.Decoder-dyn g (decoder.vtable, decoder.value) in (is.who decoder.value, is.registers decoder.value)) c.args.decoders.now) c.runs.decoders before.members) took)
+    (hears_all (map (λ decoder. let is = goal.Decoder-dyn g (decoder.vtable, decoder.value) in (is.who decoder.value, is.registers decoder.value)) c.args.decoders.now) (map (λ decoder. let is = goal.Decoder-dyn g (decoder.vtable, decoder.value) in (is.who decoder.value, is.registers decoder.value)) c.runs.decoders) c.args.input.now c.runs.input c.read_run.new.input before.halves before.gave (AllZip-views (λ start end. HasHeardHalves halves start.0 start.1 end.0 end.1) (λ decoder. let is = goal.Decoder-dyn g (decoder.vtable, decoder.value) in (is.who decoder.value, is.registers decoder.value)) (map (λ decoder. let is = goal.Decoder-dyn g (decoder.vtable, decoder.value) in (is.who decoder.value, is.registers decoder.value)) c.args.decoders.now) c.runs.decoders before.members) took)
     c.in-Ok.ensures
 
 pub returns-in-Err-write_fleet-clause-runs : goal.returns-in-Err-write_fleet-clause-runs
@@ -67,7 +67,7 @@ returns-in-Err-write_fleet-clause-runs g c none =
     let took = rw (c.in-Ok-None.field-0-is, c.in-None.ensures.none) at c.in-Ok-None.ensures in
     let before = c.runs.invariant in
     let halves : List ℕ = before.halves in
-    stopped (map (λ decoder. let is = goal.Decoder-dyn g (decoder.vtable, decoder.value) in (is.who decoder.value, is.registers decoder.value)) c.args.decoders.now) (map (λ decoder. let is = goal.Decoder-dyn g (decoder.vtable, decoder.value) in (is.who decoder.value, is.registers decoder.value)) c.runs.decoders) c.args.input.now c.read_run.new.self (g.W.Sink.contents c.args.writer.now) (g.W.Sink.contents c.write_fleet.new.writer)
+    stopped (map (λ decoder. let is = goal.Decoder-dyn g (decoder.vtable, decoder.value) in (is.who decoder.value, is.registers decoder.value)) c.args.decoders.now) (map (λ decoder. let is = goal.Decoder-dyn g (decoder.vtable, decoder.value) in (is.who decoder.value, is.registers decoder.value)) c.runs.decoders) c.args.input.now c.read_run.new.input (g.W.Sink.contents c.args.writer.now) (g.W.Sink.contents c.write_fleet.new.writer)
     (g.W.Sink.failures c.args.writer.now) (g.W.Sink.failures c.write_fleet.new.writer) c.in-Err-write_fleet.field-0
-    (hears_all (map (λ decoder. let is = goal.Decoder-dyn g (decoder.vtable, decoder.value) in (is.who decoder.value, is.registers decoder.value)) c.args.decoders.now) (map (λ decoder. let is = goal.Decoder-dyn g (decoder.vtable, decoder.value) in (is.who decoder.value, is.registers decoder.value)) c.runs.decoders) c.args.input.now c.runs.input c.read_run.new.self before.halves before.gave (AllZip-views (λ start end. HasHeardHalves halves start.0 start.1 end.0 end.1) (λ decoder. let is = goal.Decoder-dyn g (decoder.vtable, decoder.value) in (is.who decoder.value, is.registers decoder.value)) (map (λ decoder. let is = goal.Decoder-dyn g (decoder.vtable, decoder.value) in (is.who decoder.value, is.registers decoder.value)) c.args.decoders.now) c.runs.decoders before.members) took)
+    (hears_all (map (λ decoder. let is = goal.Decoder-dyn g (decoder.vtable, decoder.value) in (is.who decoder.value, is.registers decoder.value)) c.args.decoders.now) (map (λ decoder. let is = goal.Decoder-dyn g (decoder.vtable, decoder.value) in (is.who decoder.value, is.registers decoder.value)) c.runs.decoders) c.args.input.now c.runs.input c.read_run.new.input before.halves before.gave (AllZip-views (λ start end. HasHeardHalves halves start.0 start.1 end.0 end.1) (λ decoder. let is = goal.Decoder-dyn g (decoder.vtable, decoder.value) in (is.who decoder.value, is.registers decoder.value)) (map (λ decoder. let is = goal.Decoder-dyn g (decoder.vtable, decoder.value) in (is.who decoder.value, is.registers decoder.value)) c.args.decoders.now) c.runs.decoders before.members) took)
     c.in-Err-write_fleet.ensures

@@ -18,10 +18,10 @@ runs-preserved-in-Ok g c =
     let answer : RunSeen = record { seen = c.push-seen.result; at = 1 } in
     let showing = c.runs.invariant in
     let gave = c.in-Some-half_at_hand.ensures.some.0 in
-    let taken = taken_with c.args.words c.args.input.now c.runs.input c.half_at_hand.new.self c.runs.framer c.runs.held _ _ _ _ one showing gave in
-    let half = counted_one c.halves_left-most.result c.halves_left.result c.args.input.now.halves c.half_at_hand.new.self.halves (length showing.halves) c.halves_left-most.ensures c.halves_left.ensures taken in
+    let taken = taken_with c.args.words c.args.input.now c.runs.input c.half_at_hand.new.input c.runs.framer c.runs.held _ _ _ _ one showing gave in
+    let half = counted_one c.halves_left-most.result c.halves_left.result c.args.input.now.halves c.half_at_hand.new.input.halves (length showing.halves) c.halves_left-most.ensures c.halves_left.ensures taken in
     let wrote = c.in-Ok.ensures (length showing.halves + 1 - 1) half in
-    Showing-run c.args.words c.args.input.now c.runs.input c.half_at_hand.new.self c.runs.framer c.push-seen.new.self c.runs.held c.hold_seen.new.held _ _ _ _ _ _
+    Showing-run c.args.words c.args.input.now c.runs.input c.half_at_hand.new.input c.runs.framer c.push-seen.new.self c.runs.held c.hold_seen.new.held _ _ _ _ _ _
     one answer showing wrote.0 gave (c.push-seen.ensures.stands showing.halves showing.stands)
     (answers_one showing.halves one.us c.push-seen.result (c.push-seen.ensures.sees showing.halves showing.stands)) wrote.1 wrote.2.0 wrote.2.1
 
@@ -29,8 +29,8 @@ pub hold_seen-requires : goal.hold_seen-requires
 hold_seen-requires g c =
     let one : Run = record { us = c.in-Some-half_at_hand.us; n = 1 } in
     let showing = c.runs.invariant in
-    let taken = taken_with c.args.words c.args.input.now c.runs.input c.half_at_hand.new.self c.runs.framer c.runs.held _ _ _ _ one showing c.in-Some-half_at_hand.ensures.some.0 in
-    let half = counted_one c.halves_left-most.result c.halves_left.result c.args.input.now.halves c.half_at_hand.new.self.halves (length showing.halves) c.halves_left-most.ensures c.halves_left.ensures taken in
+    let taken = taken_with c.args.words c.args.input.now c.runs.input c.half_at_hand.new.input c.runs.framer c.runs.held _ _ _ _ one showing c.in-Some-half_at_hand.ensures.some.0 in
+    let half = counted_one c.halves_left-most.result c.halves_left.result c.args.input.now.halves c.half_at_hand.new.input.halves (length showing.halves) c.halves_left-most.ensures c.halves_left.ensures taken in
     omega (arith, half)
 
 pub returns-in-Err-clause-shows : goal.returns-in-Err-clause-shows
@@ -39,10 +39,10 @@ returns-in-Err-clause-shows g c fault =
     let answer : RunSeen = record { seen = c.push-seen.result; at = 1 } in
     let showing = c.runs.invariant in
     let gave = c.in-Some-half_at_hand.ensures.some.0 in
-    let taken = taken_with c.args.words c.args.input.now c.runs.input c.half_at_hand.new.self c.runs.framer c.runs.held _ _ _ _ one showing gave in
-    let half = counted_one c.halves_left-most.result c.halves_left.result c.args.input.now.halves c.half_at_hand.new.self.halves (length showing.halves) c.halves_left-most.ensures c.halves_left.ensures taken in
+    let taken = taken_with c.args.words c.args.input.now c.runs.input c.half_at_hand.new.input c.runs.framer c.runs.held _ _ _ _ one showing gave in
+    let half = counted_one c.halves_left-most.result c.halves_left.result c.args.input.now.halves c.half_at_hand.new.input.halves (length showing.halves) c.halves_left-most.ensures c.halves_left.ensures taken in
     let wrote = c.in-Err.ensures (length showing.halves + 1 - 1) half in
-    stops_at_run c.args.words c.args.input.now c.runs.input c.half_at_hand.new.self c.runs.framer c.runs.held _ _ _ _ _ _ one answer showing wrote.0 gave
+    stops_at_run c.args.words c.args.input.now c.runs.input c.half_at_hand.new.input c.runs.framer c.runs.held _ _ _ _ _ _ one answer showing wrote.0 gave
     (answers_one showing.halves one.us c.push-seen.result (c.push-seen.ensures.sees showing.halves showing.stands)) wrote.1 wrote.2.0 wrote.2.1
 
 -- a word that is no half at hand
@@ -83,9 +83,9 @@ returns-in-Ok-Err-clause-shows g c fault =
     let before = subst (λ (now : InputState). Showing c.args.words c.args.input.now now c.runs.framer c.runs.held (g.W.Sink.contents c.args.writer.now) (g.W.Sink.contents c.runs.writer) (g.W.Sink.failures c.args.writer.now) (g.W.Sink.failures c.runs.writer))
     (sym c.in-None.ensures.none) c.runs.invariant in
     let took = rw c.in-Ok-Err.field-0-is at c.in-Ok-Err.ensures in
-    let showing = Showing-wrote c.args.words c.args.input.now c.half_at_hand.new.self c.runs.framer c.runs.held c.next_run.new.held _ _ _ _ _ _ before took.1 took.2 in
+    let showing = Showing-wrote c.args.words c.args.input.now c.half_at_hand.new.input c.runs.framer c.runs.held c.next_run.new.held _ _ _ _ _ _ before took.1 took.2 in
     let rest = rw c.told-in-Ok-Err.ensures at c.write_rest-in-Ok-Err.ensures in
-    stops_at_fault c.args.words c.args.input.now c.half_at_hand.new.self c.next_run.new.input c.runs.framer c.next_run.new.held _ _ _ _ _ _ c.in-Ok-Err.fault
+    stops_at_fault c.args.words c.args.input.now c.half_at_hand.new.input c.next_run.new.input c.runs.framer c.next_run.new.held _ _ _ _ _ _ c.in-Ok-Err.fault
     c.write_rest-in-Ok-Err.result showing took.0 rest
 
 pub returns-in-Err-next_run-clause-shows : goal.returns-in-Err-next_run-clause-shows
