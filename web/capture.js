@@ -1,0 +1,217 @@
+// Texts to half-bits: captures as docs/FORMATS.md has them, VCD and Saleae CSV as tools/vcd-to-capture.awk and
+// tools/saleae-to-capture.awk read them. Nothing here is proved.
+
+const MOST_HALVES = 16777216;
+const MOST_BYTES = 67108864;
+const LONGEST = 65535;
+
+/** Half-bits, kept as runs of one duration. Places count from 0. */
+class Halves {
+  constructor() {
+    this.runs = 0;
+    this.us = new Uint16Array(256);
+    this.ends = new Uint32Array(256);
+  }
+
+  get count() {
+    return this.runs ? this.ends[this.runs - 1] : 0;
+  }
+
+  /** Adds n half-bits of so many microseconds. Answers false, and adds none, where there would be too many. */
+  push(us, n) {
+    const end = this.count + n;
+    if (end > MOST_HALVES) return false;
+    if (this.runs && this.us[this.runs - 1] === us) {
+      this.ends[this.runs - 1] = end;
+      return true;
+    }
+    if (this.runs === this.us.length) this.grow();
+    this.us[this.runs] = us;
+    this.ends[this.runs] = end;
+    this.runs += 1;
+    return true;
+  }
+
+  grow() {
+    const { us, ends } = this;
+    this.us = new Uint16Array(2 * us.length);
+    this.us.set(us);
+    this.ends = new Uint32Array(2 * ends.length);
+    this.ends.set(ends);
+  }
+
+  /** The place of the run that the half-bit at this place stands in. */
+  runAt(place) {
+    let low = 0;
+    let high = this.runs - 1;
+    while (low < high) {
+      const middle = (low + high) >> 1;
+      if (this.ends[middle] > place) high = middle;
+      else low = middle + 1;
+    }
+    return low;
+  }
+
+  /** The durations from one place to before another, a list. */
+  slice(from, to) {
+    const list = [];
+    if (from >= to) return list;
+    for (let run = this.runAt(from); list.length < to - from; run += 1) {
+      for (let at = from + list.length; at < this.ends[run] && at < to; at += 1) list.push(this.us[run]);
+    }
+    return list;
+  }
+}
+
+/** A text that is refused: the fault as `dcc` tells it, where it has one, and a sentence for a reader. */
+const refusal = (fault, text) => ({ fault, text });
+
+const tooLong = () =>
+  refusal('dcc: U7 input too long', 'The capture is too long: 16,777,216 half-bits and 64 MiB are the most. What stands before that is shown.');
+
+const GAPS = new Set([' ', '\t', '\r', '\n']);
+const isWordEnd = (text, at) => at === text.length || GAPS.has(text[at]) || text[at] === '#';
+
+/** The number that text[from..to] spells with at most so many digits, or -1. */
+const numberIn = (text, from, to, digits) => {
+  if (from === to || to - from > digits) return -1;
+  let number = 0;
+  for (let at = from; at < to; at += 1) {
+    const digit = text.charCodeAt(at) - 48;
+    if (digit < 0 || digit > 9) return -1;
+    number = 10 * number + digit;
+  }
+  return number;
+};
+
+/** The half-bits that the word text[from..to] spells, `us` or `us*n`; null where it spells none. */
+const runIn = (text, from, to) => {
+  let star = from;
+  while (star < to && text[star] !== '*') star += 1;
+  const us = numberIn(text, from, star, 10);
+  const n = star === to ? 1 : numberIn(text, star + 1, to, 8);
+  return us < 0 || n < 1 || n > MOST_HALVES ? null : { us: Math.min(us, LONGEST), n };
+};
+
+const badWord = (line, word) => {
+  const shown = word.length > 40 ? `${word.slice(0, 40)}…` : word;
+  const more = word === '---' ? ' One capture is shown at a time: cut the text at this line.' : '';
+  return refusal(
+    `dcc: U2 line ${line}: bad number`,
+    `Line ${line}: “${shown}” is no duration. A word of a capture is a whole number of microseconds, as 58, or a run of them, as 58*28.${more}`,
+  );
+};
+
+/** A capture. Where it was cut at the limit of bytes, its last word has not ended. */
+const readCapture = (text, isCut) => {
+  const halves = new Halves();
+  let line = 1;
+  let at = 0;
+  while (at < text.length) {
+    if (text[at] === '#') {
+      const feed = text.indexOf('\n', at);
+      at = feed < 0 ? text.length : feed;
+    } else if (GAPS.has(text[at])) {
+      if (text[at] === '\n') line += 1;
+      at += 1;
+    } else {
+      let end = at;
+      while (!isWordEnd(text, end)) end += 1;
+      if (isCut && end === text.length) break;
+      const run = runIn(text, at, end);
+      if (!run) return { halves, refused: badWord(line, text.slice(at, end)) };
+      if (!halves.push(run.us, run.n)) return { halves, refused: tooLong() };
+      at = end;
+    }
+  }
+  return { halves, refused: isCut ? tooLong() : null };
+};
+
+/** The lines of a text, each with its number from 1. */
+function* linesOf(text) {
+  for (let line = 1, at = 0; at < text.length; line += 1) {
+    const feed = text.indexOf('\n', at);
+    const end = feed < 0 ? text.length : feed;
+    yield [line, text.slice(at, end)];
+    at = end + 1;
+  }
+}
+
+/** Half-bits from the times of edges. The first time is the level at the start, and no edge. */
+class Edges {
+  constructor(perMicrosecond) {
+    this.perMicrosecond = perMicrosecond;
+    this.halves = new Halves();
+    this.rows = 0;
+    this.before = 0;
+    this.refused = null;
+  }
+
+  /** Takes a row. Answers whether more may come. */
+  push(line, time) {
+    // to the nearest microsecond, by the sums of the scripts
+    const us = Math.trunc((time - this.before) * this.perMicrosecond + 0.5);
+    if (!Number.isFinite(time)) this.refused = refusal(null, `Line ${line}: there is no time at its front.`);
+    else if (this.rows > 1 && us < 0) this.refused = refusal(null, `Line ${line}: its time lies before that of the row above.`);
+    else if (this.rows > 1 && !this.halves.push(Math.min(us, LONGEST), 1)) this.refused = tooLong();
+    this.rows += 1;
+    this.before = time;
+    return !this.refused;
+  }
+}
+
+const UNITS = { ps: 1e6, ns: 1e3, us: 1, ms: 1e-3 };
+
+/** The single wires of a VCD file: their ids and names. */
+const channelsOf = (text) => [...text.matchAll(/^\$var\s+\w+\s+1\s+(\S+)\s+(\S+)/gm)].map(([, id, name]) => ({ id, name }));
+
+const readVcd = (text, wanted) => {
+  const channels = channelsOf(text);
+  const id = wanted ?? (channels.length && !channels.some((it) => it.id === '!') ? channels[0].id : '!');
+  const scale = text.match(/^\$timescale\s+(\d+)\s*([a-z]+)/m);
+  const none = (text) => ({ halves: new Halves(), channels, id, refused: refusal(null, text) });
+  if (!scale || !UNITS[scale[2]]) {
+    return none('This VCD file has no line as “$timescale 1 ns $end”, with ps, ns, us or ms: its times have no unit.');
+  }
+  const unit = Number(scale[1]) / UNITS[scale[2]];
+  const edges = new Edges(1);
+  for (const [line, row] of linesOf(text)) {
+    if (row[0] !== '#') continue;
+    const [time, ...values] = row.trim().split(/\s+/);
+    if (values.some((it) => it.slice(1) === id) && !edges.push(line, Number(time.slice(1)) * unit)) break;
+  }
+  if (!edges.refused && edges.rows < 3) {
+    return none(`Of the channel with the id ${id} there are no two edges. An edge stands on the line of its time, as sigrok writes it: “#95125 0${id}”.`);
+  }
+  return { halves: edges.halves, channels, id, refused: edges.refused };
+};
+
+const readSaleae = (text) => {
+  const head = text.slice(0, text.indexOf('\n') >>> 0);
+  if (head.split(',').length > 2) {
+    return { halves: new Halves(), refused: refusal(null, 'This CSV has several channels, and a row for each edge of any of them. Export the channel of the track alone.') };
+  }
+  const edges = new Edges(1e6);
+  for (const [line, row] of linesOf(text)) {
+    if (/^[0-9]/.test(row) && !edges.push(line, parseFloat(row))) break;
+  }
+  if (!edges.refused && edges.rows < 3) {
+    return { halves: edges.halves, refused: refusal(null, 'This CSV has no two edges: a row for each is wanted, its time in seconds first.') };
+  }
+  return { halves: edges.halves, refused: edges.refused };
+};
+
+/** The first bytes of a text, as many as a capture may have; null where it has no more. */
+const cutText = (text) => {
+  if (3 * text.length <= MOST_BYTES) return null;
+  const bytes = new TextEncoder().encode(text);
+  return bytes.length > MOST_BYTES ? new TextDecoder('utf-8', { ignoreBOM: true }).decode(bytes.subarray(0, MOST_BYTES)) : null;
+};
+
+/** The half-bits of a text of any of the three forms, up to its first fault. */
+const readText = (text, channel) => {
+  if (/^\$[a-z]/m.test(text)) return { form: 'VCD', ...readVcd(text, channel) };
+  if (/^"?time[^\n]*,/i.test(text)) return { form: 'Saleae CSV', ...readSaleae(text) };
+  const cut = cutText(text);
+  return { form: 'Capture', ...readCapture(cut ?? text, cut !== null) };
+};

@@ -1,0 +1,224 @@
+// The track as a drawing: each half-bit a pulse, the parts of a packet as spans. Nothing here is proved: where packets end, their
+// bytes and refusals are the module's; the rest is read off the half-bits for the eye.
+
+const MOST_LEAD = 240;
+const BYTES_OF_PACKET = 6;
+
+/** What a half-bit is half of (NMRA S-9.1). */
+const classOf = (us) => (us >= 52 && us <= 64 ? 'one' : us >= 90 && us <= 10000 ? 'zero' : 'bad');
+
+/** The halves of ones that an outcome leaves for the next preamble: those of its end bit. */
+const onesLeft = (outcome) => (outcome && [0, 3, 5].includes(outcome.refusal) ? 2 : 0);
+
+/** The first start bit from a place on: a half of a zero behind 20 or more halves of ones. The end where there is none. */
+const startFrom = (halves, from, ones, end) => {
+  let at = from;
+  for (let run = from < end ? halves.runAt(from) : 0; at < end; run += 1) {
+    const kind = classOf(halves.us[run]);
+    if (kind === 'zero' && ones >= 20) return at;
+    ones = kind === 'one' ? ones + halves.ends[run] - at : 0;
+    at = halves.ends[run];
+  }
+  return end;
+};
+
+/** The place of the first of the halves of ones that stand directly before a place, not before another. */
+const preambleBefore = (halves, at, least) => {
+  let from = at;
+  while (from > least) {
+    const run = halves.runAt(from - 1);
+    if (classOf(halves.us[run]) !== 'one') break;
+    from = Math.max(least, run ? halves.ends[run - 1] : 0);
+  }
+  return from;
+};
+
+/** The parts of a body from its start bit on: start bits, bytes and the end bit, each with its places; and its bits. */
+const bodyParts = (halves, start, end) => {
+  const durations = halves.slice(start, end);
+  const parts = [];
+  const bits = [];
+  for (let half = 0; half + 1 < durations.length; half += 2) {
+    const [first, second] = [classOf(durations[half]), classOf(durations[half + 1])];
+    const isBit = first === second && first !== 'bad';
+    const [at, bit] = [start + half, first === 'one' ? 1 : 0];
+    if (isBit) bits.push({ at, bit });
+    if ((half / 2) % 9 === 0) {
+      const byte = parts.filter((it) => it.kind === 'byte').length;
+      const kind = !isBit ? 'rest' : bit ? 'end' : byte === BYTES_OF_PACKET ? 'zero' : 'start';
+      parts.push({ kind, from: at, to: at + 2 });
+    } else {
+      if ((half / 2) % 9 === 1) parts.push({ kind: 'byte', from: at, to: at, value: 0, bits: 0 });
+      const part = parts[parts.length - 1];
+      part.to = at + 2;
+      if (isBit) {
+        part.value = 2 * part.value + bit;
+        part.bits += 1;
+      }
+    }
+  }
+  const last = parts.length ? parts[parts.length - 1] : null;
+  if (durations.length % 2 && last) last.to = end;
+  return { parts, bits };
+};
+
+/** Gives each byte its hex. One that is cut has none. */
+const labelBytes = (parts) => {
+  for (const it of parts) if (it.kind === 'byte') it.label = it.bits === 8 ? hex([it.value]) : '…';
+};
+
+const sum = (bytes) => bytes.reduce((a, b) => a ^ b, 0);
+const count = (n) => n.toLocaleString('en');
+const plural = (n, one, many = `${one}s`) => `${count(n)} ${n === 1 ? one : many}`;
+
+/** Where a refusal shows, and why it is one. */
+const faultOf = (halves, outcome, parts) => {
+  const end = outcome.at;
+  const [before, last] = halves.slice(Math.max(0, end - 2), end);
+  const bytes = parts.filter((it) => it.kind === 'byte');
+  switch (outcome.refusal) {
+    case 1: {
+      const us = halves.slice(end - 1, end)[0];
+      return { from: end - 1, to: end, text: `${us} µs is neither half of a one (52 to 64) nor of a zero (90 to 10000)` };
+    }
+    case 2:
+      return { from: end - 2, to: end, text: `${before} and ${last} µs: one bit cannot be half a ${classOf(before)} and half a ${classOf(last)}` };
+    case 3:
+      return { from: end - 2, to: end, text: `an end bit after ${plural(bytes.length, 'byte')}: a packet has 3 to 6` };
+    case 4:
+      return { from: end - 2, to: end, text: 'a zero after the sixth byte, where the end bit has to be' };
+    default: {
+      const error = bytes[bytes.length - 1];
+      const wanted = hex([sum(outcome.bytes.slice(0, -1))]);
+      return { from: error.from, to: error.to, text: `the error byte is ${hex(outcome.bytes.slice(-1))}, and the bytes before it come to ${wanted}` };
+    }
+  }
+};
+
+/** Adds what stands before the start bit: the preamble, and halves of no packet. Of many, the first are hidden. */
+const withLead = (halves, strip) => {
+  const { begin, start } = strip;
+  const preamble = preambleBefore(halves, start, begin);
+  const from = Math.max(begin, start - MOST_LEAD);
+  const lead = [];
+  if (from < preamble) lead.push({ kind: 'none', from, to: preamble, label: 'no packet' });
+  if (preamble < start) {
+    const ones = Math.floor((start - preamble) / 2);
+    lead.push({ kind: 'preamble', from: Math.max(from, preamble), to: start, label: `preamble: ${plural(ones, 'one')}` });
+  }
+  return { ...strip, from, hidden: from - begin, ones: start - preamble, parts: [...lead, ...strip.parts] };
+};
+
+/** The half-bits from the end of the outcome before to the end of this one, with what they are. */
+const stripOf = (halves, outcome, previous) => {
+  const [begin, end] = [previous ? previous.at : 0, outcome.at];
+  const bytes = outcome.bytes.length;
+  const start = bytes ? end - 18 * bytes - 2 : startFrom(halves, begin, onesLeft(previous), end);
+  const { parts, bits } = bodyParts(halves, start, end);
+  const fault = outcome.refusal ? faultOf(halves, outcome, parts) : null;
+  labelBytes(parts);
+  if (bytes) parts.filter((it) => it.kind === 'byte')[bytes - 1].kind = 'error';
+  return withLead(halves, { begin, start, end, parts, bits, fault });
+};
+
+/** What stands behind the last outcome, if anything does. */
+const tailOf = (halves, previous) => {
+  const [begin, end] = [previous ? previous.at : 0, halves.count];
+  if (begin === end) return null;
+  const start = startFrom(halves, begin, onesLeft(previous), end);
+  const { parts, bits } = bodyParts(halves, start, end);
+  labelBytes(parts);
+  return { ...withLead(halves, { begin, start, end, parts, bits, fault: null }), isOpen: start < end };
+};
+
+// ---- drawing ----
+
+const PIXELS_PER_US = 0.122;
+const LONG = 130;
+const ROWS = { label: 16, wave: 34, bits: 15, note: 17 };
+const SVG = 'http://www.w3.org/2000/svg';
+
+/** How wide a half is drawn: to scale as long as it is an ordinary one, else cut short. */
+const widthOf = (us) => {
+  const wide = us <= LONG ? us : LONG + 40 * Math.log2(us / LONG);
+  return Math.max(2.5, wide * PIXELS_PER_US);
+};
+
+const node = (name, attributes, text) => {
+  const it = document.createElementNS(SVG, name);
+  for (const [key, value] of Object.entries(attributes)) it.setAttribute(key, value);
+  if (text !== undefined) it.textContent = text;
+  return it;
+};
+
+const round = (x) => Math.round(10 * x) / 10;
+
+const CLASS_NAMES = { one: 'half of a one', zero: 'half of a zero', bad: 'half of no bit' };
+
+/** The pulses: the level turns at each half. */
+const drawPulses = (strip, durations, x) => {
+  const group = node('g', {});
+  const middle = ROWS.label + ROWS.wave / 2;
+  const height = ROWS.wave / 2 - 4;
+  let line = '';
+  durations.forEach((us, i) => {
+    const place = strip.from + i;
+    const isUp = place % 2 === 0;
+    const kind = classOf(us);
+    const top = isUp ? middle - height : middle;
+    const pulse = node('rect', { class: `pulse ${kind}`, x: round(x[i]), y: top, width: round(x[i + 1] - x[i]), height });
+    pulse.append(node('title', {}, `half-bit ${place + 1}: ${us} µs, ${CLASS_NAMES[kind]}`));
+    group.append(pulse);
+    const y = isUp ? middle - height : middle + height;
+    line += `${i ? 'V' : `M${round(x[0])} `}${y}H${round(x[i + 1])}`;
+    if (us > LONG) {
+      const at = round((x[i] + x[i + 1]) / 2);
+      group.append(node('text', { class: 'us', x: at, y: isUp ? middle + 9 : middle - 3 }, us));
+    }
+  });
+  group.append(node('path', { class: 'wave', d: line }));
+  return group;
+};
+
+const drawParts = (strip, xOf) => {
+  const group = node('g', {});
+  let byte = 0;
+  for (const it of strip.parts) {
+    const [x, width] = [xOf(it.from), xOf(it.to) - xOf(it.from)];
+    const isByte = it.kind === 'byte' || it.kind === 'error';
+    const odd = isByte && byte++ % 2 ? ' odd' : '';
+    const isBad = strip.fault && it.from >= strip.fault.from && it.to <= strip.fault.to ? ' bad' : '';
+    group.append(node('rect', { class: `part ${it.kind}${odd}${isBad}`, x: round(x), y: 0, width: round(width), height: ROWS.label + ROWS.wave + ROWS.bits }));
+    const room = it.label && width >= 7 * it.label.length ? it.label : '';
+    if (room) group.append(node('text', { class: `label ${it.kind}`, x: round(x + width / 2), y: 12.5 }, room));
+  }
+  return group;
+};
+
+const drawFault = (fault, xOf, total) => {
+  const group = node('g', { class: 'fault' });
+  const [x, end] = [xOf(fault.from), xOf(fault.to)];
+  const bottom = ROWS.label + ROWS.wave + ROWS.bits;
+  group.append(node('rect', { class: 'where', x: round(x - 1), y: 1, width: round(end - x + 2), height: bottom - 1 }));
+  group.append(node('text', { x: round(Math.min(end + 1, total)), y: bottom + 13 }, fault.text));
+  return group;
+};
+
+/** The drawing of a strip, for a screen reader its text. */
+const drawStrip = (halves, strip, description) => {
+  const durations = halves.slice(strip.from, strip.end);
+  const x = [3];
+  for (const us of durations) x.push(x[x.length - 1] + widthOf(us));
+  const xOf = (place) => x[place - strip.from];
+  const [width, bottom] = [Math.ceil(x[x.length - 1]) + 3, ROWS.label + ROWS.wave + ROWS.bits];
+  const height = bottom + ROWS.note;
+  const svg = node('svg', { width, height, viewBox: `0 0 ${width} ${height}`, role: 'img', 'aria-label': description });
+  svg.append(drawParts(strip, xOf), drawPulses(strip, durations, x));
+  for (const { at, bit } of strip.bits) {
+    svg.append(node('text', { class: 'bit', x: round((xOf(at) + xOf(at + 2)) / 2), y: ROWS.label + ROWS.wave + 11 }, bit));
+  }
+  svg.append(node('text', { class: 'place first', x: 3, y: bottom + 13 }, strip.from + 1));
+  if (strip.fault) svg.append(drawFault(strip.fault, xOf, width - 3));
+  else svg.append(node('text', { class: 'place last', x: width - 3, y: bottom + 13 }, strip.end));
+  return svg;
+};
