@@ -81,6 +81,7 @@ class Page {
     this.sumUp(form);
     this.turn(0);
     this.writeListing();
+    // (a test waits for this)
     document.body.dataset.read = Number(document.body.dataset.read ?? 0) + 1;
   }
 
@@ -116,6 +117,8 @@ class Page {
     for (const it of document.querySelectorAll('.track')) {
       if (it.scrollWidth <= it.clientWidth) continue;
       it.tabIndex = 0;
+      it.setAttribute('role', 'group');
+      it.ariaLabel = 'drawing, wider than its place';
       it.scrollLeft = it.scrollWidth;
     }
   }

@@ -136,6 +136,8 @@ const tailOf = (halves, previous) => {
 const PIXELS_PER_US = 0.122;
 const LONG = 130;
 const ROWS = { label: 16, wave: 34, bits: 15, note: 17 };
+const LEFT_OF_TEXT = 50;
+const PIXELS_PER_LETTER = 6.9;
 const SVG = 'http://www.w3.org/2000/svg';
 
 /** How wide a half is drawn: to scale as long as it is an ordinary one, else cut short. */
@@ -195,12 +197,15 @@ const drawParts = (strip, xOf) => {
   return group;
 };
 
-const drawFault = (fault, xOf, total) => {
+/** Where the sentence of a fault ends: below its place, or further right where it has no room there. */
+const endOfText = (fault, end) => Math.max(end + 1, LEFT_OF_TEXT + PIXELS_PER_LETTER * fault.text.length);
+
+const drawFault = (fault, xOf) => {
   const group = node('g', { class: 'fault' });
   const [x, end] = [xOf(fault.from), xOf(fault.to)];
   const bottom = ROWS.label + ROWS.wave + ROWS.bits;
   group.append(node('rect', { class: 'where', x: round(x - 1), y: 1, width: round(end - x + 2), height: bottom - 1 }));
-  group.append(node('text', { x: round(Math.min(end + 1, total)), y: bottom + 13 }, fault.text));
+  group.append(node('text', { x: round(endOfText(fault, end)), y: bottom + 13 }, fault.text));
   return group;
 };
 
@@ -210,7 +215,8 @@ const drawStrip = (halves, strip, description) => {
   const x = [3];
   for (const us of durations) x.push(x[x.length - 1] + widthOf(us));
   const xOf = (place) => x[place - strip.from];
-  const [width, bottom] = [Math.ceil(x[x.length - 1]) + 3, ROWS.label + ROWS.wave + ROWS.bits];
+  const end = strip.fault ? Math.max(endOfText(strip.fault, xOf(strip.fault.to)), x[x.length - 1]) : x[x.length - 1];
+  const [width, bottom] = [Math.ceil(end) + 3, ROWS.label + ROWS.wave + ROWS.bits];
   const height = bottom + ROWS.note;
   const svg = node('svg', { width, height, viewBox: `0 0 ${width} ${height}`, role: 'img', 'aria-label': description });
   svg.append(drawParts(strip, xOf), drawPulses(strip, durations, x));
@@ -218,7 +224,7 @@ const drawStrip = (halves, strip, description) => {
     svg.append(node('text', { class: 'bit', x: round((xOf(at) + xOf(at + 2)) / 2), y: ROWS.label + ROWS.wave + 11 }, bit));
   }
   svg.append(node('text', { class: 'place first', x: 3, y: bottom + 13 }, strip.from + 1));
-  if (strip.fault) svg.append(drawFault(strip.fault, xOf, width - 3));
+  if (strip.fault) svg.append(drawFault(strip.fault, xOf));
   else svg.append(node('text', { class: 'place last', x: width - 3, y: bottom + 13 }, strip.end));
   return svg;
 };
