@@ -67,7 +67,10 @@ class Halves {
 const refusal = (fault, text) => ({ fault, text });
 
 const tooLong = () =>
-  refusal('dcc: U7 input too long', 'The capture is too long: 16,777,216 half-bits and 64 MiB are the most. What stands before that is shown.');
+  refusal(
+    'dcc: U7 input too long',
+    'The capture is too long: 16,777,216 half-bits and 64 MiB are the most. What stands before that is shown.',
+  );
 
 const GAPS = new Set([' ', '\t', '\r', '\n']);
 const isWordEnd = (text, at) => at === text.length || GAPS.has(text[at]) || text[at] === '#';
@@ -98,7 +101,8 @@ const badWord = (line, word) => {
   const more = word === '---' ? ' One capture is shown at a time: cut the text at this line.' : '';
   return refusal(
     `dcc: U2 line ${line}: bad number`,
-    `Line ${line}: “${shown}” is no duration. A word of a capture is a whole number of microseconds, as 58, or a run of them, as 58*28.${more}`,
+    `Line ${line}: “${shown}” is no duration. ` +
+      `A word of a capture is a whole number of microseconds, as 58, or a run of them, as 58*28.${more}`,
   );
 };
 
@@ -181,22 +185,26 @@ const readVcd = (text, wanted) => {
     if (values.some((it) => it.slice(1) === id) && !edges.push(line, Number(time.slice(1)) * unit)) break;
   }
   if (!edges.refused && edges.rows < 3) {
-    return none(`Of the channel with the id ${id} there are no two edges. An edge stands on the line of its time, as sigrok writes it: “#95125 0${id}”.`);
+    return none(
+      `Of the channel with the id ${id} there are no two edges. ` +
+        `An edge stands on the line of its time, as sigrok writes it: “#95125 0${id}”.`,
+    );
   }
   return { halves: edges.halves, channels, id, refused: edges.refused };
 };
 
 const readSaleae = (text) => {
-  const head = text.slice(0, text.indexOf('\n') >>> 0);
-  if (head.split(',').length > 2) {
-    return { halves: new Halves(), refused: refusal(null, 'This CSV has several channels, and a row for each edge of any of them. Export the channel of the track alone.') };
-  }
   const edges = new Edges(1e6);
+  const refuse = (text) => ({ halves: edges.halves, refused: refusal(null, text) });
+  const [head] = text.split('\n', 1);
+  if (head.split(',').length > 2) {
+    return refuse('This CSV has several channels, and a row for each edge of any of them. Export the channel of the track alone.');
+  }
   for (const [line, row] of linesOf(text)) {
     if (/^[0-9]/.test(row) && !edges.push(line, parseFloat(row))) break;
   }
   if (!edges.refused && edges.rows < 3) {
-    return { halves: edges.halves, refused: refusal(null, 'This CSV has no two edges: a row for each is wanted, its time in seconds first.') };
+    return refuse('This CSV has no two edges: a row for each is wanted, its time in seconds first.');
   }
   return { halves: edges.halves, refused: edges.refused };
 };

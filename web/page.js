@@ -95,8 +95,9 @@ class Page {
     const refusals = outcomes.filter((it) => it.refusal).length;
     const packets = outcomes.length - refusals;
     const from = this.file ? `${this.file.name} (${form})` : form;
-    const why = !outcomes.length && halves.count ? ' Nowhere do 20 halves of ones stand directly before a half of a zero whose packet ends.' : '';
-    $('sum').textContent = `${from}: ${plural(halves.count, 'half-bit')}, ${plural(packets, 'packet')}, ${count(refusals)} refused.${why}`;
+    const told = `${plural(halves.count, 'half-bit')}, ${plural(packets, 'packet')}, ${count(refusals)} refused.`;
+    const why = ' Nowhere do 20 halves of ones stand directly before a half of a zero whose packet ends.';
+    $('sum').textContent = `${from}: ${told}${halves.count && !outcomes.length ? why : ''}`;
     $('result').hidden = halves.count === 0;
   }
 
@@ -142,9 +143,10 @@ class Page {
     const { tail } = this;
     const row = make('tr', 'open');
     row.append(make('th', 'at', '…'));
+    const ones = plural(tail.ones, 'half of a one', 'halves of ones');
     const why = tail.isOpen
       ? 'The capture ends within a packet.'
-      : `No packet begins here: 20 halves of ones and then a half of a zero would begin one. It ends in ${plural(tail.ones, 'half of a one', 'halves of ones')}.`;
+      : `No packet begins here: 20 halves of ones and then a half of a zero would begin one. It ends in ${ones}.`;
     const what = make('td', 'what');
     what.append(make('span', 'open-words', `${plural(tail.end - tail.begin, 'half-bit')} behind the last`), make('span', 'open-why', why));
     row.append(what, this.track(tail, why));
@@ -171,7 +173,8 @@ const begin = async () => {
   const lack = lackOfBrowser();
   if (lack) {
     $('input').hidden = true;
-    return tell(null, `${lack} Chromium, Chrome and Edge have it from version 133, Firefox from 134. Without a browser, “dcc show --words” writes the same list.`);
+    const others = 'Chromium, Chrome and Edge have it from version 133, Firefox from 134.';
+    return tell(null, `${lack} ${others} Without a browser, “dcc show --words” writes the same list.`);
   }
   try {
     page = new Page(await Dcc.load(decode(document.getElementById('module').textContent.trim())));

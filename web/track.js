@@ -82,15 +82,19 @@ const faultOf = (halves, outcome, parts) => {
       return { from: end - 1, to: end, text: `${us} µs is neither half of a one (52 to 64) nor of a zero (90 to 10000)` };
     }
     case 2:
-      return { from: end - 2, to: end, text: `${before} and ${last} µs: one bit cannot be half a ${classOf(before)} and half a ${classOf(last)}` };
+      return {
+        from: end - 2,
+        to: end,
+        text: `${before} and ${last} µs: one bit cannot be half a ${classOf(before)} and half a ${classOf(last)}`,
+      };
     case 3:
       return { from: end - 2, to: end, text: `an end bit after ${plural(bytes.length, 'byte')}: a packet has 3 to 6` };
     case 4:
       return { from: end - 2, to: end, text: 'a zero after the sixth byte, where the end bit has to be' };
     default: {
       const error = bytes[bytes.length - 1];
-      const wanted = hex([sum(outcome.bytes.slice(0, -1))]);
-      return { from: error.from, to: error.to, text: `the error byte is ${hex(outcome.bytes.slice(-1))}, and the bytes before it come to ${wanted}` };
+      const [is, wanted] = [hex(outcome.bytes.slice(-1)), hex([sum(outcome.bytes.slice(0, -1))])];
+      return { from: error.from, to: error.to, text: `the error byte is ${is}, and the bytes before it come to ${wanted}` };
     }
   }
 };
@@ -184,13 +188,14 @@ const drawPulses = (strip, durations, x) => {
 
 const drawParts = (strip, xOf) => {
   const group = node('g', {});
+  const height = ROWS.label + ROWS.wave + ROWS.bits;
   let byte = 0;
   for (const it of strip.parts) {
     const [x, width] = [xOf(it.from), xOf(it.to) - xOf(it.from)];
     const isByte = it.kind === 'byte' || it.kind === 'error';
     const odd = isByte && byte++ % 2 ? ' odd' : '';
     const isBad = strip.fault && it.from >= strip.fault.from && it.to <= strip.fault.to ? ' bad' : '';
-    group.append(node('rect', { class: `part ${it.kind}${odd}${isBad}`, x: round(x), y: 0, width: round(width), height: ROWS.label + ROWS.wave + ROWS.bits }));
+    group.append(node('rect', { class: `part ${it.kind}${odd}${isBad}`, x: round(x), y: 0, width: round(width), height }));
     const room = it.label && width >= 7 * it.label.length ? it.label : '';
     if (room) group.append(node('text', { class: `label ${it.kind}`, x: round(x + width / 2), y: 12.5 }, room));
   }
