@@ -1,0 +1,55 @@
+//! How the libraries are used: a decoder's loop, which hears the capture on standard input, two boosters compared, and a station
+//! that sends. What a user would copy stands in the modules.
+#![tactic(auto)]
+
+mod decoder_loop;
+mod station_sends;
+mod two_boosters;
+
+use dcc_order::NoMemory;
+use dcc_packet::PacketFault;
+use dcc_station::{Refused, StationFault};
+use std::io;
+use thiserror::Error;
+
+/// Why an example stops.
+#[derive(Debug, Drop, Error)]
+pub enum Fault {
+    #[error("{0}")]
+    Packet(#[from] PacketFault),
+    #[error("{0}")]
+    Station(#[from] StationFault),
+    #[error("{0}")]
+    Refused(#[from] Refused),
+    #[error("{0}")]
+    NoMemory(#[from] NoMemory),
+    #[error("{0}")]
+    Io(#[from] io::Error),
+}
+
+/// The half-bits of standard input, a number of microseconds each. Words that are no number are passed over.
+fn durations<R: Input + Alloc>(rt: &R) -> io::Result<Vec<u16, R::A>> {
+    let mut durations = Vec::new(rt.alloc());
+    for line in rt.lines(rt.alloc()) {
+        for word in line?.as_str().split_whitespace() {
+            if let Ok(us) = word.parse::<u16>() {
+                durations.push(us)?;
+            }
+        }
+    }
+    Ok(durations)
+}
+
+fn main(rt: HostRuntime) -> Result<(), Fault> {
+    println!(rt; "a decoder's loop")?;
+    let mut cvs = [0; 1024];
+    cvs[0] = 3; // CV1: the short address
+    cvs[28] = 2; // CV29: 28 speed steps
+    let loco = decoder_loop::run(&rt, &cvs, &durations(&rt)?);
+    let speed = loco.state().speed;
+    println!(rt; "{speed:?}")?;
+    println!(rt; "two boosters")?;
+    two_boosters::run(&rt, rt.alloc())?;
+    println!(rt; "a station that sends")?;
+    station_sends::run(&rt, rt.alloc())
+}
