@@ -15,14 +15,19 @@ use thiserror::Error;
 /// Why an example stops.
 #[derive(Debug, Drop, Error)]
 pub enum Fault {
+    /// A line says no packet.
     #[error("{0}")]
     Packet(#[from] PacketFault),
+    /// A station is not made.
     #[error("{0}")]
     Station(#[from] StationFault),
+    /// A station refuses a command.
     #[error("{0}")]
     Refused(#[from] Refused),
+    /// There is no memory for a comparison.
     #[error("{0}")]
     NoMemory(#[from] NoMemory),
+    /// Standard input or output fails, or there is no memory for the half-bits.
     #[error("{0}")]
     Io(#[from] io::Error),
 }
