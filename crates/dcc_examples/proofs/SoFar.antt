@@ -1,5 +1,5 @@
 -- A decoder and a listener, as far as a track was heard.
-use Rattle.std.proofs.Common.{◌≡◌, ℕ, ◌+◌, ◌<◌, ◌≤◌, true, false, List, [], ◌∷◌, ◌++◌, length, take, slice_index_or, refl, subst, arith}
+use Rattle.std.proofs.Common.{Bool, ap, ◌∙◌, sym, ◌≡◌, ℕ, ◌+◌, ◌<◌, ◌≤◌, true, false, List, [], ◌∷◌, ◌++◌, length, take, slice_index_or, refl, subst, arith}
 use Rattle.std.proofs.lemmas.Grind.{common_steps}
 use Rattle.std.proofs.lemmas.List.Elements.{filter-append}
 use Rattle.dcc_wire.specs.Framing.{Rest, StandsFor, seen, reported}
@@ -7,6 +7,7 @@ use Rattle.dcc_wire.specs.declared.fault.Seen.{Seen}
 use Rattle.dcc_wire.specs.declared.fault.Seen.TheVariants.{Nothing, Packet as PacketSeen, Refused}
 use Rattle.dcc_wire.specs.declared.frame.Frame.{Frame}
 use Rattle.dcc_packet.specs.declared.packet.Packet.{Packet}
+use Rattle.dcc_packet.specs.Spelling.{spelling}
 use Rattle.dcc_regs.specs.Heard.{heard, hears}
 use Rattle.dcc_regs.specs.Notes.{Note, note_of}
 use Rattle.dcc_regs.specs.Result.{RegisterMap, HasHeard}
@@ -35,13 +36,13 @@ pub told_none : {L : Type 0} (told : L → Note → L → Type 0) (who : Who) (p
 told_none told who p a e = rw e refl
 
 -- an answer that is no packet spells none
-pub none_spelled : (answer : Seen) → ((frame : Frame) → answer ≡ PacketSeen frame → ⊥) → AreSpelled [] (frames_of answer)
+none_spelled : (answer : Seen) → ((frame : Frame) → answer ≡ PacketSeen frame → ⊥) → AreSpelled [] (frames_of answer)
 none_spelled Nothing never = refl
 none_spelled (PacketSeen frame) never = absurd (never frame refl)
 none_spelled (Refused fault) never = refl
 
 -- one half more, with the packets that it shows
-pub one_half : {L : Type 0} {told : L → Note → L → Type 0} {durations : List ℕ} {framer : Rest} {who who' who'' : Who} {start now then : RegisterMap} {a b c : L}
+one_half : {L : Type 0} {told : L → Note → L → Type 0} {durations : List ℕ} {framer : Rest} {who who' who'' : Who} {start now then : RegisterMap} {a b c : L}
     → (next : Rest) (us : ℕ) (answer : Seen) (shown : List Packet) → SoFar told durations framer who start who' now a b
     → StandsFor next (durations ++ us ∷ []) → seen (durations ++ us ∷ []) ≡ seen durations ++ reported (length durations) answer
     → AreSpelled shown (frames_of answer) → HasHeard shown who' now who'' then → IsTold told (heard who shown) b c
@@ -54,6 +55,27 @@ one_half {L} {told} {durations} {framer} {who} {who'} {who''} {start} {now} {the
   told_all = let e : heard who (before.packets ++ shown) ≡ heard who before.packets ++ heard who shown = filter-append (hears who) before.packets shown in
       rw e (told_more told (heard who before.packets) (heard who shown) a b c before.told_all tell);
 }
+
+-- one half more, which shows a packet
+pub one_packet : {L : Type 0} {told : L → Note → L → Type 0} {durations : List ℕ} {framer : Rest} {who who' who'' : Who} {start now then : RegisterMap} {a b c : L}
+    → (next : Rest) (us : ℕ) (answer : Seen) (frame : Frame) (p : Packet) → SoFar told durations framer who start who' now a b
+    → StandsFor next (durations ++ us ∷ []) → seen (durations ++ us ∷ []) ≡ seen durations ++ reported (length durations) answer
+    → answer ≡ PacketSeen frame → spelling p ≡ frame → HasHeard (p ∷ []) who' now who'' then → IsTold told (heard who (p ∷ [])) b c
+    → SoFar told (durations ++ us ∷ []) next who start who'' then a c
+one_packet next us answer frame p before stands sees is spelled hear tell =
+    one_half next us answer (p ∷ []) before stands sees (rw is (ap (λ (f : List ℕ). f ∷ []) spelled)) hear tell
+
+-- one half more, which shows none
+pub no_packet : {L : Type 0} {told : L → Note → L → Type 0} {durations : List ℕ} {framer : Rest} {who who' : Who} {start now : RegisterMap} {a b : L}
+    → (next : Rest) (us : ℕ) (answer : Seen) → SoFar told durations framer who start who' now a b
+    → StandsFor next (durations ++ us ∷ []) → seen (durations ++ us ∷ []) ≡ seen durations ++ reported (length durations) answer
+    → ((frame : Frame) → answer ≡ PacketSeen frame → ⊥) → SoFar told (durations ++ us ∷ []) next who start who' now a b
+no_packet {L} {told} {durations} {framer} {who} {who'} {start} {now} next us answer before stands sees none =
+    one_half next us answer [] before stands sees (none_spelled answer none) (heard_nothing who' now) refl
+
+-- a decoder that is who it was hears what it heard
+pub hears_as_before : {who who' who'' asked : Who} {answer heard_it : Bool} → (p : Packet) → who' ≡ who → who'' ≡ who' → asked ≡ who'' → answer ≡ hears asked p → answer ≡ heard_it → hears who p ≡ heard_it
+hears_as_before {who} {who'} {who''} {asked} {answer} {heard_it} p e f g h i = ap (λ w. hears w p) (sym e ∙ sym f ∙ sym g) ∙ sym h ∙ i
 
 pub take_more : (ds : List ℕ) (n : ℕ) → n < length ds → take n ds ++ slice_index_or ds n 0 ∷ [] ≡ take (n + 1) ds
 take_more ds n h = grind (arith, common_steps)
