@@ -24,7 +24,6 @@ class Page {
     this.dcc = dcc;
     this.file = null;
     this.first = 0;
-    this.shown = null;
     $('text').addEventListener('input', () => this.wait());
     $('file').addEventListener('change', () => this.open($('file').files[0]));
     $('channel').addEventListener('change', () => this.read($('channel').value));
