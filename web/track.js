@@ -101,14 +101,16 @@ const faultOf = (halves, outcome, parts) => {
 
 /** Adds what stands before the start bit: the preamble, and halves of no packet. Of many, the first are hidden. */
 const withLead = (halves, strip) => {
-  const { begin, start } = strip;
+  const { begin, start, end } = strip;
   const preamble = preambleBefore(halves, start, begin);
   const from = Math.max(begin, start - MOST_LEAD);
   const lead = [];
   if (from < preamble) lead.push({ kind: 'none', from, to: preamble, label: 'no packet' });
   if (preamble < start) {
-    const ones = Math.floor((start - preamble) / 2);
-    lead.push({ kind: 'preamble', from: Math.max(from, preamble), to: start, label: `preamble: ${plural(ones, 'one')}` });
+    const ones = plural(Math.floor((start - preamble) / 2), 'one');
+    // fewer than 20 halves are enough where the end bit before makes them up
+    const label = start < end && start - preamble < 20 ? `${ones} + end bit` : `preamble: ${ones}`;
+    lead.push({ kind: 'preamble', from: Math.max(from, preamble), to: start, label });
   }
   return { ...strip, from, hidden: from - begin, ones: start - preamble, parts: [...lead, ...strip.parts] };
 };
