@@ -16,7 +16,8 @@ import tempfile
 HALVES = int(os.environ.get("HALVES", 16_000_000))
 ROUNDS = int(os.environ.get("ROUNDS", 7))
 PACKETS = ["036261", "ff00ff", "039093", "ff00ff", "8cfd71", "c3e83f7f6b", "03ec1c06f5"]
-FLEET = "dcc-decoders 2\nloco s3\nspeed stop f\non\nstates\npending none\ncv 1 3\ncv 29 2\nend\n"
+# (of the first version, which programs of before read too)
+FLEET = "dcc-decoders 1\nloco s3\nspeed stop f\non\npending none\ncv 1 3\ncv 29 2\nend\n"
 
 
 def halves_of(packet):
