@@ -14,6 +14,7 @@ fn main(rt: HostRuntime) -> ExitCode {
         ("two lists", lists::two_lists(rt.alloc())),
         ("two lists in step", lists::in_step(rt.alloc())),
         ("a fleet", tool::fleet(rt.alloc())),
+        ("a fleet made before", tool::made_before(rt.alloc())),
         ("a station that is driven", tool::driven(rt.alloc())),
         ("two captures", tool::two_captures(rt.alloc())),
         ("two captures in one input", tool::both_captures(rt.alloc())),

@@ -3,10 +3,10 @@
 use crate::page::Page;
 use dcc_order::Verdict;
 use dcc_packet::{Address, Board, CvNumber};
-use dcc_regs::Who;
+use dcc_regs::{Decoder, LocoDecoder, Who};
 use dcc_service::ServiceDecoder;
 use dcc_tool::{
-    Counted, Encode, Ending, Input, Limits, Request, ToolFault, encode, perform, readcv, same,
+    Counted, Encode, Ending, Input, Limits, Request, ToolFault, encode, perform, readcv, run, same,
     same_input, show,
 };
 use std::alloc::Global;
@@ -69,6 +69,24 @@ pub fn fleet(alloc: Global) -> Option<bool> {
     let mut page = Page::new();
     let answer = perform(alloc, Request::Run, &mut input, &mut page).map(|end| end == Ending::Done);
     all_or_nothing(answer, &page, FLEET_AFTER)
+}
+
+/// The locomotive decoder alone, when it has heard it.
+const LOCO_AFTER: &[u8] =
+    b"dcc-decoders 2\nloco s3\nspeed 28 1 f\non\nstates\npending none\ncv 1 3\ncv 29 2\nend\n";
+
+/// A fleet that was made before hears a capture, and is written. Its box may want memory, and nothing behind that.
+pub fn made_before(alloc: Global) -> Option<bool> {
+    let mut cvs = [0; 1024];
+    cvs[0] = 3;
+    cvs[28] = 2;
+    let loco: Box<dyn Decoder> = match Box::new(alloc, LocoDecoder::new(&cvs)) {
+        Ok(loco) => loco,
+        Err(_) => return Some(true),
+    };
+    let mut page = Page::new();
+    let right = run(&mut [loco], &mut input(SLOW), &mut page).is_ok();
+    all(right, &page, LOCO_AFTER)
 }
 
 pub fn driven(alloc: Global) -> Option<bool> {

@@ -97,6 +97,7 @@ const VERDICTS: &str = "\
     a repeat neither | s3 | SF | SSF | alike
     the other way round | s3 | SF | FS | order 0
     one more | s3 | S | SF | members 0
+    another one | s3 | S | F | members 0
     one write or two | s3 | T | TT | writes
     a speed behind two writes | s3 | TTS | TT | members 2
     a board hears none of them | b12 | S | F | alike";

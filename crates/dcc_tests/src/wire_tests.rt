@@ -147,6 +147,39 @@ fn a_packet_is_seen_at_its_last_half(rt: HostRuntime) -> Result<(), Fail> {
 }
 
 #[test]
+fn a_packet_that_is_cut_shows_nothing(rt: HostRuntime) -> Result<(), Fail> {
+    let alloc = rt.alloc();
+    let whole = sent(alloc, "036261", Timing::main())?;
+    for (cut, _) in whole.as_slice().iter().enumerate() {
+        let (front, _) = whole.as_slice().split_at(cut);
+        halves_show(&rt, alloc, front, "")?;
+    }
+    assert_eq!(rt; whole.len(), 84);
+    halves_show(&rt, alloc, whole.as_slice(), "84:036261")?;
+    Ok(())
+}
+
+#[test]
+fn bad_halves_before_a_preamble_cost_nothing(rt: HostRuntime) -> Result<(), Fail> {
+    let pieces = ["70*100", PREAMBLE, SPEED_STEP_1];
+    shows(&rt, rt.alloc(), &pieces, "184:036261")
+}
+
+/// Of the preamble behind it only the last 12 halves are left, so the packet after that is the next one to be seen.
+#[test]
+fn a_body_that_is_cut_off_costs_the_next_packet(rt: HostRuntime) -> Result<(), Fail> {
+    let twice = [
+        PREAMBLE,
+        "100*2",
+        PREAMBLE,
+        SPEED_STEP_1,
+        PREAMBLE,
+        SPEED_STEP_1,
+    ];
+    shows(&rt, rt.alloc(), &twice, "48:H3 198:036261")
+}
+
+#[test]
 fn nineteen_one_halves_are_no_preamble(rt: HostRuntime) -> Result<(), Fail> {
     shows(&rt, rt.alloc(), &["58*19", SPEED_STEP_1], "")
 }
