@@ -4,7 +4,7 @@ use mathlib.Core.Bool.{beq}
 use Rattle.std.specs.Int.{bit_at}
 use Rattle.dcc_packet.specs.Rows.{bit}
 use Rattle.dcc_service.specs.Cvs.{with_bit}
-use Rattle.dcc_service.proofs.CheckedValues.{bit_below}
+use Rattle.dcc_packet.proofs.Same.{bit_below}
 
 -- the eight places of a byte
 by_place : (P : ℕ → Type 0) → P 0 → P 1 → P 2 → P 3 → P 4 → P 5 → P 6 → P 7 → (k : ℕ) → k ≤ 7 → P k

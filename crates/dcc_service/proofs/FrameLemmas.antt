@@ -3,7 +3,8 @@ use Rattle.std.proofs.Common.{◌≡◌, ◌≢◌, ℕ, List, [], ◌∷◌, le
 use Rattle.dcc_wire.specs.Frames.{xor_of, with_error_byte}
 use Rattle.dcc_service.specs.declared.packet.ServicePacket.{ServicePacket}
 use Rattle.dcc_service.specs.Table.{instruction_bytes, spelling}
-use Rattle.dcc_service.proofs.ErrorBytes.{same_bytes, last_is_error_byte}
+use Rattle.dcc_packet.proofs.FrameParts.{same_bytes}
+use Rattle.dcc_wire.proofs.ErrorByte.{last_is_error_byte}
 use Rattle.dcc_service.proofs.OneSpelling.{one_instruction}
 
 -- a frame of four bytes is its first three and their error byte

@@ -13,7 +13,7 @@ use Rattle.dcc_service.specs.Cvs.{IsCvs, cv_value, is_writable, written, with_bi
 use Rattle.dcc_service.specs.Machine.{ServiceState}
 use Rattle.dcc_service.specs.Question.{four_no_then}
 use Rattle.dcc_service.specs.QuestionLaws.{QuestionsAreAnswered, VerifiesTell, BitVerifiesTell, WritesAreDone, BitWritesAreDone, KeptCvsStay, IsKept}
-use Rattle.dcc_service.proofs.CheckedValues.{bit_below}
+use Rattle.dcc_packet.proofs.Same.{bit_below}
 use Rattle.dcc_service.proofs.BitLemmas.{bit_at-with_bit, bit_at-with_bit-other}
 use Rattle.dcc_service.proofs.QuestionLemmas.{answers_of}
 

@@ -1,5 +1,3 @@
-pub mod CheckedValues
-pub mod ErrorBytes
 pub mod OneSpelling
 pub mod FrameLemmas
 pub mod BitLemmas

@@ -6,8 +6,8 @@ use Rattle.dcc_packet.specs.Rows.{bit}
 use Rattle.dcc_service.specs.declared.packet.ServicePacket.{ServicePacket}
 use Rattle.dcc_service.specs.declared.packet.ServicePacket.TheVariants.{Write, Verify, BitWrite, BitVerify}
 use Rattle.dcc_service.specs.Table.{access_bytes, instruction_bytes, spelling}
-use Rattle.dcc_service.proofs.CheckedValues.{same_bit, bit_below, same_cv, same_place}
-use Rattle.dcc_service.proofs.ErrorBytes.{same_bytes}
+use Rattle.dcc_packet.proofs.Same.{same_bit, bit_below, same_cv, same_place}
+use Rattle.dcc_packet.proofs.FrameParts.{same_bytes}
 
 one_cv : (kind : ℕ) (c d : CvNumber) (x y : ℕ) → access_bytes kind c x ≡ access_bytes kind d y → (c ≡ d) × (x ≡ y)
 one_cv kind c d x y e =
