@@ -45,10 +45,7 @@ fn with_error_byte(bytes: &[u8]) -> Frame
     requires fits { length bytes.now ≤ 5 }
     ensures { result ≡ with_error_byte bytes.now }
 {
-    let mut all = Bytes::new();
-    put(&mut all, bytes);
-    all.push(bytes.iter().fold(0, |all, byte| all ^ byte));
-    match Frame::of(&all) {
+    match Frame::with_error_byte(bytes) {
         Ok(frame) => frame,
         Err(_) => unreachable!(),
     }

@@ -48,12 +48,6 @@ impl ServicePacket {
     {
         let mine = self.frame();
         let theirs = other.frame();
-        same_bytes(mine.bytes(), theirs.bytes())
+        mine.is(&theirs)
     }
-}
-
-fn same_bytes(a: &[u8], b: &[u8]) -> bool
-    ensures { IsTrue result ↔ (a.now ≡ b.now) }
-{
-    a == b
 }

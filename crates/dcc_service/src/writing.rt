@@ -36,7 +36,7 @@ fn access(kind: u8, cv: &CvNumber, last: u8) -> Frame
     let from_zero = cv.number() - 1;
     let first = kind + (from_zero >> 8) as u8;
     let low = (from_zero & 0xFF) as u8;
-    match Frame::of(&[first, low, last, first ^ low ^ last]) {
+    match Frame::with_error_byte(&[first, low, last]) {
         Ok(frame) => frame,
         Err(_) => unreachable!(),
     }

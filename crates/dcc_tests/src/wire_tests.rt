@@ -115,6 +115,29 @@ fn frames_are_checked_for_length_and_then_for_their_error_byte(rt: HostRuntime) 
     assert!(rt; is_frame(&[1, 2, 3, 4, 5, 1]));
 }
 
+/// A frame of bytes and their error byte, or the number of the refusal.
+fn framed(bytes: &[u8]) -> Result<Frame, u8> {
+    Frame::with_error_byte(bytes).map_err(|fault| fault.number())
+}
+
+/// Whether bytes with their error byte are the frame in hex.
+fn is_framed(bytes: &[u8], hex: &str) -> bool {
+    match (framed(bytes), frame_of(hex)) {
+        (Ok(made), Some(frame)) => made.is(&frame),
+        _ => false,
+    }
+}
+
+#[test]
+fn frames_are_made_with_their_error_byte(rt: HostRuntime) {
+    assert!(rt; is_framed(&[0xFF, 0x00], "ff00ff"));
+    assert!(rt; is_framed(&[0x03, 0x62], "036261"));
+    assert!(rt; is_framed(&[1, 2, 3, 4, 5], "010203040501"));
+    assert!(rt; !is_framed(&[0x03, 0x62], "037f7c"));
+    assert_eq!(rt; framed(&[3]).err(), Some(1));
+    assert_eq!(rt; framed(&[1, 2, 3, 4, 5, 6]).err(), Some(1));
+}
+
 fn fault_number(fault: Fault) -> u8 {
     fault.number()
 }

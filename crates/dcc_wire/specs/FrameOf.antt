@@ -3,7 +3,7 @@ use Rattle.std.specs.Prelude.{ℕ, List, length, nat_lt, ◌==◌, ◌||◌, if�
 use Rattle.dcc_wire.specs.declared.frame.FrameFault.{FrameFault}
 use Rattle.dcc_wire.specs.declared.frame.FrameFault.TheVariants.{Length, XorNotZero}
 use Rattle.dcc_wire.specs.declared.frame.Frame.{Frame}
-use Rattle.dcc_wire.specs.Frames.{xor_of}
+use Rattle.dcc_wire.specs.Frames.{xor_of, with_error_byte}
 
 -- the frame of some bytes, or the first fault
 abbrev pub frame_of : List ℕ → Result Frame FrameFault
@@ -11,3 +11,9 @@ frame_of bytes =
     if nat_lt (length bytes) 3 || nat_lt 6 (length bytes) then Err Length
     else if xor_of bytes == 0 then Ok bytes
     else Err XorNotZero
+
+-- the frame of some bytes and the error byte that follows them, of which it has 3 to 6
+abbrev pub frame_with_error_byte : List ℕ → Result Frame FrameFault
+frame_with_error_byte bytes =
+    if nat_lt (length bytes) 2 || nat_lt 5 (length bytes) then Err Length
+    else Ok (with_error_byte bytes)

@@ -3,6 +3,7 @@
 ghost use Rattle.std.specs.Prelude.{◌≡◌};
 
 use crate::bytes::PacketBytes;
+use arrayvec::ArrayVec;
 use std::marker::Model;
 use thiserror::Error;
 
@@ -52,9 +53,9 @@ impl FrameFault {
 }
 
 impl Frame {
-    ghost use Rattle.std.specs.Prelude.{◌≡◌, MatchResult};
+    ghost use Rattle.std.specs.Prelude.{◌≡◌, ◌↔◌, IsTrue, MatchResult};
     ghost use Rattle.dcc_wire.specs.Frames.{IsFrame, frame_fault};
-    ghost use Rattle.dcc_wire.specs.FrameOf.{frame_of};
+    ghost use Rattle.dcc_wire.specs.FrameOf.{frame_of, frame_with_error_byte};
 
     /// The frame of these bytes, the error byte last. The number of bytes is looked at first (L1),
     /// then the error byte (L2).
@@ -69,6 +70,19 @@ impl Frame {
             return Err(FrameFault::XorNotZero);
         }
         Ok(Frame::of_valid(bytes))
+    }
+
+    /// The frame of these bytes with their error byte behind them (NMRA S-9.2). L1 unless there are 2 to 5.
+    pub fn with_error_byte(bytes: &[u8]) -> Result<Frame, FrameFault>
+        ensures { result ≡ frame_with_error_byte bytes.now }
+    {
+        if bytes.len() < 2 || bytes.len() > 5 {
+            return Err(FrameFault::Length);
+        }
+        let mut all = ArrayVec::<u8, 6>::new();
+        all.try_extend_from_slice(bytes).unwrap();
+        all.push(xor(bytes));
+        Frame::of(&all)
     }
 
     /// The frame of bytes that are known to be one.
@@ -88,6 +102,13 @@ impl Frame {
     {
         let _ = &self.bytes;
         self.bytes.as_slice()
+    }
+
+    /// Whether this is the same frame as another: whether their bytes are the same.
+    pub fn is(&self, other: &Frame) -> bool
+        ensures { IsTrue result ↔ (self.now ≡ other.now) }
+    {
+        self.bytes() == other.bytes()
     }
 }
 
