@@ -76,9 +76,6 @@ option_map_some f (Some x) y e = (x, refl, cc)
 pub some_same : {A : Type 0} {x y : A} → Some x ≡ Some y → x ≡ y
 some_same e = cc
 
-with_byte : List Bool → List ℕ × Bool → List ℕ × Bool
-with_byte bits q = (number_of (take 8 bits) ∷ q.0, q.1)
-
 -- what has come to a closing bit stays so
 pub bytes_in-more : (n : ℕ) (bits more : List Bool) (p : List ℕ × Bool) → bytes_in n bits ≡ Some p → bytes_in n (bits ++ more) ≡ Some p
 unfolding bytes_in

@@ -259,11 +259,6 @@ answer-full bits e len =
     let edge = bytes_in-edge 6 bits e (omega (arith, len)) in
     ap (λ o. answer_of (option_map by_bits o)) (edge.full (omega (arith, edge.whole, len)))
 
-pub open-room : (bits : List Bool) → bytes_in 6 bits ≡ None → length bits % 9 ≡ 0 → length bits < 54 → bytes_in 6 (bits ++ false ∷ []) ≡ None
-open-room bits e whole less =
-    let edge = bytes_in-edge 6 bits e whole in
-    edge.room (omega (arith, edge.whole, less))
-
 pub answer-open : (bits : List Bool) → bytes_in 6 bits ≡ None → answer_of (option_map by_bits (bytes_in 6 bits)) ≡ Nothing
 unfolding answer_of
 answer-open bits e = ap (λ o. answer_of (option_map by_bits o)) e

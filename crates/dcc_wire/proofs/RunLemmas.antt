@@ -90,12 +90,6 @@ pub record RunsTo (old new : Rest) (us i : ℕ) : Type 0 where
   pub stands : (durations : List ℕ) → StandsFor old durations → StandsFor new (durations ++ replicate i us)
   pub quiet : (durations : List ℕ) → StandsFor old durations → seen (durations ++ replicate i us) ≡ seen durations
 
-pub run_none : (old : Rest) (us : ℕ) → RunsTo old old us 0
-run_none old us = record {
-  stands = λ durations h. subst (λ l. StandsFor old l) (sym (append-nil durations)) h;
-  quiet = λ durations h. ap seen (append-nil durations);
-}
-
 replicate_end : (n us : ℕ) → replicate (suc n) us ≡ replicate n us ++ us ∷ []
 replicate_end zero us = refl
 replicate_end (suc n) us = ap (λ l. us ∷ l) (replicate_end n us)
