@@ -1,7 +1,6 @@
 -- Bits and bytes of a body.
-use Rattle.std.proofs.Common.{◌≡◌, ℕ, suc, zero, ◌+◌, ◌-◌, ◌*◌, ◌%◌, ◌<◌, ◌≤◌, inl, inr, Bool, true, false, cond, List, [], ◌∷◌, ◌++◌, length, take, drop, Option, Some, None, ltb, refl, sym, ap, ◌∙◌, arith, append_assoc, length-append, length-drop}
-use Rattle.std.proofs.lemmas.List.{append-nil, take-append-le, drop-append-le}
-use Rattle.std.proofs.Math.Seq.{take-length}
+use Rattle.std.proofs.Common.{◌≡◌, ℕ, suc, zero, ◌+◌, ◌*◌, ◌%◌, ◌<◌, ◌≤◌, inl, inr, Bool, true, false, cond, List, [], ◌∷◌, ◌++◌, length, take, drop, Option, Some, None, ltb, refl, sym, ap, ◌∙◌, arith, length-append, length-drop}
+use Rattle.std.proofs.lemmas.List.{take-append-le, drop-append-le}
 use Rattle.std.proofs.lemmas.Bool.Decides.{nat_tests}
 use Rattle.std.proofs.lemmas.Bool.{cases_lt}
 use Rattle.std.proofs.Math.ListN.{drop_of_length-le}
@@ -153,74 +152,3 @@ bytes_in-edge (suc n) (false ∷ bits) e edge = elim (cases_lt (length bits) 8) 
         room = λ h. step false ∙ rw (ih.room (omega (arith, h))) refl;
       }
 ]
-
--- Whole bytes: a zero and eight bits, and what follows them
-
-pub record Group (n : ℕ) (bits : List Bool) : Type 0 where
-  pub some : 0 < n
-  pub after_unfinished : bytes_in (n - 1) (drop 9 bits) ≡ None
-  pub with_end : bytes_in n (bits ++ true ∷ []) ≡ option_map (λ q. (number_of (take 8 (drop 1 bits)) ∷ q.0, q.1)) (bytes_in (n - 1) (drop 9 bits ++ true ∷ []))
-
-pub bytes_in-group : (n : ℕ) (bits : List Bool) → bytes_in n bits ≡ None → 9 ≤ length bits → Group n bits
-unfolding bytes_in
-bytes_in-group n [] e long = absurd (omega (arith, long))
-bytes_in-group n (true ∷ bits) e long = cc
-bytes_in-group zero (false ∷ bits) e long = cc
-bytes_in-group (suc n) (false ∷ bits) e long =
-    let eight : 8 ≤ length bits = omega (arith, long) in
-    let one_less : suc n - 1 ≡ n = omega arith in
-    record {
-      some = omega arith;
-      after_unfinished = rw one_less (option_map-none (λ q. (number_of (take 8 bits) ∷ q.0, q.1)) (bytes_in n (drop 8 bits)) (sym (zero_long n bits eight) ∙ e));
-      with_end = rw one_less (zero_long n (bits ++ true ∷ []) (omega (arith, length-append bits (true ∷ [])))
-          ∙ rw (take-append-le 8 bits (true ∷ []) eight, drop-append-le 8 bits (true ∷ []) eight) refl);
-    }
-
--- bytes that were read, and the bits that are left
-pub record Spelling (bits left : List Bool) (bytes : List ℕ) : Type 0 where
-  pub few : length bytes ≤ 6
-  pub unfinished : bytes_in (6 - length bytes) left ≡ None
-  pub whole : length left % 9 ≡ 0
-  pub joined : bytes_in 6 (bits ++ true ∷ []) ≡ option_map (λ q. (bytes ++ q.0, q.1)) (bytes_in (6 - length bytes) (left ++ true ∷ []))
-
-pub option_map_same : (o : Option (List ℕ × Bool)) → option_map (λ q. ([] ++ q.0, q.1)) o ≡ o
-option_map_same None = refl
-option_map_same (Some q) = refl
-
-pub Spelling-start : (bits : List Bool) → bytes_in 6 bits ≡ None → length bits % 9 ≡ 0 → Spelling bits bits []
-Spelling-start bits e whole = record { few = omega arith; unfinished = e; whole = whole; joined = sym (option_map_same (bytes_in 6 (bits ++ true ∷ []))) }
-
-pub option_map_push : (bytes : List ℕ) (byte : ℕ) (o : Option (List ℕ × Bool)) → option_map {U = List ℕ × Bool} (λ q. (bytes ++ q.0, q.1)) (option_map {U = List ℕ × Bool} (λ q. (byte ∷ q.0, q.1)) o) ≡ option_map {U = List ℕ × Bool} (λ q. ((bytes ++ byte ∷ []) ++ q.0, q.1)) o
-option_map_push bytes byte None = refl
-option_map_push bytes byte (Some q) = ap (λ l. Some (l, q.1)) (sym (append_assoc bytes (byte ∷ []) q.0))
-
-pub Spelling-few : (bits left : List Bool) (bytes : List ℕ) → Spelling bits left bytes → 9 ≤ length left → length bytes < 6
-Spelling-few bits left bytes s long = let w = bytes_in-group (6 - length bytes) left s.unfinished long in omega (arith, w.some)
-
-pub Spelling-more : (bits left : List Bool) (bytes : List ℕ) → Spelling bits left bytes → 9 ≤ length left → Spelling bits (drop 9 left) (bytes ++ number_of (take 8 (drop 1 left)) ∷ [])
-Spelling-more bits left bytes s long =
-    let w = bytes_in-group (6 - length bytes) left s.unfinished long in
-    let byte : ℕ = number_of (take 8 (drop 1 left)) in
-    let len : length (bytes ++ byte ∷ []) ≡ length bytes + 1 = length-append bytes (byte ∷ []) in
-    let one_less : 6 - length (bytes ++ byte ∷ []) ≡ 6 - length bytes - 1 = omega (arith, len) in
-    record {
-      few = omega (arith, len, w.some);
-      unfinished = rw one_less w.after_unfinished;
-      whole = omega (arith, length-drop 9 left, s.whole, long);
-      joined = s.joined ∙ rw (w.with_end, one_less) (option_map_push bytes byte (bytes_in (6 - length bytes - 1) (drop 9 left ++ true ∷ [])));
-    }
-
-no_bits : (left : List Bool) → length left ≡ 0 → left ≡ []
-no_bits [] e = refl
-no_bits (bit ∷ left) e = absurd (omega (arith, e))
-
-pub Spelling-done : (bits left : List Bool) (bytes : List ℕ) → Spelling bits left bytes → length left < 9 → bytes_in 6 (bits ++ true ∷ []) ≡ Some (bytes, true)
-unfolding bytes_in
-Spelling-done bits left bytes s short =
-    let none : left ≡ [] = no_bits left (omega (arith, s.whole, short)) in
-    s.joined ∙ rw none (ap (λ l. Some (l, true)) (append-nil bytes))
-
-pub Spelling-next : (bits left : List Bool) (bytes : List ℕ) → Spelling bits left bytes → 9 ≤ length left → (byte : ℕ) → byte ≡ number_of (take 8 (drop 1 left)) → (more : List ℕ) → more ≡ bytes ++ byte ∷ [] → Spelling bits (take (length left - 9) (drop 9 left)) more
-Spelling-next bits left bytes s long byte e more f =
-    let all : take (length left - 9) (drop 9 left) ≡ drop 9 left = ap (λ k. take k (drop 9 left)) (sym (length-drop 9 left)) ∙ take-length (drop 9 left) in
-    rw (all, f, e) (Spelling-more bits left bytes s long)
