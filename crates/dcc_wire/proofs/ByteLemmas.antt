@@ -1,12 +1,7 @@
 -- The bytes of packets.
-use Rattle.std.proofs.Common.{ℕ, suc, zero, ◌<◌, List, [], ◌∷◌, get_or, Fits, w8, arith}
+use Rattle.std.proofs.Common.{ℕ, suc, zero, ◌<◌, List, [], ◌∷◌, arith}
 use Rattle.std.specs.Prelude.{slice_index}
 use Rattle.dcc_wire.specs.Frames.{AllBytes}
-
-pub AllBytes-fits : (bytes : List ℕ) → ((i : ℕ) → Fits w8 (get_or bytes i 0)) → AllBytes bytes
-unfolding AllBytes
-AllBytes-fits [] fits = tt
-AllBytes-fits (byte ∷ bytes) fits = (omega (arith, fits 0), AllBytes-fits bytes (λ i. fits (suc i)))
 
 pub AllBytes-of : (bytes : List ℕ) → ((i : ℕ) → slice_index bytes i < 256) → AllBytes bytes
 unfolding AllBytes
