@@ -12,8 +12,6 @@ mod loco_numbers;
 mod outcome;
 mod packet;
 mod service;
-#[cfg(test)]
-mod tests;
 
 pub use board::DccBoard;
 pub use frame::DccFrame;
