@@ -417,12 +417,16 @@ impl<R: Source> Input<R> {
     }
 
     /// The packet of the next line, if that line stands whole in the bytes that were read and says one. So most lines take no
-    /// read, and no copy of them is made. Any other line is left to `next_packet`, a skipped or a bad one too.
+    /// read, and no copy of them is made. Any other line is left to `next_packet`, a skipped or a bad one too, and so is each
+    /// where a fault is kept.
     pub(crate) fn packet_at_hand(&mut self) -> Option<Packet>
-        requires { self.old.fault ≡ None }
         ensures some { IfSome result (λ packet. AnswersPacket self.old (Ok (Some packet)) self.new) }
         ensures none { IfNone result (self.new ≡ self.old) }
+        ensures kept { IfSome self.old.fault (λ fault. result ≡ None) }
     {
+        if self.fault().is_some() {
+            return None;
+        }
         let line = self.whole_line()?;
         let len = line.len();
         match Packet::from_line(line) {

@@ -55,11 +55,12 @@ pub fn next_of_first<R: Source>(
 }
 
 /// The packet of the next line, if that line stands whole in the bytes that were read and says one. So most lines take no
-/// read, and no copy of them is made. Any other line is left to `next_packet`, a skipped or a bad one too.
+/// read, and no copy of them is made. Any other line is left to `next_packet`, a skipped or a bad one too, and so is each
+/// where a fault is kept.
 pub fn packet_at_hand<R: Source>(input: &mut Input<R>) -> Option<Packet>
-    requires { input.old.fault ≡ None }
     ensures some { IfSome result (λ packet. AnswersPacket input.old (Ok (Some packet)) input.new) }
     ensures none { IfNone result (input.new ≡ input.old) }
+    ensures kept { IfSome input.old.fault (λ fault. result ≡ None) }
 {
     input.packet_at_hand()
 }
@@ -73,11 +74,11 @@ pub fn next_packet<R: Source>(input: &mut Input<R>) -> Result<Option<Packet>, Ke
 }
 
 /// What the next line asks of a station, if that line stands whole in the bytes that were read and asks anything. Any other
-/// line is left to `next_station_line`, a skipped or a bad one too.
+/// line is left to `next_station_line`, a skipped or a bad one too, and so is each where a fault is kept.
 pub fn station_line_at_hand<R: Source>(input: &mut Input<R>) -> Option<StationLine>
-    requires { input.old.fault ≡ None }
     ensures some { IfSome result (λ line. AnswersSaid station_words asked_by input.old (Ok (Some line)) input.new) }
     ensures none { IfNone result (input.new ≡ input.old) }
+    ensures kept { IfSome input.old.fault (λ fault. result ≡ None) }
 {
     input.station_line_at_hand()
 }

@@ -83,12 +83,15 @@ impl<R: Source> Input<R> {
     }
 
     /// What the next line asks of a station, if that line stands whole in the bytes that were read and asks anything. Any other
-    /// line is left to `next_station_line`, a skipped or a bad one too.
+    /// line is left to `next_station_line`, a skipped or a bad one too, and so is each where a fault is kept.
     pub(crate) fn station_line_at_hand(&mut self) -> Option<StationLine>
-        requires { self.old.fault ≡ None }
         ensures some { IfSome result (λ line. AnswersSaid station_words asked_by self.old (Ok (Some line)) self.new) }
         ensures none { IfNone result (self.new ≡ self.old) }
+        ensures kept { IfSome self.old.fault (λ fault. result ≡ None) }
     {
+        if self.fault().is_some() {
+            return None;
+        }
         let line = self.whole_line()?;
         let len = line.len();
         match StationLine::from_line(line) {
