@@ -11,7 +11,7 @@ use Rattle.std.specs.Str.Parse.{digits_value}
 use Rattle.dcc_io.specs.declared.word.FrontWord.{FrontWord}
 use Rattle.dcc_io.specs.Place.{Place, line_behind, lines_with, lines_through}
 use Rattle.dcc_io.specs.Words.{Word, is_gap, is_dash, is_mark, comments, ended_words, duration_of, Passes}
-use Rattle.dcc_io.specs.Front.{BeginsWithWord, IsFrontWord, is_plain}
+use Rattle.dcc_io.specs.Front.{BeginsWithWord, HasLineFeedAt, IsFrontWord, is_plain}
 use Rattle.dcc_io.specs.declared.fault.KeptFault.{KeptFault}
 use Rattle.dcc_io.specs.Told.{Told}
 use Rattle.dcc_io.specs.InputState.{InputState, closed_text, closing}
@@ -290,6 +290,56 @@ line_of_gap line gap ends_line is ends = rw (sym is ∙ ends) refl
 
 pub same_line_of_gap : (line gap : ℕ) (ends_line : Bool) → ends_line ≡ eqb gap 10 → ends_line ≡ false → line ≡ line_behind line gap
 same_line_of_gap line gap ends_line is ends = rw (sym is ∙ ends) refl
+
+-- a line feed behind no word was passed
+passes_line_feed : (source later : Told) (line lines halves bytes : ℕ) → 1 < bytes + 1 → take 1 source.ahead ≡ 10 ∷ []
+    → Consumes source.text later.text (take 1 source.ahead) → later.failures ≡ source.failures
+    → Passed (state_of source line lines false false halves bytes None) [] (state_of later (line + 1) line false false halves (bytes - 1) None)
+unfolding comments is_gap
+passes_line_feed source later line lines halves bytes room is_feed consumed failures = record {
+  text = go source.text later.text consumed;
+  halves = refl;
+  bytes = omega arith;
+  fault = refl;
+  failures = failures;
+}
+  where
+    old : InputState
+    old = state_of source line lines false false halves bytes None
+
+    new : InputState
+    new = state_of later (line + 1) line false false halves (bytes - 1) None
+
+    some : (rest : List ℕ) → lines_with lines line (rest ++ 10 ∷ []) ≡ line
+    some [] = refl
+    some (byte ∷ rest) = refl
+
+    go : (xs ys : Option (List ℕ)) → Consumes xs ys (take 1 source.ahead)
+        → IfSome (closed_text false xs) (λ text. IsSomeAnd (closed_text false ys) (λ left. Uses old new [] text left))
+    go None ys taken = tt
+    go (Some xs) None taken = absurd taken
+    go (Some xs) (Some ys) taken =
+        let whole : xs ++ 10 ∷ [] ≡ 10 ∷ (ys ++ 10 ∷ []) = ap (λ (zs : List ℕ). zs ++ 10 ∷ []) (taken ∙ ap (λ (zs : List ℕ). zs ++ ys) is_feed) in
+        record {
+          used = 10 ∷ [];
+          whole = whole;
+          passes = λ more. sym (opened-none (outside line) (10 ∷ more)) ∙ opened-gap (outside line) [] 10 more refl;
+          bytes = omega arith;
+          room = λ one none. absurd (omega (arith, none));
+          lines = ap (λ n. lines_through n (line + 1) (ys ++ 10 ∷ [])) (sym (some ys)) ∙ ap (λ (zs : List ℕ). lines_through lines line zs) (sym whole);
+        }
+
+first_of : (bytes : List ℕ) (byte : ℕ) → 0 < length bytes → get_or bytes 0 0 ≡ byte → take 1 bytes ≡ byte ∷ []
+first_of [] byte some is = absurd (omega (arith, some))
+first_of (first ∷ bytes) byte some is = ap (λ (b : ℕ). b ∷ []) is
+
+pub passes_line_feed_at : (source later : Told) (line lines halves bytes : ℕ) (in_comment closed : Bool) (fault : Option KeptFault)
+    → closed ≡ false → in_comment ≡ false → fault ≡ None → 1 < bytes + closing closed → HasLineFeedAt source.ahead 0
+    → Consumes source.text later.text (take 1 source.ahead) → later.failures ≡ source.failures
+    → Passed (state_of source line lines in_comment closed halves bytes fault) [] (state_of later (line + 1) line in_comment closed halves (bytes - 1) fault)
+passes_line_feed_at source later line lines halves bytes in_comment closed fault is_open no_comment none room begins consumed failures =
+    let fits = subst (λ (b : Bool). 1 < bytes + closing b) is_open room in
+    rw (is_open, no_comment, none) (passes_line_feed source later line lines halves bytes fits (first_of source.ahead 10 begins.0 begins.1) consumed failures)
 
 -- digits that spell this number
 pub record SpellsNumber (number : ℕ) (word : List ℕ) : Type 0 where

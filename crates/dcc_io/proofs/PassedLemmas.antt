@@ -345,9 +345,9 @@ pub from_not_false : (b result : Bool) → result ≡ not b → result ≡ false
 from_not_false true result is_not told = refl
 from_not_false false result is_not told = cc
 
--- nothing but gaps was passed, and then these words
-pub Passed-join : (old mid new : InputState) (words : List Word) → Passed old [] mid → Passed mid words new → new.bytes < mid.bytes → Passed old words new
-Passed-join old mid new words first next fewer = record {
+-- these words were passed, and then those
+pub Passed-join : (old mid new : InputState) (front words : List Word) → Passed old front mid → Passed mid words new → new.bytes < mid.bytes → Passed old (front ++ words) new
+Passed-join old mid new front words first next fewer = record {
   text = go old.text mid.text new.text first.text next.text;
   halves = next.halves ∙ first.halves;
   bytes = omega (arith, next.bytes, first.bytes);
@@ -355,15 +355,16 @@ Passed-join old mid new words first next fewer = record {
   failures = next.failures ∙ first.failures;
 }
   where
-    go : (whole middle rest : Option (List ℕ)) → IfSome whole (λ text. IsSomeAnd middle (λ more. Uses old mid [] text more))
-        → IfSome middle (λ text. IsSomeAnd rest (λ more. Uses mid new words text more)) → IfSome whole (λ text. IsSomeAnd rest (λ more. Uses old new words text more))
+    go : (whole middle rest : Option (List ℕ)) → IfSome whole (λ text. IsSomeAnd middle (λ more. Uses old mid front text more))
+        → IfSome middle (λ text. IsSomeAnd rest (λ more. Uses mid new words text more)) → IfSome whole (λ text. IsSomeAnd rest (λ more. Uses old new (front ++ words) text more))
     go None middle rest a b = tt
     go (Some text) None rest a b = absurd a
     go (Some text) (Some more) None a b = absurd b
     go (Some text) (Some more) (Some last) a b = record {
       used = a.used ++ b.used;
       whole = a.whole ∙ ap (λ (xs : List ℕ). a.used ++ xs) b.whole ∙ sym (append_assoc a.used b.used last);
-      passes = λ after. ap (ended_words old.place) (append_assoc a.used b.used after) ∙ a.passes (b.used ++ after) ∙ b.passes after;
+      passes = λ after. ap (ended_words old.place) (append_assoc a.used b.used after) ∙ a.passes (b.used ++ after)
+          ∙ ap (λ (ws : List Word). front ++ ws) (b.passes after) ∙ sym (append_assoc front words (ended_words new.place after));
       bytes = simp length-append (omega (arith, a.bytes, b.bytes));
       room = λ some. b.room (let bytes = b.bytes in omega (arith, bytes, fewer));
       lines = b.lines ∙ a.lines;
@@ -374,7 +375,7 @@ pub ends_behind_gaps : (old mid new : InputState) (line : ℕ) (so_far : RunWord
 ends_behind_gaps old mid new line so_far gaps ends = record {
   word = ends.word;
   spelled = ends.spelled;
-  passed = Passed-join old mid new (record { line = line; bytes = ends.word } ∷ []) gaps ends.passed ends.fewer;
+  passed = Passed-join old mid new [] (record { line = line; bytes = ends.word } ∷ []) gaps ends.passed ends.fewer;
   fewer = let fewer = ends.fewer in omega (arith, fewer, gaps.bytes);
   behind = ends.behind;
 }

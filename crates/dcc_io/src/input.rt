@@ -1,8 +1,8 @@
 //! What a call of the program reads from.
-ghost use Rattle.std.specs.Prelude.{◌≡◌, ◌≢◌, ◌+◌, ◌<◌, ◌≤◌, ◌^◌, ◌∷◌, ℕ, List, [], length, take, None, Some, true, false, IsTrue, IfSome, IfNone, if◌then◌else◌, ◌||◌};
+ghost use Rattle.std.specs.Prelude.{◌≡◌, ◌≢◌, ◌+◌, ◌<◌, ◌≤◌, ◌^◌, ◌∷◌, ℕ, List, [], length, take, drop, None, Some, true, false, IsTrue, IfSome, IfNone, if◌then◌else◌, ◌||◌};
 ghost use Rattle.dcc_io.specs.Told.{IsFront};
 ghost use Rattle.dcc_io.specs.Words.{comments, is_gap, ended_words};
-ghost use Rattle.dcc_io.specs.Front.{BeginsWithWord, IsFrontWord};
+ghost use Rattle.dcc_io.specs.Front.{BeginsWithWord, HasLineFeedAt, IsFrontWord};
 ghost use Rattle.dcc_io.specs.Passed.{AnswersWord, EndsWord, Passed};
 ghost use Rattle.dcc_io.specs.KeptAnswers.{AnswersKept};
 ghost use Rattle.dcc_io.specs.LineRead.{AnswersLine, EndsLine};
@@ -227,6 +227,9 @@ impl<R: Source> Input<R> {
         ensures passed { Passed self.old (record { line = self.old.place.line; bytes = take word_len self.old.ahead } ∷ []) self.new }
         ensures fewer { self.new.bytes < self.old.bytes }
         ensures behind { self.old.place.line ≤ self.new.place.line }
+        ensures no_comment { self.new.place.in_comment ≡ false }
+        ensures bytes { self.new.bytes + (word_len + 1) ≡ self.old.bytes }
+        ensures ahead { self.new.ahead ≡ drop (word_len + 1) self.old.ahead }
     {
         self.source.skip(word_len + 1);
         self.bytes_left -= word_len as u32 + 1;
@@ -329,12 +332,46 @@ impl<R: Source> Input<R> {
         ensures first { IfSome result (λ us. (before : ℕ) → AnswersFirst before self.old (Ok (Some (self.old.place.line, record { us = us; n = 1 }))) self.new) }
         ensures none { IfNone result (self.new ≡ self.old) }
     {
-        if self.bytes_left as usize <= front.len {
+        // (the word, its gap, and a line feed behind that)
+        if self.bytes_left as usize <= front.len + 2 {
             return None;
         }
-        self.pass_word(front.len, front.ends_line);
+        self.pass_front(&front);
         self.halves_left -= 1;
         Some(front.us)
+    }
+
+    /// Takes the word at the front of the bytes at hand, the gap behind it, and the line feed behind that where one was seen.
+    #[inline(always)]
+    fn pass_front(&mut self, front: &FrontWord)
+        requires fault { self.old.fault ≡ None }
+        requires no_comment { self.old.place.in_comment ≡ false }
+        requires room { front.now.len + 2 < self.old.bytes }
+        requires front { IsFrontWord self.old.ahead front.now }
+        ensures passed { Passed self.old (record { line = self.old.place.line; bytes = take front.now.len self.old.ahead } ∷ []) self.new }
+        ensures fewer { self.new.bytes < self.old.bytes }
+    {
+        self.pass_word(front.len, front.ends_line);
+        if front.before_line_feed {
+            self.pass_line_feed();
+        }
+    }
+
+    /// Takes the line feed at the front of the bytes at hand.
+    #[inline(always)]
+    fn pass_line_feed(&mut self)
+        requires fault { self.old.fault ≡ None }
+        requires no_comment { self.old.place.in_comment ≡ false }
+        requires room { 1 < self.old.bytes }
+        requires begins { HasLineFeedAt self.old.ahead 0 }
+        ensures passed { Passed self.old [] self.new }
+        ensures fewer { self.new.bytes < self.old.bytes }
+    {
+        let ended = self.line;
+        self.lines = ended as u32;
+        self.line = ended + 1;
+        self.bytes_left -= 1;
+        self.source.skip(1);
     }
 
     /// Takes the halves of a run, unless they are too many: then none of them counts.
