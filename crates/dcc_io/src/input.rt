@@ -265,17 +265,31 @@ impl<R: Source> Input<R> {
 
     /// The next run of halves, or none at the end. A fault is kept.
     pub(crate) fn next_run(&mut self) -> Result<Option<Run>, KeptFault>
-        requires { self.old.fault ≡ None }
-        ensures { AnswersRun self.old result self.new }
+        ensures kept { AnswersKept self.old result self.new }
+        ensures reads { self.old.fault ≡ None → AnswersRun self.old result self.new }
     {
+        if let Some(fault) = self.fault {
+            return Err(fault);
+        }
         match self.half_at_hand() {
             Some(us) => Ok(Some(Run { us, n: 1 })),
-            None => self.read_run(),
+            None => self.run_of_next_word(),
         }
     }
 
     /// The run that the next word spells, or none at the end. A fault is kept.
     pub(crate) fn read_run(&mut self) -> Result<Option<Run>, KeptFault>
+        ensures kept { AnswersKept self.old result self.new }
+        ensures reads { self.old.fault ≡ None → AnswersRun self.old result self.new }
+    {
+        match self.fault() {
+            Some(fault) => Err(fault),
+            None => self.run_of_next_word(),
+        }
+    }
+
+    /// The same, where no fault is kept.
+    fn run_of_next_word(&mut self) -> Result<Option<Run>, KeptFault>
         requires { self.old.fault ≡ None }
         ensures { AnswersRun self.old result self.new }
     {

@@ -28,16 +28,16 @@ pub fn half_at_hand<R: Source>(input: &mut Input<R>) -> Option<u16>
 
 /// The run that the next word spells, or none at the end. A fault is kept.
 pub fn read_run<R: Source>(input: &mut Input<R>) -> Result<Option<Run>, KeptFault>
-    requires { input.old.fault ≡ None }
-    ensures { AnswersRun input.old result input.new }
+    ensures kept { AnswersKept input.old result input.new }
+    ensures reads { input.old.fault ≡ None → AnswersRun input.old result input.new }
 {
     input.read_run()
 }
 
 /// The next run of halves, or none at the end. A fault is kept.
 pub fn next_run<R: Source>(input: &mut Input<R>) -> Result<Option<Run>, KeptFault>
-    requires { input.old.fault ≡ None }
-    ensures { AnswersRun input.old result input.new }
+    ensures kept { AnswersKept input.old result input.new }
+    ensures reads { input.old.fault ≡ None → AnswersRun input.old result input.new }
 {
     input.next_run()
 }

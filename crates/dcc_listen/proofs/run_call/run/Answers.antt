@@ -20,12 +20,9 @@ runs-init g c = record {
       (λ decoder. let is = goal.Decoder-dyn g (decoder.vtable, decoder.value) in (is.who decoder.value, is.registers decoder.value)) c.args.decoders.now (λ now. let is = goal.Decoder-dyn g (now.vtable, now.value) in no_halves_heard (is.who now.value) (is.registers now.value));
 }
 
-pub read_run-requires : goal.read_run-requires
-read_run-requires g c = ap (λ (state : InputState). state.fault) c.in-None.ensures.none ∙ c.runs.invariant.gave.fault
-
 pub runs-preserved : goal.runs-preserved
 runs-preserved g c =
-    let took = rw (c.in-Ok-Some.field-0-is, c.in-None.ensures.none) at c.in-Ok-Some.ensures in
+    let took = rw (c.in-Ok-Some.field-0-is, c.in-None.ensures.none) at (c.in-Ok-Some.ensures.reads (ap (λ (state : InputState). state.fault) c.in-None.ensures.none ∙ c.runs.invariant.gave.fault)) in
     let before = c.runs.invariant in
     record {
       halves = before.halves ++ replicate c.in-Ok-Some.run'.n c.in-Ok-Some.run'.us;
@@ -50,11 +47,11 @@ returns-in-Err-clause-runs g c none =
     let halves : List ℕ = before.halves in
     let gave = subst (λ (now : InputState). Gave captures c.args.input.now halves now) (sym c.in-None.ensures.none) before.gave in
     rw c.told-in-Err.ensures (hears_up_to (map (λ decoder. let is = goal.Decoder-dyn g (decoder.vtable, decoder.value) in (is.who decoder.value, is.registers decoder.value)) c.args.decoders.now) (map (λ decoder. let is = goal.Decoder-dyn g (decoder.vtable, decoder.value) in (is.who decoder.value, is.registers decoder.value)) c.runs.decoders) c.args.input.now c.half_at_hand.new.input c.read_run.new.input (g.W.Sink.contents c.args.writer.now) (g.W.Sink.failures c.args.writer.now)
-    before.halves c.in-Err.fault gave (AllZip-views (λ start end. HasHeardHalves halves start.0 start.1 end.0 end.1) (λ decoder. let is = goal.Decoder-dyn g (decoder.vtable, decoder.value) in (is.who decoder.value, is.registers decoder.value)) (map (λ decoder. let is = goal.Decoder-dyn g (decoder.vtable, decoder.value) in (is.who decoder.value, is.registers decoder.value)) c.args.decoders.now) c.runs.decoders before.members) c.in-Err.ensures)
+    before.halves c.in-Err.fault gave (AllZip-views (λ start end. HasHeardHalves halves start.0 start.1 end.0 end.1) (λ decoder. let is = goal.Decoder-dyn g (decoder.vtable, decoder.value) in (is.who decoder.value, is.registers decoder.value)) (map (λ decoder. let is = goal.Decoder-dyn g (decoder.vtable, decoder.value) in (is.who decoder.value, is.registers decoder.value)) c.args.decoders.now) c.runs.decoders before.members) (c.in-Err.ensures.reads (ap (λ (state : InputState). state.fault) c.in-None.ensures.none ∙ c.runs.invariant.gave.fault)))
 
 pub returns-in-Ok-clause-runs : goal.returns-in-Ok-clause-runs
 returns-in-Ok-clause-runs g c none =
-    let took = rw (c.in-Ok-None.field-0-is, c.in-None.ensures.none) at c.in-Ok-None.ensures in
+    let took = rw (c.in-Ok-None.field-0-is, c.in-None.ensures.none) at (c.in-Ok-None.ensures.reads (ap (λ (state : InputState). state.fault) c.in-None.ensures.none ∙ c.runs.invariant.gave.fault)) in
     let before = c.runs.invariant in
     let halves : List ℕ = before.halves in
     ran (map (λ decoder. let is = goal.Decoder-dyn g (decoder.vtable, decoder.value) in (is.who decoder.value, is.registers decoder.value)) c.args.decoders.now) (map (λ decoder. let is = goal.Decoder-dyn g (decoder.vtable, decoder.value) in (is.who decoder.value, is.registers decoder.value)) c.runs.decoders) c.args.input.now c.read_run.new.input (g.W.Sink.contents c.args.writer.now) (g.W.Sink.contents c.write_fleet.new.writer)
@@ -64,7 +61,7 @@ returns-in-Ok-clause-runs g c none =
 
 pub returns-in-Err-write_fleet-clause-runs : goal.returns-in-Err-write_fleet-clause-runs
 returns-in-Err-write_fleet-clause-runs g c none =
-    let took = rw (c.in-Ok-None.field-0-is, c.in-None.ensures.none) at c.in-Ok-None.ensures in
+    let took = rw (c.in-Ok-None.field-0-is, c.in-None.ensures.none) at (c.in-Ok-None.ensures.reads (ap (λ (state : InputState). state.fault) c.in-None.ensures.none ∙ c.runs.invariant.gave.fault)) in
     let before = c.runs.invariant in
     let halves : List ℕ = before.halves in
     stopped (map (λ decoder. let is = goal.Decoder-dyn g (decoder.vtable, decoder.value) in (is.who decoder.value, is.registers decoder.value)) c.args.decoders.now) (map (λ decoder. let is = goal.Decoder-dyn g (decoder.vtable, decoder.value) in (is.who decoder.value, is.registers decoder.value)) c.runs.decoders) c.args.input.now c.read_run.new.input (g.W.Sink.contents c.args.writer.now) (g.W.Sink.contents c.write_fleet.new.writer)

@@ -1,6 +1,6 @@
 use Rattle.std.proofs.Common.{sym}
 use Rattle.dcc_io.proofs.CaptureLemmas.{counts_answer, stops_at_word}
-use Rattle.dcc_io.proofs.input.Input.read_run.Goals as goal
+use Rattle.dcc_io.proofs.input.Input.run_of_next_word.Goals as goal
 
 pub returns-in-Some : goal.returns-in-Some
 returns-in-Some g c =
