@@ -209,11 +209,12 @@ impl<R: Source> Input<R> {
             return None;
         }
         let front = whole_word(self.source.ahead())?;
-        if self.bytes_left as usize <= front.len {
+        // (the word, its gap, and a line feed behind that)
+        if self.bytes_left as usize <= front.len + 2 {
             return None;
         }
         let line = self.line;
-        self.pass_word(front.len, front.ends_line);
+        self.pass_ended_word(front.len, front.ends_line, front.before_line_feed);
         Some((line, front.word))
     }
 
@@ -239,7 +240,43 @@ impl<R: Source> Input<R> {
         }
     }
 
-    /// The same, taken byte by byte up to where it stands whole among the bytes at hand.
+    /// The same, and the line feed behind that gap where one was seen.
+    #[inline(always)]
+    fn pass_ended_word(&mut self, word_len: usize, ends_line: bool, before_line_feed: bool)
+        requires fault { self.old.fault ≡ None }
+        requires no_comment { self.old.place.in_comment ≡ false }
+        requires room { word_len + 2 < self.old.bytes }
+        requires begins { BeginsWithWord self.old.ahead word_len ends_line }
+        requires line_feed { before_line_feed ≡ true → HasLineFeedAt self.old.ahead (word_len + 1) }
+        ensures passed { Passed self.old (record { line = self.old.place.line; bytes = take word_len self.old.ahead } ∷ []) self.new }
+        ensures fewer { self.new.bytes < self.old.bytes }
+        ensures behind { self.old.place.line ≤ self.new.place.line }
+    {
+        self.pass_word(word_len, ends_line);
+        if before_line_feed {
+            self.pass_line_feed();
+        }
+    }
+
+    /// Takes the line feed at the front of the bytes at hand.
+    #[inline(always)]
+    fn pass_line_feed(&mut self)
+        requires fault { self.old.fault ≡ None }
+        requires no_comment { self.old.place.in_comment ≡ false }
+        requires room { 1 < self.old.bytes }
+        requires begins { HasLineFeedAt self.old.ahead 0 }
+        ensures passed { Passed self.old [] self.new }
+        ensures fewer { self.new.bytes < self.old.bytes }
+        ensures behind { self.old.place.line ≤ self.new.place.line }
+    {
+        let ended = self.line;
+        self.lines = ended as u32;
+        self.line = ended + 1;
+        self.bytes_left -= 1;
+        self.source.skip(1);
+    }
+
+    /// The next word and its line, taken byte by byte up to where it stands whole among the bytes at hand.
     fn read_word(&mut self) -> Result<Option<(u64, RunWord)>, KeptFault>
         requires { self.old.fault ≡ None }
         ensures { AnswersWord self.old result self.new }
@@ -350,42 +387,9 @@ impl<R: Source> Input<R> {
         if self.bytes_left as usize <= front.len + 2 {
             return None;
         }
-        self.pass_front(&front);
+        self.pass_ended_word(front.len, front.ends_line, front.before_line_feed);
         self.halves_left -= 1;
         Some(front.us)
-    }
-
-    /// Takes the word at the front of the bytes at hand, the gap behind it, and the line feed behind that where one was seen.
-    #[inline(always)]
-    fn pass_front(&mut self, front: &FrontWord)
-        requires fault { self.old.fault ≡ None }
-        requires no_comment { self.old.place.in_comment ≡ false }
-        requires room { front.now.len + 2 < self.old.bytes }
-        requires front { IsFrontWord self.old.ahead front.now }
-        ensures passed { Passed self.old (record { line = self.old.place.line; bytes = take front.now.len self.old.ahead } ∷ []) self.new }
-        ensures fewer { self.new.bytes < self.old.bytes }
-    {
-        self.pass_word(front.len, front.ends_line);
-        if front.before_line_feed {
-            self.pass_line_feed();
-        }
-    }
-
-    /// Takes the line feed at the front of the bytes at hand.
-    #[inline(always)]
-    fn pass_line_feed(&mut self)
-        requires fault { self.old.fault ≡ None }
-        requires no_comment { self.old.place.in_comment ≡ false }
-        requires room { 1 < self.old.bytes }
-        requires begins { HasLineFeedAt self.old.ahead 0 }
-        ensures passed { Passed self.old [] self.new }
-        ensures fewer { self.new.bytes < self.old.bytes }
-    {
-        let ended = self.line;
-        self.lines = ended as u32;
-        self.line = ended + 1;
-        self.bytes_left -= 1;
-        self.source.skip(1);
     }
 
     /// Takes the halves of a run, unless they are too many: then none of them counts.

@@ -1,7 +1,7 @@
 //! A word of a capture, taken byte by byte.
 ghost use Rattle.std.specs.Prelude.{◌≡◌, ◌↔◌, ◌<◌, ◌≤◌, min, ℕ, List, [], ◌∷◌, ◌++◌, not, true, false, ◌==◌, ◌&&◌, IfSome, IsTrue};
 ghost use Rattle.dcc_io.specs.Words.{is_gap, is_mark, is_some_byte, run_of};
-ghost use Rattle.dcc_io.specs.Front.{IsFrontWord, IsWholeWord, EndedWord};
+ghost use Rattle.dcc_io.specs.Front.{HasLineFeedAt, IsFrontWord, IsWholeWord, EndedWord};
 
 use crate::digits::Digits;
 
@@ -222,6 +222,9 @@ pub struct WholeWord {
 
     /// Whether the gap is a line feed.
     pub ends_line: bool,
+
+    /// Whether a line feed stands behind the gap, as in CR LF.
+    pub before_line_feed: bool,
 }
 
 /// The word at the front of these bytes, if a gap ends it there.
@@ -239,6 +242,7 @@ pub fn whole_word(bytes: &[u8]) -> Option<WholeWord>
                 word,
                 len,
                 ends_line,
+                before_line_feed: has_line_feed_at(bytes, len + 1),
             });
         }
         if *byte == b'#' {
@@ -247,6 +251,14 @@ pub fn whole_word(bytes: &[u8]) -> Option<WholeWord>
         word.push(*byte);
     }
     None
+}
+
+/// Whether a line feed stands behind so many of these bytes.
+#[inline(always)]
+fn has_line_feed_at(bytes: &[u8], at: usize) -> bool
+    ensures { IsTrue result → HasLineFeedAt bytes.now at }
+{
+    at < bytes.len() && bytes[at] == b'\n'
 }
 
 /// Whether a byte is a gap between words: a space, a tab, CR or LF.
