@@ -1,9 +1,9 @@
 -- More halves only add to what was seen.
-use Rattle.std.proofs.Common.{ℕ, List, [], ◌∷◌, ◌++◌, length, sym, ap, ◌∙◌, append_assoc}
+use Rattle.std.proofs.Common.{◌≡◌, ℕ, List, [], ◌∷◌, ◌++◌, length, refl, sym, ap, ◌∙◌, append_assoc}
 use Rattle.std.proofs.lemmas.List.{append-nil}
 use Rattle.dcc_wire.specs.declared.fault.Seen.{Seen}
 use Rattle.dcc_wire.specs.Half.{class_of}
-use Rattle.dcc_wire.specs.Framing.{seen, rest, reported}
+use Rattle.dcc_wire.specs.Framing.{seen, rest, reported, starts_below, outcomes_at}
 use Rattle.dcc_wire.specs.Steps.{answer_to}
 use Rattle.dcc_wire.specs.SeenLaws.{SeenOnlyGrows}
 use Rattle.dcc_wire.proofs.FramingLemmas.{seen-push}
@@ -18,3 +18,7 @@ seen-grows halves (us ∷ more) =
           ∙ ap (λ (outcomes : List (ℕ × Seen)). outcomes ++ later.0) (seen-push halves us)
           ∙ append_assoc (seen halves) here later.0,
     )
+
+pub seen-none : seen [] ≡ []
+unfolding seen starts_below outcomes_at
+seen-none = refl
