@@ -50,38 +50,6 @@ mod station_rows;
 #[cfg(test)]
 mod station_tests;
 #[cfg(test)]
-mod tool_calls;
-#[cfg(test)]
-mod tool_capture_runs_tests;
-#[cfg(test)]
-mod tool_encode_order_tests;
-#[cfg(test)]
-mod tool_encode_tests;
-#[cfg(test)]
-mod tool_ending_tests;
-#[cfg(test)]
-mod tool_failing_tests;
-#[cfg(test)]
-mod tool_fakes;
-#[cfg(test)]
-mod tool_readcv_tests;
-#[cfg(test)]
-mod tool_run_tests;
-#[cfg(test)]
-mod tool_same_input_tests;
-#[cfg(test)]
-mod tool_same_tests;
-#[cfg(test)]
-mod tool_show_fault_tests;
-#[cfg(test)]
-mod tool_show_order_tests;
-#[cfg(test)]
-mod tool_show_tests;
-#[cfg(test)]
-mod tool_station_tests;
-#[cfg(test)]
-mod tool_track_tests;
-#[cfg(test)]
 mod wire_noise_tests;
 #[cfg(test)]
 mod wire_run_tests;

@@ -1,26 +1,15 @@
-//! Readings on the programming track with what is written for them, and writers that fail.
+//! Readings of a decoder in service, and writers that fail.
 
-use crate::tool_fakes::Taking;
+use crate::fakes::Taking;
 use dcc_packet::{CvNumber, PacketFault};
 use dcc_service::{ServiceDecoder, ServicePacket, ask};
-use dcc_tool::{Counted, Ending, Sink, ToolFault, exit_status, readcv};
+use dcc_tool::{Counted, Sink, ToolFault, readcv};
 use std::alloc::Global;
 use std::test::Fail;
 
 const TEN: &[u8] =
     b"7800e890 no\n7800e991 yes\n7800ea92 no\n7800eb93 yes\n7800ec94 no\n7800ed95 no\n\
     7800ee96 no\n7800ef97 no\n74000a7e yes\nvalue 10\n";
-
-const ZERO: &[u8] =
-    b"7800e890 no\n7800e991 no\n7800ea92 no\n7800eb93 no\n7800ec94 no\n7800ed95 no\n\
-    7800ee96 no\n7800ef97 no\n74000074 yes\nvalue 0\n";
-
-const ALL_ONES: &[u8] = b"7800e890 yes\n7800e991 yes\n7800ea92 yes\n7800eb93 yes\n7800ec94 yes\n\
-    7800ed95 yes\n7800ee96 yes\n7800ef97 yes\n7400ff8b yes\nvalue 255\n";
-
-const EMPTY: &[u8] =
-    b"7800e890 no\n7800e991 no\n7800ea92 no\n7800eb93 no\n7800ec94 no\n7800ed95 no\n\
-    7800ee96 no\n7800ef97 no\n74000074 no\nno answer\n";
 
 /// A decoder, just made, whose CV1 has this value, and all others 0.
 fn with_cv1(value: u8) -> ServiceDecoder {
@@ -52,19 +41,6 @@ fn tells(
     answer == Ok(value) && writer.inner.as_slice() == text
 }
 
-/// Whether CV1 is told to have this value, and has it afterwards.
-fn tells_of(alloc: Global, value: u8, text: &[u8]) -> bool {
-    let mut decoder = with_cv1(value);
-    tells(alloc, Some(&mut decoder), Some(value), text) && decoder.cvs()[0] == value
-}
-
-#[test]
-fn a_decoder_tells_its_value(rt: HostRuntime) {
-    assert!(rt; tells_of(rt.alloc(), 10, TEN));
-    assert!(rt; tells_of(rt.alloc(), 0, ZERO));
-    assert!(rt; tells_of(rt.alloc(), 255, ALL_ONES));
-}
-
 /// Whether a write of CV1 is answered, which leaves the decoder in service.
 fn is_written(decoder: &mut ServiceDecoder, value: u8) -> Result<bool, PacketFault> {
     let cv = CvNumber::new(1)?;
@@ -78,27 +54,6 @@ fn a_decoder_in_service_tells_its_value(rt: HostRuntime) -> Result<(), Fail> {
     for _ in 0..2u32 {
         assert!(rt; tells(rt.alloc(), Some(&mut decoder), Some(10), TEN));
     }
-    Ok(())
-}
-
-#[test]
-fn an_empty_track_gives_no_answer(rt: HostRuntime) {
-    assert!(rt; tells(rt.alloc(), None, None, EMPTY));
-}
-
-/// Whether the reading of CV1024, which is 0, writes the number lowered by one.
-fn is_lowered(alloc: Global) -> Result<bool, Fail> {
-    let mut decoder = with_cv1(3);
-    let mut writer = Counted::new(Vec::new(alloc));
-    let answer = readcv(Some(&mut decoder), CvNumber::new(1024)?, &mut writer);
-    let written = writer.inner.as_slice();
-    let front = written.starts_with(b"7bffe86c no\n");
-    Ok(answer == Ok(Some(0)) && front && written.ends_with(b"77ff0088 yes\nvalue 0\n"))
-}
-
-#[test]
-fn the_number_of_a_variable_is_lowered_by_one(rt: HostRuntime) -> Result<(), Fail> {
-    assert!(rt; is_lowered(rt.alloc())?);
     Ok(())
 }
 
@@ -129,10 +84,4 @@ fn a_failed_write_ends_a_reading(rt: HostRuntime) {
         );
     }
     assert!(rt; is_failed(Taking::new(rt.alloc(), 0, 1)));
-}
-
-#[test]
-fn a_value_ends_with_0_and_none_with_1(rt: HostRuntime) {
-    assert!(rt; exit_status(&Ok(Ending::Value(Some(0)))) == 0);
-    assert!(rt; exit_status(&Ok(Ending::Value(None))) == 1);
 }

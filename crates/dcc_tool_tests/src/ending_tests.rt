@@ -1,6 +1,7 @@
 //! Faults, and how the program ends with them.
 
-use crate::tool_calls::is_told;
+use crate::calls::is_told;
+use dcc_packet::PacketFault;
 use dcc_tool::{Ending, ToolFault, Usage, exit_status};
 use std::alloc::Global;
 use std::test::Fail;
@@ -28,6 +29,11 @@ fn faults_have_their_texts_and_numbers(rt: HostRuntime) -> Result<(), Fail> {
     assert!(rt; is_fault(alloc, station, 1, 2, "U1 bad station")?);
     let number = ToolFault::Number { line: 3 };
     assert!(rt; is_fault(alloc, number, 2, 3, "U2 line 3: bad number")?);
+    let line = ToolFault::Line {
+        line: 3,
+        fault: PacketFault::Word,
+    };
+    assert!(rt; is_fault(alloc, line, 3, 3, "U3 line 3: P10")?);
     assert!(rt; is_fault(alloc, ToolFault::Read, 4, 3, "U4 read failed")?);
     assert!(rt; is_fault(alloc, ToolFault::Write, 5, 3, "U5 write failed")?);
     assert!(rt; is_fault(alloc, ToolFault::NoMemory, 6, 3, "U6 out of memory")?);

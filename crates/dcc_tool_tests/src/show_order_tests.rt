@@ -1,6 +1,6 @@
 //! The order of reads and writes, which no contract can name.
 
-use crate::tool_fakes::{Counting, Text, Track, Watching};
+use crate::fakes::{Counting, Text, Track, Watching};
 use dcc_tool::{Counted, Input, Limits, show};
 use std::alloc::{AllocError, Global};
 use std::test::Fail;

@@ -1,13 +1,10 @@
 //! Two captures, and whether they are alike for a decoder.
 
-use crate::order_rows;
-use crate::rows::{column, rows_hold_in};
-use crate::tool_calls::{is_told, limits, s3};
-use crate::tool_fakes::{Giving, Taking, Text};
+use crate::calls::{is_told, limits, s3};
+use crate::fakes::{Giving, Taking, Text};
+use crate::rows::{column, rows_hold};
 use dcc_order::Verdict;
-use dcc_tool::{
-    Counted, Ending, Input, Limits, Source, ToolFault, exit_status, read_who, same, same_input,
-};
+use dcc_tool::{Counted, Input, Limits, Source, ToolFault, read_who, same, same_input};
 use std::alloc::{AllocError, Global};
 use std::test::Fail;
 
@@ -26,7 +23,7 @@ fn body_of(letter: u8) -> &'static [u8] {
 }
 
 /// Adds the packets of these letters, each behind a preamble.
-pub fn add(text: &mut Text, letters: &str) -> Result<(), AllocError> {
+fn add(text: &mut Text, letters: &str) -> Result<(), AllocError> {
     for letter in letters.as_bytes() {
         text.one_halves(28)?;
         text.body(body_of(*letter))?;
@@ -41,13 +38,30 @@ fn capture(alloc: Global, letters: &str) -> Result<Text<'static>, AllocError> {
     Ok(text)
 }
 
+/// Whether a verdict is told by these words.
+fn is_verdict(verdict: Verdict, words: &str) -> bool {
+    match verdict {
+        Verdict::Alike => words == "alike",
+        Verdict::Writes => words == "writes",
+        Verdict::Members(block) => is_numbered(words, "members ", block),
+        Verdict::Order(block) => is_numbered(words, "order ", block),
+    }
+}
+
+fn is_numbered(words: &str, kind: &str, block: u32) -> bool {
+    match words.strip_prefix(kind) {
+        Some(number) => number.parse() == Ok(block),
+        None => false,
+    }
+}
+
 /// Whether what was written is a line of these words.
 fn is_line(written: &[u8], words: &str) -> bool {
     written.strip_suffix(b"\n") == Some(words.as_bytes())
 }
 
 /// Whether two captures, the second from this input, have the verdict of these words, and its line is written.
-pub fn compares<R: Source>(
+fn compares<R: Source>(
     alloc: Global,
     name: &str,
     left: &[u8],
@@ -57,7 +71,7 @@ pub fn compares<R: Source>(
     let mut first = Input::new(Counted::new(left), Limits::full());
     let mut writer = Counted::new(Vec::new(alloc));
     match same(alloc, &mut first, second, &mut writer, read_who(name)?) {
-        Ok(verdict) => Ok(order_rows::is_told(verdict, words) && is_line(&writer.inner, words)),
+        Ok(verdict) => Ok(is_verdict(verdict, words) && is_line(&writer.inner, words)),
         Err(_) => Ok(false),
     }
 }
@@ -72,7 +86,7 @@ pub fn compares_both<R: Source>(
 ) -> Result<bool, Fail> {
     let mut writer = Counted::new(Vec::new(alloc));
     match same_input(alloc, input, &mut writer, s3()?) {
-        Ok(verdict) => Ok(order_rows::is_told(verdict, words) && is_line(&writer.inner, words)),
+        Ok(verdict) => Ok(is_verdict(verdict, words) && is_line(&writer.inner, words)),
         Err(fault) => Ok(is_told(alloc, &fault, told)? && writer.inner.is_empty()),
     }
 }
@@ -104,7 +118,7 @@ const VERDICTS: &str = "\
 
 #[test]
 fn verdicts_of_captures(rt: HostRuntime) -> Result<(), Fail> {
-    rows_hold_in(&rt, rt.alloc(), VERDICTS, is_compared)
+    rows_hold(&rt, rt.alloc(), VERDICTS, is_compared)
 }
 
 /// Whether two inputs are refused with this fault, twice, and nothing is written.
@@ -179,18 +193,6 @@ fn readers_and_writers_may_fail(rt: HostRuntime) -> Result<(), Fail> {
     assert!(rt; is_failed_read(alloc, text.bytes.as_slice())?);
     assert!(rt; is_failed_write(alloc, text.bytes.as_slice())?);
     Ok(())
-}
-
-pub fn status_of(verdict: Verdict) -> u8 {
-    exit_status(&Ok(Ending::Verdict(verdict)))
-}
-
-#[test]
-fn statuses(rt: HostRuntime) {
-    assert!(rt; status_of(Verdict::Alike) == 0);
-    assert!(rt; status_of(Verdict::Writes) == 1);
-    assert!(rt; status_of(Verdict::Members(0)) == 1);
-    assert!(rt; status_of(Verdict::Order(3)) == 1);
 }
 
 #[test]

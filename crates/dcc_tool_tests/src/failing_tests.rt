@@ -1,7 +1,7 @@
 //! Readers and writers that fail at each of their calls in turn: what is answered, and what was written.
 
-use crate::tool_calls::{CAPTURE, Call, HEX, gives_and_keeps, is_given, limits, station};
-use crate::tool_fakes::{Giving, Taking};
+use crate::calls::{CAPTURE, Call, HEX, gives_and_keeps, is_kept, limits, station};
+use crate::fakes::{Giving, Taking};
 use dcc_packet::{CvNumber, PacketFault};
 use dcc_service::ServiceDecoder;
 use dcc_tool::{Counted, Input, Limits, ToolFault, readcv};
@@ -227,19 +227,46 @@ fn each_write_of_a_reading_fails_in_turn(rt: HostRuntime) -> Result<(), Fail> {
     Ok(())
 }
 
-#[test]
-fn a_bad_word_leaves_what_stood_before_it(rt: HostRuntime) -> Result<(), Fail> {
-    let text: &[u8] = b"58*28 100*14 58*4 100*4 58*4 100*6 58*2 100*6 58*4 100*8 58*4\n58x\n";
-    let show = Call::Show { words: false };
-    assert!(rt;
-        is_given(
-            rt.alloc(),
-            show,
-            text,
+/// Whether a call over a text of bad words writes this and ends so, and keeps that.
+fn is_kept_for(alloc: Global, number: u32) -> Result<bool, Fail> {
+    match number {
+        0 => is_kept(
+            alloc,
+            Call::Show { words: false },
+            b"58*28 100*14 58*4 100*4 58*4 100*6 58*2 100*6 58*4 100*8 58*4\n58x\n",
             b"84 036261\n",
-            "U2 line 2: bad number"
-        )?
-    );
+            "U2 line 2: bad number",
+        ),
+        1 => is_kept(
+            alloc,
+            HEX,
+            b"idle\nx\nidle\n",
+            b"ff00ff\n",
+            "U3 line 2: P10",
+        ),
+        2 => is_kept(
+            alloc,
+            station(4, 4, 1),
+            b"send 1\nsend 0\nsend 1\n",
+            b"ff00ff\n",
+            "U3 line 2: P11",
+        ),
+        3 => is_kept(
+            alloc,
+            Call::SameInput,
+            b"58\n---\n\n58x\n",
+            b"",
+            "U2 line 4: bad number",
+        ),
+        _ => is_kept(alloc, Call::SameInput, b"58\n58", b"", "U3 line 3: P10"),
+    }
+}
+
+#[test]
+fn faults_of_words_and_lines_are_kept(rt: HostRuntime) -> Result<(), Fail> {
+    for number in 0..5u32 {
+        assert!(rt; is_kept_for(rt.alloc(), number)?, "{number}");
+    }
     Ok(())
 }
 

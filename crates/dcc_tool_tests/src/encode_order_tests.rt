@@ -1,6 +1,6 @@
 //! The order of reads and writes of `encode`, with and without a station, which no contract can name.
 
-use crate::tool_fakes::{Counting, Track, WatchingLines};
+use crate::fakes::{Counting, Track, WatchingLines};
 use dcc_tool::{Encode, Input, Limits, encode};
 use std::alloc::{AllocError, Global};
 use std::process::Abort;

@@ -1,52 +1,12 @@
-//! Captures with faults, readers that fail or never end, and writers that fail or take little at a time.
+//! Captures past their limits, readers that fail or never end, and writers that fail or take little at a time.
 
-use crate::rows::{column, number, rows_hold_in};
-use crate::tool_calls::{ends, gives, gives_and_keeps, is_given, is_within, limits, text_in};
-use crate::tool_fakes::{Giving, Taking, Text};
-use crate::tool_show_tests::{SHOW, is_listed, packet};
+use crate::calls::{ends, gives, gives_and_keeps, is_within, limits, text_in};
+use crate::fakes::{Giving, Taking};
+use crate::rows::{column, number, rows_hold};
+use crate::show_tests::{SHOW, packet};
 use dcc_tool::{Counted, Input, Limits, Source};
-use std::alloc::{AllocError, Global};
+use std::alloc::Global;
 use std::test::Fail;
-
-/// A row: a capture of no packets, and its fault.
-fn is_told_with_its_line(alloc: Global, row: &str) -> Result<bool, Fail> {
-    let text = text_in(alloc, row, 1)?;
-    is_given(alloc, SHOW, text.as_slice(), b"", column(row, 2))
-}
-
-const BAD_WORDS: &str = "\
-    on the third line | 58/58/58 58x | U2 line 3: bad number
-    behind a comment | 58 # 58x/~70^/58 58x 70 | U2 line 3: bad number
-    a run without a count | 58*_ | U2 line 1: bad number
-    a sign | -58_ | U2 line 1: bad number
-    11 digits | 00000000058_ | U2 line 1: bad number
-    10 digits | 0000000058_ |
-    a comment behind a word | 58#c |
-    a comment behind a bad word | 58x#c | U2 line 1: bad number
-    dashes | ---_ | U2 line 1: bad number
-    a vertical tab is no gap | //58%58/ | U2 line 3: bad number
-    a comment alone | # 58x |
-    no gap at the end | 58 |";
-
-/// A packet, whose preamble ends with a word before a comment.
-fn commented(alloc: Global) -> Result<Text<'static>, AllocError> {
-    let mut text = Text::new(alloc, b" ");
-    text.one_halves(27)?;
-    text.bytes.extend_from_slice(b"58#c\n")?;
-    text.body(&[0x03, 0x62, 0x61])?;
-    Ok(text)
-}
-
-#[test]
-fn bad_words_are_told_with_their_line(rt: HostRuntime) -> Result<(), Fail> {
-    let alloc = rt.alloc();
-    let text = commented(alloc)?;
-    assert!(rt;
-        is_listed(alloc, &text, b"84 036261\n")?,
-        "a word before a comment is a half"
-    );
-    rows_hold_in(&rt, alloc, BAD_WORDS, is_told_with_its_line)
-}
 
 /// A row: a capture of no packets, the limits of halves and of bytes, and the fault.
 fn is_limited(alloc: Global, row: &str) -> Result<bool, Fail> {
@@ -68,7 +28,7 @@ const LIMITS: &str = "\
 
 #[test]
 fn limits_are_kept(rt: HostRuntime) -> Result<(), Fail> {
-    rows_hold_in(&rt, rt.alloc(), LIMITS, is_limited)
+    rows_hold(&rt, rt.alloc(), LIMITS, is_limited)
 }
 
 /// A row: what a reader gives for ever, byte by byte.
@@ -86,7 +46,7 @@ const ENDLESS: &str = "\
 
 #[test]
 fn an_endless_reader_is_too_much(rt: HostRuntime) -> Result<(), Fail> {
-    rows_hold_in(&rt, rt.alloc(), ENDLESS, is_too_much)
+    rows_hold(&rt, rt.alloc(), ENDLESS, is_too_much)
 }
 
 /// A row: how many bytes a call gives, behind how many calls a call fails, and the listing of the packet until then.
@@ -115,7 +75,7 @@ const FAILED_READS: &str = "\
 
 #[test]
 fn what_came_before_a_failed_read_is_listed(rt: HostRuntime) -> Result<(), Fail> {
-    rows_hold_in(&rt, rt.alloc(), FAILED_READS, is_listed_before)
+    rows_hold(&rt, rt.alloc(), FAILED_READS, is_listed_before)
 }
 
 /// Whether a writer that takes so many bytes at each of so many calls takes this, and the call ends so.
@@ -155,5 +115,5 @@ const FAILED_WRITES: &str = "\
 
 #[test]
 fn a_failed_write_leaves_a_front(rt: HostRuntime) -> Result<(), Fail> {
-    rows_hold_in(&rt, rt.alloc(), FAILED_WRITES, is_front)
+    rows_hold(&rt, rt.alloc(), FAILED_WRITES, is_front)
 }

@@ -1,10 +1,10 @@
 //! Captures written in runs, as `58*28`.
 
-use crate::rows::{column, number, rows_hold_in};
-use crate::tool_calls::{gives, limits, text_in};
-use crate::tool_fakes::{Giving, Text};
-use crate::tool_same_tests::{are_refused, compares, compares_both};
-use crate::tool_show_tests::SHOW;
+use crate::calls::{gives, limits, text_in};
+use crate::fakes::{Giving, Text};
+use crate::rows::{column, number, rows_hold};
+use crate::same_tests::{are_refused, compares_both};
+use crate::show_tests::SHOW;
 use dcc_tool::{Counted, Input, Limits};
 use std::alloc::{AllocError, Global};
 use std::test::Fail;
@@ -87,7 +87,7 @@ const OUTCOMES: &str = "\
 
 #[test]
 fn outcomes_are_told_at_their_half_of_a_run(rt: HostRuntime) -> Result<(), Fail> {
-    rows_hold_in(&rt, rt.alloc(), OUTCOMES, is_row_listed)
+    rows_hold(&rt, rt.alloc(), OUTCOMES, is_row_listed)
 }
 
 /// A capture whose third line has this word, and an empty capture behind it.
@@ -123,7 +123,7 @@ fn is_bad(alloc: Global, word: &str) -> Result<bool, Fail> {
 
 #[test]
 fn words_that_spell_no_run_are_bad_numbers(rt: HostRuntime) -> Result<(), Fail> {
-    rows_hold_in(&rt, rt.alloc(), BAD, is_bad)
+    rows_hold(&rt, rt.alloc(), BAD, is_bad)
 }
 
 const PAST_THE_LIMIT: &str = "\
@@ -140,38 +140,7 @@ const PAST_THE_LIMIT: &str = "\
 
 #[test]
 fn a_run_past_the_limit_counts_for_nothing(rt: HostRuntime) -> Result<(), Fail> {
-    rows_hold_in(&rt, rt.alloc(), PAST_THE_LIMIT, is_row_listed)
-}
-
-/// The packet of the runs, half by half.
-fn in_halves(alloc: Global) -> Result<Text<'static>, AllocError> {
-    let mut halves = Text::new(alloc, b" ");
-    halves.one_halves(28)?;
-    halves.body(&[0x03, 0x62, 0x61])?;
-    Ok(halves)
-}
-
-/// Whether two captures in one input are alike.
-fn are_alike(alloc: Global, left: &[u8], right: &[u8]) -> Result<bool, Fail> {
-    let mut both = Text::new(alloc, b"\n");
-    both.word(left)?;
-    both.word(b"---")?;
-    both.word(right)?;
-    let mut input = Input::new(Counted::new(both.bytes.as_slice()), Limits::full());
-    compares_both(alloc, &mut input, "alike", "")
-}
-
-#[test]
-fn runs_are_alike_to_their_halves(rt: HostRuntime) -> Result<(), Fail> {
-    let alloc = rt.alloc();
-    let text = in_halves(alloc)?;
-    let halves = text.bytes.as_slice();
-    let mut second = Input::new(Counted::new(halves), Limits::full());
-    assert!(rt; compares(alloc, "s3", SLOW.as_bytes(), &mut second, "alike")?);
-    // the runs in the first capture, and in the second
-    assert!(rt; are_alike(alloc, SLOW.as_bytes(), halves)?);
-    assert!(rt; are_alike(alloc, halves, SLOW.as_bytes())?);
-    Ok(())
+    rows_hold(&rt, rt.alloc(), PAST_THE_LIMIT, is_row_listed)
 }
 
 /// A row: two captures in one input, a limit of halves, their verdict or the fault.
@@ -190,5 +159,5 @@ const BOTH_CAPTURES: &str = "\
 
 #[test]
 fn runs_of_both_captures_count_together(rt: HostRuntime) -> Result<(), Fail> {
-    rows_hold_in(&rt, rt.alloc(), BOTH_CAPTURES, is_compared)
+    rows_hold(&rt, rt.alloc(), BOTH_CAPTURES, is_compared)
 }

@@ -1,0 +1,45 @@
+//! Tables of worked examples: a row a line, its columns between bars.
+
+use std::alloc::Global;
+use std::process::Abort;
+use std::test::Fail;
+
+/// Asserts that each row of a table holds.
+pub fn rows_hold<F: Fn(Global, &str) -> Result<bool, Fail>>(
+    rt: &impl Abort,
+    alloc: Global,
+    table: &str,
+    holds: F,
+) -> Result<(), Fail>
+    requires { F.IsAlwaysCallable holds }
+{
+    for row in table.lines() {
+        assert!(rt; holds(alloc, row)?, "{row}");
+    }
+    Ok(())
+}
+
+/// The column of this number, from 0, without the blanks around it: an empty one where the row has fewer.
+pub fn column(row: &str, number: usize) -> &str {
+    let mut rest = row;
+    for _ in 0..number {
+        rest = split(rest).1;
+    }
+    split(rest).0.trim()
+}
+
+/// What stands before the first bar and behind it.
+fn split(row: &str) -> (&str, &str) {
+    match row.split_once('|') {
+        Some(parts) => parts,
+        None => (row, ""),
+    }
+}
+
+/// The number that a word is, the largest one where it is none.
+pub fn number(word: &str) -> u32 {
+    match word.parse() {
+        Ok(number) => number,
+        Err(_) => u32::MAX,
+    }
+}
