@@ -40,8 +40,7 @@ pub record BeginsWithWord (bytes : List ℕ) (len : ℕ) (ends_line : Bool) : Ty
   pub gap : is_gap (slice_index_or bytes len 0) ≡ true
   pub ends : ends_line ≡ (slice_index_or bytes len 0 == 10)
 
--- such a word, what it spells, and a line feed behind its gap where it is told
+-- such a word, and what it spells
 pub record IsWholeWord (bytes : List ℕ) (front : WholeWord) : Type 0 where
   pub begins : BeginsWithWord bytes front.len front.ends_line
   pub spelled : Spells front.word (take front.len bytes)
-  pub line_feed : front.before_line_feed ≡ true → HasLineFeedAt bytes (front.len + 1)

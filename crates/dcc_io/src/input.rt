@@ -17,7 +17,8 @@ use crate::fault::KeptFault;
 use crate::stream::Source;
 use crate::text_line::{TextLine, front_line};
 use crate::word::{
-    FrontWord, Run, RunWord, front_word, is_separator, short_front_word, whole_word,
+    FrontWord, Run, RunWord, begins_with_line_feed, front_word, is_separator, short_front_word,
+    whole_word,
 };
 use dcc_packet::{Packet, PacketFault};
 use std::marker::Model;
@@ -214,7 +215,7 @@ impl<R: Source> Input<R> {
             return None;
         }
         let line = self.line;
-        self.pass_ended_word(front.len, front.ends_line, front.before_line_feed);
+        self.pass_word_and_line_feed(front.len, front.ends_line);
         Some((line, front.word))
     }
 
@@ -240,7 +241,24 @@ impl<R: Source> Input<R> {
         }
     }
 
-    /// The same, and the line feed behind that gap where one was seen.
+    /// The same, and the line feed behind that gap where one stands there.
+    #[inline(always)]
+    fn pass_word_and_line_feed(&mut self, word_len: usize, ends_line: bool)
+        requires fault { self.old.fault ≡ None }
+        requires no_comment { self.old.place.in_comment ≡ false }
+        requires room { word_len + 2 < self.old.bytes }
+        requires begins { BeginsWithWord self.old.ahead word_len ends_line }
+        ensures passed { Passed self.old (record { line = self.old.place.line; bytes = take word_len self.old.ahead } ∷ []) self.new }
+        ensures fewer { self.new.bytes < self.old.bytes }
+        ensures behind { self.old.place.line ≤ self.new.place.line }
+    {
+        self.pass_word(word_len, ends_line);
+        if begins_with_line_feed(self.source.ahead()) {
+            self.pass_line_feed();
+        }
+    }
+
+    /// The same, where it was seen already whether one stands there.
     #[inline(always)]
     fn pass_ended_word(&mut self, word_len: usize, ends_line: bool, before_line_feed: bool)
         requires fault { self.old.fault ≡ None }

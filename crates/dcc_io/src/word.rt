@@ -222,9 +222,6 @@ pub struct WholeWord {
 
     /// Whether the gap is a line feed.
     pub ends_line: bool,
-
-    /// Whether a line feed stands behind the gap, as in CR LF.
-    pub before_line_feed: bool,
 }
 
 /// The word at the front of these bytes, if a gap ends it there.
@@ -242,7 +239,6 @@ pub fn whole_word(bytes: &[u8]) -> Option<WholeWord>
                 word,
                 len,
                 ends_line,
-                before_line_feed: has_line_feed_at(bytes, len + 1),
             });
         }
         if *byte == b'#' {
@@ -253,12 +249,12 @@ pub fn whole_word(bytes: &[u8]) -> Option<WholeWord>
     None
 }
 
-/// Whether a line feed stands behind so many of these bytes.
+/// Whether these bytes begin with a line feed.
 #[inline(always)]
-fn has_line_feed_at(bytes: &[u8], at: usize) -> bool
-    ensures { IsTrue result → HasLineFeedAt bytes.now at }
+pub fn begins_with_line_feed(bytes: &[u8]) -> bool
+    ensures { IsTrue result → HasLineFeedAt bytes.now 0 }
 {
-    at < bytes.len() && bytes[at] == b'\n'
+    !bytes.is_empty() && bytes[0] == b'\n'
 }
 
 /// Whether a byte is a gap between words: a space, a tab, CR or LF.
