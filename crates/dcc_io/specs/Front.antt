@@ -1,5 +1,5 @@
 -- A word at the front of some bytes.
-use Rattle.std.specs.Prelude.{◌≡◌, ℕ, Bool, false, ◌+◌, ◌<◌, ◌≤◌, min, List, true, not, Some, ◌==◌, ◌||◌, length, take, slice_index_or}
+use Rattle.std.specs.Prelude.{◌≡◌, ℕ, Bool, ◌<◌, ◌≤◌, min, List, true, not, Some, ◌==◌, ◌||◌, length, take, slice_index_or}
 use Rattle.std.specs.List.{list_all}
 use Rattle.dcc_io.specs.declared.word.FrontWord.{FrontWord}
 use Rattle.dcc_io.specs.declared.word.WholeWord.{WholeWord}
@@ -10,13 +10,12 @@ use Rattle.dcc_io.specs.Words.{is_gap, duration_of}
 abbrev pub HasLineFeedAt : List ℕ → ℕ → Type 0
 HasLineFeedAt bytes at = (at < length bytes) × (slice_index_or bytes at 0 ≡ 10)
 
--- these bytes begin with a word that spells the duration, and a gap, and a line feed behind that where it is told
+-- these bytes begin with a word that spells the duration, and a gap
 pub record IsFrontWord (bytes : List ℕ) (front : FrontWord) : Type 0 where
   pub inside : front.len < length bytes
   pub spells : duration_of (take front.len bytes) ≡ Some front.us
   pub gap : is_gap (slice_index_or bytes front.len 0) ≡ true
   pub ends_line : front.ends_line ≡ (slice_index_or bytes front.len 0 == 10)
-  pub line_feed : front.before_line_feed ≡ true → HasLineFeedAt bytes (front.len + 1)
 
 -- so many digits that spell this number, and a gap behind them
 pub record EndedWord (number len behind : ℕ) (front : FrontWord) : Type 0 where
@@ -26,7 +25,6 @@ pub record EndedWord (number len behind : ℕ) (front : FrontWord) : Type 0 wher
   pub us : front.us ≡ min number 65535
   pub same_len : front.len ≡ len
   pub ends_line : front.ends_line ≡ (behind == 10)
-  pub no_line_feed : front.before_line_feed ≡ false
 
 -- a byte of a word: no gap, and none that begins a comment
 abbrev pub is_plain : ℕ → Bool

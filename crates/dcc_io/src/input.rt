@@ -193,15 +193,16 @@ impl<R: Source> Input<R> {
         requires { self.old.fault ≡ None }
         ensures { AnswersWord self.old result self.new }
     {
-        match self.word_at_hand() {
+        match self.word_at_hand(false) {
             Some(word) => Ok(Some(word)),
             None => self.read_word(),
         }
     }
 
-    /// The next word and its line, where the bytes at hand begin with it and hold it whole.
+    /// The next word and its line, where the bytes at hand begin with it and hold it whole. The line feed of a CR LF is left unless it
+    /// is asked for.
     #[inline(always)]
-    fn word_at_hand(&mut self) -> Option<(u64, RunWord)>
+    fn word_at_hand(&mut self, with_line_feed: bool) -> Option<(u64, RunWord)>
         requires { self.old.fault ≡ None }
         ensures some { IfSome result (λ word. EndsWord self.old word.0 word.1 self.new) }
         ensures none { IfNone result (self.new ≡ self.old) }
@@ -215,7 +216,7 @@ impl<R: Source> Input<R> {
             return None;
         }
         let line = self.line;
-        self.pass_word_and_line_feed(front.len, front.ends_line);
+        self.pass_word_and_gap(front.len, front.ends_line, with_line_feed);
         Some((line, front.word))
     }
 
@@ -241,9 +242,9 @@ impl<R: Source> Input<R> {
         }
     }
 
-    /// The same, and the line feed behind that gap where one stands there.
+    /// The same, and with the line feed behind that gap, where it is asked for and stands there, as in CR LF.
     #[inline(always)]
-    fn pass_word_and_line_feed(&mut self, word_len: usize, ends_line: bool)
+    fn pass_word_and_gap(&mut self, word_len: usize, ends_line: bool, with_line_feed: bool)
         requires fault { self.old.fault ≡ None }
         requires no_comment { self.old.place.in_comment ≡ false }
         requires room { word_len + 2 < self.old.bytes }
@@ -253,25 +254,7 @@ impl<R: Source> Input<R> {
         ensures behind { self.old.place.line ≤ self.new.place.line }
     {
         self.pass_word(word_len, ends_line);
-        if begins_with_line_feed(self.source.ahead()) {
-            self.pass_line_feed();
-        }
-    }
-
-    /// The same, where it was seen already whether one stands there.
-    #[inline(always)]
-    fn pass_ended_word(&mut self, word_len: usize, ends_line: bool, before_line_feed: bool)
-        requires fault { self.old.fault ≡ None }
-        requires no_comment { self.old.place.in_comment ≡ false }
-        requires room { word_len + 2 < self.old.bytes }
-        requires begins { BeginsWithWord self.old.ahead word_len ends_line }
-        requires line_feed { before_line_feed ≡ true → HasLineFeedAt self.old.ahead (word_len + 1) }
-        ensures passed { Passed self.old (record { line = self.old.place.line; bytes = take word_len self.old.ahead } ∷ []) self.new }
-        ensures fewer { self.new.bytes < self.old.bytes }
-        ensures behind { self.old.place.line ≤ self.new.place.line }
-    {
-        self.pass_word(word_len, ends_line);
-        if before_line_feed {
+        if with_line_feed && begins_with_line_feed(self.source.ahead()) {
             self.pass_line_feed();
         }
     }
@@ -308,7 +291,7 @@ impl<R: Source> Input<R> {
                         word.push(byte);
                     } else if !word.is_empty() {
                         return Ok(Some((line, word)));
-                    } else if let Some(found) = self.word_at_hand() {
+                    } else if let Some(found) = self.word_at_hand(true) {
                         return Ok(Some(found));
                     }
                 }
@@ -371,12 +354,12 @@ impl<R: Source> Input<R> {
             return None;
         }
         match short_front_word(self.source.ahead()) {
-            Some(front) => self.take_front(front),
+            Some(front) => self.take_front(front, false),
             None => self.any_half_at_hand(),
         }
     }
 
-    /// The same for words of any length.
+    /// The same for words of any length and any gap, CR LF too.
     #[inline(never)]
     fn any_half_at_hand(&mut self) -> Option<u16>
         requires fault { self.old.fault ≡ None }
@@ -387,12 +370,12 @@ impl<R: Source> Input<R> {
         ensures none { IfNone result (self.new ≡ self.old) }
     {
         let front = front_word(self.source.ahead())?;
-        self.take_front(front)
+        self.take_front(front, true)
     }
 
-    /// Takes the half of the word at the front, unless its bytes are too many.
+    /// Takes the half of the word at the front, unless its bytes are too many. The line feed of a CR LF is left unless it is asked for.
     #[inline(always)]
-    fn take_front(&mut self, front: FrontWord) -> Option<u16>
+    fn take_front(&mut self, front: FrontWord, with_line_feed: bool) -> Option<u16>
         requires fault { self.old.fault ≡ None }
         requires no_comment { self.old.place.in_comment ≡ false }
         requires left { 0 < self.old.halves }
@@ -405,7 +388,7 @@ impl<R: Source> Input<R> {
         if self.bytes_left as usize <= front.len + 2 {
             return None;
         }
-        self.pass_ended_word(front.len, front.ends_line, front.before_line_feed);
+        self.pass_word_and_gap(front.len, front.ends_line, with_line_feed);
         self.halves_left -= 1;
         Some(front.us)
     }

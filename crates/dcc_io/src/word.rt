@@ -1,5 +1,5 @@
 //! A word of a capture, taken byte by byte.
-ghost use Rattle.std.specs.Prelude.{◌≡◌, ◌↔◌, ◌<◌, ◌≤◌, min, ℕ, List, [], ◌∷◌, ◌++◌, not, true, false, ◌==◌, ◌&&◌, IfSome, IsTrue};
+ghost use Rattle.std.specs.Prelude.{◌≡◌, ◌↔◌, ◌<◌, ◌≤◌, min, ℕ, List, [], ◌∷◌, ◌++◌, not, true, ◌==◌, ◌&&◌, IfSome, IsTrue};
 ghost use Rattle.dcc_io.specs.Words.{is_gap, is_mark, is_some_byte, run_of};
 ghost use Rattle.dcc_io.specs.Front.{HasLineFeedAt, IsFrontWord, IsWholeWord, EndedWord};
 
@@ -101,17 +101,14 @@ pub struct FrontWord {
 
     /// Whether the gap is a line feed.
     pub ends_line: bool,
-
-    /// Whether a line feed was seen behind the gap, as in CR LF.
-    pub before_line_feed: bool,
 }
 
-/// The word at the front of these bytes, if it has two or three digits and a space, a line feed or CR LF ends it. Most words are such.
+/// The word at the front of these bytes, if it has two or three digits and a space or a line feed ends it. Most words are such.
 #[inline(always)]
 pub fn short_front_word(bytes: &[u8]) -> Option<FrontWord>
     ensures { IfSome result (λ front. IsFrontWord bytes.now front) }
 {
-    if bytes.len() < 5 || !is_digit(bytes[0]) || !is_digit(bytes[1]) {
+    if bytes.len() < 4 || !is_digit(bytes[0]) || !is_digit(bytes[1]) {
         return None;
     }
     let tens = u16::from(bytes[0] - b'0') * 10 + u16::from(bytes[1] - b'0');
@@ -120,50 +117,16 @@ pub fn short_front_word(bytes: &[u8]) -> Option<FrontWord>
             us: tens,
             len: 2,
             ends_line: bytes[2] == b'\n',
-            before_line_feed: false,
         });
     }
-    if is_digit(bytes[2]) {
-        let us = tens * 10 + u16::from(bytes[2] - b'0');
-        if ends_most_words(bytes[3]) {
-            return Some(FrontWord {
-                us,
-                len: 3,
-                ends_line: bytes[3] == b'\n',
-                before_line_feed: false,
-            });
-        }
-        if is_cr_lf(bytes[3], bytes[4]) {
-            return Some(before_cr_lf(us, 3));
-        }
-    } else if is_cr_lf(bytes[2], bytes[3]) {
-        return Some(before_cr_lf(tens, 2));
+    if is_digit(bytes[2]) && ends_most_words(bytes[3]) {
+        return Some(FrontWord {
+            us: tens * 10 + u16::from(bytes[2] - b'0'),
+            len: 3,
+            ends_line: bytes[3] == b'\n',
+        });
     }
     None
-}
-
-/// A word before CR LF.
-#[inline(always)]
-fn before_cr_lf(us: u16, len: usize) -> FrontWord
-    ensures { result ≡ record { us = us; len = len; ends_line = false; before_line_feed = true } }
-{
-    FrontWord {
-        us,
-        len,
-        ends_line: false,
-        before_line_feed: true,
-    }
-}
-
-/// Whether two bytes are CR LF.
-#[inline(always)]
-#[tactic(auto, unfolding(crate::specs::Words::is_gap))]
-fn is_cr_lf(first: u8, second: u8) -> bool
-    ensures gap { IsTrue result → is_gap first ≡ true }
-    ensures no_line { IsTrue result → (first == 10) ≡ false }
-    ensures line_feed { IsTrue result → second ≡ 10 }
-{
-    first == b'\r' && second == b'\n'
 }
 
 #[inline(always)]
@@ -208,7 +171,6 @@ fn ended_word(number: u32, len: usize, behind: u8) -> Option<FrontWord>
         us: number.min(65535) as u16,
         len,
         ends_line: behind == b'\n',
-        before_line_feed: false,
     })
 }
 

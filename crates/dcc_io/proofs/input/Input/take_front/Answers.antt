@@ -16,21 +16,21 @@ one_less input = record {
   failures = input.failures;
 }
 
-pub pass_ended_word-requires-clause-begins : goal.pass_ended_word-requires-clause-begins
-pass_ended_word-requires-clause-begins g c = begins_with c.args.self.now.ahead c.args.front c.requires.front
+pub pass_word_and_gap-requires-clause-begins : goal.pass_word_and_gap-requires-clause-begins
+pass_word_and_gap-requires-clause-begins g c = begins_with c.args.self.now.ahead c.args.front c.requires.front
 
 pub returns-clause-some : goal.returns-clause-some
 unfolding one_less
 returns-clause-some g c =
-    let passed = c.pass_ended_word.ensures.passed in
+    let passed = c.pass_word_and_gap.ensures.passed in
     let left = c.requires.left in
-    run_taken _ _ c.args.front.us (takes_half c.args.self.now c.pass_ended_word.new.self _ c.args.self.now.ahead c.args.front c.requires.front
-    passed c.pass_ended_word.ensures.fewer (omega (arith, passed.halves, left)) (ap one_less c.self-2.view_is))
+    run_taken _ _ c.args.front.us (takes_half c.args.self.now c.pass_word_and_gap.new.self _ c.args.self.now.ahead c.args.front c.requires.front
+    passed c.pass_word_and_gap.ensures.fewer (omega (arith, passed.halves, left)) (ap one_less c.self-2.view_is))
 
 pub returns-clause-first : goal.returns-clause-first
 unfolding one_less
 returns-clause-first g c = λ before.
-    let passed = c.pass_ended_word.ensures.passed in
+    let passed = c.pass_word_and_gap.ensures.passed in
     let left = c.requires.left in
-    first_taken before _ _ c.args.front.us c.requires.fault (takes_half c.args.self.now c.pass_ended_word.new.self _ c.args.self.now.ahead c.args.front c.requires.front
-    passed c.pass_ended_word.ensures.fewer (omega (arith, passed.halves, left)) (ap one_less c.self-2.view_is))
+    first_taken before _ _ c.args.front.us c.requires.fault (takes_half c.args.self.now c.pass_word_and_gap.new.self _ c.args.self.now.ahead c.args.front c.requires.front
+    passed c.pass_word_and_gap.ensures.fewer (omega (arith, passed.halves, left)) (ap one_less c.self-2.view_is))

@@ -1,6 +1,6 @@
 use Rattle.std.proofs.Common.{[], ◌∷◌, take}
 use Rattle.dcc_io.proofs.PassedLemmas.{Passed-join}
-use Rattle.dcc_io.proofs.input.Input.pass_word_and_line_feed.Goals as goal
+use Rattle.dcc_io.proofs.input.Input.pass_word_and_gap.Goals as goal
 
 pub returns-then-begins_with_line_feed-clause-passed : goal.returns-then-begins_with_line_feed-clause-passed
 returns-then-begins_with_line_feed-clause-passed g c =
