@@ -316,6 +316,7 @@ impl<R: Source> Input<R> {
     }
 
     /// The run that the next word spells, or none at the end. A fault is kept.
+    #[inline(always)]
     pub(crate) fn read_run(&mut self) -> Result<Option<Run>, KeptFault>
         ensures kept { AnswersKept self.old result self.new }
         ensures reads { self.old.fault ≡ None → AnswersRun self.old result self.new }
@@ -327,6 +328,7 @@ impl<R: Source> Input<R> {
     }
 
     /// The same, where no fault is kept.
+    #[inline(always)]
     fn run_of_next_word(&mut self) -> Result<Option<Run>, KeptFault>
         requires { self.old.fault ≡ None }
         ensures { AnswersRun self.old result self.new }

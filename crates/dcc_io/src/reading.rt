@@ -27,6 +27,7 @@ pub fn half_at_hand<R: Source>(input: &mut Input<R>) -> Option<u16>
 }
 
 /// The run that the next word spells, or none at the end. A fault is kept.
+#[inline(always)]
 pub fn read_run<R: Source>(input: &mut Input<R>) -> Result<Option<Run>, KeptFault>
     ensures kept { AnswersKept input.old result input.new }
     ensures reads { input.old.fault ≡ None → AnswersRun input.old result input.new }
