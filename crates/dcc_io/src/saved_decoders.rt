@@ -23,7 +23,8 @@ const MOST: usize = 64;
 /// A text that is none is U3, with the line and its first fault from the left: P10 a line or a word that
 /// may not stand there or is missing, P11 a wrong number, P1 to P9 and P14 a number out of the range of its value,
 /// P12 hex digits that are no frame, P13 a state that no decoder can be in. The decoders are such as
-/// `restore` takes. Memory is taken once, before anything is read; where there is none, the answer is U6.
+/// `restore` takes. U7 where a 65th one stands in it or a limit is passed, U4 where a read fails. Memory is taken once, before
+/// anything is read; where there is none, the answer is U6.
 pub fn read_decoders<R: Source>(
     alloc: Global,
     input: &mut Input<R>,
