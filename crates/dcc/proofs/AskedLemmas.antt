@@ -9,12 +9,15 @@ use Rattle.clap.proofs.WalkLemmas.{first_value-rows}
 use Rattle.dcc.specs.Asked.{IsNumber}
 
 -- a text that is a number is read as this number
-pub reads_number : {E : Type 0} (gives : Text → Result ℕ E → Type 0) (bits : ℕ) → ((text : Text) (r : Result ℕ E) → gives text r → ParsesUnsigned bits 10 text r)
-    → (text : Text) (read : Option ℕ) → ReadsOne gives text read → IsNumber bits text → read ≡ Some (digits_value 10 (without_leading_plus text))
+pub reads_number : {E : Type 0} (gives : Text → Result ℕ E → Type 0) (bits : ℕ)
+    → ((text : Text) (r : Result ℕ E) → gives text r → ParsesUnsigned bits 10 text r)
+    → (text : Text) (read : Option ℕ) → ReadsOne gives text read → IsNumber bits text
+    → read ≡ Some (digits_value 10 (without_leading_plus text))
 reads_number gives bits parses text (Some n) reads number = ap Some (parses text _ reads).1
 reads_number gives bits parses text None reads number = absurd (parses text _ reads.1 number)
 
 -- the first word of an argument, in the rows that were found
-pub first_word : (found : Found) (id : Text) (word : Option (Bor (List ℕ))) → option_map (λ s. s.now) word ≡ first_value found id
+pub first_word : (found : Found) (id : Text) (word : Option (Bor (List ℕ)))
+    → option_map (λ s. s.now) word ≡ first_value found id
     → first_of id (rows_of found) ≡ option_map (λ s. s.now) word
 first_word found id word is = sym (is ∙ first_value-rows found id)

@@ -9,7 +9,8 @@ use Rattle.dcc.specs.CommandLine.{dcc_app}
 abbrev read_of : Text → List Text → Option (Text × Option Text)
 read_of id words = option_map (λ p. (p.0, one_of id p.1)) (subcommand_of dcc_app words)
 
-show_in_words : read_of (codes "words") (codes "dcc" ∷ codes "show" ∷ codes "--words" ∷ []) ≡ Some (codes "show", Some (codes "true"))
+show_in_words : read_of (codes "words") (codes "dcc" ∷ codes "show" ∷ codes "--words" ∷ []) ≡ Some
+    (codes "show", Some (codes "true"))
 unfolding clap_on_literals
 show_in_words = refl
 
@@ -17,7 +18,9 @@ show_in_hex : read_of (codes "words") (codes "dcc" ∷ codes "show" ∷ []) ≡ 
 unfolding clap_on_literals
 show_in_hex = refl
 
-a_queue_of_9 : read_of (codes "queue") (codes "dcc" ∷ codes "encode" ∷ codes "--station" ∷ codes "--queue=9" ∷ []) ≡ Some (codes "encode", Some (codes "9"))
+a_queue_of_9 : read_of (codes "queue")
+    (codes "dcc" ∷ codes "encode" ∷ codes "--station" ∷ codes "--queue=9" ∷ []) ≡ Some
+    (codes "encode", Some (codes "9"))
 unfolding clap_on_literals
 a_queue_of_9 = refl
 
@@ -25,7 +28,8 @@ no_queue : read_of (codes "queue") (codes "dcc" ∷ codes "encode" ∷ codes "--
 unfolding clap_on_literals
 no_queue = refl
 
-cv_29 : read_of (codes "cv") (codes "dcc" ∷ codes "readcv" ∷ codes "--cv" ∷ codes "29" ∷ []) ≡ Some (codes "readcv", Some (codes "29"))
+cv_29 : read_of (codes "cv") (codes "dcc" ∷ codes "readcv" ∷ codes "--cv" ∷ codes "29" ∷ []) ≡ Some
+    (codes "readcv", Some (codes "29"))
 unfolding clap_on_literals
 cv_29 = refl
 

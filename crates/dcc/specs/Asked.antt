@@ -27,13 +27,15 @@ IsNumber bits text = IsNumeral 10 (without_leading_plus text) × (digits_value 1
 -- the number that was given, and this one where none was
 pub record IsSize (id : Text) (rows : List Row) (other : ℕ) (size : ℕ) : Type 0 where
   pub absent : one_of id rows ≡ None → size ≡ other
-  pub given : (text : Text) → one_of id rows ≡ Some text → IsNumber 8 text → size ≡ digits_value 10 (without_leading_plus text)
+  pub given : (text : Text) → one_of id rows ≡ Some text → IsNumber 8 text
+      → size ≡ digits_value 10 (without_leading_plus text)
 
 -- the sizes of the station that is asked for, with 16, 32 and 2 for those that are not given
 abbrev pub IsStation : List Row → Option (ℕ × ℕ × ℕ) → Type 0
 IsStation rows None = IsFlag (codes "station") rows false
 IsStation rows (Some (queue, slots, repeats)) =
-    IsFlag (codes "station") rows true × IsSize (codes "queue") rows 16 queue × IsSize (codes "slots") rows 32 slots × IsSize (codes "repeats") rows 2 repeats
+    IsFlag (codes "station") rows true × IsSize (codes "queue") rows 16 queue × IsSize (codes "slots") rows 32 slots
+    × IsSize (codes "repeats") rows 2 repeats
 
 -- how packets are written
 pub record IsEncoding (rows : List Row) (how : Encode) : Type 0 where
@@ -57,11 +59,13 @@ reading_of (Err refused) empty = Err (fault.Usage usage.Words)
 
 abbrev pub ReadsCvOf : List Row → Result Request ToolFault → Type 0
 ReadsCvOf rows result = (text : Text) → one_of (codes "cv") rows ≡ Some text → IsNumber 16 text →
-    (empty : Bool) × IsFlag (codes "empty") rows empty × (result ≡ reading_of (cv_of (digits_value 10 (without_leading_plus text))) empty)
+    (empty : Bool) × IsFlag (codes "empty") rows empty
+    × (result ≡ reading_of (cv_of (digits_value 10 (without_leading_plus text))) empty)
 
 -- What the subcommand of this name, with what was found for its arguments, asks for.
 pub record Asks (name : Text) (rows : List Row) (result : Result Request ToolFault) : Type 0 where
-  pub show : name ≡ codes "show" → (words : Bool) × IsFlag (codes "words") rows words × (result ≡ Ok (request.Show words))
+  pub show : name ≡ codes "show"
+      → (words : Bool) × IsFlag (codes "words") rows words × (result ≡ Ok (request.Show words))
   pub encode : name ≡ codes "encode" → (how : Encode) × IsEncoding rows how × (result ≡ Ok (request.Encode how))
   pub run : name ≡ codes "run" → result ≡ Ok request.Run
   pub same : name ≡ codes "same" → result ≡ comparison (first_of (codes "who") rows)

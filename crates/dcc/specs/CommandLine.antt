@@ -14,22 +14,29 @@ size_rule name = record (new_rule name) { long = Some name; parser = Some (value
 
 -- `--who W`, which has to be given
 abbrev pub who_rule : Rule
-who_rule = record (new_rule (codes "who")) { long = Some (codes "who"); required = true; action = Some Set; value_names = 1 }
+who_rule =
+    record (new_rule (codes "who")) { long = Some (codes "who"); required = true; action = Some Set; value_names = 1 }
 
 -- `--cv N`, N from 1 to 1024, which has to be given
 abbrev pub cv_rule : Rule
-cv_rule = record (new_rule (codes "cv")) { long = Some (codes "cv"); required = true; action = Some Set; parser = Some (values.Signed (pos 1) (pos 1024)) }
+cv_rule =
+    record (new_rule (codes "cv"))
+    { long = Some (codes "cv"); required = true; action = Some Set; parser = Some (values.Signed (pos 1) (pos 1024)) }
 
 abbrev pub show_app : App
 show_app = with_rule (new_app (codes "show")) (flag_rule (codes "words"))
 
 -- `encode` has three flags
 abbrev pub encode_flags : App
-encode_flags = with_rule (with_rule (with_rule (new_app (codes "encode")) (flag_rule (codes "hex"))) (flag_rule (codes "service"))) (flag_rule (codes "station"))
+encode_flags =
+    with_rule (with_rule (with_rule (new_app (codes "encode")) (flag_rule (codes "hex"))) (flag_rule (codes "service")))
+    (flag_rule (codes "station"))
 
 -- and three sizes
 abbrev pub encode_app : App
-encode_app = with_rule (with_rule (with_rule encode_flags (size_rule (codes "queue"))) (size_rule (codes "slots"))) (size_rule (codes "repeats"))
+encode_app =
+    with_rule (with_rule (with_rule encode_flags (size_rule (codes "queue"))) (size_rule (codes "slots")))
+    (size_rule (codes "repeats"))
 
 abbrev pub run_app : App
 run_app = new_app (codes "run")
@@ -42,8 +49,18 @@ readcv_app = with_rule (with_rule (new_app (codes "readcv")) cv_rule) (flag_rule
 
 -- the program alone: it has a version, and a subcommand has to be given, of which `help` is none
 abbrev pub top_app : App
-top_app = record { top = record (new_app (codes "dcc")).top { has_version = true; subcommand_required = true; disable_help_subcommand = true }; subs = (new_app (codes "dcc")).subs }
+top_app =
+    record {
+      top =
+          record (new_app (codes "dcc")).top
+          { has_version = true; subcommand_required = true; disable_help_subcommand = true };
+      subs = (new_app (codes "dcc")).subs;
+    }
 
 -- the program with its subcommands
 abbrev pub dcc_app : App
-dcc_app = with_subcommand (with_subcommand (with_subcommand (with_subcommand (with_subcommand top_app show_app.top) encode_app.top) run_app.top) same_app.top) readcv_app.top
+dcc_app =
+    with_subcommand
+    (with_subcommand
+    (with_subcommand (with_subcommand (with_subcommand top_app show_app.top) encode_app.top) run_app.top)
+    same_app.top) readcv_app.top

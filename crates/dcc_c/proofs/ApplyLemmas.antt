@@ -24,9 +24,11 @@ LocoComes packet result before =
 pub same_some : {A : Type 0} (x y : A) (o : Option A) → o ≡ Some x → o ≡ Some y → x ≡ y
 same_some x y o e f = cc
 
-pub loco_heard_as : (packet : Packet) (taken before : LocoState) (result read : Option LocoState) → read ≡ Some taken → read ≡ Some before
+pub loco_heard_as : (packet : Packet) (taken before : LocoState) (result read : Option LocoState) → read ≡ Some taken
+    → read ≡ Some before
     → LocoComes packet result taken → LocoComes packet result before
-loco_heard_as packet taken before result read e f h = subst (λ (s : LocoState). LocoComes packet result s) (same_some taken before read e f) h
+loco_heard_as packet taken before result read e f h =
+    subst (λ (s : LocoState). LocoComes packet result s) (same_some taken before read e f) h
 
 -- the same of a board
 abbrev BoardComes : Packet → Option BoardState → BoardState → Type 0
@@ -34,9 +36,11 @@ BoardComes packet result before =
     is_single before ≡ true → (after : BoardState) × (result ≡ Some after) × (is_single after ≡ true)
     × HasApplied packet (board_who before) (board_map before) (board_who after) (board_map after)
 
-pub board_heard_as : (packet : Packet) (taken before : BoardState) (result read : Option BoardState) → read ≡ Some taken → read ≡ Some before
+pub board_heard_as : (packet : Packet) (taken before : BoardState) (result read : Option BoardState) → read ≡ Some taken
+    → read ≡ Some before
     → BoardComes packet result taken → BoardComes packet result before
-board_heard_as packet taken before result read e f h = subst (λ (s : BoardState). BoardComes packet result s) (same_some taken before read e f) h
+board_heard_as packet taken before result read e f h =
+    subst (λ (s : BoardState). BoardComes packet result s) (same_some taken before read e f) h
 
 pub same_ok : {A E : Type 0} (x y : A) (r : Result A E) → r ≡ Ok x → r ≡ Ok y → x ≡ y
 same_ok x y r e f = cc

@@ -10,14 +10,17 @@ use Rattle.dcc_c.specs.Boards.{board_numbers}
 use Rattle.dcc_packet.proofs.UpTo.{up_to_ok}
 
 pub board_back : (number : ℕ) (board : Board) → number ≡ board.number → board_of number ≡ Ok board
-board_back number board e = rw e (up_to_ok 511 board.number faults.Board (λ h. record { number = board.number; in_range = h }) board.in_range)
+board_back number board e =
+    rw e (up_to_ok 511 board.number faults.Board (λ h. record { number = board.number; in_range = h }) board.in_range)
 
 -- a state whose board and numbers these are
-pub state_back : (board : Board) (numbers : DccBoard) (state : BoardState) → numbers ≡ board_numbers state → board ≡ state.board
+pub state_back : (board : Board) (numbers : DccBoard) (state : BoardState) → numbers ≡ board_numbers state
+    → board ≡ state.board
     → record { board = board; outs = numbers.outs; positions = numbers.positions; aspects = numbers.aspects } ≡ state
 state_back board numbers state e f = rw (e, f) refl
 
-pub number_back : (numbers : DccBoard) (state : BoardState) → numbers ≡ board_numbers state → numbers.number ≡ state.board.number
+pub number_back : (numbers : DccBoard) (state : BoardState) → numbers ≡ board_numbers state
+    → numbers.number ≡ state.board.number
 number_back numbers state e = ap (λ (n : DccBoard). n.number) e
 
 pub same_who : (a b : Board) → BoardWho a ≡ BoardWho b → a.number ≡ b.number

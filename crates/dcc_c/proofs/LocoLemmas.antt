@@ -12,10 +12,13 @@ use Rattle.dcc_c.specs.Locos.{own_kind, own_number}
 use Rattle.dcc_packet.proofs.UpTo.{up_to_ok, from_one_to_ok}
 
 pub short_back : (number : ℕ) (own : ShortAddress) → number ≡ own.number → short_of number ≡ Ok (Short own)
-short_back number own e = rw e (from_one_to_ok 127 own.number faults.Short (λ h. Short (record { number = own.number; in_range = h })) own.in_range)
+short_back number own e =
+    rw e (from_one_to_ok 127 own.number faults.Short (λ h. Short (record { number = own.number; in_range = h }))
+    own.in_range)
 
 pub long_back : (number : ℕ) (own : LongAddress) → number ≡ own.number → long_of number ≡ Ok (Long own)
-long_back number own e = rw e (up_to_ok 10239 own.number faults.Long (λ h. Long (record { number = own.number; in_range = h })) own.in_range)
+long_back number own e =
+    rw e (up_to_ok 10239 own.number faults.Long (λ h. Long (record { number = own.number; in_range = h })) own.in_range)
 
 pub is_none : (own : Option Address) → is_active own ≡ true → own_kind own ≡ 0 → None ≡ own
 is_none None a e = refl

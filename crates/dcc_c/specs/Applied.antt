@@ -9,8 +9,9 @@ use Rattle.dcc_regs.specs.Setting.{set_from}
 
 -- the decoder is who it was, and its registers are those after the step; where it does not hear the packet they are as
 -- before, and each is that the packet does not set
-pub record HasApplied (packet : Packet) (who : Who) (before : RegisterMap) (who' : Who) (after : RegisterMap) : Type 0 where
-  pub same_who : who' ≡ who
-  pub step : after ≡ step who before packet
-  pub unheard : hears who packet ≡ false → after ≡ before
-  pub kept : (r : Register) → set_from before packet r ≡ None → after r ≡ before r
+pub record HasApplied (packet : Packet) (who : Who) (before : RegisterMap) (who' : Who) (after : RegisterMap) : Type 0
+  where
+    pub same_who : who' ≡ who
+    pub step : after ≡ step who before packet
+    pub unheard : hears who packet ≡ false → after ≡ before
+    pub kept : (r : Register) → set_from before packet r ≡ None → after r ≡ before r

@@ -5,7 +5,8 @@ use Rattle.dcc_packet.specs.declared.address.Address.TheVariants.{Broadcast, Sho
 use Rattle.dcc_packet.specs.declared.functions.Group.{Group}
 use Rattle.dcc_packet.specs.declared.functions.Group.TheVariants.{F0, F5, F9, F13, F21, F29, F37, F45, F53, F61}
 use Rattle.dcc_packet.specs.declared.instruction.What.{What}
-use Rattle.dcc_packet.specs.declared.instruction.What.TheVariants.{Reset, Speed28, Speed128, Functions, BinaryState, CvWrite, CvVerify, CvBitWrite, CvBitVerify}
+use Rattle.dcc_packet.specs.declared.instruction.What.TheVariants.{Reset, Speed28, Speed128, Functions, BinaryState}
+use Rattle.dcc_packet.specs.declared.instruction.What.TheVariants.{CvWrite, CvVerify, CvBitWrite, CvBitVerify}
 use Rattle.dcc_packet.specs.declared.packet.Packet.{Packet}
 use Rattle.dcc_packet.specs.declared.packet.Packet.TheVariants.{Idle, Loco, Accessory, Signal, Other}
 use Rattle.dcc_c.specs.declared.packet.DccPacket.{DccPacket}
@@ -58,7 +59,8 @@ abbrev pub instruction_numbers : What → DccPacket
 instruction_numbers Reset = of_kind 1
 instruction_numbers (Speed28 forward speed) = record (of_kind 2) { forward = forward; bits = speed.bits }
 instruction_numbers (Speed128 forward speed) = record (of_kind 3) { forward = forward; bits = speed.bits }
-instruction_numbers (Functions functions) = record (of_kind 4) { group = group_number functions.group; bits = functions.bits }
+instruction_numbers (Functions functions) =
+    record (of_kind 4) { group = group_number functions.group; bits = functions.bits }
 instruction_numbers (BinaryState state on) = record (of_kind 5) { state = state.number; on = on }
 instruction_numbers (CvWrite cv value) = record (of_kind 6) { cv = cv.number; value = value }
 instruction_numbers (CvVerify cv value) = record (of_kind 7) { cv = cv.number; value = value }
@@ -69,6 +71,7 @@ instruction_numbers (CvBitVerify cv place one) = record (of_kind 9) { cv = cv.nu
 abbrev pub packet_numbers : Packet → DccPacket
 packet_numbers Idle = of_kind 0
 packet_numbers (Loco to what) = record (instruction_numbers what) { to = address_kind to; address = address_number to }
-packet_numbers (Accessory board output on) = record (of_kind 10) { address = board.number; output = output.number; on = on }
+packet_numbers (Accessory board output on) =
+    record (of_kind 10) { address = board.number; output = output.number; on = on }
 packet_numbers (Signal address aspect) = record (of_kind 11) { address = address.number; aspect = aspect }
 packet_numbers (Other frame) = of_kind 12

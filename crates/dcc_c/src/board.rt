@@ -32,7 +32,8 @@ pub struct DccBoard {
 /// of this number, 0 to 510 (P3), and then nothing is written.
 #[unsafe(no_mangle)]
 pub extern "C" fn dcc_board_new(board: &mut DccBoard, number: u16) -> u8
-    ensures made { nat_le number 510 ≡ true → (state : BoardState) × (state.board.number ≡ number) × (board.new ≡ board_numbers state)
+    ensures made { nat_le number 510 ≡ true
+        → (state : BoardState) × (state.board.number ≡ number) × (board.new ≡ board_numbers state)
         × (board_map state ≡ board_registers made) × (result ≡ 0) }
     ensures refused { nat_le number 510 ≡ false → result ≡ 3 }
     ensures kept { nat_le number 510 ≡ false → board.new ≡ board.old }
@@ -62,10 +63,12 @@ fn new(number: u16) -> Result<BoardState, PacketFault>
 #[unsafe(no_mangle)]
 pub extern "C" fn dcc_board_apply(board: &mut DccBoard, frame: &[u8]) -> u8
     ensures no_frame { frame_answer frame.now ≢ 0 → result ≡ frame_answer frame.now }
-    ensures applies { frame_answer frame.now ≡ 0 → (before : BoardState) → is_single before ≡ true → board.old ≡ board_numbers before →
+    ensures applies { frame_answer frame.now ≡ 0 → (before : BoardState) → is_single before ≡ true
+        → board.old ≡ board_numbers before →
         (packet : Packet) × (after : BoardState) × (spelling packet ≡ frame.now) × (is_single after ≡ true)
         × (board.new ≡ board_numbers after) × (result ≡ 0) × HasApplied packet (board_who before) (board_map before) (board_who after) (board_map after) }
-    ensures decoder { result ≡ 0 → (before : BoardState) × (is_single before ≡ true) × (board.old ≡ board_numbers before) }
+    ensures decoder { result ≡ 0
+        → (before : BoardState) × (is_single before ≡ true) × (board.old ≡ board_numbers before) }
     ensures refused { result ≢ 0 → result ≢ frame_answer frame.now → result ≡ 13 }
     ensures kept { result ≢ 0 → board.new ≡ board.old }
 {
@@ -83,7 +86,8 @@ pub extern "C" fn dcc_board_apply(board: &mut DccBoard, frame: &[u8]) -> u8
 
 /// The state of a decoder with these numbers after a packet.
 fn after(board: &DccBoard, packet: &Packet) -> Option<BoardState>
-    ensures decoder { IfSome result (λ _. (before : BoardState) × (is_single before ≡ true) × (board.now ≡ board_numbers before)) }
+    ensures decoder { IfSome result
+        (λ _. (before : BoardState) × (is_single before ≡ true) × (board.now ≡ board_numbers before)) }
     ensures applies { (before : BoardState) → is_single before ≡ true → board.now ≡ board_numbers before →
         (after : BoardState) × (result ≡ Some after) × (is_single after ≡ true)
         × HasApplied packet.now (board_who before) (board_map before) (board_who after) (board_map after) }

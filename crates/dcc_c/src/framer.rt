@@ -23,7 +23,8 @@ pub extern "C" fn dcc_framer_new() -> KeptFramer
 /// A half for a framer that is kept, with the promise of `Framer::push`.
 fn push(kept: &mut KeptFramer, us: u16) -> Seen
     ensures history { (halves : List ℕ) × StandsFor (kept_rest kept.old) halves }
-    ensures stands { (halves : List ℕ) → StandsFor (kept_rest kept.old) halves → StandsFor (kept_rest kept.new) (halves ++ us ∷ []) }
+    ensures stands { (halves : List ℕ) → StandsFor (kept_rest kept.old) halves
+        → StandsFor (kept_rest kept.new) (halves ++ us ∷ []) }
     ensures sees { (halves : List ℕ) → StandsFor (kept_rest kept.old) halves →
         seen (halves ++ us ∷ []) ≡ seen halves ++ reported (length halves) result }
     ensures hunts { result ≢ Seen.Nothing → kept_rest kept.new ≡ Hunting (ones_left result) }
@@ -39,7 +40,8 @@ fn push(kept: &mut KeptFramer, us: u16) -> Seen
 #[unsafe(no_mangle)]
 pub extern "C" fn dcc_push(framer: &mut KeptFramer, us: u16, outcome: &mut DccOutcome) -> u8
     ensures history { (halves : List ℕ) × StandsFor (kept_rest framer.old) halves }
-    ensures stands { (halves : List ℕ) → StandsFor (kept_rest framer.old) halves → StandsFor (kept_rest framer.new) (halves ++ us ∷ []) }
+    ensures stands { (halves : List ℕ) → StandsFor (kept_rest framer.old) halves
+        → StandsFor (kept_rest framer.new) (halves ++ us ∷ []) }
     ensures sees { (halves : List ℕ) → StandsFor (kept_rest framer.old) halves →
         seen (halves ++ us ∷ []) ≡ seen halves ++ reported (length halves) (answered result outcome.new) }
     ensures hunts { result ≢ 0 → kept_rest framer.new ≡ Hunting (ones_left (answered result outcome.new)) }
@@ -58,7 +60,8 @@ pub extern "C" fn dcc_push(framer: &mut KeptFramer, us: u16, outcome: &mut DccOu
 /// A run of halves for a framer that is kept, with the promise of `Framer::push_run`.
 fn push_run(kept: &mut KeptFramer, us: u16, n: u32) -> RunSeen
     ensures history { (halves : List ℕ) × StandsFor (kept_rest kept.old) halves }
-    ensures stands { (halves : List ℕ) → StandsFor (kept_rest kept.old) halves → StandsFor (kept_rest kept.new) (halves ++ replicate n us) }
+    ensures stands { (halves : List ℕ) → StandsFor (kept_rest kept.old) halves
+        → StandsFor (kept_rest kept.new) (halves ++ replicate n us) }
     ensures sees { (halves : List ℕ) → StandsFor (kept_rest kept.old) halves →
         seen (halves ++ replicate n us) ≡ seen halves ++ reported (length halves + result.at - 1) result.seen }
     ensures before { (halves : List ℕ) → StandsFor (kept_rest kept.old) halves →

@@ -18,7 +18,8 @@ use dcc_packet::Packet;
 #[unsafe(no_mangle)]
 pub extern "C" fn dcc_line(frame: &[u8], line: &mut [u8; 41]) -> u8
     ensures answer { result ≡ frame_answer frame.now }
-    ensures line { result ≡ 0 → (packet : Packet) × (spelling packet ≡ frame.now) × (line.new ≡ zeros_behind 41 (written_line packet)) }
+    ensures line { result ≡ 0
+        → (packet : Packet) × (spelling packet ≡ frame.now) × (line.new ≡ zeros_behind 41 (written_line packet)) }
     ensures kept { result ≢ 0 → line.new ≡ line.old }
 {
     match frame_of(frame) {

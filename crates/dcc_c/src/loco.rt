@@ -31,7 +31,8 @@ pub extern "C" fn dcc_loco_new(loco: &mut DccLoco, cvs: &[u8; 1024])
 #[unsafe(no_mangle)]
 pub extern "C" fn dcc_loco_apply(loco: &mut DccLoco, frame: &[u8]) -> u8
     ensures no_frame { frame_answer frame.now ≢ 0 → result ≡ frame_answer frame.now }
-    ensures applies { frame_answer frame.now ≡ 0 → (before : LocoState) → is_state before ≡ true → loco.old ≡ loco_numbers before →
+    ensures applies { frame_answer frame.now ≡ 0 → (before : LocoState) → is_state before ≡ true
+        → loco.old ≡ loco_numbers before →
         (packet : Packet) × (after : LocoState) × (spelling packet ≡ frame.now) × (is_state after ≡ true) × (loco.new ≡ loco_numbers after)
         × (result ≡ 0) × HasApplied packet (loco_who before) (loco_map before) (loco_who after) (loco_map after) }
     ensures decoder { result ≡ 0 → (before : LocoState) × (is_state before ≡ true) × (loco.old ≡ loco_numbers before) }
@@ -52,7 +53,8 @@ pub extern "C" fn dcc_loco_apply(loco: &mut DccLoco, frame: &[u8]) -> u8
 
 /// The state of a decoder with these numbers after a packet.
 fn after(loco: &DccLoco, packet: &Packet) -> Option<LocoState>
-    ensures decoder { IfSome result (λ _. (before : LocoState) × (is_state before ≡ true) × (loco.now ≡ loco_numbers before)) }
+    ensures decoder { IfSome result
+        (λ _. (before : LocoState) × (is_state before ≡ true) × (loco.now ≡ loco_numbers before)) }
     ensures applies { (before : LocoState) → is_state before ≡ true → loco.now ≡ loco_numbers before →
         (after : LocoState) × (result ≡ Some after) × (is_state after ≡ true)
         × HasApplied packet.now (loco_who before) (loco_map before) (loco_who after) (loco_map after) }

@@ -10,7 +10,8 @@ ghost use Rattle.dcc_regs.specs.declared.register.Speed.{Speed};
 ghost use Rattle.dcc_regs.specs.Addresses.{is_active};
 ghost use Rattle.dcc_regs.specs.Loco.{is_pending_for};
 ghost use Rattle.dcc_regs.specs.LocoState.{is_state};
-ghost use Rattle.dcc_c.specs.Locos.{loco_numbers, own_kind, own_number, pending_numbers, speed_mode, speed_step, words_of};
+ghost use Rattle.dcc_c.specs.Locos.{loco_numbers, own_kind, own_number, pending_numbers, speed_mode, speed_step};
+ghost use Rattle.dcc_c.specs.Locos.{words_of};
 
 use crate::frame::DccFrame;
 use crate::packet::{address_kind, address_number};
@@ -151,7 +152,8 @@ fn read(loco: &DccLoco) -> Option<LocoState>
 }
 
 fn address_of(kind: u8, number: u16) -> Option<Option<Address>>
-    ensures { (own : Option Address) → is_active own ≡ true → kind ≡ own_kind own → number ≡ own_number own → result ≡ Some own }
+    ensures { (own : Option Address) → is_active own ≡ true → kind ≡ own_kind own → number ≡ own_number own
+        → result ≡ Some own }
 {
     match kind {
         0 => Some(None),

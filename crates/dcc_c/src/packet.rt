@@ -4,7 +4,8 @@ ghost use Rattle.std.specs.Prelude.{◌≡◌, ◌≢◌};
 ghost use Rattle.dcc_packet.specs.declared.packet.Packet.{Packet};
 ghost use Rattle.dcc_packet.specs.Spelling.{spelling};
 ghost use Rattle.dcc_c.specs.Frames.{frame_answer};
-ghost use Rattle.dcc_c.specs.Packets.{address_kind, address_number, group_number, instruction_numbers, of_kind, packet_numbers};
+ghost use Rattle.dcc_c.specs.Packets.{address_kind, address_number, group_number, instruction_numbers, of_kind};
+ghost use Rattle.dcc_c.specs.Packets.{packet_numbers};
 
 use crate::frame::frame_of;
 use dcc_packet::{Address, CvNumber, Group, Packet, What};

@@ -1,5 +1,6 @@
 -- Two tracks, as far as they were read and given to a comparer.
-use Rattle.std.proofs.Common.{◌≡◌, ◌∙◌, ◌++◌, ◌∷◌, Bool, true, false, Option, Some, None, List, [], length, take, sym, ap, subst, refl, arith, append-nil, append_assoc}
+use Rattle.std.proofs.Common.{◌≡◌, ◌∙◌, ◌++◌, ◌∷◌, Bool, true, false, Option, Some, None, List, [], length, take, sym}
+use Rattle.std.proofs.Common.{ap, subst, refl, arith, append-nil, append_assoc}
 use Rattle.std.specs.Prelude.{IfSome, IfNone}
 use Rattle.std.proofs.lemmas.Grind.{common_steps}
 use Rattle.dcc_packet.specs.declared.packet.Packet.{Packet}
@@ -17,7 +18,8 @@ pub record Side (whole given : List Packet) (given_end : Bool) (rest : List Pack
   pub may : MayFollow given_end rest
   pub is : given_end ≡ ended
 
-pub record Reading (who : Who) (left right left_rest right_rest : List Packet) (left_ended right_ended : Bool) (c : Comparison) : Type 0 where
+pub record Reading (who : Who) (left right left_rest right_rest : List Packet) (left_ended right_ended : Bool)
+    (c : Comparison) : Type 0 where
   pub lists : Lists
   pub stands : StandsFor c lists
   pub who_is : c.who ≡ who
@@ -25,8 +27,10 @@ pub record Reading (who : Who) (left right left_rest right_rest : List Packet) (
   pub right_side : Side right lists.right lists.right_ended right_rest right_ended
 
 -- the verdict of all that may follow is that of the two tracks
-pub whole_verdict : (who : Who) (left right left_rest right_rest : List Packet) (left_ended right_ended : Bool) (c : Comparison) (v : Verdict) →
-    (g : Reading who left right left_rest right_rest left_ended right_ended c) → IsVerdictOfAll c.who g.lists v → IsVerdict who left right v
+pub whole_verdict : (who : Who) (left right left_rest right_rest : List Packet) (left_ended right_ended : Bool)
+    (c : Comparison) (v : Verdict) →
+    (g : Reading who left right left_rest right_rest left_ended right_ended c) → IsVerdictOfAll c.who g.lists v
+    → IsVerdict who left right v
 whole_verdict who left right left_rest right_rest left_ended right_ended c v g all =
     subst (λ w. IsVerdict w left right v) g.who_is
     (subst (λ l. IsVerdict c.who l right v) (sym g.left_side.parts)
@@ -41,12 +45,17 @@ front : (given rest : List Packet) → take (length given) (given ++ rest) ≡ g
 front given rest = grind (arith, common_steps)
 
 -- and so it is that of what was read of them
-pub read_verdict : (who : Who) (left right left_rest right_rest : List Packet) (left_ended right_ended : Bool) (c : Comparison) (v : Verdict) →
+pub read_verdict : (who : Who) (left right left_rest right_rest : List Packet) (left_ended right_ended : Bool)
+    (c : Comparison) (v : Verdict) →
     (g : Reading who left right left_rest right_rest left_ended right_ended c) → IsVerdictOfAll c.who g.lists v →
     IsVerdict who (take (length g.lists.left) left) (take (length g.lists.right) right) v
 read_verdict who left right left_rest right_rest left_ended right_ended c v g all =
-    let one : take (length g.lists.left) left ≡ g.lists.left ++ [] = ap (take (length g.lists.left)) g.left_side.parts ∙ front g.lists.left left_rest ∙ sym (append-nil g.lists.left) in
-    let other : take (length g.lists.right) right ≡ g.lists.right ++ [] = ap (take (length g.lists.right)) g.right_side.parts ∙ front g.lists.right right_rest ∙ sym (append-nil g.lists.right) in
+    let one : take (length g.lists.left) left ≡ g.lists.left ++ [] =
+    ap (take (length g.lists.left)) g.left_side.parts ∙ front g.lists.left left_rest
+    ∙ sym (append-nil g.lists.left) in
+    let other : take (length g.lists.right) right ≡ g.lists.right ++ [] =
+    ap (take (length g.lists.right)) g.right_side.parts ∙ front g.lists.right right_rest
+    ∙ sym (append-nil g.lists.right) in
     rw (one, other, sym g.who_is) (all [] [] (nothing_follows g.lists.left_ended) (nothing_follows g.lists.right_ended))
 
 -- the next packet of a track, or its end, was given
@@ -54,7 +63,8 @@ pub record Took (item : Option Packet) (rest later : List Packet) (ended ended' 
   pub some : IfSome item (λ packet. (rest ≡ packet ∷ later) × (ended' ≡ ended))
   pub none : IfNone item ((rest ≡ []) × (later ≡ []) × (ended' ≡ true))
 
-one_more : (whole given rest later : List Packet) (given_end ended ended' : Bool) (packet : Packet) → Side whole given given_end rest ended → given_end ≡ false
+one_more : (whole given rest later : List Packet) (given_end ended ended' : Bool) (packet : Packet)
+    → Side whole given given_end rest ended → given_end ≡ false
     → (rest ≡ packet ∷ later) × (ended' ≡ ended) → Side whole (given ++ packet ∷ []) given_end later ended'
 one_more whole given rest later given_end ended ended' packet side going e = record {
   parts = side.parts ∙ ap (λ l. given ++ l) e.0 ∙ sym (append_assoc given (packet ∷ []) later);
@@ -70,40 +80,57 @@ at_end whole given rest later given_end ended ended' side e = record {
   is = sym e.2;
 }
 
-pub read_left : {who : Who} {left right left_rest right_rest : List Packet} {left_ended right_ended : Bool} {c : Comparison}
-    → (item : Option Packet) (later : List Packet) (ended : Bool) (next : Comparison) → c.wants ≡ Left → next.who ≡ c.who
-    → ((lists : Lists) → StandsFor c lists → lists.left_ended ≡ false) → ((lists : Lists) → StandsFor c lists → StandsFor next (with_item c.wants item lists))
-    → Took item left_rest later left_ended ended → Reading who left right left_rest right_rest left_ended right_ended c → Reading who left right later right_rest ended right_ended next
-read_left {who} {left} {right} {left_rest} {right_rest} {left_ended} {right_ended} {c} (Some packet) later ended next wants same going gives took g = record {
-  lists = with_item Left (Some packet) g.lists;
-  stands = subst (λ w. StandsFor next (with_item w (Some packet) g.lists)) wants (gives g.lists g.stands);
-  who_is = same ∙ g.who_is;
-  left_side = one_more left g.lists.left left_rest later g.lists.left_ended left_ended ended packet g.left_side (going g.lists g.stands) took.some;
-  right_side = g.right_side;
-}
-read_left {who} {left} {right} {left_rest} {right_rest} {left_ended} {right_ended} {c} None later ended next wants same going gives took g = record {
-  lists = with_item Left None g.lists;
-  stands = subst (λ w. StandsFor next (with_item w None g.lists)) wants (gives g.lists g.stands);
-  who_is = same ∙ g.who_is;
-  left_side = at_end left g.lists.left left_rest later g.lists.left_ended left_ended ended g.left_side took.none;
-  right_side = g.right_side;
-}
+pub read_left : {who : Who} {left right left_rest right_rest : List Packet} {left_ended right_ended : Bool}
+    {c : Comparison}
+    → (item : Option Packet) (later : List Packet) (ended : Bool) (next : Comparison) → c.wants ≡ Left
+    → next.who ≡ c.who
+    → ((lists : Lists) → StandsFor c lists → lists.left_ended ≡ false)
+    → ((lists : Lists) → StandsFor c lists → StandsFor next (with_item c.wants item lists))
+    → Took item left_rest later left_ended ended → Reading who left right left_rest right_rest left_ended right_ended c
+    → Reading who left right later right_rest ended right_ended next
+read_left {who} {left} {right} {left_rest} {right_rest} {left_ended} {right_ended} {c} (Some packet) later ended next
+    wants same going gives took g = record {
+      lists = with_item Left (Some packet) g.lists;
+      stands = subst (λ w. StandsFor next (with_item w (Some packet) g.lists)) wants (gives g.lists g.stands);
+      who_is = same ∙ g.who_is;
+      left_side =
+          one_more left g.lists.left left_rest later g.lists.left_ended left_ended ended packet g.left_side
+          (going g.lists g.stands) took.some;
+      right_side = g.right_side;
+    }
+read_left {who} {left} {right} {left_rest} {right_rest} {left_ended} {right_ended} {c} None later ended next wants same
+    going gives took g = record {
+      lists = with_item Left None g.lists;
+      stands = subst (λ w. StandsFor next (with_item w None g.lists)) wants (gives g.lists g.stands);
+      who_is = same ∙ g.who_is;
+      left_side = at_end left g.lists.left left_rest later g.lists.left_ended left_ended ended g.left_side took.none;
+      right_side = g.right_side;
+    }
 
-pub read_right : {who : Who} {left right left_rest right_rest : List Packet} {left_ended right_ended : Bool} {c : Comparison}
-    → (item : Option Packet) (later : List Packet) (ended : Bool) (next : Comparison) → c.wants ≡ Right → next.who ≡ c.who
-    → ((lists : Lists) → StandsFor c lists → lists.right_ended ≡ false) → ((lists : Lists) → StandsFor c lists → StandsFor next (with_item c.wants item lists))
-    → Took item right_rest later right_ended ended → Reading who left right left_rest right_rest left_ended right_ended c → Reading who left right left_rest later left_ended ended next
-read_right {who} {left} {right} {left_rest} {right_rest} {left_ended} {right_ended} {c} (Some packet) later ended next wants same going gives took g = record {
-  lists = with_item Right (Some packet) g.lists;
-  stands = subst (λ w. StandsFor next (with_item w (Some packet) g.lists)) wants (gives g.lists g.stands);
-  who_is = same ∙ g.who_is;
-  left_side = g.left_side;
-  right_side = one_more right g.lists.right right_rest later g.lists.right_ended right_ended ended packet g.right_side (going g.lists g.stands) took.some;
-}
-read_right {who} {left} {right} {left_rest} {right_rest} {left_ended} {right_ended} {c} None later ended next wants same going gives took g = record {
-  lists = with_item Right None g.lists;
-  stands = subst (λ w. StandsFor next (with_item w None g.lists)) wants (gives g.lists g.stands);
-  who_is = same ∙ g.who_is;
-  left_side = g.left_side;
-  right_side = at_end right g.lists.right right_rest later g.lists.right_ended right_ended ended g.right_side took.none;
-}
+pub read_right : {who : Who} {left right left_rest right_rest : List Packet} {left_ended right_ended : Bool}
+    {c : Comparison}
+    → (item : Option Packet) (later : List Packet) (ended : Bool) (next : Comparison) → c.wants ≡ Right
+    → next.who ≡ c.who
+    → ((lists : Lists) → StandsFor c lists → lists.right_ended ≡ false)
+    → ((lists : Lists) → StandsFor c lists → StandsFor next (with_item c.wants item lists))
+    → Took item right_rest later right_ended ended
+    → Reading who left right left_rest right_rest left_ended right_ended c
+    → Reading who left right left_rest later left_ended ended next
+read_right {who} {left} {right} {left_rest} {right_rest} {left_ended} {right_ended} {c} (Some packet) later ended next
+    wants same going gives took g = record {
+      lists = with_item Right (Some packet) g.lists;
+      stands = subst (λ w. StandsFor next (with_item w (Some packet) g.lists)) wants (gives g.lists g.stands);
+      who_is = same ∙ g.who_is;
+      left_side = g.left_side;
+      right_side =
+          one_more right g.lists.right right_rest later g.lists.right_ended right_ended ended packet g.right_side
+          (going g.lists g.stands) took.some;
+    }
+read_right {who} {left} {right} {left_rest} {right_rest} {left_ended} {right_ended} {c} None later ended next wants same
+    going gives took g = record {
+      lists = with_item Right None g.lists;
+      stands = subst (λ w. StandsFor next (with_item w None g.lists)) wants (gives g.lists g.stands);
+      who_is = same ∙ g.who_is;
+      left_side = g.left_side;
+      right_side = at_end right g.lists.right right_rest later g.lists.right_ended right_ended ended g.right_side took.none;
+    }

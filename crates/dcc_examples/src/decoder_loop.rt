@@ -15,8 +15,10 @@ use dcc_wire::{Framer, Seen};
 /// A decoder hears a track, half-bits in microseconds: it holds what the packets in them give, and a listener was told those
 /// that it hears, each by the call of its kind, and nothing else.
 pub fn hear_track<D: Decoder, N: Notify>(durations: &[u16], loco: &mut D, listener: &mut N)
-    ensures heard { HasHeardHalves durations.now (D.who loco.old) (D.registers loco.old) (D.who loco.new) (D.registers loco.new) }
-    ensures told { (packets : List Packet) → ArePackets packets durations.now → IsTold N.told (heard (D.who loco.old) packets) listener.old listener.new }
+    ensures heard { HasHeardHalves durations.now (D.who loco.old) (D.registers loco.old) (D.who loco.new)
+        (D.registers loco.new) }
+    ensures told { (packets : List Packet) → ArePackets packets durations.now
+        → IsTold N.told (heard (D.who loco.old) packets) listener.old listener.new }
 {
     let mut framer = Framer::new();
     for us in durations {

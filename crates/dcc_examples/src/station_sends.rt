@@ -18,7 +18,8 @@ pub fn send_next(station: &mut Station, rails: &mut Framer) -> (Packet, Seen)
     // Where nothing but packets was sent so far, the framer sees just this packet,
     ensures heard { (before : List Sent) → HasHeardAll before rails.old → result.1 ≡ Seen.Packet (spelling result.0) }
     // and nothing but packets was sent then.
-    ensures rails { (before : List Sent) → HasHeardAll before rails.old → HasHeardAll (before ++ sent_as result.0 ∷ []) rails.new }
+    ensures rails { (before : List Sent) → HasHeardAll before rails.old
+        → HasHeardAll (before ++ sent_as result.0 ∷ []) rails.new }
 {
     let packet = station.next();
     let frame = packet.frame();

@@ -19,7 +19,8 @@ struct Track<'a> {
 impl<'a> Track<'a> {
     /// The next packet, or none at the end. A framer behind the booster would give it.
     fn next(&mut self) -> Option<Packet>
-        ensures some { IfSome result (λ packet. (self.old.rest.now ≡ packet ∷ self.new.rest.now) × (self.new.ended ≡ self.old.ended)) }
+        ensures some { IfSome result
+            (λ packet. (self.old.rest.now ≡ packet ∷ self.new.rest.now) × (self.new.ended ≡ self.old.ended)) }
         ensures none { IfNone result ((self.old.rest.now ≡ []) × (self.new.rest.now ≡ []) × (self.new.ended ≡ true)) }
     {
         match self.rest {
@@ -58,7 +59,8 @@ pub fn compare_in_step(
     // The verdict is that of the whole tracks,
     ensures whole { IfOk result (λ found. IsVerdict who left.now right.now found.verdict) }
     // and that of the packets that were read, alone.
-    ensures read { IfOk result (λ found. IsVerdict who (take found.left left.now) (take found.right right.now) found.verdict) }
+    ensures read { IfOk result
+        (λ found. IsVerdict who (take found.left left.now) (take found.right right.now) found.verdict) }
 {
     let mut comparer = Comparer::new(alloc, who);
     let mut left = Track {

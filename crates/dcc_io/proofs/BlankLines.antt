@@ -7,7 +7,8 @@ use Rattle.dcc_regs.specs.declared.register.Speed.{Speed}
 use Rattle.dcc_io.specs.declared.decoder_line.Head.{Head}
 use Rattle.dcc_io.specs.declared.decoder_line.LocoLine.{LocoLine}
 use Rattle.dcc_io.specs.declared.decoder_line.Version.{Version}
-use Rattle.dcc_io.specs.DecoderLines.{version_line, head_line, speed_line, functions_line, states_line, pending_line, loco_line, outs_line, positions_line, aspects_line}
+use Rattle.dcc_io.specs.DecoderLines.{version_line, head_line, speed_line, functions_line, states_line, pending_line}
+use Rattle.dcc_io.specs.DecoderLines.{loco_line, outs_line, positions_line, aspects_line}
 
 pub blank_version : (x : Version) → version_line (words []) ≡ Ok x → ⊥
 unfolding version_line

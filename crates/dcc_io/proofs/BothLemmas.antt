@@ -1,5 +1,8 @@
 -- What words say of both captures of one input.
-use Rattle.std.proofs.Common.{◌≡◌, ◌≢◌, ◌⊎◌, inl, inr, ℕ, ◌+◌, ◌-◌, ◌<◌, ◌≤◌, List, [], ◌∷◌, ◌++◌, length, take, replicate, filter, Bool, true, false, not, cond, eqb, nat_le, ◌&&◌, Option, None, Some, Result, Ok, Err, refl, sym, ap, ◌∙◌, subst, arith, append_assoc, length-append, IfSome, IsSomeAnd}
+use Rattle.std.proofs.Common.{◌≡◌, ◌≢◌, ◌⊎◌, inl, inr, ℕ, ◌+◌, ◌-◌, ◌<◌, ◌≤◌, List, [], ◌∷◌, ◌++◌, length, take}
+use Rattle.std.proofs.Common.{replicate, filter, Bool, true, false, not, cond, eqb, nat_le, ◌&&◌, Option, None, Some}
+use Rattle.std.proofs.Common.{Result, Ok, Err, refl, sym, ap, ◌∙◌, subst, arith, append_assoc, length-append, IfSome}
+use Rattle.std.proofs.Common.{IsSomeAnd}
 use Rattle.std.proofs.Math.Seq.{take-append-add}
 use Rattle.std.proofs.lemmas.List.{append-nil}
 use Rattle.std.proofs.lemmas.Bool.Decides.{nat_tests}
@@ -11,10 +14,12 @@ use Rattle.dcc_io.specs.Place.{Place, line_behind}
 use Rattle.dcc_io.specs.Failures.{one_more}
 use Rattle.dcc_io.specs.Told.{IsAtEnd}
 use Rattle.dcc_io.specs.InputState.{InputState, all_lines}
-use Rattle.dcc_io.specs.Words.{Word, ended_words, is_gap, uncommented, onto_first, pieces, but_last, has_bytes, is_mark, run_of}
+use Rattle.dcc_io.specs.Words.{Word, ended_words, is_gap, uncommented, onto_first, pieces, but_last, has_bytes}
+use Rattle.dcc_io.specs.Words.{is_mark, run_of}
 use Rattle.dcc_io.specs.Passed.{Uses, Passed, FailsBehind, FailsBeforeWord, OverflowsBeforeWord, AnswersWord}
 use Rattle.dcc_io.specs.Capture.{halves_of}
-use Rattle.dcc_io.specs.BothCaptures.{Both, Said, stopped, in_front, only_second, has_more_words, behind_mark, counted_first, both_of, both_from, in_limit}
+use Rattle.dcc_io.specs.BothCaptures.{Both, Said, stopped, in_front, only_second, has_more_words, behind_mark}
+use Rattle.dcc_io.specs.BothCaptures.{counted_first, both_of, both_from, in_limit}
 use Rattle.dcc_io.specs.FirstRead.{LeadsIn, Leads, first_so_far, first_is, IsBehindLine, StopsBoth, AnswersFirst}
 use Rattle.dcc_io.specs.FirstSteps.{CountsWord, EndsMark}
 use Rattle.dcc_io.proofs.PassedLemmas.{map_same}
@@ -28,7 +33,8 @@ AllFrom line (word ∷ words) = (line ≤ word.line) × AllFrom line words
 
 from_before : (line next : ℕ) (words : List Word) → line ≤ next → AllFrom next words → AllFrom line words
 from_before line next [] before all = tt
-from_before line next (word ∷ words) before all = (omega (arith, before, all.0), from_before line next words before all.1)
+from_before line next (word ∷ words) before all =
+    (omega (arith, before, all.0), from_before line next words before all.1)
 
 from_onto_first : (line byte : ℕ) (words : List Word) → AllFrom line words → AllFrom line (onto_first byte words)
 from_onto_first line byte [] all = tt
@@ -43,7 +49,8 @@ from_filter : (line : ℕ) (p : Word → Bool) (words : List Word) → AllFrom l
 from_filter line p [] all = tt
 from_filter line p (word ∷ words) all = go (p word) (from_filter line p words all.1)
   where
-    go : (kept : Bool) → AllFrom line (filter p words) → AllFrom line (cond kept (word ∷ filter p words) (filter p words))
+    go : (kept : Bool) → AllFrom line (filter p words)
+        → AllFrom line (cond kept (word ∷ filter p words) (filter p words))
     go true rest = (all.0, rest)
     go false rest = rest
 
@@ -58,19 +65,28 @@ from_pieces : (line : ℕ) (text : List ℕ) → AllFrom line (pieces line text)
 from_pieces line [] = (omega arith, tt)
 from_pieces line (byte ∷ text) = go (is_gap byte) (from_pieces (line_behind line byte) text) (from_pieces line text)
   where
-    go : (gap : Bool) → AllFrom (line_behind line byte) (pieces (line_behind line byte) text) → AllFrom line (pieces line text)
-        → AllFrom line (cond gap (record { line = line; bytes = [] } ∷ pieces (line_behind line byte) text) (onto_first byte (pieces line text)))
-    go true next here = (omega arith, from_before line (line_behind line byte) (pieces (line_behind line byte) text) (behind_grows line byte) next)
+    go : (gap : Bool) → AllFrom (line_behind line byte) (pieces (line_behind line byte) text)
+        → AllFrom line (pieces line text)
+        → AllFrom line
+        (cond gap (record { line = line; bytes = [] } ∷ pieces (line_behind line byte) text)
+        (onto_first byte (pieces line text)))
+    go true next here = (
+      omega arith,
+      from_before line (line_behind line byte) (pieces (line_behind line byte) text) (behind_grows line byte)
+          next,
+    )
     go false next here = from_onto_first line byte (pieces line text) here
 
 other_line : (line next : ℕ) → line < next → eqb next line ≡ false
 other_line line next behind = grind (arith, nat_tests)
 
 -- the words behind a line do not stand on it
-pub no_more_words : (line : ℕ) (place : Place) (text : List ℕ) → line < place.line → has_more_words line (ended_words place text) ≡ false
+pub no_more_words : (line : ℕ) (place : Place) (text : List ℕ) → line < place.line
+    → has_more_words line (ended_words place text) ≡ false
 no_more_words line place text behind =
     let all = from_pieces place.line (uncommented place.in_comment text) in
-    go (ended_words place text) (from_filter place.line has_bytes (but_last (pieces place.line (uncommented place.in_comment text)))
+    go (ended_words place text)
+    (from_filter place.line has_bytes (but_last (pieces place.line (uncommented place.in_comment text)))
     (from_but_last place.line (pieces place.line (uncommented place.in_comment text)) all))
   where
     go : (words : List Word) → AllFrom place.line words → has_more_words line words ≡ false
@@ -78,28 +94,42 @@ no_more_words line place text behind =
     go (word ∷ words) all = other_line line word.line (omega (arith, behind, all.0))
 
 -- what comes behind the line of a mark is the second capture
-pub second_behind : (line most : ℕ) (place : Place) (rest more : List ℕ) (last : Option KeptFault) → (rest ≡ []) ⊎ (line < place.line) → (rest ≡ [] → more ≡ [])
+pub second_behind : (line most : ℕ) (place : Place) (rest more : List ℕ) (last : Option KeptFault)
+    → (rest ≡ []) ⊎ (line < place.line) → (rest ≡ [] → more ≡ [])
     → behind_mark line most (ended_words place more) last ≡ only_second (halves_of most (ended_words place more) last)
 second_behind line most place rest more last (inl none) front = rw (front none) refl
 second_behind line most place rest more last (inr behind) front = rw (no_more_words line place more behind) refl
 
-pub Leads-start : (before : ℕ) (input : InputState) → input.fault ≡ None → Leads before input input (both_from before input)
+pub Leads-start : (before : ℕ) (input : InputState) → input.fault ≡ None
+    → Leads before input input (both_from before input)
 Leads-start before input fault = record { text = go input.text; bytes = omega arith; fault = fault; failures = refl }
   where
-    go : (text : Option (List ℕ)) → IfSome text (λ whole. IsSomeAnd text (λ rest. LeadsIn before input input (both_from before input) whole rest))
+    go : (text : Option (List ℕ))
+        → IfSome text (λ whole. IsSomeAnd text (λ rest. LeadsIn before input input (both_from before input) whole rest))
     go None = tt
-    go (Some text) = record { used = []; whole = refl; goes_on = λ end more last. refl; bytes = omega arith; room = λ some. absurd (omega arith); lines = refl }
+    go (Some text) =
+        record {
+          used = [];
+          whole = refl;
+          goes_on = λ end more last. refl;
+          bytes = omega arith;
+          room = λ some. absurd (omega arith);
+          lines = refl;
+        }
 
-room_of : (p q y z : List ℕ) (bytes left : ℕ) → y ≡ q ++ z → left + length q ≡ bytes → (0 < length p → bytes ≡ 0 → y ≡ []) → (0 < length q → left ≡ 0 → z ≡ [])
+room_of : (p q y z : List ℕ) (bytes left : ℕ) → y ≡ q ++ z → left + length q ≡ bytes
+    → (0 < length p → bytes ≡ 0 → y ≡ []) → (0 < length q → left ≡ 0 → z ≡ [])
     → 0 < length (p ++ q) → left ≡ 0 → z ≡ []
 room_of p [] y z bytes left whole total first second some none =
     sym whole ∙ first (subst (λ (l : List ℕ). 0 < length l) (append-nil p) some) (omega (arith, total, none))
 room_of p (x ∷ q) y z bytes left whole total first second some none = second (omega arith) none
 
 -- more words were read
-pub Leads-words : (before : ℕ) (old now new : InputState) (words : List Word) (F : ℕ → List Word → Option KeptFault → Both) (G : Said)
+pub Leads-words : (before : ℕ) (old now new : InputState) (words : List Word)
+    (F : ℕ → List Word → Option KeptFault → Both) (G : Said)
     → Leads before old now (λ end more last. F end (ended_words now.place more) last) → Passed now words new
-    → ((end : ℕ) (more : List ℕ) (last : Option KeptFault) → F end (words ++ ended_words new.place more) last ≡ G end more last)
+    → ((end : ℕ) (more : List ℕ) (last : Option KeptFault)
+    → F end (words ++ ended_words new.place more) last ≡ G end more last)
     → Leads before old new G
 Leads-words before old now new words F G leads passed each = record {
   text = go old.text now.text new.text leads.text passed.text;
@@ -108,15 +138,21 @@ Leads-words before old now new words F G leads passed each = record {
   failures = passed.failures ∙ leads.failures;
 }
   where
-    go : (x y z : Option (List ℕ)) → IfSome x (λ text. IsSomeAnd y (λ rest. LeadsIn before old now (λ end more last. F end (ended_words now.place more) last) text rest))
-        → IfSome y (λ text. IsSomeAnd z (λ rest. Uses now new words text rest)) → IfSome x (λ text. IsSomeAnd z (λ rest. LeadsIn before old new G text rest))
+    go : (x y z : Option (List ℕ))
+        → IfSome x
+        (λ text. IsSomeAnd y
+        (λ rest. LeadsIn before old now (λ end more last. F end (ended_words now.place more) last) text rest))
+        → IfSome y (λ text. IsSomeAnd z (λ rest. Uses now new words text rest))
+        → IfSome x (λ text. IsSomeAnd z (λ rest. LeadsIn before old new G text rest))
     go None y z p q = tt
     go (Some x) None z p q = absurd p
     go (Some x) (Some y) None p q = absurd q
     go (Some x) (Some y) (Some z) p q = record {
       used = p.used ++ q.used;
       whole = p.whole ∙ ap (λ (rest : List ℕ). p.used ++ rest) q.whole ∙ sym (append_assoc p.used q.used z);
-      goes_on = λ end more last. ap (λ (bytes : List ℕ). both_from before old end bytes last) (append_assoc p.used q.used more) ∙ p.goes_on end (q.used ++ more) last
+      goes_on =
+          λ end more last. ap (λ (bytes : List ℕ). both_from before old end bytes last)
+          (append_assoc p.used q.used more) ∙ p.goes_on end (q.used ++ more) last
           ∙ ap (λ ws. F end ws last) (q.passes more) ∙ each end more last;
       bytes = simp length-append (omega (arith, p.bytes, q.bytes));
       room = room_of p.used q.used y z now.bytes new.bytes q.whole q.bytes p.room q.room;
@@ -124,8 +160,10 @@ Leads-words before old now new words F G leads passed each = record {
     }
 
 -- halves of the first capture, and then what leads on from there
-pub Leads-join : (first before : ℕ) (start now new : InputState) (halves : List ℕ) (G H : Said) → Leads first start now (first_so_far halves before now) → Leads before now new G
-    → ((end : ℕ) (more : List ℕ) (last : Option KeptFault) → in_front halves (G end more last) ≡ H end more last) → Leads first start new H
+pub Leads-join : (first before : ℕ) (start now new : InputState) (halves : List ℕ) (G H : Said)
+    → Leads first start now (first_so_far halves before now) → Leads before now new G
+    → ((end : ℕ) (more : List ℕ) (last : Option KeptFault) → in_front halves (G end more last) ≡ H end more last)
+    → Leads first start new H
 Leads-join first before start now new halves G H leads next each = record {
   text = go start.text now.text new.text leads.text next.text;
   bytes = omega (arith, leads.bytes, next.bytes);
@@ -133,15 +171,19 @@ Leads-join first before start now new halves G H leads next each = record {
   failures = next.failures ∙ leads.failures;
 }
   where
-    go : (x y z : Option (List ℕ)) → IfSome x (λ text. IsSomeAnd y (λ rest. LeadsIn first start now (first_so_far halves before now) text rest))
-        → IfSome y (λ text. IsSomeAnd z (λ rest. LeadsIn before now new G text rest)) → IfSome x (λ text. IsSomeAnd z (λ rest. LeadsIn first start new H text rest))
+    go : (x y z : Option (List ℕ))
+        → IfSome x (λ text. IsSomeAnd y (λ rest. LeadsIn first start now (first_so_far halves before now) text rest))
+        → IfSome y (λ text. IsSomeAnd z (λ rest. LeadsIn before now new G text rest))
+        → IfSome x (λ text. IsSomeAnd z (λ rest. LeadsIn first start new H text rest))
     go None y z p q = tt
     go (Some x) None z p q = absurd p
     go (Some x) (Some y) None p q = absurd q
     go (Some x) (Some y) (Some z) p q = record {
       used = p.used ++ q.used;
       whole = p.whole ∙ ap (λ (rest : List ℕ). p.used ++ rest) q.whole ∙ sym (append_assoc p.used q.used z);
-      goes_on = λ end more last. ap (λ (bytes : List ℕ). both_from first start end bytes last) (append_assoc p.used q.used more) ∙ p.goes_on end (q.used ++ more) last
+      goes_on =
+          λ end more last. ap (λ (bytes : List ℕ). both_from first start end bytes last)
+          (append_assoc p.used q.used more) ∙ p.goes_on end (q.used ++ more) last
           ∙ ap (in_front halves) (q.goes_on end more last) ∙ each end more last;
       bytes = simp length-append (omega (arith, p.bytes, q.bytes));
       room = room_of p.used q.used y z now.bytes new.bytes q.whole q.bytes p.room q.room;
@@ -149,7 +191,8 @@ Leads-join first before start now new halves G H leads next each = record {
     }
 
 -- what is said of the text is said of the rest
-pub in_limit_of : (before : ℕ) (old new : InputState) (said : Said) (text rest : List ℕ) → LeadsIn before old new said text rest
+pub in_limit_of : (before : ℕ) (old new : InputState) (said : Said) (text rest : List ℕ)
+    → LeadsIn before old new said text rest
     → in_limit (both_from before old) old text ≡ in_limit said new rest
 in_limit_of before old new said text rest leads = go (nat_le (length rest) new.bytes) refl
   where
@@ -159,42 +202,59 @@ in_limit_of before old new said text rest leads = go (nat_le (length rest) new.b
     test : nat_le (length text) old.bytes ≡ nat_le (length rest) new.bytes
     test = same_test (length text) (length leads.used) (length rest) old.bytes new.bytes lengths leads.bytes
 
-    go : (within : Bool) → nat_le (length rest) new.bytes ≡ within → in_limit (both_from before old) old text ≡ in_limit said new rest
+    go : (within : Bool) → nat_le (length rest) new.bytes ≡ within
+        → in_limit (both_from before old) old text ≡ in_limit said new rest
     go true within = rw (test, within, ← leads.lines)
-        (ap (λ bytes. both_from before old (all_lines new rest + 1) bytes None) leads.whole ∙ leads.goes_on (all_lines new rest + 1) rest None)
+        (ap (λ bytes. both_from before old (all_lines new rest + 1) bytes None) leads.whole
+        ∙ leads.goes_on (all_lines new rest + 1) rest None)
     go false within =
-        let count = count_more old.bytes new.bytes (length leads.used) rest leads.bytes (above_limit (length rest) new.bytes within) leads.room in
+        let count = count_more old.bytes new.bytes (length leads.used) rest leads.bytes
+        (above_limit (length rest) new.bytes within) leads.room in
         let front : take (old.bytes - 1) text ≡ leads.used ++ take (new.bytes - 1) rest =
-        ap (λ n. take n text) count ∙ ap (take (length leads.used + (new.bytes - 1))) leads.whole ∙ take-append-add leads.used rest (new.bytes - 1) in
+        ap (λ n. take n text) count ∙ ap (take (length leads.used + (new.bytes - 1))) leads.whole
+        ∙ take-append-add leads.used rest (new.bytes - 1) in
         rw (test, within, ← leads.lines)
-        (ap (λ bytes. both_from before old (all_lines new rest + 1) bytes (Some TooMuch)) front ∙ leads.goes_on (all_lines new rest + 1) (take (new.bytes - 1) rest) (Some TooMuch))
+        (ap (λ bytes. both_from before old (all_lines new rest + 1) bytes (Some TooMuch)) front
+        ∙ leads.goes_on (all_lines new rest + 1) (take (new.bytes - 1) rest) (Some TooMuch))
 
 same_cond : {A : Type 0} (b : Bool) (x : A) → cond b x x ≡ x
 same_cond true x = refl
 same_cond false x = refl
 
 -- a fault stands, whatever follows
-pub stops_said : (before : ℕ) (old mid : InputState) (fault : KeptFault) → Leads before old mid (λ end more last. stopped fault)
+pub stops_said : (before : ℕ) (old mid : InputState) (fault : KeptFault)
+    → Leads before old mid (λ end more last. stopped fault)
     → IfSome old.text (λ text. in_limit (both_from before old) old text ≡ stopped fault)
 stops_said before old mid fault leads = go old.text mid.text leads.text
   where
-    go : (x y : Option (List ℕ)) → IfSome x (λ text. IsSomeAnd y (λ rest. LeadsIn before old mid (λ end more last. stopped fault) text rest))
+    go : (x y : Option (List ℕ))
+        → IfSome x (λ text. IsSomeAnd y (λ rest. LeadsIn before old mid (λ end more last. stopped fault) text rest))
         → IfSome x (λ text. in_limit (both_from before old) old text ≡ stopped fault)
     go None y p = tt
     go (Some x) None p = absurd p
-    go (Some x) (Some y) p = in_limit_of before old mid (λ end more last. stopped fault) x y p ∙ same_cond (nat_le (length y) mid.bytes) (stopped fault)
+    go (Some x) (Some y) p =
+        in_limit_of before old mid (λ end more last. stopped fault) x y p
+        ∙ same_cond (nat_le (length y) mid.bytes) (stopped fault)
 
 module _ (before : ℕ) (old mid : InputState) (F : ℕ → List Word → Option KeptFault → Both) where
   abbrev Led : Type 0
   Led = Leads before old mid (λ end more last. F end (ended_words mid.place more) last)
 
   -- a read failed before the next word
-  stops_read : (new : InputState) → Led → FailsBeforeWord mid new → ((end : ℕ) → F end [] (Some Read) ≡ stopped Read) → StopsBoth before old Read new
-  stops_read new leads fails each = (fails.failures ∙ ap one_more leads.failures, fails.ahead, go old.text mid.text new.text leads.text fails.text)
+  stops_read : (new : InputState) → Led → FailsBeforeWord mid new → ((end : ℕ) → F end [] (Some Read) ≡ stopped Read)
+      → StopsBoth before old Read new
+  stops_read new leads fails each =
+      (fails.failures ∙ ap one_more leads.failures, fails.ahead, go old.text mid.text new.text leads.text fails.text)
     where
-      go : (x y z : Option (List ℕ)) → IfSome x (λ text. IsSomeAnd y (λ rest. LeadsIn before old mid (λ end more last. F end (ended_words mid.place more) last) text rest))
+      go : (x y z : Option (List ℕ))
+          → IfSome x
+          (λ text. IsSomeAnd y
+          (λ rest. LeadsIn before old mid (λ end more last. F end (ended_words mid.place more) last) text rest))
           → IfSome y (λ text. IsSomeAnd z (λ rest. FailsBehind mid new text rest))
-          → IfSome x (λ text. IsSomeAnd z (λ rest. (used : List ℕ) × (text ≡ used ++ rest) × ((end : ℕ) → both_from before old end used (Some Read) ≡ stopped Read)))
+          → IfSome x
+          (λ text. IsSomeAnd z
+          (λ rest. (used : List ℕ) × (text ≡ used ++ rest)
+          × ((end : ℕ) → both_from before old end used (Some Read) ≡ stopped Read)))
       go None y z p q = tt
       go (Some x) None z p q = absurd p
       go (Some x) (Some y) None p q = absurd q
@@ -205,10 +265,14 @@ module _ (before : ℕ) (old mid : InputState) (F : ℕ → List Word → Option
       )
 
   -- the limit of bytes cuts the next word
-  stops_over : (new : InputState) → Led → OverflowsBeforeWord mid new → ((end : ℕ) → F end [] (Some TooMuch) ≡ stopped TooMuch) → StopsBoth before old TooMuch new
+  stops_over : (new : InputState) → Led → OverflowsBeforeWord mid new
+      → ((end : ℕ) → F end [] (Some TooMuch) ≡ stopped TooMuch) → StopsBoth before old TooMuch new
   stops_over new leads over each = (over.failures ∙ leads.failures, go old.text mid.text leads.text over.text)
     where
-      go : (x y : Option (List ℕ)) → IfSome x (λ text. IsSomeAnd y (λ rest. LeadsIn before old mid (λ end more last. F end (ended_words mid.place more) last) text rest))
+      go : (x y : Option (List ℕ))
+          → IfSome x
+          (λ text. IsSomeAnd y
+          (λ rest. LeadsIn before old mid (λ end more last. F end (ended_words mid.place more) last) text rest))
           → IfSome y (λ text. (mid.bytes < length text) × (ended_words mid.place (take (mid.bytes - 1) text) ≡ []))
           → IfSome x (λ text. in_limit (both_from before old) old text ≡ stopped TooMuch)
       go None y p q = tt
@@ -217,7 +281,8 @@ module _ (before : ℕ) (old mid : InputState) (F : ℕ → List Word → Option
           in_limit_of before old mid (λ end more last. F end (ended_words mid.place more) last) x y p
           ∙ rw (not_within (length y) mid.bytes q.0, q.1) (each (all_lines mid y + 1))
 
-  pub stops_word : (new : InputState) (fault : KeptFault) → Led → AnswersWord mid (Err fault) new → ((end : ℕ) (f : KeptFault) → F end [] (Some f) ≡ stopped f)
+  pub stops_word : (new : InputState) (fault : KeptFault) → Led → AnswersWord mid (Err fault) new
+      → ((end : ℕ) (f : KeptFault) → F end [] (Some f) ≡ stopped f)
       → StopsBoth before old fault new × (new.fault ≡ Some fault)
   stops_word new Read leads answer each = (stops_read new leads answer (λ end. each end Read), answer.fault)
   stops_word new TooMuch leads answer each = (stops_over new leads answer (λ end. each end TooMuch), answer.fault)
@@ -225,23 +290,39 @@ module _ (before : ℕ) (old mid : InputState) (F : ℕ → List Word → Option
   stops_word new (Line line fault) leads answer each = absurd answer
 
 -- a count of halves may change where nothing is said of it
-Leads-counted : (before left : ℕ) (old mid : InputState) (said : Said) → Leads before old mid said → Leads before old (with_left mid left) said
+Leads-counted : (before left : ℕ) (old mid : InputState) (said : Said) → Leads before old mid said
+    → Leads before old (with_left mid left) said
 Leads-counted before left old mid said leads = record {
-  text = map_same (λ text rest. LeadsIn before old mid said text rest) (λ text rest. LeadsIn before old (with_left mid left) said text rest) old.text mid.text
-      (λ text rest p. record { used = p.used; whole = p.whole; goes_on = p.goes_on; bytes = p.bytes; room = p.room; lines = p.lines }) leads.text;
+  text = map_same (λ text rest. LeadsIn before old mid said text rest)
+      (λ text rest. LeadsIn before old (with_left mid left) said text rest) old.text mid.text
+      (λ text rest p. record
+      { used = p.used; whole = p.whole; goes_on = p.goes_on; bytes = p.bytes; room = p.room; lines = p.lines })
+      leads.text;
   bytes = leads.bytes;
   fault = leads.fault;
   failures = leads.failures;
 }
 
-counted_some : (most : ℕ) (run : Run) (rest : ℕ → Both) → run.n ≤ most → counted_first most run rest ≡ in_front (replicate run.n run.us) (rest (most - run.n))
+counted_some : (most : ℕ) (run : Run) (rest : ℕ → Both) → run.n ≤ most
+    → counted_first most run rest ≡ in_front (replicate run.n run.us) (rest (most - run.n))
 counted_some most run rest fits = rw (enough run.n most fits) refl
 
-counted_too_many : (most : ℕ) (run : Run) (rest : ℕ → Both) → most < run.n → counted_first most run rest ≡ stopped TooMuch
+counted_too_many : (most : ℕ) (run : Run) (rest : ℕ → Both) → most < run.n
+    → counted_first most run rest ≡ stopped TooMuch
 counted_too_many most run rest above = rw (not_within run.n most above) refl
 
 abbrev with_fault : InputState → KeptFault → InputState
-with_fault input told = record { text = input.text; ahead = input.ahead; place = input.place; lines = input.lines; halves = input.halves; bytes = input.bytes; fault = Some told; failures = input.failures }
+with_fault input told =
+    record {
+      text = input.text;
+      ahead = input.ahead;
+      place = input.place;
+      lines = input.lines;
+      halves = input.halves;
+      bytes = input.bytes;
+      fault = Some told;
+      failures = input.failures;
+    }
 
 eqb_same : (n : ℕ) → eqb n n ≡ true
 eqb_same n = grind (arith, nat_tests)
@@ -253,85 +334,129 @@ if_some_all : (R : List ℕ → Type 0) (text : Option (List ℕ)) → ((rest : 
 if_some_all R None all = tt
 if_some_all R (Some rest) all = all rest
 
-module _ (before line : ℕ) (word : List ℕ) (old mid : InputState) (fault : old.fault ≡ None) (passed : Passed old (record { line = line; bytes = word } ∷ []) mid) where
+module _ (before line : ℕ) (word : List ℕ) (old mid : InputState) (fault : old.fault ≡ None)
+    (passed : Passed old (record { line = line; bytes = word } ∷ []) mid) where
   abbrev mark : Bool
   mark = is_mark word && not (eqb line before)
 
   -- the word leads to what it says
-  led : (G : Said) → ((end : ℕ) (more : List ℕ) (last : Option KeptFault) → both_of before old.halves end (record { line = line; bytes = word } ∷ ended_words mid.place more) last ≡ G end more last)
+  led : (G : Said)
+      → ((end : ℕ) (more : List ℕ) (last : Option KeptFault)
+      → both_of before old.halves end (record { line = line; bytes = word } ∷ ended_words mid.place more) last ≡ G
+      end more last)
       → Leads before old mid G
-  led G each = Leads-words before old old mid (record { line = line; bytes = word } ∷ []) (λ end ws last. both_of before old.halves end ws last) G (Leads-start before old fault) passed each
+  led G each =
+      Leads-words before old old mid (record { line = line; bytes = word } ∷ [])
+      (λ end ws last. both_of before old.halves end ws last) G (Leads-start before old fault) passed each
 
-  pub counts : (new : InputState) (result : Result (Option (ℕ × Run)) KeptFault) → mark ≡ false → mid.bytes < old.bytes → CountsWord mid line word result new → AnswersFirst before old result new
+  pub counts : (new : InputState) (result : Result (Option (ℕ × Run)) KeptFault) → mark ≡ false → mid.bytes < old.bytes
+      → CountsWord mid line word result new → AnswersFirst before old result new
   counts new (Ok (Some taken)) none fewer count = rw count.3 (
-    rw count.0 (Leads-counted before (mid.halves - taken.1.n) old mid said (led said (λ end more last. rw (none, count.1, ← passed.halves) (counted_some mid.halves taken.1 (λ left. both_of line left end (ended_words mid.place more) last) count.2)))),
+    rw count.0
+        (Leads-counted before (mid.halves - taken.1.n) old mid said
+        (led said
+        (λ end more last. rw (none, count.1, ← passed.halves)
+        (counted_some mid.halves taken.1 (λ left. both_of line left end (ended_words mid.place more) last)
+        count.2)))),
     let fits = count.2 in omega (arith, fits, passed.halves),
     some_half word taken.1 count.1,
     fewer,
   )
     where
       said : Said
-      said end more last = in_front (replicate taken.1.n taken.1.us) (both_of line (mid.halves - taken.1.n) end (ended_words mid.place more) last)
+      said end more last =
+          in_front (replicate taken.1.n taken.1.us)
+          (both_of line (mid.halves - taken.1.n) end (ended_words mid.place more) last)
   counts new (Ok None) none fewer count = absurd count
   counts new (Err told) none fewer count = go told count.0 count.1
     where
-      go : (told : KeptFault) → new ≡ with_fault mid told → ((run_of word ≡ None) × (told ≡ Number line)) ⊎ ((run : Run) × (run_of word ≡ Some run) × (told ≡ TooMuch) × (mid.halves < run.n))
+      go : (told : KeptFault) → new ≡ with_fault mid told
+          → ((run_of word ≡ None) × (told ≡ Number line))
+          ⊎ ((run : Run) × (run_of word ≡ Some run) × (told ≡ TooMuch) × (mid.halves < run.n))
           → StopsBoth before old told new × (new.fault ≡ Some told)
-      go told is_new (inl bad) = rw (is_new, bad.1) ((passed.failures, stops_said before old mid (Number line) (led (λ end more last. stopped (Number line)) (λ end more last. rw (none, bad.0) refl))), refl)
+      go told is_new (inl bad) =
+          rw (is_new, bad.1) (
+            (
+              passed.failures,
+              stops_said before old mid (Number line)
+                  (led (λ end more last. stopped (Number line)) (λ end more last. rw (none, bad.0) refl)),
+            ),
+            refl,
+          )
       go told is_new (inr (run, spells, is_told, no_room)) = rw (is_new, is_told) (
         (
           passed.failures,
           stops_said before old mid TooMuch (led (λ end more last. stopped TooMuch)
-              (λ end more last. rw (none, spells, ← passed.halves) (counted_too_many mid.halves run (λ left. both_of line left end (ended_words mid.place more) last) no_room))),
+              (λ end more last. rw (none, spells, ← passed.halves)
+              (counted_too_many mid.halves run (λ left. both_of line left end (ended_words mid.place more) last)
+              no_room))),
         ),
         refl,
       )
 
-  at_mark : mark ≡ true → Leads before old mid (λ end more last. behind_mark line old.halves (ended_words mid.place more) last)
-  at_mark begins = led (λ end more last. behind_mark line old.halves (ended_words mid.place more) last) (λ end more last. rw begins refl)
+  at_mark : mark ≡ true
+      → Leads before old mid (λ end more last. behind_mark line old.halves (ended_words mid.place more) last)
+  at_mark begins =
+      led (λ end more last. behind_mark line old.halves (ended_words mid.place more) last)
+      (λ end more last. rw begins refl)
 
-  pub marks : (new : InputState) (result : Result (Option (ℕ × Run)) KeptFault) → mark ≡ true → line ≤ mid.place.line → EndsMark mid line result new → AnswersFirst before old result new
+  pub marks : (new : InputState) (result : Result (Option (ℕ × Run)) KeptFault) → mark ≡ true → line ≤ mid.place.line
+      → EndsMark mid line result new → AnswersFirst before old result new
   marks new (Ok (Some taken)) begins reached answer = absurd answer
   marks new (Ok None) begins reached (inl kept) = rw kept.0 record {
     line = line;
     leads = led (first_is [] line mid) (λ end more last. rw (begins, passed.halves) refl);
-    behind = if_some_all (λ rest. (rest ≡ []) ⊎ (line < mid.place.line)) mid.text (λ rest. inr (past line mid.place.line reached kept.1));
+    behind =
+        if_some_all (λ rest. (rest ≡ []) ⊎ (line < mid.place.line)) mid.text
+        (λ rest. inr (past line mid.place.line reached kept.1));
   }
   marks new (Ok None) begins reached (inr ended) = record {
     line = line;
-    leads = Leads-words before old mid new [] (λ end ws last. behind_mark line old.halves ws last) (first_is [] line new) (at_mark begins) ended.1.0
+    leads = Leads-words before old mid new [] (λ end ws last. behind_mark line old.halves ws last)
+        (first_is [] line new) (at_mark begins) ended.1.0
         (λ end more last. rw (ended.1.0.halves ∙ passed.halves) refl);
     behind = subst (λ (n : ℕ). IsBehindLine n new) ended.0 ended.1.1;
   }
   marks new (Err told) begins reached (here, inl (next, more, is_told, is_new)) = rw (is_new, is_told) (
     (
       more.1.failures ∙ passed.failures,
-      stops_said before old next (Number line) (Leads-words before old mid next (record { line = mid.place.line; bytes = more.0 } ∷ []) (λ end ws last. behind_mark line old.halves ws last)
-          (λ end more last. stopped (Number line)) (at_mark begins) more.1 (λ end rest last. rw (here, eqb_same line) refl)),
+      stops_said before old next (Number line)
+          (Leads-words before old mid next (record { line = mid.place.line; bytes = more.0 } ∷ [])
+          (λ end ws last. behind_mark line old.halves ws last)
+          (λ end more last. stopped (Number line)) (at_mark begins) more.1
+          (λ end rest last. rw (here, eqb_same line) refl)),
     ),
     refl,
   )
   marks new (Err told) begins reached (here, inr stops) =
-      stops_word before old mid (λ end ws last. behind_mark line old.halves ws last) new told (at_mark begins) stops (λ end f. refl)
+      stops_word before old mid (λ end ws last. behind_mark line old.halves ws last) new told (at_mark begins) stops
+      (λ end f. refl)
 
 -- a fault before the next word
-pub answers_fault : (before : ℕ) (old new : InputState) (fault : KeptFault) → old.fault ≡ None → AnswersWord old (Err fault) new → AnswersFirst before old (Err fault) new
+pub answers_fault : (before : ℕ) (old new : InputState) (fault : KeptFault) → old.fault ≡ None
+    → AnswersWord old (Err fault) new → AnswersFirst before old (Err fault) new
 answers_fault before old new fault none answer =
-    stops_word before old old (λ end ws last. both_of before old.halves end ws last) new fault (Leads-start before old none) answer (λ end f. refl)
+    stops_word before old old (λ end ws last. both_of before old.halves end ws last) new fault
+    (Leads-start before old none) answer (λ end f. refl)
 
 -- the end, where the line `---` is lacking
-pub answers_lacking : (before : ℕ) (old mid new : InputState) → old.fault ≡ None → Passed old [] mid → IsAtEnd mid.text → new ≡ with_fault mid (Line (mid.lines + 1) faults.Word)
+pub answers_lacking : (before : ℕ) (old mid new : InputState) → old.fault ≡ None → Passed old [] mid → IsAtEnd mid.text
+    → new ≡ with_fault mid (Line (mid.lines + 1) faults.Word)
     → AnswersFirst before old (Err (Line (mid.lines + 1) faults.Word)) new
-answers_lacking before old mid new none passed at_end is_new = rw is_new ((passed.failures, go old.text mid.text leads.text at_end), refl)
+answers_lacking before old mid new none passed at_end is_new =
+    rw is_new ((passed.failures, go old.text mid.text leads.text at_end), refl)
   where
     said : Said
     said end more last = both_of before old.halves end (ended_words mid.place more) last
 
     leads : Leads before old mid said
-    leads = Leads-words before old old mid [] (λ end ws last. both_of before old.halves end ws last) said (Leads-start before old none) passed (λ end more last. refl)
+    leads = Leads-words before old old mid [] (λ end ws last. both_of before old.halves end ws last) said
+        (Leads-start before old none) passed (λ end more last. refl)
 
-    go : (x y : Option (List ℕ)) → IfSome x (λ text. IsSomeAnd y (λ rest. LeadsIn before old mid said text rest)) → IsAtEnd y
+    go : (x y : Option (List ℕ)) → IfSome x (λ text. IsSomeAnd y (λ rest. LeadsIn before old mid said text rest))
+        → IsAtEnd y
         → IfSome x (λ text. in_limit (both_from before old) old text ≡ stopped (Line (mid.lines + 1) faults.Word))
     go None y p end = tt
     go (Some x) None p end = absurd p
-    go (Some x) (Some y) p end = in_limit_of before old mid said x y p ∙ ap (in_limit said mid) end ∙ rw (zero_fits mid.bytes) refl
+    go (Some x) (Some y) p end =
+        in_limit_of before old mid said x y p ∙ ap (in_limit said mid) end ∙ rw (zero_fits mid.bytes) refl

@@ -1,5 +1,7 @@
 -- A word at the front of the bytes at hand is the next word of the input.
-use Rattle.std.proofs.Common.{◌≡◌, ℕ, ◌+◌, ◌-◌, ◌*◌, ◌<◌, ◌≤◌, List, [], ◌∷◌, ◌++◌, take, get_or, length, Bool, true, false, not, cond, eqb, nat_lt, nat_le, ◌||◌, ◌&&◌, min, Option, None, Some, Ok, IfSome, IsSomeAnd, refl, sym, ap, ◌∙◌, subst, arith, append_assoc, length-append, length-take}
+use Rattle.std.proofs.Common.{◌≡◌, ℕ, ◌+◌, ◌-◌, ◌*◌, ◌<◌, ◌≤◌, List, [], ◌∷◌, ◌++◌, take, get_or, length, Bool, true}
+use Rattle.std.proofs.Common.{false, not, cond, eqb, nat_lt, nat_le, ◌||◌, ◌&&◌, min, Option, None, Some, Ok, IfSome}
+use Rattle.std.proofs.Common.{IsSomeAnd, refl, sym, ap, ◌∙◌, subst, arith, append_assoc, length-append, length-take}
 use Rattle.std.proofs.lemmas.List.{append-nil, take_more}
 use Rattle.std.proofs.lemmas.List.Folds.{list_all_more}
 use Rattle.std.proofs.lemmas.Bool.{ne_eqb}
@@ -67,7 +69,8 @@ plain_digits (byte ∷ word) digits =
     let parts = both (is_ascii_digit byte) (list_all is_ascii_digit word) digits in
     rw (plain_digit byte parts.0, plain_digits word parts.1) refl
 
-opened-plain : (line : ℕ) (front word more : List ℕ) → list_all is_plain word ≡ true → opened (outside line) front (word ++ more) ≡ opened (outside line) (front ++ word) more
+opened-plain : (line : ℕ) (front word more : List ℕ) → list_all is_plain word ≡ true
+    → opened (outside line) front (word ++ more) ≡ opened (outside line) (front ++ word) more
 opened-plain line front [] more digits = ap (λ (xs : List ℕ). opened (outside line) xs more) (sym (append-nil front))
 opened-plain line front (byte ∷ word) more digits =
     let parts = both (is_plain byte) (list_all is_plain word) digits in
@@ -99,19 +102,23 @@ gap_outside gap is = go (eqb gap 35) refl
         pick true = refl
         pick false = refl
 
-ends_word_of : (line : ℕ) (word : List ℕ) → 0 < length word → ended line word ≡ record { line = line; bytes = word } ∷ []
+ends_word_of : (line : ℕ) (word : List ℕ) → 0 < length word
+    → ended line word ≡ record { line = line; bytes = word } ∷ []
 ends_word_of line [] some = absurd (omega arith)
 ends_word_of line (byte ∷ word) some = refl
 
 -- a word and a gap hold one word
 passes_front : (line gap : ℕ) (word : List ℕ) → list_all is_plain word ≡ true → 0 < length word → is_gap gap ≡ true
-    → Passes (outside line) (word ++ gap ∷ []) (record { line = line; bytes = word } ∷ []) (outside (line_behind line gap))
+    → Passes (outside line) (word ++ gap ∷ []) (record { line = line; bytes = word } ∷ [])
+    (outside (line_behind line gap))
 passes_front line gap word digits some is = λ more.
-    ap (ended_words (outside line)) (append_assoc word (gap ∷ []) more) ∙ sym (opened-none (outside line) (word ++ gap ∷ more))
+    ap (ended_words (outside line)) (append_assoc word (gap ∷ []) more)
+    ∙ sym (opened-none (outside line) (word ++ gap ∷ more))
     ∙ opened-plain line [] word (gap ∷ more) digits
     ∙ opened-gap (outside line) word gap more (or_gap (comments false gap) is)
     ∙ ap (λ (words : List Word). words ++ ended_words (behind (outside line) gap) more) (ends_word_of line word some)
-    ∙ ap (λ (in_comment : Bool). record { line = line; bytes = word } ∷ ended_words (record { line = line_behind line gap; in_comment = in_comment }) more) (gap_outside gap is)
+    ∙ ap (λ (in_comment : Bool). record { line = line; bytes = word } ∷ ended_words
+    (record { line = line_behind line gap; in_comment = in_comment }) more) (gap_outside gap is)
   where
     or_gap : (a : Bool) → is_gap gap ≡ true → (a || is_gap gap) ≡ true
     or_gap true is = refl
@@ -119,8 +126,10 @@ passes_front line gap word digits some is = λ more.
 
 -- a word and a gap stand on one line
 lines_of_front : (lines line gap : ℕ) (word rest : List ℕ) → list_all is_plain word ≡ true
-    → lines_through lines line ((word ++ gap ∷ []) ++ (rest ++ 10 ∷ [])) ≡ lines_through line (line_behind line gap) (rest ++ 10 ∷ [])
-lines_of_front lines line gap [] rest digits = ap (λ n. lines_through n (line_behind line gap) (rest ++ 10 ∷ [])) (some rest)
+    → lines_through lines line ((word ++ gap ∷ []) ++ (rest ++ 10 ∷ [])) ≡ lines_through line (line_behind line gap)
+    (rest ++ 10 ∷ [])
+lines_of_front lines line gap [] rest digits =
+    ap (λ n. lines_through n (line_behind line gap) (rest ++ 10 ∷ [])) (some rest)
   where
     some : (rest : List ℕ) → lines_with lines line (rest ++ 10 ∷ []) ≡ line
     some [] = refl
@@ -141,7 +150,8 @@ pub record IsDuration (word : List ℕ) : Type 0 where
   digits : list_all is_ascii_digit word ≡ true
 
 duration_parts : (word : List ℕ) (us : ℕ) → duration_of word ≡ Some us → IsDuration word
-duration_parts word us spells = go (nat_lt 0 (length word)) refl (nat_le (length word) 10) (list_all is_ascii_digit word) refl spells
+duration_parts word us spells =
+    go (nat_lt 0 (length word)) refl (nat_le (length word) 10) (list_all is_ascii_digit word) refl spells
   where
     go : (a : Bool) → nat_lt 0 (length word) ≡ a → (b c : Bool) → list_all is_ascii_digit word ≡ c
         → cond (a && (b && c)) (Some (min (digits_value 10 word) 65535)) None ≡ Some us → IsDuration word
@@ -158,13 +168,24 @@ pub record TakesHalf (old : InputState) (us : ℕ) (new : InputState) : Type 0 w
   pub mid : InputState
   pub passed : Passed old (record { line = old.place.line; bytes = word } ∷ []) mid
   pub some : 0 < mid.halves
-  pub counted : new ≡ record { text = mid.text; ahead = mid.ahead; place = mid.place; lines = mid.lines; halves = mid.halves - 1; bytes = mid.bytes; fault = mid.fault; failures = mid.failures }
+  pub counted : new ≡ record {
+    text = mid.text;
+    ahead = mid.ahead;
+    place = mid.place;
+    lines = mid.lines;
+    halves = mid.halves - 1;
+    bytes = mid.bytes;
+    fault = mid.fault;
+    failures = mid.failures;
+  }
   pub fewer : new.bytes < old.bytes
 
 -- as a run of one half
-pub run_taken : (old new : InputState) (us : ℕ) → TakesHalf old us new → AnswersRun old (Ok (Some (record { us = us; n = 1 }))) new
+pub run_taken : (old new : InputState) (us : ℕ) → TakesHalf old us new
+    → AnswersRun old (Ok (Some (record { us = us; n = 1 }))) new
 run_taken old new us takes = let some = takes.some in (
-  Gave-word old takes.mid new old.place.line (record { us = us; n = 1 }) takes.word takes.passed (run_of_duration takes.word us takes.digits.digits takes.spells) (omega (arith, some)) takes.counted,
+  Gave-word old takes.mid new old.place.line (record { us = us; n = 1 }) takes.word takes.passed
+      (run_of_duration takes.word us takes.digits.digits takes.spells) (omega (arith, some)) takes.counted,
   omega arith,
   takes.fewer,
 )
@@ -189,21 +210,30 @@ first_taken before old new us none takes =
     let some = takes.some in
     let fewer = takes.fewer in
     let bytes : new.bytes ≡ takes.mid.bytes = ap (λ (state : InputState). state.bytes) takes.counted in
-    counts before old.place.line takes.word old takes.mid none takes.passed new (Ok (Some (old.place.line, record { us = us; n = 1 })))
-    (rw (no_mark takes.word takes.digits) refl) (omega (arith, fewer, bytes)) (refl, run_of_duration takes.word us takes.digits.digits takes.spells, omega (arith, some), takes.counted)
+    counts before old.place.line takes.word old takes.mid none takes.passed new
+    (Ok (Some (old.place.line, record { us = us; n = 1 })))
+    (rw (no_mark takes.word takes.digits) refl) (omega (arith, fewer, bytes))
+    (refl, run_of_duration takes.word us takes.digits.digits takes.spells, omega (arith, some), takes.counted)
 
 -- the word at the front was passed
 passes_word : (old new : InputState) (whole rest : Option (List ℕ)) (ahead : List ℕ) (len : ℕ) (ends_line : Bool)
-    → old.text ≡ closed_text false whole → new.text ≡ closed_text false rest → Consumes whole rest (take (len + 1) ahead)
-    → BeginsWithWord ahead len ends_line → old.place.in_comment ≡ false → new.place ≡ outside (line_behind old.place.line (get_or ahead len 0)) → new.lines ≡ old.place.line
-    → new.bytes + (len + 1) ≡ old.bytes → 0 < new.bytes → new.halves ≡ old.halves → new.fault ≡ None → new.failures ≡ old.failures
+    → old.text ≡ closed_text false whole → new.text ≡ closed_text false rest
+    → Consumes whole rest (take (len + 1) ahead)
+    → BeginsWithWord ahead len ends_line → old.place.in_comment ≡ false
+    → new.place ≡ outside (line_behind old.place.line (get_or ahead len 0)) → new.lines ≡ old.place.line
+    → new.bytes + (len + 1) ≡ old.bytes → 0 < new.bytes → new.halves ≡ old.halves → new.fault ≡ None
+    → new.failures ≡ old.failures
     → Passed old (record { line = old.place.line; bytes = take len ahead } ∷ []) new
-passes_word old new whole rest ahead len ends_line old_text new_text consumed begins no_comment place lines bytes some_bytes halves fault failures =
+passes_word old new whole rest ahead len ends_line old_text new_text consumed begins no_comment place lines bytes
+    some_bytes halves fault failures =
     let used : take (len + 1) ahead ≡ take len ahead ++ get_or ahead len 0 ∷ [] = take_more ahead len 0 begins.inside in
     let count : length (take len ahead) ≡ len = let inside = begins.inside in simp length-take (omega arith) in
     record {
-      text = subst (λ (xs : Option (List ℕ)). IfSome xs (λ text. IsSomeAnd new.text (λ left. Uses old new words text left))) (sym old_text)
-          (subst (λ (xs : Option (List ℕ)). IfSome (closed_text false whole) (λ text. IsSomeAnd xs (λ left. Uses old new words text left))) (sym new_text)
+      text = subst
+          (λ (xs : Option (List ℕ)). IfSome xs (λ text. IsSomeAnd new.text (λ left. Uses old new words text left)))
+          (sym old_text)
+          (subst (λ (xs : Option (List ℕ)). IfSome (closed_text false whole)
+          (λ text. IsSomeAnd xs (λ left. Uses old new words text left))) (sym new_text)
           (go used count whole rest consumed));
       halves = halves;
       bytes = omega (arith, bytes);
@@ -216,15 +246,20 @@ passes_word old new whole rest ahead len ends_line old_text new_text consumed be
 
     go : take (len + 1) ahead ≡ take len ahead ++ get_or ahead len 0 ∷ [] → length (take len ahead) ≡ len
         → (xs ys : Option (List ℕ)) → Consumes xs ys (take (len + 1) ahead)
-        → IfSome (closed_text false xs) (λ text. IsSomeAnd (closed_text false ys) (λ left. Uses old new words text left))
+        → IfSome (closed_text false xs)
+        (λ text. IsSomeAnd (closed_text false ys) (λ left. Uses old new words text left))
     go used count None ys taken = tt
     go used count (Some xs) None taken = absurd taken
     go used count (Some xs) (Some ys) taken = let some = begins.some in record {
       used = take len ahead ++ get_or ahead len 0 ∷ [];
       whole = ap (λ (zs : List ℕ). zs ++ 10 ∷ []) (taken ∙ ap (λ (zs : List ℕ). zs ++ ys) used)
           ∙ append_assoc (take len ahead ++ get_or ahead len 0 ∷ []) ys (10 ∷ []);
-      passes = λ more. ap (λ (in_comment : Bool). ended_words (record { line = old.place.line; in_comment = in_comment }) ((take len ahead ++ get_or ahead len 0 ∷ []) ++ more)) no_comment
-          ∙ passes_front old.place.line (get_or ahead len 0) (take len ahead) begins.plain (omega (arith, count, some)) begins.gap more
+      passes =
+          λ more. ap
+          (λ (in_comment : Bool). ended_words (record { line = old.place.line; in_comment = in_comment })
+          ((take len ahead ++ get_or ahead len 0 ∷ []) ++ more)) no_comment
+          ∙ passes_front old.place.line (get_or ahead len 0) (take len ahead) begins.plain (omega (arith, count, some))
+          begins.gap more
           ∙ ap (λ (at : Place). words ++ ended_words at more) (sym place);
       bytes = simp length-append (omega (arith, bytes, count));
       room = λ one none. absurd (omega arith);
@@ -232,22 +267,40 @@ passes_word old new whole rest ahead len ends_line old_text new_text consumed be
           ∙ ap (λ (at : Place). lines_through old.place.line at.line (ys ++ 10 ∷ [])) place
           ∙ sym (lines_of_front old.lines old.place.line (get_or ahead len 0) (take len ahead) ys begins.plain)
           ∙ ap (λ (zs : List ℕ). lines_through old.lines old.place.line zs)
-          (sym (append_assoc (take len ahead ++ get_or ahead len 0 ∷ []) ys (10 ∷ [])) ∙ ap (λ (zs : List ℕ). zs ++ 10 ∷ []) (sym (taken ∙ ap (λ (zs : List ℕ). zs ++ ys) used)));
+          (sym (append_assoc (take len ahead ++ get_or ahead len 0 ∷ []) ys (10 ∷ []))
+          ∙ ap (λ (zs : List ℕ). zs ++ 10 ∷ []) (sym (taken ∙ ap (λ (zs : List ℕ). zs ++ ys) used)));
     }
 
 -- a duration at the front is a word there
-pub begins_with : (bytes : List ℕ) (front : FrontWord) → IsFrontWord bytes front → BeginsWithWord bytes front.len front.ends_line
+pub begins_with : (bytes : List ℕ) (front : FrontWord) → IsFrontWord bytes front
+    → BeginsWithWord bytes front.len front.ends_line
 begins_with bytes front is =
     let parts = duration_parts (take front.len bytes) front.us is.spells in
     let inside = is.inside in
     let count : length (take front.len bytes) ≡ front.len = simp length-take (omega arith) in
     let some = parts.some in
-    record { inside = is.inside; some = omega (arith, count, some); plain = plain_digits (take front.len bytes) parts.digits; gap = is.gap; ends = is.ends_line }
+    record {
+      inside = is.inside;
+      some = omega (arith, count, some);
+      plain = plain_digits (take front.len bytes) parts.digits;
+      gap = is.gap;
+      ends = is.ends_line;
+    }
 
 -- and one of its halves was taken
 pub takes_half : (old mid new : InputState) (bytes : List ℕ) (front : FrontWord) → IsFrontWord bytes front
-    → Passed old (record { line = old.place.line; bytes = take front.len bytes } ∷ []) mid → mid.bytes < old.bytes → 0 < mid.halves
-    → new ≡ record { text = mid.text; ahead = mid.ahead; place = mid.place; lines = mid.lines; halves = mid.halves - 1; bytes = mid.bytes; fault = mid.fault; failures = mid.failures }
+    → Passed old (record { line = old.place.line; bytes = take front.len bytes } ∷ []) mid → mid.bytes < old.bytes
+    → 0 < mid.halves
+    → new ≡ record {
+      text = mid.text;
+      ahead = mid.ahead;
+      place = mid.place;
+      lines = mid.lines;
+      halves = mid.halves - 1;
+      bytes = mid.bytes;
+      fault = mid.fault;
+      failures = mid.failures;
+    }
     → TakesHalf old front.us new
 takes_half old mid new bytes front is passed fewer some counted = record {
   word = take front.len bytes;
@@ -257,7 +310,8 @@ takes_half old mid new bytes front is passed fewer some counted = record {
   passed = passed;
   some = some;
   counted = counted;
-  fewer = let same : new.bytes ≡ mid.bytes = ap (λ (state : InputState). state.bytes) counted in omega (arith, same, fewer);
+  fewer = let same : new.bytes ≡ mid.bytes = ap (λ (state : InputState). state.bytes) counted in omega
+      (arith, same, fewer);
 }
 
 -- what an input with these fields is
@@ -273,28 +327,36 @@ state_of source line lines in_comment closed halves bytes fault = record {
   failures = source.failures;
 }
 
-pub passes_word_at : (source later : Told) (line next lines halves bytes len : ℕ) (in_comment closed ends_line : Bool) (fault : Option KeptFault)
+pub passes_word_at : (source later : Told) (line next lines halves bytes len : ℕ) (in_comment closed ends_line : Bool)
+    (fault : Option KeptFault)
     → closed ≡ false → in_comment ≡ false → len < bytes → BeginsWithWord source.ahead len ends_line
     → Consumes source.text later.text (take (len + 1) source.ahead) → later.failures ≡ source.failures → fault ≡ None
     → next ≡ line_behind line (get_or source.ahead len 0)
-    → Passed (state_of source line lines in_comment closed halves bytes fault) (record { line = line; bytes = take len source.ahead } ∷ [])
+    → Passed (state_of source line lines in_comment closed halves bytes fault)
+    (record { line = line; bytes = take len source.ahead } ∷ [])
     (state_of later next line in_comment closed halves (bytes - (len + 1)) fault)
-passes_word_at source later line next lines halves bytes len in_comment closed ends_line fault is_open no_comment fits begins consumed failures none behind_gap =
-    passes_word (state_of source line lines in_comment closed halves bytes fault) (state_of later next line in_comment closed halves (bytes - (len + 1)) fault)
+passes_word_at source later line next lines halves bytes len in_comment closed ends_line fault is_open no_comment fits
+    begins consumed failures none behind_gap =
+    passes_word (state_of source line lines in_comment closed halves bytes fault)
+    (state_of later next line in_comment closed halves (bytes - (len + 1)) fault)
     source.text later.text source.ahead len ends_line
-    (ap (λ (b : Bool). closed_text b source.text) is_open) (ap (λ (b : Bool). closed_text b later.text) is_open) consumed begins no_comment
+    (ap (λ (b : Bool). closed_text b source.text) is_open) (ap (λ (b : Bool). closed_text b later.text) is_open)
+    consumed begins no_comment
     (rw (no_comment, behind_gap) refl) refl (omega arith) (rw is_open (omega arith)) refl none failures
 
-pub line_of_gap : (line gap : ℕ) (ends_line : Bool) → ends_line ≡ eqb gap 10 → ends_line ≡ true → line + 1 ≡ line_behind line gap
+pub line_of_gap : (line gap : ℕ) (ends_line : Bool) → ends_line ≡ eqb gap 10 → ends_line ≡ true
+    → line + 1 ≡ line_behind line gap
 line_of_gap line gap ends_line is ends = rw (sym is ∙ ends) refl
 
-pub same_line_of_gap : (line gap : ℕ) (ends_line : Bool) → ends_line ≡ eqb gap 10 → ends_line ≡ false → line ≡ line_behind line gap
+pub same_line_of_gap : (line gap : ℕ) (ends_line : Bool) → ends_line ≡ eqb gap 10 → ends_line ≡ false
+    → line ≡ line_behind line gap
 same_line_of_gap line gap ends_line is ends = rw (sym is ∙ ends) refl
 
 -- a line feed behind no word was passed
 passes_line_feed : (source later : Told) (line lines halves bytes : ℕ) → 1 < bytes + 1 → take 1 source.ahead ≡ 10 ∷ []
     → Consumes source.text later.text (take 1 source.ahead) → later.failures ≡ source.failures
-    → Passed (state_of source line lines false false halves bytes None) [] (state_of later (line + 1) line false false halves (bytes - 1) None)
+    → Passed (state_of source line lines false false halves bytes None) []
+    (state_of later (line + 1) line false false halves (bytes - 1) None)
 unfolding comments is_gap
 passes_line_feed source later line lines halves bytes room is_feed consumed failures = record {
   text = go source.text later.text consumed;
@@ -319,27 +381,34 @@ passes_line_feed source later line lines halves bytes room is_feed consumed fail
     go None ys taken = tt
     go (Some xs) None taken = absurd taken
     go (Some xs) (Some ys) taken =
-        let whole : xs ++ 10 ∷ [] ≡ 10 ∷ (ys ++ 10 ∷ []) = ap (λ (zs : List ℕ). zs ++ 10 ∷ []) (taken ∙ ap (λ (zs : List ℕ). zs ++ ys) is_feed) in
+        let whole : xs ++ 10 ∷ [] ≡ 10 ∷ (ys ++ 10 ∷ []) =
+        ap (λ (zs : List ℕ). zs ++ 10 ∷ []) (taken ∙ ap (λ (zs : List ℕ). zs ++ ys) is_feed) in
         record {
           used = 10 ∷ [];
           whole = whole;
           passes = λ more. sym (opened-none (outside line) (10 ∷ more)) ∙ opened-gap (outside line) [] 10 more refl;
           bytes = omega arith;
           room = λ one none. absurd (omega (arith, none));
-          lines = ap (λ n. lines_through n (line + 1) (ys ++ 10 ∷ [])) (sym (some ys)) ∙ ap (λ (zs : List ℕ). lines_through lines line zs) (sym whole);
+          lines = ap (λ n. lines_through n (line + 1) (ys ++ 10 ∷ [])) (sym (some ys))
+              ∙ ap (λ (zs : List ℕ). lines_through lines line zs) (sym whole);
         }
 
 first_of : (bytes : List ℕ) (byte : ℕ) → 0 < length bytes → get_or bytes 0 0 ≡ byte → take 1 bytes ≡ byte ∷ []
 first_of [] byte some is = absurd (omega (arith, some))
 first_of (first ∷ bytes) byte some is = ap (λ (b : ℕ). b ∷ []) is
 
-pub passes_line_feed_at : (source later : Told) (line lines halves bytes : ℕ) (in_comment closed : Bool) (fault : Option KeptFault)
+pub passes_line_feed_at : (source later : Told) (line lines halves bytes : ℕ) (in_comment closed : Bool)
+    (fault : Option KeptFault)
     → closed ≡ false → in_comment ≡ false → fault ≡ None → 1 < bytes + closing closed → HasLineFeedAt source.ahead 0
     → Consumes source.text later.text (take 1 source.ahead) → later.failures ≡ source.failures
-    → Passed (state_of source line lines in_comment closed halves bytes fault) [] (state_of later (line + 1) line in_comment closed halves (bytes - 1) fault)
-passes_line_feed_at source later line lines halves bytes in_comment closed fault is_open no_comment none room begins consumed failures =
+    → Passed (state_of source line lines in_comment closed halves bytes fault) []
+    (state_of later (line + 1) line in_comment closed halves (bytes - 1) fault)
+passes_line_feed_at source later line lines halves bytes in_comment closed fault is_open no_comment none room begins
+    consumed failures =
     let fits = subst (λ (b : Bool). 1 < bytes + closing b) is_open room in
-    rw (is_open, no_comment, none) (passes_line_feed source later line lines halves bytes fits (first_of source.ahead 10 begins.0 begins.1) consumed failures)
+    rw (is_open, no_comment, none)
+    (passes_line_feed source later line lines halves bytes fits (first_of source.ahead 10 begins.0 begins.1)
+    consumed failures)
 
 -- digits that spell this number
 pub record SpellsNumber (number : ℕ) (word : List ℕ) : Type 0 where
@@ -347,10 +416,14 @@ pub record SpellsNumber (number : ℕ) (word : List ℕ) : Type 0 where
   pub value : number ≡ digits_value 10 word
   pub small : number < 100000
 
-pub SpellsNumber-digit : (number : ℕ) (bytes : List ℕ) (len : ℕ) → len < length bytes → SpellsNumber number (take len bytes) → number < 10000
-    → 48 ≤ get_or bytes len 0 → get_or bytes len 0 ≤ 57 → SpellsNumber (number * 10 + (get_or bytes len 0 - 48)) (take (len + 1) bytes)
+pub SpellsNumber-digit : (number : ℕ) (bytes : List ℕ) (len : ℕ) → len < length bytes
+    → SpellsNumber number (take len bytes) → number < 10000
+    → 48 ≤ get_or bytes len 0 → get_or bytes len 0 ≤ 57
+    → SpellsNumber (number * 10 + (get_or bytes len 0 - 48)) (take (len + 1) bytes)
 SpellsNumber-digit number bytes len inside spells few low high = record {
-  digits = list_all_more is_ascii_digit bytes len 0 inside ∙ rw (spells.digits, is_ascii_digit-digit (get_or bytes len 0) low high) refl;
+  digits =
+      list_all_more is_ascii_digit bytes len 0 inside
+      ∙ rw (spells.digits, is_ascii_digit-digit (get_or bytes len 0) low high) refl;
   value = ap (λ n. n * 10 + (get_or bytes len 0 - 48)) spells.value
       ∙ ap (λ n. digits_value 10 (take len bytes) * 10 + n) (sym (digit_value-digit (get_or bytes len 0) low high))
       ∙ sym (digits_value_after-push 0 (take len bytes) (get_or bytes len 0))
@@ -359,6 +432,9 @@ SpellsNumber-digit number bytes len inside spells few low high = record {
 }
 
 -- where a byte is ahead, the reader has not answered its end
-pub open_with : (closed : Bool) (ahead : List ℕ) (len : ℕ) → (closed ≡ true → ahead ≡ []) → len < length ahead → closed ≡ false
-open_with true ahead len at_end inside = let clash : len < length {A = ℕ} [] = subst (λ (xs : List ℕ). len < length xs) (at_end refl) inside in absurd (omega (arith, clash))
+pub open_with : (closed : Bool) (ahead : List ℕ) (len : ℕ) → (closed ≡ true → ahead ≡ []) → len < length ahead
+    → closed ≡ false
+open_with true ahead len at_end inside =
+    let clash : len < length {A = ℕ} [] = subst (λ (xs : List ℕ). len < length xs) (at_end refl) inside in absurd
+    (omega (arith, clash))
 open_with false ahead len at_end inside = refl

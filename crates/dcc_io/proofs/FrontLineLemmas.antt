@@ -1,5 +1,7 @@
 -- A line at the front of the bytes that were read.
-use Rattle.std.proofs.Common.{suc, ◌≡◌, ℕ, ◌+◌, ◌-◌, ◌<◌, ◌≤◌, List, [], ◌∷◌, ◌++◌, length, take, drop, get_or, Bool, true, false, eqb, Option, None, Some, refl, sym, ap, ◌∙◌, arith, append_assoc, add-one, drop-cons, IfSome, IsSomeAnd}
+use Rattle.std.proofs.Common.{suc, ◌≡◌, ℕ, ◌+◌, ◌-◌, ◌<◌, ◌≤◌, List, [], ◌∷◌, ◌++◌, length, take, drop, get_or, Bool}
+use Rattle.std.proofs.Common.{true, false, eqb, Option, None, Some, refl, sym, ap, ◌∙◌, arith, append_assoc, add-one}
+use Rattle.std.proofs.Common.{drop-cons, IfSome, IsSomeAnd}
 use Rattle.std.proofs.Math.Seq.{take-append-add}
 use Rattle.std.proofs.lemmas.Bool.{le-leb}
 use Rattle.std.proofs.lemmas.List.{take-append-drop, length-take-le}
@@ -22,14 +24,16 @@ pub record IsWithinLine (bytes : List ℕ) (len : ℕ) : Type 0 where
   pub ascii : list_all is_ascii (take len bytes) ≡ true
   pub one : has_line_feed (take len bytes) ≡ false
 
-pub IsWithinLine-byte : (bytes : List ℕ) (len : ℕ) → len < length bytes → IsWithinLine bytes len → eqb (get_or bytes len 0) 10 ≡ false → is_ascii (get_or bytes len 0) ≡ true
+pub IsWithinLine-byte : (bytes : List ℕ) (len : ℕ) → len < length bytes → IsWithinLine bytes len
+    → eqb (get_or bytes len 0) 10 ≡ false → is_ascii (get_or bytes len 0) ≡ true
     → IsWithinLine bytes (len + 1)
 IsWithinLine-byte bytes len inside within no_end ascii = record {
   ascii = list_all_more is_ascii bytes len 0 inside ∙ rw (within.ascii, ascii) refl;
   one = list_any_more (λ byte. eqb byte 10) bytes len 0 inside ∙ rw (within.one, no_end) refl;
 }
 
-pub ends_line : (bytes : List ℕ) (len : ℕ) → len < length bytes → len ≤ 512 → IsWithinLine bytes len → get_or bytes len 0 ≡ 10 → IsEndedLine bytes len
+pub ends_line : (bytes : List ℕ) (len : ℕ) → len < length bytes → len ≤ 512 → IsWithinLine bytes len
+    → get_or bytes len 0 ≡ 10 → IsEndedLine bytes len
 ends_line bytes len inside short within ends = record {
   inside = inside;
   ends = ends;
@@ -43,7 +47,8 @@ ends_line bytes len inside short within ends = record {
     good = rw (le-leb (length (take len bytes)) 512 fits, within.ascii) refl
 
 -- a line that has ended and says something
-pub front_of_ended : (bytes : List ℕ) (len : ℕ) → IsEndedLine bytes len → is_skipped (take len bytes) ≡ false → IsFrontLine bytes (take len bytes)
+pub front_of_ended : (bytes : List ℕ) (len : ℕ) → IsEndedLine bytes len → is_skipped (take len bytes) ≡ false
+    → IsFrontLine bytes (take len bytes)
 front_of_ended bytes len ended says = record {
   behind = drop (len + 1) bytes;
   whole = sym (take-append-drop len bytes) ∙ ap (λ (rest : List ℕ). take len bytes ++ rest) rest;
@@ -52,30 +57,35 @@ front_of_ended bytes len ended says = record {
 }
   where
     rest : drop len bytes ≡ 10 ∷ drop (len + 1) bytes
-    rest = drop-cons bytes len 0 ended.inside ∙ ap (λ byte. byte ∷ drop (suc len) bytes) ended.ends ∙ ap (λ n. 10 ∷ drop n bytes) (sym (add-one len))
+    rest = drop-cons bytes len 0 ended.inside ∙ ap (λ byte. byte ∷ drop (suc len) bytes) ended.ends
+        ∙ ap (λ n. 10 ∷ drop n bytes) (sym (add-one len))
 
 -- a line with its line feed is the front of the bytes
-line_of_front : (bytes line : List ℕ) (n : ℕ) → n ≡ length line + 1 → IsFrontLine bytes line → take n bytes ≡ line ++ 10 ∷ []
+line_of_front : (bytes line : List ℕ) (n : ℕ) → n ≡ length line + 1 → IsFrontLine bytes line
+    → take n bytes ≡ line ++ 10 ∷ []
 line_of_front bytes line n is front =
-    ap (take n) front.whole ∙ ap (λ k. take k (line ++ 10 ∷ front.behind)) is ∙ take-append-add line (10 ∷ front.behind) 1
+    ap (take n) front.whole ∙ ap (λ k. take k (line ++ 10 ∷ front.behind)) is
+    ∙ take-append-add line (10 ∷ front.behind) 1
 
-pub takes_line_at : (source later : Told) (line lines halves bytes len : ℕ) (in_comment closed : Bool) (fault : Option KeptFault) (text : List ℕ)
+pub takes_line_at : (source later : Told) (line lines halves bytes len : ℕ) (in_comment closed : Bool)
+    (fault : Option KeptFault) (text : List ℕ)
     → closed ≡ false → len < bytes → IsFrontLine source.ahead text → length text ≡ len
     → Consumes source.text later.text (take (len + 1) source.ahead) → later.failures ≡ source.failures → fault ≡ None
     → EndsLine (state_of source line lines in_comment closed halves bytes fault) line text
     (state_of later (line + 1) line in_comment closed halves (bytes - (len + 1)) fault)
-takes_line_at source later line lines halves bytes len in_comment closed fault text is_open fits front count consumed failures none = record {
-  at = refl;
-  is_line = front.is_line;
-  text = rw is_open (whole source.text later.text consumed);
-  next = refl;
-  lines = rw is_open (used source.text later.text consumed);
-  halves = refl;
-  bytes = rw is_open (omega (arith, count));
-  room = λ empty. absurd (some_left empty);
-  fault = none;
-  failures = failures;
-}
+takes_line_at source later line lines halves bytes len in_comment closed fault text is_open fits front count consumed
+    failures none = record {
+      at = refl;
+      is_line = front.is_line;
+      text = rw is_open (whole source.text later.text consumed);
+      next = refl;
+      lines = rw is_open (used source.text later.text consumed);
+      halves = refl;
+      bytes = rw is_open (omega (arith, count));
+      room = λ empty. absurd (some_left empty);
+      fault = none;
+      failures = failures;
+    }
   where
     some_left : bytes - (len + 1) + closing closed ≡ 0 → ⊥
     some_left empty = let one : closing closed ≡ 1 = rw is_open refl in omega (arith, one, empty)
@@ -84,19 +94,26 @@ takes_line_at source later line lines halves bytes len in_comment closed fault t
         → IfSome (closed_text false xs) (λ all. IsSomeAnd (closed_text false ys) (λ rest. all ≡ text ++ 10 ∷ rest))
     whole None ys taken = tt
     whole (Some xs) None taken = absurd taken
-    whole (Some xs) (Some ys) taken = ap (λ (zs : List ℕ). zs ++ 10 ∷ []) (taken ∙ ap (λ (zs : List ℕ). zs ++ ys) (line_of_front source.ahead text (len + 1) (omega (arith, count)) front))
+    whole (Some xs) (Some ys) taken =
+        ap (λ (zs : List ℕ). zs ++ 10 ∷ [])
+        (taken ∙ ap (λ (zs : List ℕ). zs ++ ys)
+        (line_of_front source.ahead text (len + 1) (omega (arith, count)) front))
         ∙ append_assoc (text ++ 10 ∷ []) ys (10 ∷ []) ∙ append_assoc text (10 ∷ []) (ys ++ 10 ∷ [])
 
     used : (xs ys : Option (List ℕ)) → Consumes xs ys (take (len + 1) source.ahead)
-        → IfSome (closed_text false xs) (λ all. IsSomeAnd (closed_text false ys) (λ rest. line ≡ lines_with (lines_within lines line text) line rest))
+        → IfSome (closed_text false xs)
+        (λ all. IsSomeAnd (closed_text false ys)
+        (λ rest. line ≡ lines_with (lines_within lines line text) line rest))
     used None ys taken = tt
     used (Some xs) None taken = absurd taken
     used (Some xs) (Some []) taken = refl
     used (Some xs) (Some (y ∷ ys)) taken = refl
 
 -- where a line is ahead, the reader has not answered its end
-pub front_opens : (closed : Bool) (ahead line : List ℕ) → (closed ≡ true → ahead ≡ []) → IsFrontLine ahead line → closed ≡ false
-front_opens true ahead line at_end front = let clash : line ++ 10 ∷ front.behind ≡ [] = sym front.whole ∙ at_end refl in absurd (not_empty line clash)
+pub front_opens : (closed : Bool) (ahead line : List ℕ) → (closed ≡ true → ahead ≡ []) → IsFrontLine ahead line
+    → closed ≡ false
+front_opens true ahead line at_end front =
+    let clash : line ++ 10 ∷ front.behind ≡ [] = sym front.whole ∙ at_end refl in absurd (not_empty line clash)
   where
     not_empty : (line : List ℕ) → line ++ 10 ∷ front.behind ≡ [] → ⊥
     not_empty [] clash = cc

@@ -9,40 +9,50 @@ use Rattle.dcc_io.proofs.WrittenLemmas.{Appends-none, Appends-append}
 pub Holds-same : (before : Option (List ℕ)) (bytes : List ℕ) → Holds before before bytes bytes
 Holds-same before bytes = record { written = []; whole = refl; appended = Appends-none before }
 
-pub Holds-append : (before mid after : Option (List ℕ)) (bytes held more later : List ℕ) → Holds before mid bytes held → Holds mid after (held ++ more) later → Holds before after (bytes ++ more) later
+pub Holds-append : (before mid after : Option (List ℕ)) (bytes held more later : List ℕ) → Holds before mid bytes held
+    → Holds mid after (held ++ more) later → Holds before after (bytes ++ more) later
 Holds-append before mid after bytes held more later first second = record {
   written = first.written ++ second.written;
-  whole = ap (λ (xs : List ℕ). xs ++ more) first.whole ∙ append_assoc first.written held more ∙ ap (λ (xs : List ℕ). first.written ++ xs) second.whole
+  whole = ap (λ (xs : List ℕ). xs ++ more) first.whole ∙ append_assoc first.written held more
+      ∙ ap (λ (xs : List ℕ). first.written ++ xs) second.whole
       ∙ sym (append_assoc first.written second.written later);
   appended = Appends-append before mid after first.written second.written first.appended second.appended;
 }
 
-pub Holds-wrote : (before mid after : Option (List ℕ)) (bytes held later : List ℕ) → Holds before mid bytes held → Holds mid after held later → Holds before after bytes later
+pub Holds-wrote : (before mid after : Option (List ℕ)) (bytes held later : List ℕ) → Holds before mid bytes held
+    → Holds mid after held later → Holds before after bytes later
 Holds-wrote before mid after bytes held later first second = record {
   written = first.written ++ second.written;
-  whole = first.whole ∙ ap (λ (xs : List ℕ). first.written ++ xs) second.whole ∙ sym (append_assoc first.written second.written later);
+  whole = first.whole ∙ ap (λ (xs : List ℕ). first.written ++ xs) second.whole
+      ∙ sym (append_assoc first.written second.written later);
   appended = Appends-append before mid after first.written second.written first.appended second.appended;
 }
 
 -- a write failed
-pub Holds-fails : (before mid after : Option (List ℕ)) (bytes held : List ℕ) → Holds before mid bytes held → AppendsFront mid after held → AppendsFront before after bytes
+pub Holds-fails : (before mid after : Option (List ℕ)) (bytes held : List ℕ) → Holds before mid bytes held
+    → AppendsFront mid after held → AppendsFront before after bytes
 Holds-fails before mid after bytes held first second = record {
   front = first.written ++ second.front;
   rest = second.rest;
-  whole = first.whole ∙ ap (λ (xs : List ℕ). first.written ++ xs) second.whole ∙ sym (append_assoc first.written second.front second.rest);
+  whole = first.whole ∙ ap (λ (xs : List ℕ). first.written ++ xs) second.whole
+      ∙ sym (append_assoc first.written second.front second.rest);
   written = Appends-append before mid after first.written second.front first.appended second.written;
 }
 
-pub Holds-fails_with : (before mid after : Option (List ℕ)) (bytes held more : List ℕ) → Holds before mid bytes held → AppendsFront mid after (held ++ more) → AppendsFront before after (bytes ++ more)
+pub Holds-fails_with : (before mid after : Option (List ℕ)) (bytes held more : List ℕ) → Holds before mid bytes held
+    → AppendsFront mid after (held ++ more) → AppendsFront before after (bytes ++ more)
 Holds-fails_with before mid after bytes held more first second = record {
   front = first.written ++ second.front;
   rest = second.rest;
-  whole = ap (λ (xs : List ℕ). xs ++ more) first.whole ∙ append_assoc first.written held more ∙ ap (λ (xs : List ℕ). first.written ++ xs) second.whole
+  whole = ap (λ (xs : List ℕ). xs ++ more) first.whole ∙ append_assoc first.written held more
+      ∙ ap (λ (xs : List ℕ). first.written ++ xs) second.whole
       ∙ sym (append_assoc first.written second.front second.rest);
   written = Appends-append before mid after first.written second.front first.appended second.written;
 }
 
 -- what was still held was written
-pub Holds-rest : (before mid after : Option (List ℕ)) (bytes held : List ℕ) → Holds before mid bytes held → Appends mid after held → Appends before after bytes
+pub Holds-rest : (before mid after : Option (List ℕ)) (bytes held : List ℕ) → Holds before mid bytes held
+    → Appends mid after held → Appends before after bytes
 Holds-rest before mid after bytes held first wrote =
-    subst (λ (xs : List ℕ). Appends before after xs) (sym first.whole) (Appends-append before mid after first.written held first.appended wrote)
+    subst (λ (xs : List ℕ). Appends before after xs) (sym first.whole)
+    (Appends-append before mid after first.written held first.appended wrote)

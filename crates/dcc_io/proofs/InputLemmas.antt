@@ -22,12 +22,14 @@ line_feed_is_last byte None is_last = tt
 line_feed_is_last byte (Some rest) is_last = λ none. is_last
 
 -- the line feed that closes a text stands on no line
-pub no_line_of_close : (lines line : ℕ) (text : Option (List ℕ)) → IfSome (closed_text true text) (λ rest. lines ≡ lines_with lines line rest)
+pub no_line_of_close : (lines line : ℕ) (text : Option (List ℕ))
+    → IfSome (closed_text true text) (λ rest. lines ≡ lines_with lines line rest)
 no_line_of_close lines line None = tt
 no_line_of_close lines line (Some xs) = refl
 
 -- any other byte stands on its line
-pub line_of_byte : (closed : Bool) (lines line : ℕ) (text : Option (List ℕ)) → closed ≡ false → IfSome (closed_text closed text) (λ rest. line ≡ lines_with lines line rest)
+pub line_of_byte : (closed : Bool) (lines line : ℕ) (text : Option (List ℕ)) → closed ≡ false
+    → IfSome (closed_text closed text) (λ rest. line ≡ lines_with lines line rest)
 line_of_byte closed lines line None is_open = tt
 line_of_byte closed lines line (Some xs) is_open = rw is_open (go xs)
   where
@@ -36,7 +38,8 @@ line_of_byte closed lines line (Some xs) is_open = rw is_open (go xs)
     go (x ∷ xs) = refl
 
 -- behind any other byte the line feed is still to come
-pub more_behind : (closed : Bool) (byte : ℕ) (text : Option (List ℕ)) → closed ≡ false → IfSome (closed_text closed text) (λ rest. rest ≡ [] → byte ≡ 10)
+pub more_behind : (closed : Bool) (byte : ℕ) (text : Option (List ℕ)) → closed ≡ false
+    → IfSome (closed_text closed text) (λ rest. rest ≡ [] → byte ≡ 10)
 more_behind closed byte None is_open = tt
 more_behind closed byte (Some xs) is_open = rw is_open (λ none. go xs none)
   where

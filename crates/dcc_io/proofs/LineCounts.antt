@@ -4,7 +4,8 @@ use Rattle.dcc_io.specs.Place.{line_behind, lines_through}
 use Rattle.dcc_io.specs.LineLaws.{line_count, LinesAreCounted}
 
 -- from this line on, the last line is so many further on
-last_line : (lines line byte : ℕ) (text : List ℕ) → lines_through lines line ((byte ∷ text) ++ 10 ∷ []) + 1 ≡ line + line_count (byte ∷ text)
+last_line : (lines line byte : ℕ) (text : List ℕ)
+    → lines_through lines line ((byte ∷ text) ++ 10 ∷ []) + 1 ≡ line + line_count (byte ∷ text)
 last_line lines line byte [] = refl
 last_line lines line byte (next ∷ text) =
     last_line line (line_behind line byte) next text ∙ by_feed (eqb byte 10) (line_count (next ∷ text))

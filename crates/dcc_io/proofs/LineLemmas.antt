@@ -1,5 +1,7 @@
 -- A line that is being read, and what ends it.
-use Rattle.std.proofs.Common.{zero, suc, ◌≡◌, ℕ, ◌+◌, ◌-◌, ◌<◌, ◌≤◌, List, [], ◌∷◌, ◌++◌, length, take, Bool, true, false, eqb, Option, None, Some, Err, refl, sym, ap, ◌∙◌, subst, arith, append_assoc, length-append, ◌&&◌, ◌⊎◌, inl, inr, IfSome, IsSomeAnd}
+use Rattle.std.proofs.Common.{zero, suc, ◌≡◌, ℕ, ◌+◌, ◌-◌, ◌<◌, ◌≤◌, List, [], ◌∷◌, ◌++◌, length, take, Bool, true}
+use Rattle.std.proofs.Common.{false, eqb, Option, None, Some, Err, refl, sym, ap, ◌∙◌, subst, arith, append_assoc}
+use Rattle.std.proofs.Common.{length-append, ◌&&◌, ◌⊎◌, inl, inr, IfSome, IsSomeAnd}
 use Rattle.std.proofs.Math.Seq.{take-append_seam}
 use Rattle.std.proofs.Math.Dec.{leb}
 use Rattle.std.proofs.lemmas.Bool.{le-leb, lt-leb}
@@ -16,7 +18,8 @@ use Rattle.dcc_io.specs.Failures.{one_more}
 use Rattle.dcc_io.specs.Told.{BeginsWith, IsAtEnd}
 use Rattle.dcc_io.specs.InputState.{InputState, TakesByte, FailsToRead, HasMoreBytes, AnswersByte}
 use Rattle.dcc_io.specs.Lines.{is_good}
-use Rattle.dcc_io.specs.LineRead.{has_line_feed, lines_within, IsOneLine, EndsLine, EndsText, IsBadAt, MeetsBadLine, FailsWithin, FailsInLine, OverflowsInLine, AnswersLine}
+use Rattle.dcc_io.specs.LineRead.{has_line_feed, lines_within, IsOneLine, EndsLine, EndsText, IsBadAt, MeetsBadLine}
+use Rattle.dcc_io.specs.LineRead.{FailsWithin, FailsInLine, OverflowsInLine, AnswersLine}
 use Rattle.dcc_io.proofs.PassedLemmas.{map_taken, map_kept, count_used}
 
 pub and_true : (a b : Bool) → (a && b) ≡ true → (a ≡ true) × (b ≡ true)
@@ -34,17 +37,21 @@ and_none false = refl
 above : (a b : ℕ) → b < a → leb a b ≡ false
 above a b h = lt-leb a b h
 
-no_feed-more : (line : List ℕ) (byte : ℕ) → has_line_feed line ≡ false → eqb byte 10 ≡ false → has_line_feed (line ++ byte ∷ []) ≡ false
+no_feed-more : (line : List ℕ) (byte : ℕ) → has_line_feed line ≡ false → eqb byte 10 ≡ false
+    → has_line_feed (line ++ byte ∷ []) ≡ false
 no_feed-more line byte one no_end = list_any-append (λ (b : ℕ). eqb b 10) line (byte ∷ []) ∙ rw (one, no_end) refl
 
-good-more : (line : List ℕ) (byte : ℕ) → is_good line ≡ true → length line < 512 → is_ascii byte ≡ true → is_good (line ++ byte ∷ []) ≡ true
+good-more : (line : List ℕ) (byte : ℕ) → is_good line ≡ true → length line < 512 → is_ascii byte ≡ true
+    → is_good (line ++ byte ∷ []) ≡ true
 good-more line byte good short ascii =
     let parts = and_true (nat_le (length line) 512) (list_all is_ascii line) good in
     let len : length (line ++ byte ∷ []) ≤ 512 = simp length-append (omega arith) in
-    let all : list_all is_ascii (line ++ byte ∷ []) ≡ true = list_all-append is_ascii line (byte ∷ []) ∙ rw (parts.1, ascii) refl in
+    let all : list_all is_ascii (line ++ byte ∷ []) ≡ true =
+    list_all-append is_ascii line (byte ∷ []) ∙ rw (parts.1, ascii) refl in
     rw (le-leb (length (line ++ byte ∷ [])) 512 len, all) refl
 
-one-more_byte : (line : List ℕ) (byte : ℕ) → IsOneLine line → length line < 512 → is_ascii byte ≡ true → eqb byte 10 ≡ false → IsOneLine (line ++ byte ∷ [])
+one-more_byte : (line : List ℕ) (byte : ℕ) → IsOneLine line → length line < 512 → is_ascii byte ≡ true
+    → eqb byte 10 ≡ false → IsOneLine (line ++ byte ∷ [])
 one-more_byte line byte is_line short ascii no_end = record {
   good = good-more line byte is_line.good short ascii;
   one = no_feed-more line byte is_line.one no_end;
@@ -57,7 +64,8 @@ bad-more line more bad = go (and_false (nat_le (length line) 512) (list_all is_a
     long : nat_le (length line) 512 ≡ false → 512 < length line
     long h = at (leb_tells (length line) 512)
       where
-        at : ((leb (length line) 512 ≡ true) × (length line ≤ 512)) ⊎ ((leb (length line) 512 ≡ false) × (512 < length line)) → 512 < length line
+        at : ((leb (length line) 512 ≡ true) × (length line ≤ 512))
+            ⊎ ((leb (length line) 512 ≡ false) × (512 < length line)) → 512 < length line
         at (inl within) = let clash : true ≡ false = sym within.0 ∙ h in cc
         at (inr past) = past.1
 
@@ -70,12 +78,14 @@ bad-more line more bad = go (and_false (nat_le (length line) 512) (list_all is_a
         let all : list_all is_ascii (line ++ more) ≡ false = list_all-append is_ascii line more ∙ rw h refl in
         rw all (and_none (nat_le (length (line ++ more)) 512))
 
-bad-byte : (line : List ℕ) (byte : ℕ) → (512 ≤ length line) ⊎ (is_ascii byte ≡ false) → is_good (line ++ byte ∷ []) ≡ false
+bad-byte : (line : List ℕ) (byte : ℕ) → (512 ≤ length line) ⊎ (is_ascii byte ≡ false)
+    → is_good (line ++ byte ∷ []) ≡ false
 bad-byte line byte (inl full) =
     let len : 512 < length (line ++ byte ∷ []) = simp length-append (omega arith) in
     rw (above (length (line ++ byte ∷ [])) 512 len) refl
 bad-byte line byte (inr past) =
-    let all : list_all is_ascii (line ++ byte ∷ []) ≡ false = list_all-append is_ascii line (byte ∷ []) ∙ rw past (and_none (list_all is_ascii line)) in
+    let all : list_all is_ascii (line ++ byte ∷ []) ≡ false =
+    list_all-append is_ascii line (byte ∷ []) ∙ rw past (and_none (list_all is_ascii line)) in
     rw all (and_none (nat_le (length (line ++ byte ∷ [])) 512))
 
 -- bytes were used, which begin a line
@@ -83,7 +93,8 @@ pub record OpensLine (old : InputState) (line : List ℕ) (now : InputState) : T
   pub is_line : IsOneLine line
   pub text : IfSome old.text (λ text. IsSomeAnd now.text (λ rest. (text ≡ line ++ rest) × (rest ≡ [] → line ≡ [])))
   pub place : now.place ≡ old.place
-  pub lines : IfSome old.text (λ text. IsSomeAnd now.text (λ rest. now.lines ≡ lines_within old.lines old.place.line line))
+  pub lines : IfSome old.text
+      (λ text. IsSomeAnd now.text (λ rest. now.lines ≡ lines_within old.lines old.place.line line))
   pub halves : now.halves ≡ old.halves
   pub bytes : now.bytes + length line ≡ old.bytes
   pub room : 0 < length line → now.bytes ≡ 0 → IsAtEnd now.text
@@ -93,11 +104,13 @@ pub record OpensLine (old : InputState) (line : List ℕ) (now : InputState) : T
 abbrev no_bytes : List ℕ
 no_bytes = []
 
-starts_text : (text : Option (List ℕ)) → IfSome text (λ whole. IsSomeAnd text (λ rest. (whole ≡ [] ++ rest) × (rest ≡ [] → no_bytes ≡ [])))
+starts_text : (text : Option (List ℕ))
+    → IfSome text (λ whole. IsSomeAnd text (λ rest. (whole ≡ [] ++ rest) × (rest ≡ [] → no_bytes ≡ [])))
 starts_text None = tt
 starts_text (Some text) = (refl, λ none. refl)
 
-starts_lines : (input : InputState) (text : Option (List ℕ)) → IfSome text (λ whole. IsSomeAnd text (λ rest. input.lines ≡ lines_within input.lines input.place.line no_bytes))
+starts_lines : (input : InputState) (text : Option (List ℕ))
+    → IfSome text (λ whole. IsSomeAnd text (λ rest. input.lines ≡ lines_within input.lines input.place.line no_bytes))
 starts_lines input None = tt
 starts_lines input (Some text) = refl
 
@@ -106,12 +119,15 @@ within-more lines line byte [] = refl
 within-more lines line byte (first ∷ front) = refl
 
 -- two facts of the rest
-if_some_both : (R S : List ℕ → Type 0) (text : Option (List ℕ)) → IfSome text R → IfSome text S → IfSome text (λ rest. R rest × S rest)
+if_some_both : (R S : List ℕ → Type 0) (text : Option (List ℕ)) → IfSome text R → IfSome text S
+    → IfSome text (λ rest. R rest × S rest)
 if_some_both R S None first second = tt
 if_some_both R S (Some rest) first second = (first, second)
 
 same_place : (old new : Place) → new.line ≡ old.line → new.in_comment ≡ old.in_comment → new ≡ old
-same_place old new line comment = ap (λ (n : ℕ). record { line = n; in_comment = new.in_comment }) line ∙ ap (λ (b : Bool). record { line = old.line; in_comment = b }) comment
+same_place old new line comment =
+    ap (λ (n : ℕ). record { line = n; in_comment = new.in_comment }) line
+    ∙ ap (λ (b : Bool). record { line = old.line; in_comment = b }) comment
 
 pub OpensLine-start : (input : InputState) → input.fault ≡ None → OpensLine input [] input
 OpensLine-start input fault = record {
@@ -127,21 +143,28 @@ OpensLine-start input fault = record {
 }
 
 -- a byte of the line was taken
-pub OpensLine-byte : (old now new : InputState) (line : List ℕ) (byte : ℕ) → OpensLine old line now → TakesByte now byte new → eqb byte 10 ≡ false
+pub OpensLine-byte : (old now new : InputState) (line : List ℕ) (byte : ℕ) → OpensLine old line now
+    → TakesByte now byte new → eqb byte 10 ≡ false
     → (nat_lt (length line) 512 && is_ascii byte) ≡ true → OpensLine old (line ++ byte ∷ []) new
 OpensLine-byte old now new line byte opens takes no_end fits =
     let parts = and_true (nat_lt (length line) 512) (is_ascii byte) fits in
     record {
       is_line = one-more_byte line byte opens.is_line (below parts.0) parts.1 no_end;
-      text = map_taken (λ text rest. (text ≡ line ++ rest) × (rest ≡ [] → line ≡ [])) (λ text rest. (text ≡ (line ++ byte ∷ []) ++ rest) × (rest ≡ [] → line ++ byte ∷ [] ≡ [])) (λ rest. rest ≡ [] → byte ≡ 10)
+      text = map_taken (λ text rest. (text ≡ line ++ rest) × (rest ≡ [] → line ≡ []))
+          (λ text rest. (text ≡ (line ++ byte ∷ []) ++ rest) × (rest ≡ [] → line ++ byte ∷ [] ≡ []))
+          (λ rest. rest ≡ [] → byte ≡ 10)
           old.text now.text new.text byte
-          (λ text more before last. (before.0 ∙ sym (append_assoc line (byte ∷ []) more), λ none. absurd (not_end (last none))))
+          (λ text more before
+          last. (before.0 ∙ sym (append_assoc line (byte ∷ []) more), λ none. absurd (not_end (last none))))
           opens.text takes.text takes.last;
       place = same_place now.place new.place (takes.line ∙ rw no_end refl) takes.in_comment ∙ opens.place;
-      lines = map_taken (λ text rest. now.lines ≡ lines_within old.lines old.place.line line) (λ text rest. new.lines ≡ lines_within old.lines old.place.line (line ++ byte ∷ []))
-          (λ rest. (rest ≡ [] → byte ≡ 10) × (new.lines ≡ lines_with now.lines now.place.line rest)) old.text now.text new.text byte
+      lines = map_taken (λ text rest. now.lines ≡ lines_within old.lines old.place.line line)
+          (λ text rest. new.lines ≡ lines_within old.lines old.place.line (line ++ byte ∷ []))
+          (λ rest. (rest ≡ [] → byte ≡ 10) × (new.lines ≡ lines_with now.lines now.place.line rest)) old.text now.text
+          new.text byte
           (λ text more before known. on_line more known) opens.lines takes.text
-          (if_some_both (λ rest. rest ≡ [] → byte ≡ 10) (λ rest. new.lines ≡ lines_with now.lines now.place.line rest) new.text takes.last takes.lines);
+          (if_some_both (λ rest. rest ≡ [] → byte ≡ 10) (λ rest. new.lines ≡ lines_with now.lines now.place.line rest)
+          new.text takes.last takes.lines);
       halves = takes.halves ∙ opens.halves;
       bytes = simp length-append (omega (arith, opens.bytes, takes.bytes));
       room = λ some. takes.room;
@@ -152,29 +175,38 @@ OpensLine-byte old now new line byte opens takes no_end fits =
     below : nat_lt (length line) 512 ≡ true → length line < 512
     below h = go (leb_tells (suc (length line)) 512)
       where
-        go : ((leb (suc (length line)) 512 ≡ true) × (suc (length line) ≤ 512)) ⊎ ((leb (suc (length line)) 512 ≡ false) × (512 < suc (length line))) → length line < 512
+        go : ((leb (suc (length line)) 512 ≡ true) × (suc (length line) ≤ 512))
+            ⊎ ((leb (suc (length line)) 512 ≡ false) × (512 < suc (length line))) → length line < 512
         go (inl within) = within.1
         go (inr past) = let clash : true ≡ false = sym h ∙ past.0 in cc
 
     not_end : byte ≡ 10 → ⊥
     not_end is_end = let clash : true ≡ false = sym (rw is_end refl) ∙ no_end in cc
 
-    on_line : (more : List ℕ) → (more ≡ [] → byte ≡ 10) × (new.lines ≡ lines_with now.lines now.place.line more) → new.lines ≡ lines_within old.lines old.place.line (line ++ byte ∷ [])
+    on_line : (more : List ℕ) → (more ≡ [] → byte ≡ 10) × (new.lines ≡ lines_with now.lines now.place.line more)
+        → new.lines ≡ lines_within old.lines old.place.line (line ++ byte ∷ [])
     on_line [] known = absurd (not_end (known.0 refl))
-    on_line (next ∷ more) known = known.1 ∙ ap (λ (place : Place). place.line) opens.place ∙ sym (within-more old.lines old.place.line byte line)
+    on_line (next ∷ more) known =
+        known.1 ∙ ap (λ (place : Place). place.line) opens.place ∙ sym (within-more old.lines old.place.line byte line)
 
 -- its line feed was taken
-pub OpensLine-ends : (old now new : InputState) (line : List ℕ) (byte n : ℕ) → OpensLine old line now → TakesByte now byte new → byte ≡ 10 → n ≡ old.place.line → EndsLine old n line new
+pub OpensLine-ends : (old now new : InputState) (line : List ℕ) (byte n : ℕ) → OpensLine old line now
+    → TakesByte now byte new → byte ≡ 10 → n ≡ old.place.line → EndsLine old n line new
 OpensLine-ends old now new line byte n opens takes is_end is_number = record {
   at = is_number;
   is_line = opens.is_line;
-  text = map_taken (λ text rest. (text ≡ line ++ rest) × (rest ≡ [] → line ≡ [])) (λ text rest. text ≡ line ++ 10 ∷ rest) (λ rest. rest ≡ [] → byte ≡ 10)
-      old.text now.text new.text byte (λ text more before last. before.0 ∙ ap (λ (end : ℕ). line ++ end ∷ more) is_end) opens.text takes.text takes.last;
-  next = same_place (record { line = now.place.line + 1; in_comment = now.place.in_comment }) new.place (takes.line ∙ rw is_end refl) takes.in_comment ∙ rw opens.place refl;
-  lines = map_taken (λ text rest. now.lines ≡ lines_within old.lines old.place.line line) (λ text rest. new.lines ≡ lines_with (lines_within old.lines old.place.line line) old.place.line rest)
+  text = map_taken (λ text rest. (text ≡ line ++ rest) × (rest ≡ [] → line ≡ []))
+      (λ text rest. text ≡ line ++ 10 ∷ rest) (λ rest. rest ≡ [] → byte ≡ 10)
+      old.text now.text new.text byte (λ text more before last. before.0 ∙ ap (λ (end : ℕ). line ++ end ∷ more) is_end)
+      opens.text takes.text takes.last;
+  next = same_place (record { line = now.place.line + 1; in_comment = now.place.in_comment }) new.place
+      (takes.line ∙ rw is_end refl) takes.in_comment ∙ rw opens.place refl;
+  lines = map_taken (λ text rest. now.lines ≡ lines_within old.lines old.place.line line)
+      (λ text rest. new.lines ≡ lines_with (lines_within old.lines old.place.line line) old.place.line rest)
       (λ rest. new.lines ≡ lines_with now.lines now.place.line rest) old.text now.text new.text byte
       (λ text more before known. known ∙ ap (λ n. lines_with n now.place.line more) before
-      ∙ ap (λ (place : Place). lines_with (lines_within old.lines old.place.line line) place.line more) opens.place) opens.lines takes.text takes.lines;
+      ∙ ap (λ (place : Place). lines_with (lines_within old.lines old.place.line line) place.line more) opens.place)
+      opens.lines takes.text takes.lines;
   halves = takes.halves ∙ opens.halves;
   bytes = omega (arith, opens.bytes, takes.bytes);
   room = takes.room;
@@ -183,7 +215,8 @@ OpensLine-ends old now new line byte n opens takes is_end is_number = record {
 }
 
 -- the text has ended
-pub OpensLine-none : (old now : InputState) (line : List ℕ) → OpensLine old line now → IsAtEnd now.text → EndsText old now
+pub OpensLine-none : (old now : InputState) (line : List ℕ) → OpensLine old line now → IsAtEnd now.text
+    → EndsText old now
 OpensLine-none old now line opens at_end = record {
   text = go old.text now.text opens.text at_end;
   at_end = at_end;
@@ -195,22 +228,28 @@ OpensLine-none old now line opens at_end = record {
   failures = opens.failures;
 }
   where
-    go : (whole rest : Option (List ℕ)) → IfSome whole (λ text. IsSomeAnd rest (λ more. (text ≡ line ++ more) × (more ≡ [] → line ≡ []))) → IsAtEnd rest
+    go : (whole rest : Option (List ℕ))
+        → IfSome whole (λ text. IsSomeAnd rest (λ more. (text ≡ line ++ more) × (more ≡ [] → line ≡ []))) → IsAtEnd rest
         → IfSome whole (λ text. IsSomeAnd rest (λ more. (text ≡ []) × (more ≡ [])))
     go None rest before end = tt
     go (Some text) None before end = absurd before
     go (Some text) (Some more) before end = (before.0 ∙ rw (before.1 end, end) refl, end)
 
-    kept : (whole rest : Option (List ℕ)) → IfSome whole (λ text. IsSomeAnd rest (λ more. (text ≡ line ++ more) × (more ≡ [] → line ≡ [])))
-        → IfSome whole (λ text. IsSomeAnd rest (λ more. now.lines ≡ lines_within old.lines old.place.line line)) → IsAtEnd rest
+    kept : (whole rest : Option (List ℕ))
+        → IfSome whole (λ text. IsSomeAnd rest (λ more. (text ≡ line ++ more) × (more ≡ [] → line ≡ [])))
+        → IfSome whole (λ text. IsSomeAnd rest (λ more. now.lines ≡ lines_within old.lines old.place.line line))
+        → IsAtEnd rest
         → IfSome whole (λ text. IsSomeAnd rest (λ more. now.lines ≡ old.lines))
     kept None rest before lines end = tt
     kept (Some text) None before lines end = absurd before
-    kept (Some text) (Some more) before lines end = lines ∙ ap (λ (xs : List ℕ). lines_within old.lines old.place.line xs) (before.1 end)
+    kept (Some text) (Some more) before lines end =
+        lines ∙ ap (λ (xs : List ℕ). lines_within old.lines old.place.line xs) (before.1 end)
 
 -- a byte that makes the line bad was taken
-pub OpensLine-bad : (old now mid new : InputState) (line : List ℕ) (byte number : ℕ) → OpensLine old line now → TakesByte now byte mid → eqb byte 10 ≡ false
-    → (nat_lt (length line) 512 && is_ascii byte) ≡ false → number ≡ old.place.line → new ≡ record mid { fault = Some (Line number faults.Word) } → MeetsBadLine old number new
+pub OpensLine-bad : (old now mid new : InputState) (line : List ℕ) (byte number : ℕ) → OpensLine old line now
+    → TakesByte now byte mid → eqb byte 10 ≡ false
+    → (nat_lt (length line) 512 && is_ascii byte) ≡ false → number ≡ old.place.line
+    → new ≡ record mid { fault = Some (Line number faults.Word) } → MeetsBadLine old number new
 OpensLine-bad old now mid new line byte number opens takes no_end fails is_number is_new = rw is_new record {
   at = is_number;
   text = go old.text now.text mid.text opens.text takes.text takes.last takes.room;
@@ -221,7 +260,8 @@ OpensLine-bad old now mid new line byte number opens takes no_end fails is_numbe
     full : nat_lt (length line) 512 ≡ false → 512 ≤ length line
     full h = at (leb_tells (suc (length line)) 512)
       where
-        at : ((leb (suc (length line)) 512 ≡ true) × (suc (length line) ≤ 512)) ⊎ ((leb (suc (length line)) 512 ≡ false) × (512 < suc (length line))) → 512 ≤ length line
+        at : ((leb (suc (length line)) 512 ≡ true) × (suc (length line) ≤ 512))
+            ⊎ ((leb (suc (length line)) 512 ≡ false) × (512 < suc (length line))) → 512 ≤ length line
         at (inl within) = let clash : true ≡ false = sym within.0 ∙ h in cc
         at (inr past) = let more = past.1 in omega arith
 
@@ -236,7 +276,9 @@ OpensLine-bad old now mid new line byte number opens takes no_end fails is_numbe
     some_left zero rest last room = absurd (not_end (last (room refl)))
     some_left (suc left) rest last room = omega arith
 
-    go : (whole rest after : Option (List ℕ)) → IfSome whole (λ text. IsSomeAnd rest (λ more. (text ≡ line ++ more) × (more ≡ [] → line ≡ []))) → BeginsWith rest byte after
+    go : (whole rest after : Option (List ℕ))
+        → IfSome whole (λ text. IsSomeAnd rest (λ more. (text ≡ line ++ more) × (more ≡ [] → line ≡ [])))
+        → BeginsWith rest byte after
         → IfSome after (λ left. left ≡ [] → byte ≡ 10) → (mid.bytes ≡ 0 → IsAtEnd after) → IfSome whole (IsBadAt old)
     go None rest after before taken last room = tt
     go (Some text) None after before taken last room = absurd before
@@ -252,7 +294,8 @@ OpensLine-bad old now mid new line byte number opens takes no_end fails is_numbe
           within = simp length-append (omega (arith, opens.bytes, takes.bytes, left));
         }
 
-fails_in_line : (old now new : InputState) (line : List ℕ) → OpensLine old line now → FailsToRead now new → FailsInLine old new
+fails_in_line : (old now new : InputState) (line : List ℕ) → OpensLine old line now → FailsToRead now new
+    → FailsInLine old new
 fails_in_line old now new line opens fails = record {
   text = map_kept (λ text rest. (text ≡ line ++ rest) × (rest ≡ [] → line ≡ [])) FailsWithin old.text now.text new.text
       (λ text more before. record { used = line; whole = before.0; is_line = opens.is_line }) opens.text fails.text;
@@ -261,14 +304,17 @@ fails_in_line old now new line opens fails = record {
   failures = fails.failures ∙ ap one_more opens.failures;
 }
 
-overflows_in_line : (old now new : InputState) (line : List ℕ) → OpensLine old line now → HasMoreBytes now new → OverflowsInLine old new
+overflows_in_line : (old now new : InputState) (line : List ℕ) → OpensLine old line now → HasMoreBytes now new
+    → OverflowsInLine old new
 overflows_in_line old now new line opens has_more = record {
   text = go old.text now.text opens.text has_more.text opens.room;
   fault = has_more.fault;
   failures = has_more.failures ∙ opens.failures;
 }
   where
-    go : (whole rest : Option (List ℕ)) → IfSome whole (λ text. IsSomeAnd rest (λ more. (text ≡ line ++ more) × (more ≡ [] → line ≡ []))) → IfSome rest (λ more. now.bytes < length more)
+    go : (whole rest : Option (List ℕ))
+        → IfSome whole (λ text. IsSomeAnd rest (λ more. (text ≡ line ++ more) × (more ≡ [] → line ≡ [])))
+        → IfSome rest (λ more. now.bytes < length more)
         → (0 < length line → now.bytes ≡ 0 → IsAtEnd rest)
         → IfSome whole (λ text. (old.bytes < length text) × IsOneLine (take (old.bytes - 1) text))
     go None rest before longer room = tt
@@ -276,10 +322,14 @@ overflows_in_line old now new line opens has_more = record {
     go (Some text) (Some more) before longer room =
         let count = count_used old.bytes now.bytes (length line) more opens.bytes has_more.bytes longer room in
         let whole : length text ≡ length line + length more = ap length before.0 ∙ length-append line more in
-        let front : take (old.bytes - 1) text ≡ line = ap (λ n. take n text) count ∙ ap (take (length line)) before.0 ∙ take-append_seam line more in
-        (omega (arith, whole, opens.bytes, longer), subst (λ (bytes : List ℕ). IsOneLine bytes) (sym front) opens.is_line)
+        let front : take (old.bytes - 1) text ≡ line =
+        ap (λ n. take n text) count ∙ ap (take (length line)) before.0 ∙ take-append_seam line more in (
+          omega (arith, whole, opens.bytes, longer),
+          subst (λ (bytes : List ℕ). IsOneLine bytes) (sym front) opens.is_line,
+        )
 
-pub line_err : (old now new : InputState) (line : List ℕ) (fault : KeptFault) → OpensLine old line now → AnswersByte now (Err fault) new → AnswersLine old (Err fault) new
+pub line_err : (old now new : InputState) (line : List ℕ) (fault : KeptFault) → OpensLine old line now
+    → AnswersByte now (Err fault) new → AnswersLine old (Err fault) new
 line_err old now new line Read opens answer = fails_in_line old now new line opens answer
 line_err old now new line TooMuch opens answer = overflows_in_line old now new line opens answer
 line_err old now new line (Number n) opens answer = absurd answer

@@ -12,22 +12,30 @@ use Rattle.dcc_io.specs.Items.{Gave, StopsAt}
 use Rattle.dcc_io.specs.PacketLines.{Saying, lines_by, is_skipped}
 use Rattle.dcc_io.specs.PacketRead.{AnswersSaid, ReadsSaid}
 use Rattle.dcc_io.proofs.ItemsLemmas.{Gave-append, StopsAt-behind, all_behind}
-use Rattle.dcc_io.proofs.PacketLineLemmas.{Gave-skipped, Gave-said, Gave-end, stops_at_words, stops_at_bad_line, stops_in_line, overflows_line}
+use Rattle.dcc_io.proofs.PacketLineLemmas.{Gave-skipped, Gave-said, Gave-end, stops_at_words, stops_at_bad_line}
+use Rattle.dcc_io.proofs.PacketLineLemmas.{stops_in_line, overflows_line}
 
 module _ {A B C : Type 0} (saying : Saying A B) (as_said : C → B) where
   -- a line that says nothing was passed
-  pub Gave-passed : (old now new : InputState) (line : TextLine) → Gave (lines_by saying) old [] now → EndsLine now line.number line.text.bytes new → is_skipped line.text.bytes ≡ true
+  pub Gave-passed : (old now new : InputState) (line : TextLine) → Gave (lines_by saying) old [] now
+      → EndsLine now line.number line.text.bytes new → is_skipped line.text.bytes ≡ true
       → Gave (lines_by saying) old [] new
   Gave-passed old now new line gave ends skipped =
-      Gave-append (lines_by saying) old now new [] [] gave (Gave-skipped saying now new line.number line.text.bytes ends skipped)
+      Gave-append (lines_by saying) old now new [] [] gave
+      (Gave-skipped saying now new line.number line.text.bytes ends skipped)
 
   -- a line with words was read
-  pub answers_said : (old now mid new : InputState) (line : TextLine) (result : Result (Option C) KeptFault) → Gave (lines_by saying) old [] now
-      → EndsLine now line.number line.text.bytes mid → is_skipped line.text.bytes ≡ false → ReadsSaid saying as_said mid line result new → AnswersSaid saying as_said old result new
+  pub answers_said : (old now mid new : InputState) (line : TextLine) (result : Result (Option C) KeptFault)
+      → Gave (lines_by saying) old [] now
+      → EndsLine now line.number line.text.bytes mid → is_skipped line.text.bytes ≡ false
+      → ReadsSaid saying as_said mid line result new → AnswersSaid saying as_said old result new
   answers_said old now mid new line (Ok (Some says)) gave ends some reads =
       let said = Gave-said saying now mid line.number line.text.bytes (as_said says) ends some reads.0 in
       let bytes = gave.bytes in
-      rw reads.1 (Gave-append (lines_by saying) old now mid [] (saying.items (as_said says)) gave said, omega (arith, ends.bytes, bytes))
+      rw reads.1 (
+        Gave-append (lines_by saying) old now mid [] (saying.items (as_said says)) gave said,
+        omega (arith, ends.bytes, bytes),
+      )
   answers_said old now mid new line (Ok None) gave ends some reads = absurd reads
   answers_said old now mid new line (Err answer) gave ends some reads =
       let stops = stops_at_words saying now mid new line.number line.text.bytes reads.0 ends some reads.2 reads.3 in
@@ -35,24 +43,34 @@ module _ {A B C : Type 0} (saying : Saying A B) (as_said : C → B) where
       (StopsAt-behind (lines_by saying) old now new (Line line.number reads.0) gave stops.0, stops.1)
 
   -- a line with words was taken
-  pub answers_line : (old new : InputState) (line : List ℕ) (says : C) → EndsLine old old.place.line line new → is_skipped line ≡ false → saying.said (words line) ≡ Ok (as_said says)
+  pub answers_line : (old new : InputState) (line : List ℕ) (says : C) → EndsLine old old.place.line line new
+      → is_skipped line ≡ false → saying.said (words line) ≡ Ok (as_said says)
       → AnswersSaid saying as_said old (Ok (Some says)) new
-  answers_line old new line says ends some is = (Gave-said saying old new old.place.line line (as_said says) ends some is, omega (arith, ends.bytes))
+  answers_line old new line says ends some is =
+      (Gave-said saying old new old.place.line line (as_said says) ends some is, omega (arith, ends.bytes))
 
   -- there is no line more
-  pub answers_none : (old now new : InputState) → Gave (lines_by saying) old [] now → EndsText now new → AnswersSaid saying as_said old (Ok None) new
+  pub answers_none : (old now new : InputState) → Gave (lines_by saying) old [] now → EndsText now new
+      → AnswersSaid saying as_said old (Ok None) new
   answers_none old now new gave ends =
-      let last = Gave-end saying now new ends in
-      (Gave-append (lines_by saying) old now new [] [] gave last.0, last.1, all_behind (lines_by saying) old now gave last.2)
+      let last = Gave-end saying now new ends in (
+        Gave-append (lines_by saying) old now new [] [] gave last.0,
+        last.1,
+        all_behind (lines_by saying) old now gave last.2,
+      )
 
   -- no line more could be read
-  pub answers_fault : (old now new : InputState) (fault : KeptFault) → Gave (lines_by saying) old [] now → AnswersLine now (Err fault) new → AnswersSaid saying as_said old (Err fault) new
+  pub answers_fault : (old now new : InputState) (fault : KeptFault) → Gave (lines_by saying) old [] now
+      → AnswersLine now (Err fault) new → AnswersSaid saying as_said old (Err fault) new
   answers_fault old now new (Number line) gave answer = absurd answer
   answers_fault old now new (Line line why) gave answer =
       let stops = stops_at_bad_line saying now new line answer.1 in
-      subst (λ (f : PacketFault). StopsAt (lines_by saying) old (Line line f) new × (new.fault ≡ Some (Line line f))) (sym answer.0)
+      subst (λ (f : PacketFault). StopsAt (lines_by saying) old (Line line f) new × (new.fault ≡ Some (Line line f)))
+      (sym answer.0)
       (StopsAt-behind (lines_by saying) old now new (Line line faults.Word) gave stops.0, stops.1)
   answers_fault old now new Read gave answer =
-      let stops = stops_in_line saying now new answer in (StopsAt-behind (lines_by saying) old now new Read gave stops.0, stops.1)
+      let stops = stops_in_line saying now new answer in
+      (StopsAt-behind (lines_by saying) old now new Read gave stops.0, stops.1)
   answers_fault old now new TooMuch gave answer =
-      let stops = overflows_line saying now new answer in (StopsAt-behind (lines_by saying) old now new TooMuch gave stops.0, stops.1)
+      let stops = overflows_line saying now new answer in
+      (StopsAt-behind (lines_by saying) old now new TooMuch gave stops.0, stops.1)

@@ -1,8 +1,10 @@
 -- How the words of a text come to light byte by byte.
-use Rattle.std.proofs.Common.{◌≡◌, ℕ, ◌+◌, List, [], ◌∷◌, ◌++◌, Bool, true, false, cond, filter, refl, sym, ap, append_assoc, eqb, ◌||◌}
+use Rattle.std.proofs.Common.{◌≡◌, ℕ, ◌+◌, List, [], ◌∷◌, ◌++◌, Bool, true, false, cond, filter, refl, sym, ap}
+use Rattle.std.proofs.Common.{append_assoc, eqb, ◌||◌}
 use Rattle.std.proofs.lemmas.List.{append-nil}
 use Rattle.dcc_io.specs.Place.{Place, line_behind}
-use Rattle.dcc_io.specs.Words.{Word, is_gap, comments, uncommented, onto_first, pieces, but_last, has_bytes, ended_words}
+use Rattle.dcc_io.specs.Words.{Word, is_gap, comments, uncommented, onto_first, pieces, but_last, has_bytes}
+use Rattle.dcc_io.specs.Words.{ended_words}
 
 -- the place behind a byte
 abbrev pub behind : Place → ℕ → Place
@@ -14,7 +16,8 @@ onto_front front (word ∷ words) = record { line = word.line; bytes = front ++ 
 
 -- the ended words of a text that goes on a word
 abbrev pub opened : Place → List ℕ → List ℕ → List Word
-opened place front text = filter has_bytes (but_last (onto_front front (pieces place.line (uncommented place.in_comment text))))
+opened place front text =
+    filter has_bytes (but_last (onto_front front (pieces place.line (uncommented place.in_comment text))))
 
 -- a word that has ended, unless it is empty
 abbrev pub ended : ℕ → List ℕ → List Word
@@ -25,13 +28,16 @@ onto_front-none : (words : List Word) → onto_front [] words ≡ words
 onto_front-none [] = refl
 onto_front-none (word ∷ words) = refl
 
-onto_front-onto_first : (front : List ℕ) (byte : ℕ) (words : List Word) → onto_front front (onto_first byte words) ≡ onto_front (front ++ byte ∷ []) words
+onto_front-onto_first : (front : List ℕ) (byte : ℕ) (words : List Word)
+    → onto_front front (onto_first byte words) ≡ onto_front (front ++ byte ∷ []) words
 onto_front-onto_first front byte [] = refl
 onto_front-onto_first front byte (word ∷ words) =
     ap (λ bytes. record { line = word.line; bytes = bytes } ∷ words) (sym (append_assoc front (byte ∷ []) word.bytes))
 
 pub opened-none : (place : Place) (text : List ℕ) → opened place [] text ≡ ended_words place text
-opened-none place text = ap (λ words. filter has_bytes (but_last words)) (onto_front-none (pieces place.line (uncommented place.in_comment text)))
+opened-none place text =
+    ap (λ words. filter has_bytes (but_last words))
+    (onto_front-none (pieces place.line (uncommented place.in_comment text)))
 
 last_false : (a b c d : Bool) → (a || (b || (c || d))) ≡ false → d ≡ false
 last_false false false false d none = none
@@ -52,27 +58,36 @@ comment_line in_comment byte line comment = go (eqb byte 10) comment
     go false h = refl
 
 -- a byte of a word
-pub opened-word : (place : Place) (front : List ℕ) (byte : ℕ) (text : List ℕ) → comments place.in_comment byte ≡ false → is_gap byte ≡ false
+pub opened-word : (place : Place) (front : List ℕ) (byte : ℕ) (text : List ℕ) → comments place.in_comment byte ≡ false
+    → is_gap byte ≡ false
     → opened place front (byte ∷ text) ≡ opened (behind place byte) (front ++ byte ∷ []) text
 opened-word place front byte text no_comment no_gap =
-    rw (no_comment, no_gap, eqb_line_feed byte no_gap) (ap (λ words. filter has_bytes (but_last words)) (onto_front-onto_first front byte (pieces place.line (uncommented false text))))
+    rw (no_comment, no_gap, eqb_line_feed byte no_gap)
+    (ap (λ words. filter has_bytes (but_last words))
+    (onto_front-onto_first front byte (pieces place.line (uncommented false text))))
 
 some_pieces : (line : ℕ) (text : List ℕ) → (word : Word) × ((words : List Word) × (pieces line text ≡ word ∷ words))
 some_pieces line [] = (record { line = line; bytes = [] }, ([], refl))
 some_pieces line (byte ∷ text) = some_of (is_gap byte) (some_pieces line text)
   where
     some_of : (gap : Bool) → ((word : Word) × ((words : List Word) × (pieces line text ≡ word ∷ words)))
-        → (word : Word) × ((words : List Word) × (cond gap (record { line = line; bytes = [] } ∷ pieces (line_behind line byte) text) (onto_first byte (pieces line text)) ≡ word ∷ words))
+        → (word : Word)
+        × ((words : List Word)
+        × (cond gap (record { line = line; bytes = [] } ∷ pieces (line_behind line byte) text)
+        (onto_first byte (pieces line text)) ≡ word ∷ words))
     some_of true rest = (_, (_, refl))
     some_of false rest = (_, (_, ap (onto_first byte) rest.1.1))
 
 -- a piece that is followed by more has ended
 closes : (line : ℕ) (front : List ℕ) (next : ℕ) (text : List ℕ)
-    → filter has_bytes (but_last (record { line = line; bytes = front ++ [] } ∷ pieces next text)) ≡ ended line front ++ filter has_bytes (but_last (pieces next text))
+    → filter has_bytes (but_last (record { line = line; bytes = front ++ [] } ∷ pieces next text)) ≡ ended line front
+    ++ filter has_bytes (but_last (pieces next text))
 closes line front next text =
     let more = some_pieces next text in rw (append-nil front, more.1.1) (go front more.0 more.1.0)
   where
-    go : (front : List ℕ) (word : Word) (words : List Word) → filter has_bytes (but_last (record { line = line; bytes = front } ∷ word ∷ words)) ≡ ended line front ++ filter has_bytes (but_last (word ∷ words))
+    go : (front : List ℕ) (word : Word) (words : List Word)
+        → filter has_bytes (but_last (record { line = line; bytes = front } ∷ word ∷ words)) ≡ ended line front
+        ++ filter has_bytes (but_last (word ∷ words))
     go [] word words = refl
     go (byte ∷ front) word words = refl
 
@@ -82,13 +97,16 @@ shown_gap true byte h = refl
 shown_gap false byte h = h
 
 -- a gap, or a byte of a comment
-pub opened-gap : (place : Place) (front : List ℕ) (byte : ℕ) (text : List ℕ) → (comments place.in_comment byte || is_gap byte) ≡ true
+pub opened-gap : (place : Place) (front : List ℕ) (byte : ℕ) (text : List ℕ)
+    → (comments place.in_comment byte || is_gap byte) ≡ true
     → opened place front (byte ∷ text) ≡ ended place.line front ++ ended_words (behind place byte) text
 opened-gap place front byte text gap =
     let shown = shown_gap (comments place.in_comment byte) byte gap in
     let line = line_of (comments place.in_comment byte) refl in
-    rw (shown, line) (closes place.line front (line_behind place.line byte) (uncommented (comments place.in_comment byte) text))
+    rw (shown, line)
+    (closes place.line front (line_behind place.line byte) (uncommented (comments place.in_comment byte) text))
   where
-    line_of : (c : Bool) → comments place.in_comment byte ≡ c → line_behind place.line (cond c 32 byte) ≡ line_behind place.line byte
+    line_of : (c : Bool) → comments place.in_comment byte ≡ c
+        → line_behind place.line (cond c 32 byte) ≡ line_behind place.line byte
     line_of true h = sym (comment_line place.in_comment byte place.line h)
     line_of false h = refl

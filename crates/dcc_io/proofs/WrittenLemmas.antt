@@ -1,5 +1,7 @@
 -- One write after another.
-use Rattle.std.proofs.Common.{zero, suc, if◌then◌else◌, ◌≡◌, ℕ, ◌+◌, ◌-◌, ◌<◌, ◌≤◌, false, eqb, length-drop, List, [], ◌++◌, length, take, drop, true, nat_lt, Option, None, Some, refl, sym, ap, ◌∙◌, subst, arith, append_assoc}
+use Rattle.std.proofs.Common.{zero, suc, if◌then◌else◌, ◌≡◌, ℕ, ◌+◌, ◌-◌, ◌<◌, ◌≤◌, false, eqb, length-drop, List, []}
+use Rattle.std.proofs.Common.{◌++◌, length, take, drop, true, nat_lt, Option, None, Some, refl, sym, ap, ◌∙◌, subst}
+use Rattle.std.proofs.Common.{arith, append_assoc}
 use Rattle.std.proofs.lemmas.List.{append-nil, take-append-drop, take_rest, length-take}
 use Rattle.std.proofs.Math.Seq.{take-append-add}
 use Rattle.std.proofs.lemmas.Bool.Decides.{nat_tests}
@@ -11,13 +13,16 @@ pub Appends-none : (before : Option (List ℕ)) → Appends before before []
 Appends-none None = tt
 Appends-none (Some xs) = sym (append-nil xs)
 
-pub Appends-append : (before mid after : Option (List ℕ)) (xs ys : List ℕ) → Appends before mid xs → Appends mid after ys → Appends before after (xs ++ ys)
+pub Appends-append : (before mid after : Option (List ℕ)) (xs ys : List ℕ) → Appends before mid xs
+    → Appends mid after ys → Appends before after (xs ++ ys)
 Appends-append None mid after xs ys first second = tt
 Appends-append (Some bs) None after xs ys first second = absurd first
 Appends-append (Some bs) (Some cs) None xs ys first second = absurd second
-Appends-append (Some bs) (Some cs) (Some ds) xs ys first second = second ∙ ap (λ (zs : List ℕ). zs ++ ys) first ∙ append_assoc bs xs ys
+Appends-append (Some bs) (Some cs) (Some ds) xs ys first second =
+    second ∙ ap (λ (zs : List ℕ). zs ++ ys) first ∙ append_assoc bs xs ys
 
-pub Appends-keeps : (before mid after : Option (List ℕ)) (xs : List ℕ) → Appends before mid xs → Keeps mid after → Appends before after xs
+pub Appends-keeps : (before mid after : Option (List ℕ)) (xs : List ℕ) → Appends before mid xs → Keeps mid after
+    → Appends before after xs
 Appends-keeps None mid after xs first second = tt
 Appends-keeps (Some bs) None after xs first second = absurd first
 Appends-keeps (Some bs) (Some cs) None xs first second = absurd second
@@ -26,7 +31,8 @@ Appends-keeps (Some bs) (Some cs) (Some ds) xs first second = second ∙ first
 pub HasRisen-one_more : (n : ℕ) → HasRisen n (one_more n)
 HasRisen-one_more n = λ below. grind (arith, nat_tests)
 
-pub stops_writing : (before mid after : Option (List ℕ)) (bytes : List ℕ) (done : ℕ) → Appends before mid (take done bytes) → Keeps mid after → AppendsFront before after bytes
+pub stops_writing : (before mid after : Option (List ℕ)) (bytes : List ℕ) (done : ℕ)
+    → Appends before mid (take done bytes) → Keeps mid after → AppendsFront before after bytes
 stops_writing before mid after bytes done first kept = record {
   front = take done bytes;
   rest = drop done bytes;
@@ -35,12 +41,14 @@ stops_writing before mid after bytes done first kept = record {
 }
 
 -- what a further call takes
-next_taken : (bytes : List ℕ) (done count : ℕ) → done ≤ length bytes → count ≤ length (take (length bytes - done) (drop done bytes))
+next_taken : (bytes : List ℕ) (done count : ℕ) → done ≤ length bytes
+    → count ≤ length (take (length bytes - done) (drop done bytes))
     → take (done + count) bytes ≡ take done bytes ++ take count (take (length bytes - done) (drop done bytes))
 next_taken bytes done count within fits =
     let len : length (take done bytes) ≡ done = simp length-take (omega arith) in
     rw (take_rest bytes done)
-    (ap (take (done + count)) (sym (take-append-drop done bytes)) ∙ ap (λ n. take (n + count) (take done bytes ++ drop done bytes)) (sym len)
+    (ap (take (done + count)) (sym (take-append-drop done bytes))
+    ∙ ap (λ n. take (n + count) (take done bytes ++ drop done bytes)) (sym len)
     ∙ take-append-add (take done bytes) (drop done bytes) count)
 
 -- a write that took a byte is none that counts
@@ -59,25 +67,34 @@ taken_none n bytes some = rw (not_empty (length bytes) some) refl
     not_empty k some = grind (arith, nat_tests)
 
 -- what is left to write, while some is
-pub some_left : (bytes : List ℕ) (done : ℕ) → done < length bytes → 0 < length (take (length bytes - done) (drop done bytes))
+pub some_left : (bytes : List ℕ) (done : ℕ) → done < length bytes
+    → 0 < length (take (length bytes - done) (drop done bytes))
 some_left bytes done more = simp (length-take, length-drop) (omega arith)
 
-pub goes_on_writing : (before mid after : Option (List ℕ)) (bytes : List ℕ) (done count : ℕ) → done ≤ length bytes → count ≤ length (take (length bytes - done) (drop done bytes))
-    → Appends before mid (take done bytes) → Appends mid after (take count (take (length bytes - done) (drop done bytes))) → Appends before after (take (done + count) bytes)
+pub goes_on_writing : (before mid after : Option (List ℕ)) (bytes : List ℕ) (done count : ℕ) → done ≤ length bytes
+    → count ≤ length (take (length bytes - done) (drop done bytes))
+    → Appends before mid (take done bytes)
+    → Appends mid after (take count (take (length bytes - done) (drop done bytes)))
+    → Appends before after (take (done + count) bytes)
 goes_on_writing before mid after bytes done count within fits first second =
-    subst (λ (front : List ℕ). Appends before after front) (sym (next_taken bytes done count within fits)) (Appends-append before mid after _ _ first second)
+    subst (λ (front : List ℕ). Appends before after front) (sym (next_taken bytes done count within fits))
+    (Appends-append before mid after _ _ first second)
 
 -- a write that took no byte
-pub stops_at_none : (before mid after : Option (List ℕ)) (bytes : List ℕ) (done : ℕ) → Appends before mid (take done bytes) → Appends mid after [] → AppendsFront before after bytes
+pub stops_at_none : (before mid after : Option (List ℕ)) (bytes : List ℕ) (done : ℕ)
+    → Appends before mid (take done bytes) → Appends mid after [] → AppendsFront before after bytes
 stops_at_none before mid after bytes done first none = record {
   front = take done bytes;
   rest = drop done bytes;
   whole = sym (take-append-drop done bytes);
-  written = subst (λ (front : List ℕ). Appends before after front) (append-nil (take done bytes)) (Appends-append before mid after (take done bytes) [] first none);
+  written =
+      subst (λ (front : List ℕ). Appends before after front) (append-nil (take done bytes))
+      (Appends-append before mid after (take done bytes) [] first none);
 }
 
 -- what was written, and a front of what comes
-pub front_behind : (before mid after : Option (List ℕ)) (bytes more : List ℕ) → Appends before mid bytes → AppendsFront mid after more → AppendsFront before after (bytes ++ more)
+pub front_behind : (before mid after : Option (List ℕ)) (bytes more : List ℕ) → Appends before mid bytes
+    → AppendsFront mid after more → AppendsFront before after (bytes ++ more)
 front_behind before mid after bytes more first second = record {
   front = bytes ++ second.front;
   rest = second.rest;
@@ -86,7 +103,8 @@ front_behind before mid after bytes more first second = record {
 }
 
 -- a front of these bytes is one of more bytes too
-pub AppendsFront-more : (before after : Option (List ℕ)) (bytes more : List ℕ) → AppendsFront before after bytes → AppendsFront before after (bytes ++ more)
+pub AppendsFront-more : (before after : Option (List ℕ)) (bytes more : List ℕ) → AppendsFront before after bytes
+    → AppendsFront before after (bytes ++ more)
 AppendsFront-more before after bytes more front = record {
   front = front.front;
   rest = front.rest ++ more;

@@ -1,5 +1,6 @@
 -- The two captures of one input, with a line of the one word `---` between them.
-use Rattle.std.specs.Prelude.{ℕ, ◌+◌, ◌-◌, ◌==◌, ◌&&◌, not, nat_le, ◌∷◌, ◌++◌, List, [], Bool, false, Option, None, Some, length, take, replicate, if◌then◌else◌}
+use Rattle.std.specs.Prelude.{ℕ, ◌+◌, ◌-◌, ◌==◌, ◌&&◌, not, nat_le, ◌∷◌, ◌++◌, List, [], Bool, false, Option, None}
+use Rattle.std.specs.Prelude.{Some, length, take, replicate, if◌then◌else◌}
 use Rattle.dcc_io.specs.declared.fault.KeptFault.{KeptFault}
 use Rattle.dcc_io.specs.declared.fault.KeptFault.TheVariants.{Number, TooMuch}
 use Rattle.dcc_io.specs.declared.word.Run.{Run}
@@ -34,9 +35,11 @@ has_more_words line (word ∷ words) = word.line == line
 
 -- what comes behind the word `---` that begins this line
 abbrev pub behind_mark : ℕ → ℕ → List Word → Option KeptFault → Both
-behind_mark line most words last = if has_more_words line words then stopped (Number line) else only_second (halves_of most words last)
+behind_mark line most words last =
+    if has_more_words line words then stopped (Number line) else only_second (halves_of most words last)
 
--- a run of the first capture, where at most so many halves may be taken, and what comes behind it where so many are left
+-- a run of the first capture, where at most so many halves may be taken, and what comes behind it where so many are
+-- left
 abbrev pub counted_first : ℕ → Run → (ℕ → Both) → Both
 counted_first most run rest =
     if nat_le run.n most then in_front (replicate run.n run.us) (rest (most - run.n)) else stopped TooMuch

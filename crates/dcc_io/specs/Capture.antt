@@ -1,5 +1,6 @@
 -- What a capture gives: its halves up to the first fault.
-use Rattle.std.specs.Prelude.{◌≡◌, ℕ, ◌+◌, ◌-◌, ◌<◌, ◌≤◌, ◌∷◌, List, [], Option, None, Some, Result, Ok, Err, nat_le, length, take, replicate, IfSome, if◌then◌else◌}
+use Rattle.std.specs.Prelude.{◌≡◌, ℕ, ◌+◌, ◌-◌, ◌<◌, ◌≤◌, ◌∷◌, List, [], Option, None, Some, Result, Ok, Err, nat_le}
+use Rattle.std.specs.Prelude.{length, take, replicate, IfSome, if◌then◌else◌}
 use Rattle.dcc_io.specs.declared.fault.KeptFault.{KeptFault}
 use Rattle.dcc_io.specs.declared.fault.KeptFault.TheVariants.{Number, Line, Read, TooMuch}
 use Rattle.dcc_io.specs.declared.word.Run.{Run}
@@ -44,12 +45,15 @@ pub record GaveHalves (old : InputState) (halves : List ℕ) (new : InputState) 
 -- the halves of the next run were taken, or the end or a fault is next
 abbrev pub AnswersRun : InputState → Result (Option Run) KeptFault → InputState → Type 0
 AnswersRun old (Ok (Some run)) new = GaveHalves old (replicate run.n run.us) new × (0 < run.n) × (new.bytes < old.bytes)
-AnswersRun old (Ok None) new = GaveHalves old [] new × IsAtEnd new.text × IfSome old.text (λ text. capture_in old text ≡ only_fault None)
+AnswersRun old (Ok None) new =
+    GaveHalves old [] new × IsAtEnd new.text × IfSome old.text (λ text. capture_in old text ≡ only_fault None)
 AnswersRun old (Err (Line line fault)) new = ⊥
 AnswersRun old (Err fault) new = StopsAt captures old fault new × (new.fault ≡ Some fault)
 
 -- a run is counted, unless fewer halves may be taken
 abbrev pub CountsRun : InputState → Run → Result (Option Run) KeptFault → InputState → Type 0
-CountsRun old run (Ok (Some taken)) new = (taken ≡ run) × (run.n ≤ old.halves) × (new ≡ record old { halves = old.halves - run.n })
+CountsRun old run (Ok (Some taken)) new =
+    (taken ≡ run) × (run.n ≤ old.halves) × (new ≡ record old { halves = old.halves - run.n })
 CountsRun old run (Ok None) new = ⊥
-CountsRun old run (Err fault) new = (fault ≡ TooMuch) × (old.halves < run.n) × (new ≡ record old { fault = Some TooMuch })
+CountsRun old run (Err fault) new =
+    (fault ≡ TooMuch) × (old.halves < run.n) × (new ≡ record old { fault = Some TooMuch })

@@ -1,13 +1,15 @@
 -- The lines of a decoder text: what the words of each say, or the first fault from left to right. Of one
 -- word first the number decides, then its range, then its order.
-use Rattle.std.specs.Prelude.{ℕ, ◌+◌, ◌^◌, ◌==◌, nat_lt, Bool, List, [], ◌∷◌, codes, Option, None, Some, Result, Ok, Err, if◌then◌else◌}
+use Rattle.std.specs.Prelude.{ℕ, ◌+◌, ◌^◌, ◌==◌, nat_lt, Bool, List, [], ◌∷◌, codes, Option, None, Some, Result, Ok}
+use Rattle.std.specs.Prelude.{Err, if◌then◌else◌}
 use Rattle.dcc_packet.specs.declared.accessory.Board.{Board}
 use Rattle.dcc_packet.specs.declared.address.Address.{Address}
 use Rattle.dcc_packet.specs.declared.packet.Packet.{Packet}
 use Rattle.dcc_packet.specs.declared.fault.PacketFault.{PacketFault}
 use Rattle.dcc_packet.specs.declared.fault.PacketFault.TheVariants as faults
 use Rattle.dcc_packet.specs.Words.{Word, is_word}
-use Rattle.dcc_packet.specs.LineWords.{◌>>=◌, small_number, address, direction, cv_number, bit_state, board_number, output_number, hex_frame}
+use Rattle.dcc_packet.specs.LineWords.{◌>>=◌, small_number, address, direction, cv_number, bit_state, board_number}
+use Rattle.dcc_packet.specs.LineWords.{output_number, hex_frame}
 use Rattle.dcc_packet.specs.Line.{taken, ended}
 use Rattle.dcc_regs.specs.declared.register.Who.TheVariants as who
 use Rattle.dcc_regs.specs.declared.register.Speed.{Speed}

@@ -12,7 +12,8 @@ use Rattle.dcc_io.specs.declared.decoder_line.Version.{Version}
 use Rattle.dcc_io.specs.declared.decoder_line.Version.TheVariants as versions
 use Rattle.dcc_io.specs.declared.decoder_line.LocoLine.{LocoLine}
 use Rattle.dcc_io.specs.declared.decoder_line.LocoLine.TheVariants as behind
-use Rattle.dcc_io.specs.DecoderLines.{version_line, head_line, speed_line, functions_line, states_line, pending_line, loco_line, outs_line, positions_line, aspects_line}
+use Rattle.dcc_io.specs.DecoderLines.{version_line, head_line, speed_line, functions_line, states_line, pending_line}
+use Rattle.dcc_io.specs.DecoderLines.{loco_line, outs_line, positions_line, aspects_line}
 use Rattle.dcc_io.specs.TextReader.{Reader, ◌>>=◌, done, stop_at, line_by}
 use Rattle.dcc_io.specs.TextReader.Stop.{too_many}
 
@@ -44,7 +45,19 @@ loco_lines version address = do
   states ← states_by version
   pending ← line_by (pending_line address)
   cvs ← cvs_lines
-  done (saved.Loco (record { address = address; speed = speed.0; forward = speed.1; functions = functions; states = states; pending = pending; cvs = cvs.0 }), cvs.1)
+  done (
+    saved.Loco
+        (record {
+          address = address;
+          speed = speed.0;
+          forward = speed.1;
+          functions = functions;
+          states = states;
+          pending = pending;
+          cvs = cvs.0;
+        }),
+    cvs.1,
+  )
 
 -- the lines of an accessory decoder behind its first, and the line behind them
 unfoldable pub board_lines : Board → Reader (Saved × Head)

@@ -1,5 +1,6 @@
 -- What was read of the first of two captures.
-use Rattle.std.specs.Prelude.{◌≡◌, ◌⊎◌, ℕ, ◌+◌, ◌<◌, ◌≤◌, ◌∷◌, ◌++◌, List, [], Bool, true, false, Option, None, Some, Result, Ok, Err, length, replicate, IfSome, IsSomeAnd}
+use Rattle.std.specs.Prelude.{◌≡◌, ◌⊎◌, ℕ, ◌+◌, ◌<◌, ◌≤◌, ◌∷◌, ◌++◌, List, [], Bool, true, false, Option, None, Some}
+use Rattle.std.specs.Prelude.{Result, Ok, Err, length, replicate, IfSome, IsSomeAnd}
 use Rattle.dcc_io.specs.declared.fault.KeptFault.{KeptFault}
 use Rattle.dcc_io.specs.declared.fault.KeptFault.TheVariants.{Number, Line, Read, TooMuch}
 use Rattle.dcc_io.specs.declared.word.Run.{Run}
@@ -13,7 +14,8 @@ use Rattle.dcc_io.specs.BothCaptures.{Said, stopped, in_front, behind_mark, both
 pub record LeadsIn (before : ℕ) (old new : InputState) (said : Said) (text rest : List ℕ) : Type 0 where
   pub used : List ℕ
   pub whole : text ≡ used ++ rest
-  pub goes_on : (end : ℕ) (more : List ℕ) (last : Option KeptFault) → both_from before old end (used ++ more) last ≡ said end more last
+  pub goes_on : (end : ℕ) (more : List ℕ) (last : Option KeptFault)
+      → both_from before old end (used ++ more) last ≡ said end more last
   pub bytes : new.bytes + length used ≡ old.bytes
   pub room : 0 < length used → new.bytes ≡ 0 → rest ≡ []
   pub lines : all_lines new rest ≡ all_lines old text
@@ -31,7 +33,8 @@ first_so_far halves before input end more last = in_front halves (both_from befo
 
 -- these halves of the first capture, and then what comes behind the word `---` that begins this line
 abbrev pub first_is : List ℕ → ℕ → InputState → Said
-first_is halves line input end more last = in_front halves (behind_mark line input.halves (ended_words input.place more) last)
+first_is halves line input end more last =
+    in_front halves (behind_mark line input.halves (ended_words input.place more) last)
 
 -- the line was left, or nothing is to come
 abbrev pub IsBehindLine : ℕ → InputState → Type 0
@@ -48,14 +51,20 @@ abbrev pub StopsBoth : ℕ → InputState → KeptFault → InputState → Type 
 StopsBoth before old Read new = (new.failures ≡ one_more old.failures) × (new.ahead ≡ [])
     × IfSome old.text (λ text. IsSomeAnd new.text (λ rest. (used : List ℕ) × (text ≡ used ++ rest)
     × ((end : ℕ) → both_from before old end used (Some Read) ≡ stopped Read)))
-StopsBoth before old (Number line) new = (new.failures ≡ old.failures) × IfSome old.text (λ text. in_limit (both_from before old) old text ≡ stopped (Number line))
-StopsBoth before old (Line line fault) new = (new.failures ≡ old.failures) × IfSome old.text (λ text. in_limit (both_from before old) old text ≡ stopped (Line line fault))
-StopsBoth before old TooMuch new = (new.failures ≡ old.failures) × IfSome old.text (λ text. in_limit (both_from before old) old text ≡ stopped TooMuch)
+StopsBoth before old (Number line) new =
+    (new.failures ≡ old.failures)
+    × IfSome old.text (λ text. in_limit (both_from before old) old text ≡ stopped (Number line))
+StopsBoth before old (Line line fault) new =
+    (new.failures ≡ old.failures)
+    × IfSome old.text (λ text. in_limit (both_from before old) old text ≡ stopped (Line line fault))
+StopsBoth before old TooMuch new =
+    (new.failures ≡ old.failures) × IfSome old.text (λ text. in_limit (both_from before old) old text ≡ stopped TooMuch)
 
 -- the halves of the next run of the first capture, and its line, or none behind the line `---`, or a fault
 abbrev pub AnswersFirst : ℕ → InputState → Result (Option (ℕ × Run)) KeptFault → InputState → Type 0
 AnswersFirst before old (Ok (Some taken)) new =
-    Leads before old new (first_so_far (replicate taken.1.n taken.1.us) taken.0 new) × (new.halves + taken.1.n ≡ old.halves) × (0 < taken.1.n) × (new.bytes < old.bytes)
+    Leads before old new (first_so_far (replicate taken.1.n taken.1.us) taken.0 new)
+    × (new.halves + taken.1.n ≡ old.halves) × (0 < taken.1.n) × (new.bytes < old.bytes)
 AnswersFirst before old (Ok None) new = EndsFirst before old [] new
 AnswersFirst before old (Err fault) new = StopsBoth before old fault new × (new.fault ≡ Some fault)
 

@@ -1,5 +1,6 @@
 -- A word at the front of some bytes.
-use Rattle.std.specs.Prelude.{◌≡◌, ℕ, Bool, ◌<◌, ◌≤◌, min, List, true, not, Some, ◌==◌, ◌||◌, length, take, slice_index_or}
+use Rattle.std.specs.Prelude.{◌≡◌, ℕ, Bool, ◌<◌, ◌≤◌, min, List, true, not, Some, ◌==◌, ◌||◌, length, take}
+use Rattle.std.specs.Prelude.{slice_index_or}
 use Rattle.std.specs.List.{list_all}
 use Rattle.dcc_io.specs.declared.word.FrontWord.{FrontWord}
 use Rattle.dcc_io.specs.declared.word.WholeWord.{WholeWord}

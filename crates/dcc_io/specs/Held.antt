@@ -12,6 +12,7 @@ pub record Holds (before after : Option (List ℕ)) (bytes held : List ℕ) : Ty
   pub appended : Appends before after written
 
 -- each of these bytes was written or is held, or a write failed or took no byte
-abbrev pub HoldsOrFails : Option (List ℕ) → ℕ → List ℕ → Result (Unit {0}) Failed → List ℕ → Option (List ℕ) → ℕ → Type 0
+abbrev pub HoldsOrFails : Option (List ℕ) → ℕ → List ℕ → Result (Unit {0}) Failed → List ℕ → Option (List ℕ) → ℕ
+    → Type 0
 HoldsOrFails before failures bytes (Ok done) held after now = Holds before after bytes held × (now ≡ failures)
 HoldsOrFails before failures bytes (Err failed) held after now = AppendsFront before after bytes × HasRisen failures now

@@ -1,5 +1,6 @@
 -- What is known of an input.
-use Rattle.std.specs.Prelude.{◌≡◌, ℕ, ◌+◌, ◌<◌, ◌≤◌, ◌∷◌, ◌++◌, List, [], Bool, false, Option, None, Some, Result, Ok, Err, length, IfSome, if◌then◌else◌}
+use Rattle.std.specs.Prelude.{◌≡◌, ℕ, ◌+◌, ◌<◌, ◌≤◌, ◌∷◌, ◌++◌, List, [], Bool, false, Option, None, Some, Result, Ok}
+use Rattle.std.specs.Prelude.{Err, length, IfSome, if◌then◌else◌}
 use Rattle.std.specs.Option.{option_map}
 use Rattle.std.specs.Io.KnownBytes.{Keeps}
 use Rattle.dcc_io.specs.declared.fault.KeptFault.{KeptFault}

@@ -23,11 +23,13 @@ pub record Reading (A : Type 0) : Type 0 where
   pub before_failure : InputState → List ℕ → Items A
 
 -- bytes were used, which say these items, and the rest says the rest
-pub record Gives {A : Type 0} (reading : Reading A) (old : InputState) (items : List A) (new : InputState) (text rest : List ℕ) : Type 0 where
+pub record Gives {A : Type 0} (reading : Reading A) (old : InputState) (items : List A) (new : InputState)
+    (text rest : List ℕ) : Type 0 where
   pub used : List ℕ
   pub whole : text ≡ used ++ rest
   pub in_whole : reading.in_text old text ≡ preceded items (reading.in_text new rest)
-  pub in_part : (more : List ℕ) → reading.before_failure old (used ++ more) ≡ preceded items (reading.before_failure new more)
+  pub in_part : (more : List ℕ)
+      → reading.before_failure old (used ++ more) ≡ preceded items (reading.before_failure new more)
   pub lines : all_lines new rest ≡ all_lines old text
 
 -- these items were taken, and nothing went wrong
@@ -40,8 +42,12 @@ pub record Gave {A : Type 0} (reading : Reading A) (old : InputState) (items : L
 -- no item can be taken before this fault
 abbrev pub StopsAt : {A : Type 0} → Reading A → InputState → KeptFault → InputState → Type 0
 StopsAt reading old kept.Read new = (new.failures ≡ one_more old.failures) × (new.ahead ≡ [])
-    × IfSome old.text (λ text. IsSomeAnd new.text (λ rest. (used : List ℕ) × (text ≡ used ++ rest) × (reading.before_failure old used ≡ only_fault (Some kept.Read))))
-StopsAt reading old fault new = (new.failures ≡ old.failures) × IfSome old.text (λ text. reading.in_text old text ≡ only_fault (Some fault))
+    × IfSome old.text
+    (λ text. IsSomeAnd new.text
+    (λ rest. (used : List ℕ) × (text ≡ used ++ rest)
+    × (reading.before_failure old used ≡ only_fault (Some kept.Read))))
+StopsAt reading old fault new =
+    (new.failures ≡ old.failures) × IfSome old.text (λ text. reading.in_text old text ≡ only_fault (Some fault))
 
 -- this fact holds of the items before this fault, or of all of them where there is none
 abbrev pub EndsWith : {A : Type 0} → Option KeptFault → (List A → Type 0) → Items A → Type 0
@@ -49,7 +55,8 @@ EndsWith fault fact items = (items.fault ≡ fault) × fact items.said
 
 -- The input was read up to this fault, whose cause stands, or to its end, and this fact holds of the
 -- items before that. At a failed read those are the items of all the bytes that had come.
-abbrev pub ReadsUpTo : {A : Type 0} → Reading A → InputState → Option KeptFault → InputState → (List A → Type 0) → Type 0
+abbrev pub ReadsUpTo : {A : Type 0} → Reading A → InputState → Option KeptFault → InputState → (List A → Type 0)
+    → Type 0
 ReadsUpTo reading old (Some kept.Read) new fact =
     IfSome old.text (λ text. IsSomeAnd new.text (λ rest. (used : List ℕ) × (text ≡ used ++ rest)
     × EndsWith (Some kept.Read) fact (reading.before_failure old used)))

@@ -1,5 +1,6 @@
 -- What was read of an input's lines.
-use Rattle.std.specs.Prelude.{◌≡◌, ℕ, ◌+◌, ◌-◌, ◌<◌, ◌≤◌, ◌∷◌, ◌++◌, ◌==◌, List, [], Bool, true, false, Option, None, Some, Result, Ok, Err, length, take, IfSome, IsSomeAnd}
+use Rattle.std.specs.Prelude.{◌≡◌, ℕ, ◌+◌, ◌-◌, ◌<◌, ◌≤◌, ◌∷◌, ◌++◌, ◌==◌, List, [], Bool, true, false, Option, None}
+use Rattle.std.specs.Prelude.{Some, Result, Ok, Err, length, take, IfSome, IsSomeAnd}
 use Rattle.std.specs.List.{list_any}
 use Rattle.dcc_packet.specs.declared.fault.PacketFault.TheVariants as faults
 use Rattle.dcc_io.specs.declared.text_line.TextLine.{TextLine}
@@ -31,7 +32,9 @@ pub record EndsLine (old : InputState) (number : ℕ) (line : List ℕ) (new : I
   pub is_line : IsOneLine line
   pub text : IfSome old.text (λ text. IsSomeAnd new.text (λ rest. text ≡ line ++ 10 ∷ rest))
   pub next : new.place ≡ record { line = old.place.line + 1; in_comment = old.place.in_comment }
-  pub lines : IfSome old.text (λ text. IsSomeAnd new.text (λ rest. new.lines ≡ lines_with (lines_within old.lines old.place.line line) old.place.line rest))
+  pub lines : IfSome old.text
+      (λ text. IsSomeAnd new.text
+      (λ rest. new.lines ≡ lines_with (lines_within old.lines old.place.line line) old.place.line rest))
   pub halves : new.halves ≡ old.halves
   pub bytes : new.bytes + length line + 1 ≡ old.bytes
   pub room : new.bytes ≡ 0 → IsAtEnd new.text

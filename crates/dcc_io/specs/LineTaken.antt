@@ -26,4 +26,5 @@ TakesLine old (Err (Number line)) new = ⊥
 -- what was read of a line on its own is answered, and a fault is kept
 abbrev pub Judges : {A : Type 0} → InputState → ℕ → Result A PacketFault → Result A KeptFault → InputState → Type 0
 Judges old line (Ok x) result new = (result ≡ Ok x) × (new ≡ old)
-Judges old line (Err fault) result new = (result ≡ Err (Line line fault)) × (new ≡ record old { fault = Some (Line line fault) })
+Judges old line (Err fault) result new =
+    (result ≡ Err (Line line fault)) × (new ≡ record old { fault = Some (Line line fault) })

@@ -1,5 +1,6 @@
 -- The lines of a text and the items that they say, and its packet lines, which say frames.
-use Rattle.std.specs.Prelude.{ℕ, ◌-◌, ◌∷◌, ◌==◌, ◌||◌, nat_le, List, [], Bool, false, not, length, take, Option, None, Some, Result, Ok, Err, if◌then◌else◌}
+use Rattle.std.specs.Prelude.{ℕ, ◌-◌, ◌∷◌, ◌==◌, ◌||◌, nat_le, List, [], Bool, false, not, length, take, Option, None}
+use Rattle.std.specs.Prelude.{Some, Result, Ok, Err, if◌then◌else◌}
 use Rattle.dcc_packet.specs.declared.fault.PacketFault.{PacketFault}
 use Rattle.dcc_packet.specs.declared.fault.PacketFault.TheVariants as faults
 use Rattle.std.specs.List.{list_all}
@@ -39,7 +40,8 @@ behind_line saying line rest =
 
 -- a line that has not ended, before this fault or none, is either bad or says nothing yet
 abbrev pub open_line : {A : Type 0} → NumberedLine → Option KeptFault → Items A
-open_line line last = if is_good line.bytes then only_fault last else only_fault (Some (kept.Line line.number faults.Word))
+open_line line last =
+    if is_good line.bytes then only_fault last else only_fault (Some (kept.Line line.number faults.Word))
 
 -- the items of these lines, the last of which has not ended, before this fault or none
 abbrev pub items_of : {A B : Type 0} → Saying A B → List NumberedLine → Option KeptFault → Items A

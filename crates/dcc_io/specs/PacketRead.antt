@@ -13,17 +13,24 @@ use Rattle.dcc_io.specs.Items.{Gave, StopsAt, only_fault}
 use Rattle.dcc_io.specs.PacketLines.{Saying, lines_by, items_in, packet_words}
 
 -- what the next line says that says anything
-abbrev pub AnswersSaid : {A B C : Type 0} → Saying A B → (C → B) → InputState → Result (Option C) KeptFault → InputState → Type 0
-AnswersSaid saying as_said old (Ok (Some says)) new = Gave (lines_by saying) old (saying.items (as_said says)) new × (new.bytes < old.bytes)
-AnswersSaid saying as_said old (Ok None) new = Gave (lines_by saying) old [] new × IsAtEnd new.text × IfSome old.text (λ text. items_in saying old text ≡ only_fault None)
+abbrev pub AnswersSaid : {A B C : Type 0} → Saying A B → (C → B) → InputState → Result (Option C) KeptFault → InputState
+    → Type 0
+AnswersSaid saying as_said old (Ok (Some says)) new =
+    Gave (lines_by saying) old (saying.items (as_said says)) new × (new.bytes < old.bytes)
+AnswersSaid saying as_said old (Ok None) new =
+    Gave (lines_by saying) old [] new × IsAtEnd new.text
+    × IfSome old.text (λ text. items_in saying old text ≡ only_fault None)
 AnswersSaid saying as_said old (Err (kept.Number line)) new = ⊥
 AnswersSaid saying as_said old (Err fault) new = StopsAt (lines_by saying) old fault new × (new.fault ≡ Some fault)
 
 -- a line's words say this, or have a fault, which is kept
-abbrev pub ReadsSaid : {A B C : Type 0} → Saying A B → (C → B) → InputState → TextLine → Result (Option C) KeptFault → InputState → Type 0
-ReadsSaid saying as_said old line (Ok (Some says)) new = (saying.said (words line.text.bytes) ≡ Ok (as_said says)) × (new ≡ old)
+abbrev pub ReadsSaid : {A B C : Type 0} → Saying A B → (C → B) → InputState → TextLine → Result (Option C) KeptFault
+    → InputState → Type 0
+ReadsSaid saying as_said old line (Ok (Some says)) new =
+    (saying.said (words line.text.bytes) ≡ Ok (as_said says)) × (new ≡ old)
 ReadsSaid saying as_said old line (Ok None) new = ⊥
-ReadsSaid saying as_said old line (Err answer) new = (fault : PacketFault) × (answer ≡ kept.Line line.number fault) × (saying.said (words line.text.bytes) ≡ Err fault)
+ReadsSaid saying as_said old line (Err answer) new =
+    (fault : PacketFault) × (answer ≡ kept.Line line.number fault) × (saying.said (words line.text.bytes) ≡ Err fault)
     × (new ≡ record old { fault = Some (kept.Line line.number fault) })
 
 -- the packet of the next line that says one

@@ -1,5 +1,6 @@
 -- What was read of an input's words.
-use Rattle.std.specs.Prelude.{◌≡◌, ℕ, ◌+◌, ◌-◌, ◌<◌, ◌≤◌, ◌∷◌, ◌++◌, List, [], Option, None, Some, Result, Ok, Err, length, take, IfSome, IsSomeAnd}
+use Rattle.std.specs.Prelude.{◌≡◌, ℕ, ◌+◌, ◌-◌, ◌<◌, ◌≤◌, ◌∷◌, ◌++◌, List, [], Option, None, Some, Result, Ok, Err}
+use Rattle.std.specs.Prelude.{length, take, IfSome, IsSomeAnd}
 use Rattle.dcc_io.specs.declared.fault.KeptFault.{KeptFault}
 use Rattle.dcc_io.specs.declared.fault.KeptFault.TheVariants.{Number, Line, Read, TooMuch}
 use Rattle.dcc_io.specs.declared.word.RunWord.{RunWord}
@@ -40,7 +41,8 @@ pub record FailsBeforeWord (old new : InputState) : Type 0 where
 
 -- no word has ended in the bytes that may be taken
 pub record OverflowsBeforeWord (old new : InputState) : Type 0 where
-  pub text : IfSome old.text (λ text. (old.bytes < length text) × (ended_words old.place (take (old.bytes - 1) text) ≡ []))
+  pub text : IfSome old.text
+      (λ text. (old.bytes < length text) × (ended_words old.place (take (old.bytes - 1) text) ≡ []))
   pub fault : new.fault ≡ Some TooMuch
   pub failures : new.failures ≡ old.failures
 

@@ -1,5 +1,6 @@
 -- What was read of an input by a reader of texts.
-use Rattle.std.specs.Prelude.{◌≡◌, ℕ, ◌+◌, ◌-◌, ◌<◌, ◌≤◌, nat_le, ◌++◌, List, [], Option, None, Some, Result, Ok, Err, length, take, IfSome, IsSomeAnd, if◌then◌else◌}
+use Rattle.std.specs.Prelude.{◌≡◌, ℕ, ◌+◌, ◌-◌, ◌<◌, ◌≤◌, nat_le, ◌++◌, List, [], Option, None, Some, Result, Ok, Err}
+use Rattle.std.specs.Prelude.{length, take, IfSome, IsSomeAnd, if◌then◌else◌}
 use Rattle.dcc_packet.specs.declared.fault.PacketFault.TheVariants as faults
 use Rattle.dcc_io.specs.declared.fault.KeptFault.{KeptFault}
 use Rattle.dcc_io.specs.declared.fault.KeptFault.TheVariants.{Number, Line, Read, TooMuch}
@@ -35,7 +36,8 @@ abbrev pub answer_before_failure : {A : Type 0} → Reader A → InputState → 
 answer_before_failure read input used = answer_of (Some Read) (read (at input used))
 
 -- bytes were used, behind which the one reader goes on as the other, whatever follows them
-pub record LeadsIn {A : Type 0} (read : Reader A) (old : InputState) (rest_read : Reader A) (new : InputState) (text rest : List ℕ) : Type 0 where
+pub record LeadsIn {A : Type 0} (read : Reader A) (old : InputState) (rest_read : Reader A) (new : InputState)
+    (text rest : List ℕ) : Type 0 where
   pub used : List ℕ
   pub whole : text ≡ used ++ rest
   pub goes_on : (more : List ℕ) → read (at old (used ++ more)) ≡ rest_read (at new more)
@@ -46,13 +48,14 @@ pub record LeadsIn {A : Type 0} (read : Reader A) (old : InputState) (rest_read 
   pub still : length used ≡ 0 → (new.lines ≡ old.lines) × (new.place.line ≡ old.place.line)
 
 -- the input was read up to where the one reader goes on as the other, and nothing went wrong
-pub record Leads {A : Type 0} (read : Reader A) (old : InputState) (rest_read : Reader A) (new : InputState) : Type 0 where
-  pub text : IfSome old.text (λ text. IsSomeAnd new.text (λ rest. LeadsIn read old rest_read new text rest))
-  pub in_comment : new.place.in_comment ≡ old.place.in_comment
-  pub halves : new.halves ≡ old.halves
-  pub bytes : new.bytes ≤ old.bytes
-  pub fault : new.fault ≡ None
-  pub failures : new.failures ≡ old.failures
+pub record Leads {A : Type 0} (read : Reader A) (old : InputState) (rest_read : Reader A) (new : InputState) : Type 0
+  where
+    pub text : IfSome old.text (λ text. IsSomeAnd new.text (λ rest. LeadsIn read old rest_read new text rest))
+    pub in_comment : new.place.in_comment ≡ old.place.in_comment
+    pub halves : new.halves ≡ old.halves
+    pub bytes : new.bytes ≤ old.bytes
+    pub fault : new.fault ≡ None
+    pub failures : new.failures ≡ old.failures
 
 -- the lines that were used are those through the last that was read, which is not the line of the next byte
 abbrev pub UsedWholeLines : InputState → InputState → Type 0
@@ -61,9 +64,13 @@ UsedWholeLines old new = IfSome old.text (λ text. new.lines + 1 ≡ new.place.l
 -- the reader answers this fault, whose cause stands
 abbrev pub Refuses : {A : Type 0} → Reader A → InputState → KeptFault → InputState → Type 0
 Refuses read old Read new = (new.failures ≡ one_more old.failures) × (new.ahead ≡ [])
-    × IfSome old.text (λ text. IsSomeAnd new.text (λ rest. (used : List ℕ) × (text ≡ used ++ rest) × (answer_before_failure read old used ≡ Err Read)))
-Refuses read old (Line line fault) new = (new.failures ≡ old.failures) × IfSome old.text (λ text. answer_in read old text ≡ Err (Line line fault))
-Refuses read old TooMuch new = (new.failures ≡ old.failures) × IfSome old.text (λ text. answer_in read old text ≡ Err TooMuch)
+    × IfSome old.text
+    (λ text. IsSomeAnd new.text
+    (λ rest. (used : List ℕ) × (text ≡ used ++ rest) × (answer_before_failure read old used ≡ Err Read)))
+Refuses read old (Line line fault) new =
+    (new.failures ≡ old.failures) × IfSome old.text (λ text. answer_in read old text ≡ Err (Line line fault))
+Refuses read old TooMuch new =
+    (new.failures ≡ old.failures) × IfSome old.text (λ text. answer_in read old text ≡ Err TooMuch)
 Refuses read old (Number line) new = ⊥
 
 -- this value was read, or this is why there is none, which is kept

@@ -53,7 +53,8 @@ abbrev pub judged : {A : Type 0} → ℕ → Result A PacketFault → List ℕ �
 judged n (Ok x) rest = Ok (x, record { line = n + 1; bytes = rest })
 judged n (Err fault) rest = Err (refused n fault)
 
-abbrev pub ended_line : {A : Type 0} → (List Word → Result A PacketFault) → ℕ → List ℕ → Option (List ℕ) → Result (A × Text) Stop
+abbrev pub ended_line : {A : Type 0} → (List Word → Result A PacketFault) → ℕ → List ℕ → Option (List ℕ)
+    → Result (A × Text) Stop
 ended_line rule n line None = Err (cut n)
 ended_line rule n line (Some rest) = judged n (rule (words line)) rest
 

@@ -29,8 +29,10 @@ IsAtEnd text = IfSome text (λ bytes. bytes ≡ [])
 -- The next byte, none at the end, or a failure, which takes nothing. A read comes only where nothing is ahead.
 abbrev pub AnswersNext : Told → Result (Option ℕ) Failed → Told → Type 0
 AnswersNext old (Ok (Some byte)) new = BeginsWith old.text byte new.text × (new.failures ≡ old.failures)
-AnswersNext old (Ok None) new = (new.ahead ≡ []) × IsAtEnd old.text × Keeps old.text new.text × (new.failures ≡ old.failures)
-AnswersNext old (Err failed) new = (old.ahead ≡ []) × (new.ahead ≡ []) × Keeps old.text new.text × (new.failures ≡ one_more old.failures)
+AnswersNext old (Ok None) new =
+    (new.ahead ≡ []) × IsAtEnd old.text × Keeps old.text new.text × (new.failures ≡ old.failures)
+AnswersNext old (Err failed) new =
+    (old.ahead ≡ []) × (new.ahead ≡ []) × Keeps old.text new.text × (new.failures ≡ one_more old.failures)
 
 -- what is to come is as before, and some of it is ahead unless that is the end
 pub record IsFilled (old new : Told) : Type 0 where

@@ -24,4 +24,5 @@ board_named (Err fault) = Err (faults.Usage usages.BadWho)
 
 -- `b` (98) and a board's number; or the active address of a locomotive decoder: `none`, or `s` or `l` and a number
 unfoldable pub who_named : Word → Result Who ToolFault
-who_named word = if slice_index word 0 == 98 then board_named (board_number (drop 1 word)) else loco_named (own_address word)
+who_named word =
+    if slice_index word 0 == 98 then board_named (board_number (drop 1 word)) else loco_named (own_address word)

@@ -1,5 +1,6 @@
 -- The words of a capture, and the runs of halves that they spell.
-use Rattle.std.specs.Prelude.{◌≡◌, ℕ, ◌∷◌, ◌++◌, List, [], Bool, true, false, Option, None, Some, ◌==◌, ◌||◌, ◌&&◌, nat_lt, nat_le, min, length, filter, if◌then◌else◌}
+use Rattle.std.specs.Prelude.{◌≡◌, ℕ, ◌∷◌, ◌++◌, List, [], Bool, true, false, Option, None, Some, ◌==◌, ◌||◌, ◌&&◌}
+use Rattle.std.specs.Prelude.{nat_lt, nat_le, min, length, filter, if◌then◌else◌}
 use Rattle.std.specs.List.{list_all}
 use Rattle.std.specs.Char.{is_ascii_digit}
 use Rattle.std.specs.Str.Parse.{digits_value}
@@ -61,7 +62,9 @@ duration_of word =
 -- a count of halves is 1 to 8 digits, and from 1 to 16777216
 abbrev pub count_of : List ℕ → Option ℕ
 count_of bytes =
-    if nat_lt 0 (length bytes) && (nat_le (length bytes) 8 && list_all is_ascii_digit bytes) && (nat_lt 0 (digits_value 10 bytes) && nat_le (digits_value 10 bytes) 16777216)
+    if nat_lt 0
+    (length bytes) && (nat_le (length bytes) 8 && list_all is_ascii_digit bytes) &&
+    (nat_lt 0 (digits_value 10 bytes) && nat_le (digits_value 10 bytes) 16777216)
     then Some (digits_value 10 bytes) else None
 
 -- the bytes of a word before its first `*`, or all where it has none

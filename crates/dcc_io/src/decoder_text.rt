@@ -6,7 +6,8 @@ ghost use Rattle.dcc_regs.specs.Possible.{is_decoder};
 ghost use Rattle.dcc_io.specs.LineTaken.{TakesLine, Judges};
 ghost use Rattle.dcc_io.specs.TextReader.{line_by};
 ghost use Rattle.dcc_io.specs.TextRead.{Answers};
-ghost use Rattle.dcc_io.specs.DecoderLines.{version_line, head_line, speed_line, functions_line, states_line, pending_line, loco_line, outs_line, positions_line, aspects_line};
+ghost use Rattle.dcc_io.specs.DecoderLines.{version_line, head_line, speed_line, functions_line, states_line};
+ghost use Rattle.dcc_io.specs.DecoderLines.{pending_line, loco_line, outs_line, positions_line, aspects_line};
 ghost use Rattle.dcc_io.specs.DecoderText.{board_lines, cvs_lines, decoder_lines, loco_lines, states_by};
 ghost use Rattle.dcc_io.specs.SoundLines.{IsPossibleHead, IsSoundLine, is_possible};
 

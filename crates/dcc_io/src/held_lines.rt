@@ -60,7 +60,8 @@ impl HeldLines {
 
     /// Writes all that is held, and then holds nothing. Where a write fails, a front of it was written.
     pub fn write_out<W: Sink>(&mut self, writer: &mut W) -> Result<(), Failed>
-        ensures writes { Writes (W.contents writer.old) (W.failures writer.old) self.old result (W.contents writer.new) (W.failures writer.new) }
+        ensures writes { Writes (W.contents writer.old) (W.failures writer.old) self.old result (W.contents writer.new)
+            (W.failures writer.new) }
         ensures empty { OnOk result (self.new ≡ []) }
     {
         match write_all(writer, self.lines.as_slice()) {

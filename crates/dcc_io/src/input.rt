@@ -1,5 +1,6 @@
 //! What a call of the program reads from.
-ghost use Rattle.std.specs.Prelude.{◌≡◌, ◌≢◌, ◌+◌, ◌<◌, ◌≤◌, ◌^◌, ◌∷◌, ℕ, List, [], length, take, drop, None, Some, true, false, IsTrue, IfSome, IfNone, if◌then◌else◌, ◌||◌};
+ghost use Rattle.std.specs.Prelude.{◌≡◌, ◌≢◌, ◌+◌, ◌<◌, ◌≤◌, ◌^◌, ◌∷◌, ℕ, List, [], length, take, drop, None, Some};
+ghost use Rattle.std.specs.Prelude.{true, false, IsTrue, IfSome, IfNone, if◌then◌else◌, ◌||◌};
 ghost use Rattle.dcc_io.specs.Told.{IsFront};
 ghost use Rattle.dcc_io.specs.Words.{comments, is_gap, ended_words};
 ghost use Rattle.dcc_io.specs.Front.{BeginsWithWord, HasLineFeedAt, IsFrontWord};
@@ -227,7 +228,8 @@ impl<R: Source> Input<R> {
         requires no_comment { self.old.place.in_comment ≡ false }
         requires room { word_len + 1 < self.old.bytes }
         requires begins { BeginsWithWord self.old.ahead word_len ends_line }
-        ensures passed { Passed self.old (record { line = self.old.place.line; bytes = take word_len self.old.ahead } ∷ []) self.new }
+        ensures passed { Passed self.old
+            (record { line = self.old.place.line; bytes = take word_len self.old.ahead } ∷ []) self.new }
         ensures fewer { self.new.bytes < self.old.bytes }
         ensures behind { self.old.place.line ≤ self.new.place.line }
         ensures no_comment { self.new.place.in_comment ≡ false }
@@ -249,7 +251,8 @@ impl<R: Source> Input<R> {
         requires no_comment { self.old.place.in_comment ≡ false }
         requires room { word_len + 2 < self.old.bytes }
         requires begins { BeginsWithWord self.old.ahead word_len ends_line }
-        ensures passed { Passed self.old (record { line = self.old.place.line; bytes = take word_len self.old.ahead } ∷ []) self.new }
+        ensures passed { Passed self.old
+            (record { line = self.old.place.line; bytes = take word_len self.old.ahead } ∷ []) self.new }
         ensures fewer { self.new.bytes < self.old.bytes }
         ensures behind { self.old.place.line ≤ self.new.place.line }
     {
@@ -349,7 +352,9 @@ impl<R: Source> Input<R> {
     pub(crate) fn half_at_hand(&mut self) -> Option<u16>
         requires { self.old.fault ≡ None }
         ensures some { IfSome result (λ us. AnswersRun self.old (Ok (Some (record { us = us; n = 1 }))) self.new) }
-        ensures first { IfSome result (λ us. (before : ℕ) → AnswersFirst before self.old (Ok (Some (self.old.place.line, record { us = us; n = 1 }))) self.new) }
+        ensures first { IfSome result
+            (λ us. (before : ℕ)
+            → AnswersFirst before self.old (Ok (Some (self.old.place.line, record { us = us; n = 1 }))) self.new) }
         ensures none { IfNone result (self.new ≡ self.old) }
     {
         if self.in_comment || self.halves_left == 0 {
@@ -368,7 +373,9 @@ impl<R: Source> Input<R> {
         requires no_comment { self.old.place.in_comment ≡ false }
         requires left { 0 < self.old.halves }
         ensures some { IfSome result (λ us. AnswersRun self.old (Ok (Some (record { us = us; n = 1 }))) self.new) }
-        ensures first { IfSome result (λ us. (before : ℕ) → AnswersFirst before self.old (Ok (Some (self.old.place.line, record { us = us; n = 1 }))) self.new) }
+        ensures first { IfSome result
+            (λ us. (before : ℕ)
+            → AnswersFirst before self.old (Ok (Some (self.old.place.line, record { us = us; n = 1 }))) self.new) }
         ensures none { IfNone result (self.new ≡ self.old) }
     {
         let front = front_word(self.source.ahead())?;
@@ -383,7 +390,9 @@ impl<R: Source> Input<R> {
         requires left { 0 < self.old.halves }
         requires front { IsFrontWord self.old.ahead front }
         ensures some { IfSome result (λ us. AnswersRun self.old (Ok (Some (record { us = us; n = 1 }))) self.new) }
-        ensures first { IfSome result (λ us. (before : ℕ) → AnswersFirst before self.old (Ok (Some (self.old.place.line, record { us = us; n = 1 }))) self.new) }
+        ensures first { IfSome result
+            (λ us. (before : ℕ)
+            → AnswersFirst before self.old (Ok (Some (self.old.place.line, record { us = us; n = 1 }))) self.new) }
         ensures none { IfNone result (self.new ≡ self.old) }
     {
         // (the word, its gap, and a line feed behind that)

@@ -20,7 +20,9 @@ use dcc_packet::Packet;
 pub fn half_at_hand<R: Source>(input: &mut Input<R>) -> Option<u16>
     requires { input.old.fault ≡ None }
     ensures some { IfSome result (λ us. AnswersRun input.old (Ok (Some (record { us = us; n = 1 }))) input.new) }
-    ensures first { IfSome result (λ us. (before : ℕ) → AnswersFirst before input.old (Ok (Some (input.old.place.line, record { us = us; n = 1 }))) input.new) }
+    ensures first { IfSome result
+        (λ us. (before : ℕ)
+        → AnswersFirst before input.old (Ok (Some (input.old.place.line, record { us = us; n = 1 }))) input.new) }
     ensures none { IfNone result (input.new ≡ input.old) }
 {
     input.half_at_hand()

@@ -1,5 +1,6 @@
 //! A word of a capture, taken byte by byte.
-ghost use Rattle.std.specs.Prelude.{◌≡◌, ◌↔◌, ◌<◌, ◌≤◌, min, ℕ, List, [], ◌∷◌, ◌++◌, not, true, ◌==◌, ◌&&◌, IfSome, IsTrue};
+ghost use Rattle.std.specs.Prelude.{◌≡◌, ◌↔◌, ◌<◌, ◌≤◌, min, ℕ, List, [], ◌∷◌, ◌++◌, not, true, ◌==◌, ◌&&◌, IfSome};
+ghost use Rattle.std.specs.Prelude.{IsTrue};
 ghost use Rattle.dcc_io.specs.Words.{is_gap, is_mark, is_some_byte, run_of};
 ghost use Rattle.dcc_io.specs.Front.{HasLineFeedAt, IsFrontWord, IsWholeWord, EndedWord};
 

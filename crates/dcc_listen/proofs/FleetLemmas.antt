@@ -1,5 +1,7 @@
 -- The text of a fleet, written piece by piece.
-use Rattle.std.proofs.Common.{zero, suc, ◌≡◌, ℕ, ◌+◌, ◌-◌, ◌<◌, eqb, false, if◌then◌else◌, List, [], ◌∷◌, ◌++◌, length, map, take, drop, slice_index_or, codes, Option, Result, Ok, Err, refl, sym, ap, ◌∙◌, subst, append_assoc, arith}
+use Rattle.std.proofs.Common.{zero, suc, ◌≡◌, ℕ, ◌+◌, ◌-◌, ◌<◌, eqb, false, if◌then◌else◌, List, [], ◌∷◌, ◌++◌}
+use Rattle.std.proofs.Common.{length, map, take, drop, slice_index_or, codes, Option, Result, Ok, Err, refl, sym, ap}
+use Rattle.std.proofs.Common.{◌∙◌, subst, append_assoc, arith}
 use Rattle.std.proofs.lemmas.Grind.{flat_map-append}
 use Rattle.std.proofs.lemmas.List.{append-nil, map-append}
 use Rattle.std.proofs.Math.Seq.{take-length}
@@ -18,9 +20,11 @@ use Rattle.dcc_io.specs.Written.{Writes}
 use Rattle.dcc_io.proofs.WrittenLemmas.{Appends-append}
 
 -- all of one text was written, and then this happened to the other
-pub Writes-then : (before mid after : Option (List ℕ)) (failures between now : ℕ) (xs ys : List ℕ) (result : Result (Unit {0}) Failed) → Appends before mid xs → between ≡ failures
+pub Writes-then : (before mid after : Option (List ℕ)) (failures between now : ℕ) (xs ys : List ℕ)
+    (result : Result (Unit {0}) Failed) → Appends before mid xs → between ≡ failures
     → Writes mid between ys result after now → Writes before failures (xs ++ ys) result after now
-Writes-then before mid after failures between now xs ys (Ok done) first same second = (Appends-append before mid after xs ys first second.0, second.1 ∙ same)
+Writes-then before mid after failures between now xs ys (Ok done) first same second =
+    (Appends-append before mid after xs ys first second.0, second.1 ∙ same)
 Writes-then before mid after failures between now xs ys (Err failed) first same second = (
   record {
     front = xs ++ second.0.front;
@@ -32,7 +36,8 @@ Writes-then before mid after failures between now xs ys (Err failed) first same 
 )
 
 -- a write of the first text failed
-pub Writes-first : (before after : Option (List ℕ)) (failures now : ℕ) (xs ys : List ℕ) (failed : Failed) → Writes before failures xs (Err failed) after now → Writes before failures (xs ++ ys) (Err failed) after now
+pub Writes-first : (before after : Option (List ℕ)) (failures now : ℕ) (xs ys : List ℕ) (failed : Failed)
+    → Writes before failures xs (Err failed) after now → Writes before failures (xs ++ ys) (Err failed) after now
 Writes-first before after failures now xs ys failed h = (
   record {
     front = h.0.front;
@@ -44,9 +49,12 @@ Writes-first before after failures now xs ys failed h = (
 )
 
 -- a text whose front was written, where the write behind it failed
-writes_front : (before after : Option (List ℕ)) (failures now : ℕ) (whole front rest : List ℕ) (failed : Failed) → whole ≡ front ++ rest → Writes before failures front (Err failed) after now → Writes before failures whole (Err failed) after now
+writes_front : (before after : Option (List ℕ)) (failures now : ℕ) (whole front rest : List ℕ) (failed : Failed)
+    → whole ≡ front ++ rest → Writes before failures front (Err failed) after now
+    → Writes before failures whole (Err failed) after now
 writes_front before after failures now whole front rest failed is h =
-    subst (λ (bytes : List ℕ). Writes before failures bytes (Err failed) after now) (sym is) (Writes-first before after failures now front rest failed h)
+    subst (λ (bytes : List ℕ). Writes before failures bytes (Err failed) after now) (sym is)
+    (Writes-first before after failures now front rest failed h)
 
 -- the lines of CVs up to one begin those up to a later one
 record CvsSplit (cvs : ℕ → ℕ) (n more : ℕ) : Type 0 where
@@ -63,21 +71,29 @@ cvs_split cvs n (suc more) =
     let tail = cvs_next cvs (n + more) in
     record {
       later = front.later ++ (if eqb (cvs (n + more + 1)) 0 then [] else cv_line (n + more + 1) (cvs (n + more + 1)));
-      is = ap (cvs_text cvs) (count n more) ∙ tail ∙ ap (λ (bytes : List ℕ). bytes ++ (if eqb (cvs (n + more + 1)) 0 then [] else cv_line (n + more + 1) (cvs (n + more + 1)))) front.is
-          ∙ append_assoc (cvs_text cvs n) front.later (if eqb (cvs (n + more + 1)) 0 then [] else cv_line (n + more + 1) (cvs (n + more + 1)));
+      is = ap (cvs_text cvs) (count n more) ∙ tail
+          ∙ ap (λ (bytes : List ℕ). bytes
+          ++ (if eqb (cvs (n + more + 1)) 0 then [] else cv_line (n + more + 1) (cvs (n + more + 1)))) front.is
+          ∙ append_assoc (cvs_text cvs n) front.later
+          (if eqb (cvs (n + more + 1)) 0 then [] else cv_line (n + more + 1) (cvs (n + more + 1)));
     }
   where
     count : (a b : ℕ) → a + suc b ≡ a + b + 1
     count a b = omega arith
 
-pub cvs_stopped : (cvs : ℕ → ℕ) (n last : ℕ) (before mid after : Option (List ℕ)) (failures between now : ℕ) (failed : Failed) → n < last → eqb (cvs (n + 1)) 0 ≡ false → Appends before mid (cvs_text cvs n) → between ≡ failures
-    → Writes mid between (cv_line (n + 1) (cvs (n + 1))) (Err failed) after now → Writes before failures (cvs_text cvs last) (Err failed) after now
+pub cvs_stopped : (cvs : ℕ → ℕ) (n last : ℕ) (before mid after : Option (List ℕ)) (failures between now : ℕ)
+    (failed : Failed) → n < last → eqb (cvs (n + 1)) 0 ≡ false → Appends before mid (cvs_text cvs n)
+    → between ≡ failures
+    → Writes mid between (cv_line (n + 1) (cvs (n + 1))) (Err failed) after now
+    → Writes before failures (cvs_text cvs last) (Err failed) after now
 cvs_stopped cvs n last before mid after failures between now failed within some first same second =
     let split = cvs_split cvs (n + 1) (last - (n + 1)) in
     let count : last ≡ n + 1 + (last - (n + 1)) = omega (arith, within) in
-    writes_front before after failures now (cvs_text cvs last) (cvs_text cvs n ++ cv_line (n + 1) (cvs (n + 1))) split.later failed
+    writes_front before after failures now (cvs_text cvs last) (cvs_text cvs n ++ cv_line (n + 1) (cvs (n + 1)))
+    split.later failed
     (ap (cvs_text cvs) count ∙ split.is ∙ ap (λ (bytes : List ℕ). bytes ++ split.later) (cvs_some cvs n some))
-    (Writes-then before mid after failures between now (cvs_text cvs n) (cv_line (n + 1) (cvs (n + 1))) (Err failed) first same second)
+    (Writes-then before mid after failures between now (cvs_text cvs n) (cv_line (n + 1) (cvs (n + 1))) (Err failed)
+    first same second)
 
 later : (i : ℕ) → suc i + 1 ≡ suc (i + 1)
 later i = omega arith
@@ -90,54 +106,84 @@ module _ {A : Type 0} (view : A → Who × RegisterMap) where
   header = codes "dcc-decoders 2\n"
 
   texts-append : (xs ys : List A) → texts (xs ++ ys) ≡ texts xs ++ texts ys
-  texts-append xs ys = ap (flat_map member_text) (map-append view xs ys) ∙ flat_map-append member_text (map view xs) (map view ys)
+  texts-append xs ys =
+      ap (flat_map member_text) (map-append view xs ys) ∙ flat_map-append member_text (map view xs) (map view ys)
 
   split : (xs : List A) (i : ℕ) (d : A) → i < length xs → xs ≡ take i xs ++ slice_index_or xs i d ∷ drop (i + 1) xs
   split [] i d within = absurd (omega (arith, within))
   split (x ∷ xs) zero d within = refl
-  split (x ∷ xs) (suc i) d within = ap (λ (ys : List A). x ∷ ys) (split xs i d (omega (arith, within))) ∙ ap (λ n. x ∷ (take i xs ++ slice_index_or xs i d ∷ drop n (x ∷ xs))) (sym (later i))
+  split (x ∷ xs) (suc i) d within =
+      ap (λ (ys : List A). x ∷ ys) (split xs i d (omega (arith, within)))
+      ∙ ap (λ n. x ∷ (take i xs ++ slice_index_or xs i d ∷ drop n (x ∷ xs))) (sym (later i))
 
   next_text : (xs : List A) (i : ℕ) (d : A) → i < length xs → take (i + 1) xs ≡ take i xs ++ slice_index_or xs i d ∷ []
   next_text [] i d within = absurd (omega (arith, within))
   next_text (x ∷ xs) zero d within = refl
-  next_text (x ∷ xs) (suc i) d within = ap (λ n. take n (x ∷ xs)) (later i) ∙ ap (λ (ys : List A). x ∷ ys) (next_text xs i d (omega (arith, within)))
+  next_text (x ∷ xs) (suc i) d within =
+      ap (λ n. take n (x ∷ xs)) (later i) ∙ ap (λ (ys : List A). x ∷ ys) (next_text xs i d (omega (arith, within)))
 
   -- one member more was written
-  pub texts_more : (before mid after : Option (List ℕ)) (xs : List A) (i : ℕ) (x : A) → i < length xs → x ≡ slice_index_or xs i x → Appends before mid (header ++ texts (take i xs)) → Appends mid after (member_text (view x))
+  pub texts_more : (before mid after : Option (List ℕ)) (xs : List A) (i : ℕ) (x : A) → i < length xs
+      → x ≡ slice_index_or xs i x → Appends before mid (header ++ texts (take i xs))
+      → Appends mid after (member_text (view x))
       → Appends before after (header ++ texts (take (i + 1) xs))
   texts_more before mid after xs i x within is first second =
-      let tail : texts (slice_index_or xs i x ∷ []) ≡ member_text (view x) = ap (λ y. texts (y ∷ [])) (sym is) ∙ append-nil (member_text (view x)) in
+      let tail : texts (slice_index_or xs i x ∷ []) ≡ member_text (view x) =
+      ap (λ y. texts (y ∷ [])) (sym is) ∙ append-nil (member_text (view x)) in
       let whole : header ++ texts (take (i + 1) xs) ≡ (header ++ texts (take i xs)) ++ member_text (view x) =
-      ap (λ (ys : List A). header ++ texts ys) (next_text xs i x within) ∙ ap (λ (bytes : List ℕ). header ++ bytes) (texts-append (take i xs) (slice_index_or xs i x ∷ []) ∙ ap (λ (bytes : List ℕ). texts (take i xs) ++ bytes) tail)
+      ap (λ (ys : List A). header ++ texts ys) (next_text xs i x within)
+      ∙ ap (λ (bytes : List ℕ). header ++ bytes)
+      (texts-append (take i xs) (slice_index_or xs i x ∷ [])
+      ∙ ap (λ (bytes : List ℕ). texts (take i xs) ++ bytes) tail)
       ∙ sym (append_assoc header (texts (take i xs)) (member_text (view x))) in
-      subst (λ (bytes : List ℕ). Appends before after bytes) (sym whole) (Appends-append before mid after (header ++ texts (take i xs)) (member_text (view x)) first second)
+      subst (λ (bytes : List ℕ). Appends before after bytes) (sym whole)
+      (Appends-append before mid after (header ++ texts (take i xs)) (member_text (view x)) first second)
 
   -- a member could not be written
-  pub texts_stopped : (before mid after : Option (List ℕ)) (failures between now : ℕ) (xs : List A) (i : ℕ) (x : A) (failed : Failed) → i < length xs → x ≡ slice_index_or xs i x → Appends before mid (header ++ texts (take i xs))
-      → between ≡ failures → Writes mid between (member_text (view x)) (Err failed) after now → Writes before failures (fleet_text (map view xs)) (Err failed) after now
+  pub texts_stopped : (before mid after : Option (List ℕ)) (failures between now : ℕ) (xs : List A) (i : ℕ) (x : A)
+      (failed : Failed) → i < length xs → x ≡ slice_index_or xs i x → Appends before mid (header ++ texts (take i xs))
+      → between ≡ failures → Writes mid between (member_text (view x)) (Err failed) after now
+      → Writes before failures (fleet_text (map view xs)) (Err failed) after now
   texts_stopped before mid after failures between now xs i x failed within is first same second =
       let all : texts xs ≡ texts (take i xs) ++ (member_text (view x) ++ texts (drop (i + 1) xs)) =
-      ap texts (split xs i x within) ∙ texts-append (take i xs) (slice_index_or xs i x ∷ drop (i + 1) xs) ∙ ap (λ y. texts (take i xs) ++ (member_text (view y) ++ texts (drop (i + 1) xs))) (sym is) in
+      ap texts (split xs i x within) ∙ texts-append (take i xs) (slice_index_or xs i x ∷ drop (i + 1) xs)
+      ∙ ap (λ y. texts (take i xs) ++ (member_text (view y) ++ texts (drop (i + 1) xs))) (sym is) in
       let whole : fleet_text (map view xs) ≡ ((header ++ texts (take i xs)) ++ member_text (view x)) ++ (texts (drop (i + 1) xs) ++ codes "end\n") =
       ap (λ (bytes : List ℕ). header ++ (bytes ++ codes "end\n")) all ∙ simp append_assoc refl in
-      writes_front before after failures now (fleet_text (map view xs)) ((header ++ texts (take i xs)) ++ member_text (view x)) (texts (drop (i + 1) xs) ++ codes "end\n") failed whole
-      (Writes-then before mid after failures between now (header ++ texts (take i xs)) (member_text (view x)) (Err failed) first same second)
+      writes_front before after failures now (fleet_text (map view xs))
+      ((header ++ texts (take i xs)) ++ member_text (view x)) (texts (drop (i + 1) xs) ++ codes "end\n") failed
+      whole
+      (Writes-then before mid after failures between now (header ++ texts (take i xs)) (member_text (view x))
+      (Err failed) first same second)
 
   -- all members were written, and the last line or not
-  pub texts_ended : (before mid after : Option (List ℕ)) (failures between now : ℕ) (xs : List A) (i : ℕ) (result : Result (Unit {0}) Failed) → i ≡ length xs → Appends before mid (header ++ texts (take i xs)) → between ≡ failures
-      → Writes mid between (codes "end\n") result after now → Writes before failures (fleet_text (map view xs)) result after now
+  pub texts_ended : (before mid after : Option (List ℕ)) (failures between now : ℕ) (xs : List A) (i : ℕ)
+      (result : Result (Unit {0}) Failed) → i ≡ length xs → Appends before mid (header ++ texts (take i xs))
+      → between ≡ failures
+      → Writes mid between (codes "end\n") result after now
+      → Writes before failures (fleet_text (map view xs)) result after now
   texts_ended before mid after failures between now xs i result is first same second =
       let all : take i xs ≡ xs = ap (λ n. take n xs) is ∙ take-length xs in
       let whole : fleet_text (map view xs) ≡ (header ++ texts (take i xs)) ++ codes "end\n" =
-      ap (λ (ys : List A). header ++ (texts ys ++ codes "end\n")) (sym all) ∙ sym (append_assoc header (texts (take i xs)) (codes "end\n")) in
+      ap (λ (ys : List A). header ++ (texts ys ++ codes "end\n")) (sym all)
+      ∙ sym (append_assoc header (texts (take i xs)) (codes "end\n")) in
       subst (λ (bytes : List ℕ). Writes before failures bytes result after now) (sym whole)
-      (Writes-then before mid after failures between now (header ++ texts (take i xs)) (codes "end\n") result first same second)
+      (Writes-then before mid after failures between now (header ++ texts (take i xs)) (codes "end\n") result first same
+      second)
 
 -- a locomotive decoder: what stands before its CVs was written, or that failed
-pub loco_then : (own : Who) (m : RegisterMap) (address : Option Address) (before mid after : Option (List ℕ)) (failures between now : ℕ) (result : Result (Unit {0}) Failed) → own ≡ who.Loco address
-    → Writes before failures (loco_front address m) (Ok tt) mid between → Writes mid between (cvs_text (cv_of m) 1024) result after now → Writes before failures (decoder_text own m) result after now
-loco_then own m address before mid after failures between now result is first second = rw is (Writes-then before mid after failures between now (loco_front address m) (cvs_text (cv_of m) 1024) result first.0 first.1 second)
+pub loco_then : (own : Who) (m : RegisterMap) (address : Option Address) (before mid after : Option (List ℕ))
+    (failures between now : ℕ) (result : Result (Unit {0}) Failed) → own ≡ who.Loco address
+    → Writes before failures (loco_front address m) (Ok tt) mid between
+    → Writes mid between (cvs_text (cv_of m) 1024) result after now
+    → Writes before failures (decoder_text own m) result after now
+loco_then own m address before mid after failures between now result is first second =
+    rw is (Writes-then before mid after failures between now (loco_front address m) (cvs_text (cv_of m) 1024) result
+    first.0 first.1 second)
 
-pub loco_first : (own : Who) (m : RegisterMap) (address : Option Address) (before after : Option (List ℕ)) (failures now : ℕ) (failed : Failed) → own ≡ who.Loco address
-    → Writes before failures (loco_front address m) (Err failed) after now → Writes before failures (decoder_text own m) (Err failed) after now
-loco_first own m address before after failures now failed is first = rw is (Writes-first before after failures now (loco_front address m) (cvs_text (cv_of m) 1024) failed first)
+pub loco_first : (own : Who) (m : RegisterMap) (address : Option Address) (before after : Option (List ℕ))
+    (failures now : ℕ) (failed : Failed) → own ≡ who.Loco address
+    → Writes before failures (loco_front address m) (Err failed) after now
+    → Writes before failures (decoder_text own m) (Err failed) after now
+loco_first own m address before after failures now failed is first =
+    rw is (Writes-first before after failures now (loco_front address m) (cvs_text (cv_of m) 1024) failed first)

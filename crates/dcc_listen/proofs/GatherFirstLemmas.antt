@@ -1,5 +1,7 @@
 -- How the packets of the first of two captures are gathered, and those of both.
-use Rattle.std.proofs.Common.{◌≡◌, ◌⊎◌, inl, inr, ℕ, ◌+◌, ◌-◌, ◌<◌, ◌≤◌, zero, suc, List, [], ◌∷◌, ◌++◌, length, take, replicate, Bool, true, false, nat_le, cond, Option, None, Some, Ok, Err, refl, sym, ap, ◌∙◌, subst, arith, append_assoc, length-append, IfSome, IsSomeAnd}
+use Rattle.std.proofs.Common.{◌≡◌, ◌⊎◌, inl, inr, ℕ, ◌+◌, ◌-◌, ◌<◌, ◌≤◌, zero, suc, List, [], ◌∷◌, ◌++◌, length, take}
+use Rattle.std.proofs.Common.{replicate, Bool, true, false, nat_le, cond, Option, None, Some, Ok, Err, refl, sym, ap}
+use Rattle.std.proofs.Common.{◌∙◌, subst, arith, append_assoc, length-append, IfSome, IsSomeAnd}
 use Rattle.std.proofs.lemmas.List.{append-nil, length-replicate}
 use Rattle.dcc_wire.specs.declared.framer.Framer.{Framer}
 use Rattle.dcc_wire.specs.declared.run.RunSeen.{RunSeen}
@@ -21,7 +23,8 @@ use Rattle.dcc_io.specs.Capture.{captures, halves_of, capture_in, capture_before
 use Rattle.dcc_listen.specs.Gathered.{Gathered, GatherFails, StopsGathering}
 use Rattle.dcc_io.specs.BothCaptures.{Both, Said, stopped, in_front, only_second, both_from, in_limit}
 use Rattle.dcc_io.specs.FirstRead.{LeadsIn, Leads, first_so_far, first_is, AnswersFirst}
-use Rattle.dcc_listen.specs.GatheredBoth.{both_in, both_before_failure, GatheredFirst, HoldBoth, GatheredBoth, ReadsBothUpTo, StopsBothAt, BothFail}
+use Rattle.dcc_listen.specs.GatheredBoth.{both_in, both_before_failure, GatheredFirst, HoldBoth, GatheredBoth}
+use Rattle.dcc_listen.specs.GatheredBoth.{ReadsBothUpTo, StopsBothAt, BothFail}
 use Rattle.dcc_listen.proofs.ShowLemmas.{Answers}
 use Rattle.dcc_listen.proofs.GatherLemmas.{few_more}
 use Rattle.dcc_io.proofs.WrittenLemmas.{HasRisen-one_more}
@@ -36,27 +39,47 @@ pub record GatheringFirst (start now : InputState) (before : ℕ) (framer : Fram
   pub hold : ArePackets packets halves
   pub few : length packets ≤ length halves
 
-pub GatheringFirst-start : (input : InputState) (framer : Framer) → input.fault ≡ None → StandsFor framer [] → GatheringFirst input input 0 framer []
-GatheringFirst-start input framer fault stands = record { halves = []; leads = Leads-start 0 input fault; left = omega arith; stands = stands; hold = no_packets; few = omega arith }
+pub GatheringFirst-start : (input : InputState) (framer : Framer) → input.fault ≡ None → StandsFor framer []
+    → GatheringFirst input input 0 framer []
+GatheringFirst-start input framer fault stands =
+    record {
+      halves = [];
+      leads = Leads-start 0 input fault;
+      left = omega arith;
+      stands = stands;
+      hold = no_packets;
+      few = omega arith;
+    }
 
-in_front_twice : (first second : List ℕ) (both : Both) → in_front first (in_front second both) ≡ in_front (first ++ second) both
-in_front_twice first second both = ap (λ (l : List ℕ). record { first = l; second = both.second; fault = both.fault }) (sym (append_assoc first second both.first))
+in_front_twice : (first second : List ℕ) (both : Both)
+    → in_front first (in_front second both) ≡ in_front (first ++ second) both
+in_front_twice first second both =
+    ap (λ (l : List ℕ). record { first = l; second = both.second; fault = both.fault })
+    (sym (append_assoc first second both.first))
 
-pub GatheringFirst-run : (start now new : InputState) (before line : ℕ) (run : Run) (framer next : Framer) (packets held : List Packet) (answer : RunSeen) (so_far : GatheringFirst start now before framer packets) (shown : List Packet)
-    → AnswersFirst before now (Ok (Some (line, run))) new → StandsFor next (so_far.halves ++ replicate run.n run.us) → Answers so_far.halves run answer → AreSpelled shown (frames_of answer.seen)
+pub GatheringFirst-run : (start now new : InputState) (before line : ℕ) (run : Run) (framer next : Framer)
+    (packets held : List Packet) (answer : RunSeen) (so_far : GatheringFirst start now before framer packets)
+    (shown : List Packet)
+    → AnswersFirst before now (Ok (Some (line, run))) new → StandsFor next (so_far.halves ++ replicate run.n run.us)
+    → Answers so_far.halves run answer → AreSpelled shown (frames_of answer.seen)
     → held ≡ packets ++ shown → length shown ≤ 1 → GatheringFirst start new line next held
-GatheringFirst-run start now new before line run framer next packets held answer so_far shown taken stands answers spelled adds one = record {
-  halves = so_far.halves ++ replicate run.n run.us;
-  leads = Leads-join 0 before start now new so_far.halves (first_so_far (replicate run.n run.us) line new) (first_so_far (so_far.halves ++ replicate run.n run.us) line new) so_far.leads taken.0
-      (λ end more last. in_front_twice so_far.halves (replicate run.n run.us) (both_from line new end more last));
-  left = let a = taken.1 in let b = so_far.left in simp (length-append, length-replicate) (omega (arith, a, b));
-  stands = stands;
-  hold = subst (λ (l : List Packet). ArePackets l (so_far.halves ++ replicate run.n run.us)) (sym adds)
-      (packets_more so_far.halves (so_far.halves ++ replicate run.n run.us) answer.seen (length so_far.halves + answer.at - 1) packets shown answers so_far.hold spelled);
-  few = subst (λ (l : List Packet). length l ≤ length (so_far.halves ++ replicate run.n run.us)) (sym adds) (few_more packets shown so_far.halves run so_far.few one taken.2);
-}
+GatheringFirst-run start now new before line run framer next packets held answer so_far shown taken stands answers
+    spelled adds one = record {
+      halves = so_far.halves ++ replicate run.n run.us;
+      leads = Leads-join 0 before start now new so_far.halves (first_so_far (replicate run.n run.us) line new)
+          (first_so_far (so_far.halves ++ replicate run.n run.us) line new) so_far.leads taken.0
+          (λ end more last. in_front_twice so_far.halves (replicate run.n run.us) (both_from line new end more last));
+      left = let a = taken.1 in let b = so_far.left in simp (length-append, length-replicate) (omega (arith, a, b));
+      stands = stands;
+      hold = subst (λ (l : List Packet). ArePackets l (so_far.halves ++ replicate run.n run.us)) (sym adds)
+          (packets_more so_far.halves (so_far.halves ++ replicate run.n run.us) answer.seen
+          (length so_far.halves + answer.at - 1) packets shown answers so_far.hold spelled);
+      few = subst (λ (l : List Packet). length l ≤ length (so_far.halves ++ replicate run.n run.us)) (sym adds)
+          (few_more packets shown so_far.halves run so_far.few one taken.2);
+    }
 
-pub gathers_first : (start now new : InputState) (before : ℕ) (framer : Framer) (packets : List Packet) → start.fault ≡ None → GatheringFirst start now before framer packets → AnswersFirst before now (Ok None) new
+pub gathers_first : (start now new : InputState) (before : ℕ) (framer : Framer) (packets : List Packet)
+    → start.fault ≡ None → GatheringFirst start now before framer packets → AnswersFirst before now (Ok None) new
     → GatheredFirst start packets new
 gathers_first start now new before framer packets fault so_far answer = record {
   none_kept = fault;
@@ -64,54 +87,103 @@ gathers_first start now new before framer packets fault so_far answer = record {
   hold = so_far.hold;
   ends = record {
     line = answer.line;
-    leads = Leads-join 0 before start now new so_far.halves (first_is [] answer.line new) (first_is so_far.halves answer.line new) so_far.leads answer.leads (λ end more last. refl);
+    leads = Leads-join 0 before start now new so_far.halves (first_is [] answer.line new)
+        (first_is so_far.halves answer.line new) so_far.leads answer.leads (λ end more last. refl);
     behind = answer.behind;
   };
 }
 
-pub few_first : (start now : InputState) (before : ℕ) (framer : Framer) (packets : List Packet) (most : ℕ) → GatheringFirst start now before framer packets → most ≡ start.halves → length packets ≤ most
-few_first start now before framer packets most so_far e = let a = so_far.left in let b = so_far.few in omega (arith, a, b, e)
+pub few_first : (start now : InputState) (before : ℕ) (framer : Framer) (packets : List Packet) (most : ℕ)
+    → GatheringFirst start now before framer packets → most ≡ start.halves → length packets ≤ most
+few_first start now before framer packets most so_far e =
+    let a = so_far.left in let b = so_far.few in omega (arith, a, b, e)
 
-front_in_limit : (halves : List ℕ) (before : ℕ) (now : InputState) (text : List ℕ) → in_limit (first_so_far halves before now) now text ≡ in_front halves (in_limit (both_from before now) now text)
+front_in_limit : (halves : List ℕ) (before : ℕ) (now : InputState) (text : List ℕ)
+    → in_limit (first_so_far halves before now) now text ≡ in_front halves (in_limit (both_from before now) now text)
 front_in_limit halves before now text = go (nat_le (length text) now.bytes)
   where
-    go : (within : Bool) → cond within (first_so_far halves before now (all_lines now text + 1) text None) (first_so_far halves before now (all_lines now text + 1) (take (now.bytes - 1) text) (Some TooMuch))
-        ≡ in_front halves (cond within (both_from before now (all_lines now text + 1) text None) (both_from before now (all_lines now text + 1) (take (now.bytes - 1) text) (Some TooMuch)))
+    go : (within : Bool)
+        → cond within (first_so_far halves before now (all_lines now text + 1) text None)
+        (first_so_far halves before now (all_lines now text + 1) (take (now.bytes - 1) text) (Some TooMuch))
+        ≡ in_front halves
+        (cond within (both_from before now (all_lines now text + 1) text None)
+        (both_from before now (all_lines now text + 1) (take (now.bytes - 1) text) (Some TooMuch)))
     go true = refl
     go false = refl
 
 -- what stops the first capture stops both
-stopped_behind : (start now : InputState) (before : ℕ) (halves : List ℕ) (fault : KeptFault) → Leads 0 start now (first_so_far halves before now)
-    → IfSome now.text (λ text. in_limit (both_from before now) now text ≡ stopped fault) → IfSome start.text (λ text. (both_in start text).fault ≡ Some fault)
+stopped_behind : (start now : InputState) (before : ℕ) (halves : List ℕ) (fault : KeptFault)
+    → Leads 0 start now (first_so_far halves before now)
+    → IfSome now.text (λ text. in_limit (both_from before now) now text ≡ stopped fault)
+    → IfSome start.text (λ text. (both_in start text).fault ≡ Some fault)
 stopped_behind start now before halves fault leads stops = go start.text now.text leads.text stops
   where
-    go : (x y : Option (List ℕ)) → IfSome x (λ text. IsSomeAnd y (λ rest. LeadsIn 0 start now (first_so_far halves before now) text rest))
-        → IfSome y (λ text. in_limit (both_from before now) now text ≡ stopped fault) → IfSome x (λ text. (both_in start text).fault ≡ Some fault)
+    go : (x y : Option (List ℕ))
+        → IfSome x (λ text. IsSomeAnd y (λ rest. LeadsIn 0 start now (first_so_far halves before now) text rest))
+        → IfSome y (λ text. in_limit (both_from before now) now text ≡ stopped fault)
+        → IfSome x (λ text. (both_in start text).fault ≡ Some fault)
     go None y p q = tt
     go (Some x) None p q = absurd p
-    go (Some x) (Some y) p q = ap (λ (both : Both). both.fault) (in_limit_of 0 start now (first_so_far halves before now) x y p ∙ front_in_limit halves before now y ∙ ap (in_front halves) q)
+    go (Some x) (Some y) p q =
+        ap (λ (both : Both). both.fault)
+        (in_limit_of 0 start now (first_so_far halves before now) x y p ∙ front_in_limit halves before now y
+        ∙ ap (in_front halves) q)
 
-pub first_stops : (start now new : InputState) (before : ℕ) (framer : Framer) (packets : List Packet) (fault : KeptFault) → start.fault ≡ None → GatheringFirst start now before framer packets → AnswersFirst before now (Err fault) new
+pub first_stops : (start now new : InputState) (before : ℕ) (framer : Framer) (packets : List Packet)
+    (fault : KeptFault) → start.fault ≡ None → GatheringFirst start now before framer packets
+    → AnswersFirst before now (Err fault) new
     → BothFail start (as_tool_fault fault) new
 first_stops start now new before framer packets (Number line) none so_far answer =
-    inr (none, answer.1, (answer.0.0 ∙ so_far.leads.failures, stopped_behind start now before so_far.halves (Number line) so_far.leads answer.0.1))
+    inr (
+      none,
+      answer.1,
+      (
+        answer.0.0
+            ∙ so_far.leads.failures,
+        stopped_behind start now before so_far.halves (Number line) so_far.leads answer.0.1,
+      ),
+    )
 first_stops start now new before framer packets (Line line fault) none so_far answer =
-    inr (none, answer.1, (answer.0.0 ∙ so_far.leads.failures, stopped_behind start now before so_far.halves (Line line fault) so_far.leads answer.0.1))
+    inr (
+      none,
+      answer.1,
+      (
+        answer.0.0
+            ∙ so_far.leads.failures,
+        stopped_behind start now before so_far.halves (Line line fault) so_far.leads answer.0.1,
+      ),
+    )
 first_stops start now new before framer packets TooMuch none so_far answer =
-    inr (none, answer.1, (answer.0.0 ∙ so_far.leads.failures, stopped_behind start now before so_far.halves TooMuch so_far.leads answer.0.1))
+    inr (
+      none,
+      answer.1,
+      (
+        answer.0.0
+            ∙ so_far.leads.failures,
+        stopped_behind start now before so_far.halves TooMuch so_far.leads answer.0.1,
+      ),
+    )
 first_stops start now new before framer packets Read none so_far answer = inr (
   none,
   answer.1,
   (
-    subst (λ (n : ℕ). HasRisen start.failures n) (sym (answer.0.0 ∙ ap one_more so_far.leads.failures)) (HasRisen-one_more start.failures),
+    subst (λ (n : ℕ). HasRisen start.failures n) (sym (answer.0.0 ∙ ap one_more so_far.leads.failures))
+        (HasRisen-one_more start.failures),
     answer.0.1,
     go start.text now.text new.text so_far.leads.text answer.0.2,
   ),
 )
   where
-    go : (x y z : Option (List ℕ)) → IfSome x (λ text. IsSomeAnd y (λ rest. LeadsIn 0 start now (first_so_far so_far.halves before now) text rest))
-        → IfSome y (λ text. IsSomeAnd z (λ rest. (used : List ℕ) × (text ≡ used ++ rest) × ((end : ℕ) → both_from before now end used (Some Read) ≡ stopped Read)))
-        → IfSome x (λ text. IsSomeAnd z (λ rest. (used : List ℕ) × (text ≡ used ++ rest) × ((both_before_failure start used).fault ≡ Some Read)))
+    go : (x y z : Option (List ℕ))
+        → IfSome x (λ text. IsSomeAnd y (λ rest. LeadsIn 0 start now (first_so_far so_far.halves before now) text rest))
+        → IfSome y
+        (λ text. IsSomeAnd z
+        (λ rest. (used : List ℕ) × (text ≡ used ++ rest)
+        × ((end : ℕ) → both_from before now end used (Some Read) ≡ stopped Read)))
+        → IfSome x
+        (λ text. IsSomeAnd z
+        (λ rest. (used : List ℕ) × (text ≡ used ++ rest)
+        × ((both_before_failure start used).fault ≡ Some Read)))
     go None y z p q = tt
     go (Some x) None z p q = absurd p
     go (Some x) (Some y) None p q = absurd q
@@ -121,7 +193,8 @@ first_stops start now new before framer packets Read none so_far answer = inr (
       ap (λ (both : Both). both.fault) (p.goes_on 0 q.0 (Some Read) ∙ ap (in_front so_far.halves) (q.2 0)),
     )
 
-pub kept_before : (input : InputState) (fault : KeptFault) → input.fault ≡ Some fault → HasCause input.fault input.failures → BothFail input (as_tool_fault fault) input
+pub kept_before : (input : InputState) (fault : KeptFault) → input.fault ≡ Some fault
+    → HasCause input.fault input.failures → BothFail input (as_tool_fault fault) input
 kept_before input (Number line) e cause = inl (e, cause, refl)
 kept_before input (Line line fault) e cause = inl (e, cause, refl)
 kept_before input Read e cause = inl (e, cause, refl)
@@ -140,65 +213,103 @@ module _ (old mid : InputState) (packets : List Packet) (first : GatheredFirst o
   said = first_is first.halves first.ends.line mid
 
   -- both captures, told from where the second begins
-  both_is : (text rest : List ℕ) → LeadsIn 0 old mid said text rest → (rest ≡ []) ⊎ (first.ends.line < mid.place.line) → both_in old text ≡ in_front first.halves (only_second (capture_in mid rest))
+  both_is : (text rest : List ℕ) → LeadsIn 0 old mid said text rest → (rest ≡ []) ⊎ (first.ends.line < mid.place.line)
+      → both_in old text ≡ in_front first.halves (only_second (capture_in mid rest))
   both_is text rest p behind = in_limit_of 0 old mid said text rest p ∙ go (nat_le (length rest) mid.bytes)
     where
-      go : (within : Bool) → cond within (said (all_lines mid rest + 1) rest None) (said (all_lines mid rest + 1) (take (mid.bytes - 1) rest) (Some TooMuch))
-          ≡ in_front first.halves (only_second (cond within (halves_of mid.halves (ended_words mid.place rest) None) (halves_of mid.halves (ended_words mid.place (take (mid.bytes - 1) rest)) (Some TooMuch))))
-      go true = ap (in_front first.halves) (second_behind first.ends.line mid.halves mid.place rest rest None behind (λ none. none))
-      go false = ap (in_front first.halves) (second_behind first.ends.line mid.halves mid.place rest (take (mid.bytes - 1) rest) (Some TooMuch) behind (take_none (mid.bytes - 1) rest))
+      go : (within : Bool)
+          → cond within (said (all_lines mid rest + 1) rest None)
+          (said (all_lines mid rest + 1) (take (mid.bytes - 1) rest) (Some TooMuch))
+          ≡ in_front first.halves
+          (only_second
+          (cond within (halves_of mid.halves (ended_words mid.place rest) None)
+          (halves_of mid.halves (ended_words mid.place (take (mid.bytes - 1) rest)) (Some TooMuch))))
+      go true =
+          ap (in_front first.halves)
+          (second_behind first.ends.line mid.halves mid.place rest rest None behind (λ none. none))
+      go false =
+          ap (in_front first.halves)
+          (second_behind first.ends.line mid.halves mid.place rest (take (mid.bytes - 1) rest) (Some TooMuch) behind
+          (take_none (mid.bytes - 1) rest))
 
   -- a fact of the items of the second capture
   from_second : (fault : Option KeptFault) (fact : List ℕ → Type 0) (Q : Both → Type 0)
-      → ((both : Both) (more : List ℕ) → both ≡ record { first = first.halves ++ []; second = more; fault = fault } → fact more → Q both)
-      → IfSome mid.text (λ text. EndsWith fault fact (capture_in mid text)) → IfSome old.text (λ text. Q (both_in old text))
+      → ((both : Both) (more : List ℕ) → both ≡ record { first = first.halves ++ []; second = more; fault = fault }
+      → fact more → Q both)
+      → IfSome mid.text (λ text. EndsWith fault fact (capture_in mid text))
+      → IfSome old.text (λ text. Q (both_in old text))
   from_second fault fact Q each ends = go old.text mid.text first.ends.leads.text first.ends.behind ends
     where
-      go : (x y : Option (List ℕ)) → IfSome x (λ text. IsSomeAnd y (λ rest. LeadsIn 0 old mid said text rest)) → IfSome y (λ rest. (rest ≡ []) ⊎ (first.ends.line < mid.place.line))
+      go : (x y : Option (List ℕ)) → IfSome x (λ text. IsSomeAnd y (λ rest. LeadsIn 0 old mid said text rest))
+          → IfSome y (λ rest. (rest ≡ []) ⊎ (first.ends.line < mid.place.line))
           → IfSome y (λ text. EndsWith fault fact (capture_in mid text)) → IfSome x (λ text. Q (both_in old text))
       go None y p behind q = tt
       go (Some x) None p behind q = absurd p
       go (Some x) (Some y) p behind q = each (both_in old x) (capture_in mid y).said
-          (both_is x y p behind ∙ ap (λ (f : Option KeptFault). record { first = first.halves ++ []; second = (capture_in mid y).said; fault = f }) q.0) q.1
+          (both_is x y p behind
+          ∙ ap (λ (f : Option KeptFault). record
+          { first = first.halves ++ []; second = (capture_in mid y).said; fault = f }) q.0) q.1
 
-  pub gathers_both : (new : InputState) (others : List Packet) → Gathered mid others new → GatheredBoth old packets others new
+  pub gathers_both : (new : InputState) (others : List Packet) → Gathered mid others new
+      → GatheredBoth old packets others new
   gathers_both new others second = record {
     none_kept = first.none_kept;
     hold = from_second None (λ halves. ArePackets others halves) (HoldBoth packets others)
-        (λ both more is fact. rw is record { none = refl; first = subst (ArePackets packets) (sym (append-nil first.halves)) first.hold; second = fact }) second.hold.0;
+        (λ both more is fact. rw is record {
+          none = refl;
+          first = subst (ArePackets packets) (sym (append-nil first.halves)) first.hold;
+          second = fact;
+        }) second.hold.0;
     failures = second.hold.1 ∙ first.ends.leads.failures;
     at_end = second.at_end;
     lines = go old.text mid.text first.ends.leads.text second.lines;
     fault = second.fault;
   }
     where
-      go : (x y : Option (List ℕ)) → IfSome x (λ text. IsSomeAnd y (λ rest. LeadsIn 0 old mid said text rest)) → IfSome y (λ text. new.lines ≡ all_lines mid text) → IfSome x (λ text. new.lines ≡ all_lines old text)
+      go : (x y : Option (List ℕ)) → IfSome x (λ text. IsSomeAnd y (λ rest. LeadsIn 0 old mid said text rest))
+          → IfSome y (λ text. new.lines ≡ all_lines mid text) → IfSome x (λ text. new.lines ≡ all_lines old text)
       go None y p q = tt
       go (Some x) None p q = absurd p
       go (Some x) (Some y) p q = q ∙ p.lines
 
-  second_told : (fault : KeptFault) → IfSome mid.text (λ text. EndsWith (Some fault) (λ halves. Unit {0}) (capture_in mid text)) → IfSome old.text (λ text. (both_in old text).fault ≡ Some fault)
-  second_told fault ends = from_second (Some fault) (λ halves. Unit {0}) (λ both. both.fault ≡ Some fault) (λ both more is fact. ap (λ (b : Both). b.fault) is) ends
+  second_told : (fault : KeptFault)
+      → IfSome mid.text (λ text. EndsWith (Some fault) (λ halves. Unit {0}) (capture_in mid text))
+      → IfSome old.text (λ text. (both_in old text).fault ≡ Some fault)
+  second_told fault ends =
+      from_second (Some fault) (λ halves. Unit {0}) (λ both. both.fault ≡ Some fault)
+      (λ both more is fact. ap (λ (b : Both). b.fault) is) ends
 
-  stops_at : (new : InputState) (fault : KeptFault) → StopsGathering mid fault new → (ReadsUpTo captures mid (Some fault) new (λ halves. Unit {0}) → ReadsBothUpTo old fault new) → StopsBothAt old fault new
+  stops_at : (new : InputState) (fault : KeptFault) → StopsGathering mid fault new
+      → (ReadsUpTo captures mid (Some fault) new (λ halves. Unit {0}) → ReadsBothUpTo old fault new)
+      → StopsBothAt old fault new
   stops_at new fault (inl kept) each = let clash : None ≡ Some fault = sym first.ends.leads.fault ∙ kept.0 in cc
   stops_at new fault (inr (none, kept, reads)) each = inr (first.none_kept, kept, each reads)
 
   pub second_fails : (new : InputState) (fault : ToolFault) → GatherFails mid fault new → BothFail old fault new
   second_fails new (told.Number line) fails =
-      stops_at new (Number line) fails (λ reads. (reads.1 ∙ first.ends.leads.failures, second_told (Number line) reads.0))
+      stops_at new (Number line) fails
+      (λ reads. (reads.1 ∙ first.ends.leads.failures, second_told (Number line) reads.0))
   second_fails new (told.Line line fault) fails =
-      stops_at new (Line line fault) fails (λ reads. (reads.1 ∙ first.ends.leads.failures, second_told (Line line fault) reads.0))
-  second_fails new told.TooMuch fails = stops_at new TooMuch fails (λ reads. (reads.1 ∙ first.ends.leads.failures, second_told TooMuch reads.0))
+      stops_at new (Line line fault) fails
+      (λ reads. (reads.1 ∙ first.ends.leads.failures, second_told (Line line fault) reads.0))
+  second_fails new told.TooMuch fails =
+      stops_at new TooMuch fails (λ reads. (reads.1 ∙ first.ends.leads.failures, second_told TooMuch reads.0))
   second_fails new told.Read fails = stops_at new Read fails (λ reads. (
     subst (λ (n : ℕ). HasRisen n new.failures) first.ends.leads.failures reads.2,
     reads.1,
     go old.text mid.text new.text first.ends.leads.text first.ends.behind reads.0,
   ))
     where
-      go : (x y z : Option (List ℕ)) → IfSome x (λ text. IsSomeAnd y (λ rest. LeadsIn 0 old mid said text rest)) → IfSome y (λ rest. (rest ≡ []) ⊎ (first.ends.line < mid.place.line))
-          → IfSome y (λ text. IsSomeAnd z (λ rest. (used : List ℕ) × (text ≡ used ++ rest) × EndsWith (Some Read) (λ halves. Unit {0}) (capture_before_failure mid used)))
-          → IfSome x (λ text. IsSomeAnd z (λ rest. (used : List ℕ) × (text ≡ used ++ rest) × ((both_before_failure old used).fault ≡ Some Read)))
+      go : (x y z : Option (List ℕ)) → IfSome x (λ text. IsSomeAnd y (λ rest. LeadsIn 0 old mid said text rest))
+          → IfSome y (λ rest. (rest ≡ []) ⊎ (first.ends.line < mid.place.line))
+          → IfSome y
+          (λ text. IsSomeAnd z
+          (λ rest. (used : List ℕ) × (text ≡ used ++ rest)
+          × EndsWith (Some Read) (λ halves. Unit {0}) (capture_before_failure mid used)))
+          → IfSome x
+          (λ text. IsSomeAnd z
+          (λ rest. (used : List ℕ) × (text ≡ used ++ rest)
+          × ((both_before_failure old used).fault ≡ Some Read)))
       go None y z p behind q = tt
       go (Some x) None z p behind q = absurd p
       go (Some x) (Some y) None p behind q = absurd q
@@ -206,7 +317,9 @@ module _ (old mid : InputState) (packets : List Packet) (first : GatheredFirst o
         p.used ++ q.0,
         p.whole ∙ ap (λ (rest : List ℕ). p.used ++ rest) q.1 ∙ sym (append_assoc p.used q.0 z),
         ap (λ (both : Both). both.fault) (p.goes_on 0 q.0 (Some Read)
-            ∙ ap (in_front first.halves) (second_behind first.ends.line mid.halves mid.place y q.0 (Some Read) behind (front_none q.0 z y q.1))) ∙ q.2.0,
+            ∙ ap (in_front first.halves)
+            (second_behind first.ends.line mid.halves mid.place y q.0 (Some Read) behind (front_none q.0 z y q.1)))
+            ∙ q.2.0,
       )
   second_fails new told.NoMemory fails = (first.none_kept, fails.1)
   second_fails new told.Write fails = absurd fails

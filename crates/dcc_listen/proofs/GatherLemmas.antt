@@ -1,5 +1,6 @@
 -- How the packets of a capture are gathered.
-use Rattle.std.proofs.Common.{◌≡◌, ℕ, ◌+◌, ◌-◌, ◌<◌, ◌≤◌, List, [], ◌++◌, length, replicate, None, Some, Ok, Err, inl, inr, refl, sym, ◌∙◌, subst, arith, length-append}
+use Rattle.std.proofs.Common.{◌≡◌, ℕ, ◌+◌, ◌-◌, ◌<◌, ◌≤◌, List, [], ◌++◌, length, replicate, None, Some, Ok, Err, inl}
+use Rattle.std.proofs.Common.{inr, refl, sym, ◌∙◌, subst, arith, length-append}
 use Rattle.std.proofs.lemmas.List.{length-replicate}
 use Rattle.dcc_wire.specs.declared.framer.Framer.{Framer}
 use Rattle.dcc_wire.specs.declared.run.RunSeen.{RunSeen}
@@ -18,64 +19,100 @@ use Rattle.dcc_listen.specs.Taking.{Gathering, ReadsOn}
 use Rattle.dcc_io.proofs.ItemsLemmas.{Gave-append, up_to_fault, reads_up_to, uses_all_lines}
 use Rattle.dcc_listen.proofs.ShowLemmas.{Answers, GaveHalves-none, GaveHalves-append}
 
-pub Gathering-start : (input : InputState) (framer : Framer) → input.fault ≡ None → StandsFor framer [] → Gathering input input framer []
-Gathering-start input framer fault stands = record { halves = []; gave = GaveHalves-none input fault; stands = stands; hold = no_packets; few = omega arith }
+pub Gathering-start : (input : InputState) (framer : Framer) → input.fault ≡ None → StandsFor framer []
+    → Gathering input input framer []
+Gathering-start input framer fault stands =
+    record { halves = []; gave = GaveHalves-none input fault; stands = stands; hold = no_packets; few = omega arith }
 
-pub few_more : (packets shown : List Packet) (halves : List ℕ) (run : Run) → length packets ≤ length halves → length shown ≤ 1 → 0 < run.n → length (packets ++ shown) ≤ length (halves ++ replicate run.n run.us)
+pub few_more : (packets shown : List Packet) (halves : List ℕ) (run : Run) → length packets ≤ length halves
+    → length shown ≤ 1 → 0 < run.n → length (packets ++ shown) ≤ length (halves ++ replicate run.n run.us)
 few_more packets shown halves run h k some = simp (length-append, length-replicate) (omega (arith, h, k, some))
 
-pub Gathering-run : (start now new : InputState) (framer next : Framer) (packets held : List Packet) (run : Run) (answer : RunSeen) (so_far : Gathering start now framer packets) (shown : List Packet)
-    → GaveHalves now (replicate run.n run.us) new → 0 < run.n → StandsFor next (so_far.halves ++ replicate run.n run.us) → Answers so_far.halves run answer → AreSpelled shown (frames_of answer.seen)
+pub Gathering-run : (start now new : InputState) (framer next : Framer) (packets held : List Packet) (run : Run)
+    (answer : RunSeen) (so_far : Gathering start now framer packets) (shown : List Packet)
+    → GaveHalves now (replicate run.n run.us) new → 0 < run.n → StandsFor next (so_far.halves ++ replicate run.n run.us)
+    → Answers so_far.halves run answer → AreSpelled shown (frames_of answer.seen)
     → held ≡ packets ++ shown → length shown ≤ 1 → Gathering start new next held
-Gathering-run start now new framer next packets held run answer so_far shown gave some stands answers spelled adds one = record {
-  halves = so_far.halves ++ replicate run.n run.us;
-  gave = GaveHalves-append start now new so_far.halves (replicate run.n run.us) so_far.gave gave;
-  stands = stands;
-  hold = subst (λ (l : List Packet). ArePackets l (so_far.halves ++ replicate run.n run.us)) (sym adds)
-      (packets_more so_far.halves (so_far.halves ++ replicate run.n run.us) answer.seen (length so_far.halves + answer.at - 1) packets shown answers so_far.hold spelled);
-  few = subst (λ (l : List Packet). length l ≤ length (so_far.halves ++ replicate run.n run.us)) (sym adds) (few_more packets shown so_far.halves run so_far.few one some);
-}
+Gathering-run start now new framer next packets held run answer so_far shown gave some stands answers spelled adds one =
+    record {
+      halves = so_far.halves ++ replicate run.n run.us;
+      gave = GaveHalves-append start now new so_far.halves (replicate run.n run.us) so_far.gave gave;
+      stands = stands;
+      hold = subst (λ (l : List Packet). ArePackets l (so_far.halves ++ replicate run.n run.us)) (sym adds)
+          (packets_more so_far.halves (so_far.halves ++ replicate run.n run.us) answer.seen
+          (length so_far.halves + answer.at - 1) packets shown answers so_far.hold spelled);
+      few = subst (λ (l : List Packet). length l ≤ length (so_far.halves ++ replicate run.n run.us)) (sym adds)
+          (few_more packets shown so_far.halves run so_far.few one some);
+    }
 
-pub gathers_all : (start now new : InputState) (framer : Framer) (packets : List Packet) → start.fault ≡ None → Gathering start now framer packets → AnswersRun now (Ok None) new
+pub gathers_all : (start now new : InputState) (framer : Framer) (packets : List Packet) → start.fault ≡ None
+    → Gathering start now framer packets → AnswersRun now (Ok None) new
     → Gathered start packets new
 gathers_all start now new framer packets fault so_far answer =
     let all = answer.0 in
     record {
       none_kept = fault;
-      hold = (up_to_fault captures start now so_far.halves None (λ halves. ArePackets packets halves) so_far.gave.items answer.2 so_far.hold, all.items.failures ∙ so_far.gave.items.failures);
+      hold = (
+        up_to_fault captures start now so_far.halves None (λ halves. ArePackets packets halves) so_far.gave.items
+            answer.2 so_far.hold,
+        all.items.failures ∙ so_far.gave.items.failures,
+      );
       at_end = answer.1;
-      lines = uses_all_lines captures start new (so_far.halves ++ []) (Gave-append captures start now new so_far.halves [] so_far.gave.items all.items) answer.1;
+      lines = uses_all_lines captures start new (so_far.halves ++ [])
+          (Gave-append captures start now new so_far.halves [] so_far.gave.items all.items) answer.1;
       fault = all.items.fault;
     }
 
-pub few_packets : (start now : InputState) (framer : Framer) (packets : List Packet) (most : ℕ) → Gathering start now framer packets → most ≡ start.halves → length packets ≤ most
-few_packets start now framer packets most so_far e = let a = so_far.gave.left in let b = so_far.few in omega (arith, a, b, e)
+pub few_packets : (start now : InputState) (framer : Framer) (packets : List Packet) (most : ℕ)
+    → Gathering start now framer packets → most ≡ start.halves → length packets ≤ most
+few_packets start now framer packets most so_far e =
+    let a = so_far.gave.left in let b = so_far.few in omega (arith, a, b, e)
 
-pub gather_stops : (start now new : InputState) (framer : Framer) (packets : List Packet) (fault : KeptFault) → start.fault ≡ None → Gathering start now framer packets → AnswersRun now (Err fault) new
+pub gather_stops : (start now new : InputState) (framer : Framer) (packets : List Packet) (fault : KeptFault)
+    → start.fault ≡ None → Gathering start now framer packets → AnswersRun now (Err fault) new
     → GatherFails start (as_tool_fault fault) new
 gather_stops start now new framer packets (Number line) none so_far answer =
-    inr (none, answer.1, reads_up_to captures start now new (Number line) so_far.halves (λ halves. Unit {0}) so_far.gave.items answer.0 tt)
+    inr (
+      none,
+      answer.1,
+      reads_up_to captures start now new (Number line) so_far.halves (λ halves. Unit {0}) so_far.gave.items
+          answer.0 tt,
+    )
 gather_stops start now new framer packets (Line line fault) none so_far answer = absurd answer
 gather_stops start now new framer packets Read none so_far answer =
-    inr (none, answer.1, reads_up_to captures start now new Read so_far.halves (λ halves. Unit {0}) so_far.gave.items answer.0 tt)
+    inr (
+      none,
+      answer.1,
+      reads_up_to captures start now new Read so_far.halves (λ halves. Unit {0}) so_far.gave.items answer.0 tt,
+    )
 gather_stops start now new framer packets TooMuch none so_far answer =
-    inr (none, answer.1, reads_up_to captures start now new TooMuch so_far.halves (λ halves. Unit {0}) so_far.gave.items answer.0 tt)
+    inr (
+      none,
+      answer.1,
+      reads_up_to captures start now new TooMuch so_far.halves (λ halves. Unit {0}) so_far.gave.items answer.0 tt,
+    )
 
-pub kept_already : (input : InputState) (fault : KeptFault) → input.fault ≡ Some fault → HasCause input.fault input.failures → GatherFails input (as_tool_fault fault) input
+pub kept_already : (input : InputState) (fault : KeptFault) → input.fault ≡ Some fault
+    → HasCause input.fault input.failures → GatherFails input (as_tool_fault fault) input
 kept_already input (Number line) e cause = inl (e, cause, refl)
 kept_already input (Line line fault) e cause = inl (e, cause, refl)
 kept_already input Read e cause = inl (e, cause, refl)
 kept_already input TooMuch e cause = inl (e, cause, refl)
 
 -- more was read, and it showed no packet or one
-pub Gathering-shown : (start now new : InputState) (framer next : Framer) (packets : List Packet) (run : Run) (answer : RunSeen) (so_far : Gathering start now framer packets) (shown : List Packet)
-    → GaveHalves now (replicate run.n run.us) new → 0 < run.n → StandsFor next (so_far.halves ++ replicate run.n run.us) → Answers so_far.halves run answer → AreSpelled shown (frames_of answer.seen)
+pub Gathering-shown : (start now new : InputState) (framer next : Framer) (packets : List Packet) (run : Run)
+    (answer : RunSeen) (so_far : Gathering start now framer packets) (shown : List Packet)
+    → GaveHalves now (replicate run.n run.us) new → 0 < run.n → StandsFor next (so_far.halves ++ replicate run.n run.us)
+    → Answers so_far.halves run answer → AreSpelled shown (frames_of answer.seen)
     → length shown ≤ 1 → Gathering start new next (packets ++ shown)
 Gathering-shown start now new framer next packets run answer so_far shown gave some stands answers spelled one =
-    Gathering-run start now new framer next packets (packets ++ shown) run answer so_far shown gave some stands answers spelled refl one
+    Gathering-run start now new framer next packets (packets ++ shown) run answer so_far shown gave some stands answers
+    spelled refl one
 
-pub reads_on : (start now : InputState) (framer : Framer) (packets : List Packet) → start.fault ≡ None → Gathering start now framer packets → ReadsOn start now
-reads_on start now framer packets none so_far = record { none_kept = none; fault = so_far.gave.items.fault; failures = so_far.gave.items.failures }
+pub reads_on : (start now : InputState) (framer : Framer) (packets : List Packet) → start.fault ≡ None
+    → Gathering start now framer packets → ReadsOn start now
+reads_on start now framer packets none so_far =
+    record { none_kept = none; fault = so_far.gave.items.fault; failures = so_far.gave.items.failures }
 
 pub all_read_on : (start now : InputState) (packets : List Packet) → Gathered start packets now → ReadsOn start now
 all_read_on start now packets all = record { none_kept = all.none_kept; fault = all.fault; failures = all.hold.1 }

@@ -1,5 +1,6 @@
 -- A line that was written is read again by its rule.
-use Rattle.std.proofs.Common.{◌≡◌, ℕ, ◌+◌, ◌*◌, ◌≤◌, Bool, true, not, ◌&&◌, eqb, nat_le, List, [], ◌∷◌, ◌++◌, length, Option, Some, Result, Ok, Err, if◌then◌else◌, refl, ap, ◌∙◌, arith, length-append}
+use Rattle.std.proofs.Common.{◌≡◌, ℕ, ◌+◌, ◌*◌, ◌≤◌, Bool, true, not, ◌&&◌, eqb, nat_le, List, [], ◌∷◌, ◌++◌, length}
+use Rattle.std.proofs.Common.{Option, Some, Result, Ok, Err, if◌then◌else◌, refl, ap, ◌∙◌, arith, length-append}
 use Rattle.std.specs.Char.{is_ascii}
 use Rattle.std.specs.List.{list_all, AllByRecursion}
 use Rattle.std.proofs.lemmas.Bool.{and_parts, le-leb}
@@ -47,8 +48,10 @@ pub record IsToken (word : Word) : Type 0 where
 both : (a b : Bool) → a ≡ true → b ≡ true → (a && b) ≡ true
 both a b e f = rw (e, f) refl
 
-pub append_plain : (xs ys : List ℕ) → list_all is_plain xs ≡ true → list_all is_plain ys ≡ true → list_all is_plain (xs ++ ys) ≡ true
-append_plain xs ys first second = list_all-append is_plain xs ys ∙ both (list_all is_plain xs) (list_all is_plain ys) first second
+pub append_plain : (xs ys : List ℕ) → list_all is_plain xs ≡ true → list_all is_plain ys ≡ true
+    → list_all is_plain (xs ++ ys) ≡ true
+append_plain xs ys first second =
+    list_all-append is_plain xs ys ∙ both (list_all is_plain xs) (list_all is_plain ys) first second
 
 pub spaced_plain : (ws : List Word) → AllByRecursion IsToken ws → list_all is_plain (spaced ws) ≡ true
 spaced_plain [] h = refl
@@ -62,33 +65,44 @@ spaced_short : (ws : List Word) → AllByRecursion IsToken ws → length (spaced
 spaced_short [] h = omega arith
 spaced_short (w ∷ ws) h = omega (arith, h.0.short, spaced_short ws h.1, length-append w (spaced ws))
 
-short_line : (line : List ℕ) (word : Word) (ws : List Word) → line ≡ word ++ spaced ws → IsToken word → AllByRecursion IsToken ws → length ws ≤ 38 → length line ≤ 512
-short_line line word ws is token tokens few = omega (arith, ap length is, token.short, spaced_short ws tokens, few, length-append word (spaced ws))
+short_line : (line : List ℕ) (word : Word) (ws : List Word) → line ≡ word ++ spaced ws → IsToken word
+    → AllByRecursion IsToken ws → length ws ≤ 38 → length line ≤ 512
+short_line line word ws is token tokens few =
+    omega (arith, ap length is, token.short, spaced_short ws tokens, few, length-append word (spaced ws))
 
 -- a text at this line
 abbrev pub at : ℕ → List ℕ → Text
 at n bytes = record { line = n; bytes = bytes }
 
-good_is_read : {A : Type 0} (rule : List Word → Result A PacketFault) (x : A) (n : ℕ) (line rest first : List ℕ) (behind : Option (List ℕ)) → first ≡ line → behind ≡ Some rest → is_good line ≡ true → rule (words line) ≡ Ok x
+good_is_read : {A : Type 0} (rule : List Word → Result A PacketFault) (x : A) (n : ℕ) (line rest first : List ℕ)
+    (behind : Option (List ℕ)) → first ≡ line → behind ≡ Some rest → is_good line ≡ true → rule (words line) ≡ Ok x
     → (if is_good first then ended_line rule n first behind else Err (refused n faults.Word)) ≡ Ok (x, at (n + 1) rest)
 good_is_read rule x n line rest first behind is_first is_behind good says = rw (is_first, is_behind, good, says) refl
 
 -- the words of a line, by which its rule gives this value
-pub line_back : {A : Type 0} (rule : List Word → Result A PacketFault) (x : A) (n : ℕ) (line : List ℕ) (word : Word) (ws : List Word) (rest : List ℕ)
+pub line_back : {A : Type 0} (rule : List Word → Result A PacketFault) (x : A) (n : ℕ) (line : List ℕ) (word : Word)
+    (ws : List Word) (rest : List ℕ)
     → line ≡ word ++ spaced ws → IsToken word → AllByRecursion IsToken ws → length line ≤ 512 → rule (word ∷ ws) ≡ Ok x
     → line_by rule (at n (line ++ 10 ∷ rest)) ≡ Ok (x, at (n + 1) rest)
 line_back rule x n line word ws rest is token tokens short says =
-    let plain : list_all is_plain line ≡ true = ap (list_all is_plain) is ∙ append_plain word (spaced ws) token.plain (spaced_plain ws tokens) in
-    let good : is_good line ≡ true = both (nat_le (length line) 512) (list_all is_ascii line) (le-leb (length line) 512 short) (plain_is_ascii line plain) in
+    let plain : list_all is_plain line ≡ true =
+    ap (list_all is_plain) is ∙ append_plain word (spaced ws) token.plain (spaced_plain ws tokens) in
+    let good : is_good line ≡ true =
+    both (nat_le (length line) 512) (list_all is_ascii line) (le-leb (length line) 512 short)
+    (plain_is_ascii line plain) in
     let split : words line ≡ word ∷ ws = ap words is ∙ words_spaced word ws token.word_is (all_words ws tokens) in
-    good_is_read rule x n line rest (first_line (line ++ 10 ∷ rest)) (behind_line (line ++ 10 ∷ rest)) (first_line_is line rest plain) (behind_line_is line rest plain) good (ap rule split ∙ says)
+    good_is_read rule x n line rest (first_line (line ++ 10 ∷ rest)) (behind_line (line ++ 10 ∷ rest))
+    (first_line_is line rest plain) (behind_line_is line rest plain) good (ap rule split ∙ says)
 
 -- a line of a few words
-pub few_back : {A : Type 0} (rule : List Word → Result A PacketFault) (x : A) (n : ℕ) (line : List ℕ) (word : Word) (ws : List Word) (rest : List ℕ)
+pub few_back : {A : Type 0} (rule : List Word → Result A PacketFault) (x : A) (n : ℕ) (line : List ℕ) (word : Word)
+    (ws : List Word) (rest : List ℕ)
     → line ≡ word ++ spaced ws → IsToken word → AllByRecursion IsToken ws → length ws ≤ 38 → rule (word ∷ ws) ≡ Ok x
     → line_by rule (at n (line ++ 10 ∷ rest)) ≡ Ok (x, at (n + 1) rest)
-few_back rule x n line word ws rest is token tokens few says = line_back rule x n line word ws rest is token tokens (short_line line word ws is token tokens few) says
+few_back rule x n line word ws rest is token tokens few says =
+    line_back rule x n line word ws rest is token tokens (short_line line word ws is token tokens few) says
 
 -- a reader behind one that gave a value
-pub then_back : {A B : Type 0} (first : Reader A) (next : A → Reader B) (x : A) (text mid : Text) (result : Result (B × Text) Stop) → first text ≡ Ok (x, mid) → next x mid ≡ result → (first >>= next) text ≡ result
+pub then_back : {A B : Type 0} (first : Reader A) (next : A → Reader B) (x : A) (text mid : Text)
+    (result : Result (B × Text) Stop) → first text ≡ Ok (x, mid) → next x mid ≡ result → (first >>= next) text ≡ result
 then_back first next x text mid result one two = ap (λ read. read_on read next) one ∙ two

@@ -1,5 +1,6 @@
 -- What is a listing, and that outcomes have one.
-use Rattle.std.proofs.Common.{◌≡◌, ℕ, ◌+◌, ◌++◌, ◌∷◌, Bool, true, false, List, [], ◌⊎◌, inl, inr, refl, sym, ap, ◌∙◌, subst, append_assoc}
+use Rattle.std.proofs.Common.{◌≡◌, ℕ, ◌+◌, ◌++◌, ◌∷◌, Bool, true, false, List, [], ◌⊎◌, inl, inr, refl, sym, ap, ◌∙◌}
+use Rattle.std.proofs.Common.{subst, append_assoc}
 use Rattle.std.proofs.lemmas.List.{append-nil}
 use Rattle.dcc_wire.specs.declared.fault.Seen.{Seen}
 use Rattle.dcc_wire.specs.declared.fault.Seen.TheVariants.{Nothing, Packet, Refused}
@@ -13,7 +14,8 @@ use Rattle.dcc_listen.specs.Listing.{IsOutcomeText, IsLine, IsListing, numbered,
 use Rattle.dcc_listen.specs.ListingLaws.{OneListing, ListsInHex}
 
 -- the listings of outcomes and of later ones, one behind the other
-pub IsListing-append : (words : Bool) (outcomes later : List (ℕ × Seen)) (text more : List ℕ) → IsListing words outcomes text → IsListing words later more
+pub IsListing-append : (words : Bool) (outcomes later : List (ℕ × Seen)) (text more : List ℕ)
+    → IsListing words outcomes text → IsListing words later more
     → IsListing words (outcomes ++ later) (text ++ more)
 IsListing-append words [] later text more first second = rw first second
 IsListing-append words (found ∷ outcomes) later text more first second = (
@@ -25,7 +27,8 @@ IsListing-append words (found ∷ outcomes) later text more first second = (
 )
 
 -- the listing of one outcome is its line
-pub IsListing-one : (words : Bool) (place : ℕ) (outcome : Seen) (line : List ℕ) → IsLine words (place + 1) outcome line → IsListing words ((place, outcome) ∷ []) line
+pub IsListing-one : (words : Bool) (place : ℕ) (outcome : Seen) (line : List ℕ) → IsLine words (place + 1) outcome line
+    → IsListing words ((place, outcome) ∷ []) line
 IsListing-one words place outcome line is_line = (line, [], is_line, refl, sym (append-nil line))
 
 -- what a half showed is listed by its line
@@ -40,17 +43,20 @@ IsListing-reported words place half (Packet frame) line shown same is_line =
 IsListing-reported words place half (Refused fault) line shown same is_line =
     IsListing-one words place (Refused fault) line (subst (λ (n : ℕ). IsLine words n (Refused fault) line) same is_line)
 
-one_frame_text : (words : Bool) (frame one other : List ℕ) → IsFrameText words frame one → IsFrameText words frame other → one ≡ other
+one_frame_text : (words : Bool) (frame one other : List ℕ) → IsFrameText words frame one → IsFrameText words frame other
+    → one ≡ other
 one_frame_text false frame one other first second = first ∙ sym second
 one_frame_text true frame one other first second =
     first.2 ∙ ap written_line (one_packet first.0 second.0 (first.1 ∙ sym second.1)) ∙ sym second.2
 
-one_outcome_text : (words : Bool) (outcome : Seen) (one other : List ℕ) → IsOutcomeText words outcome one → IsOutcomeText words outcome other → one ≡ other
+one_outcome_text : (words : Bool) (outcome : Seen) (one other : List ℕ) → IsOutcomeText words outcome one
+    → IsOutcomeText words outcome other → one ≡ other
 one_outcome_text words Nothing one other first second = first ∙ sym second
 one_outcome_text words (Packet frame) one other first second = one_frame_text words frame one other first second
 one_outcome_text words (Refused fault) one other first second = first ∙ sym second
 
-one_line : (words : Bool) (half : ℕ) (outcome : Seen) (one other : List ℕ) → IsLine words half outcome one → IsLine words half outcome other → one ≡ other
+one_line : (words : Bool) (half : ℕ) (outcome : Seen) (one other : List ℕ) → IsLine words half outcome one
+    → IsLine words half outcome other → one ≡ other
 one_line words half outcome one other first second =
     first.2 ∙ ap (numbered half) (one_outcome_text words outcome first.0 second.0 first.1 second.1) ∙ sym second.2
 
@@ -59,7 +65,8 @@ one_listing words [] one other first second = first ∙ sym second
 one_listing words (found ∷ more) one other first second =
     let line = one_line words (found.0 + 1) found.1 first.0 second.0 first.2 second.2 in
     let rest = one_listing words more first.1 second.1 first.3 second.3 in
-    first.4 ∙ ap (λ (bytes : List ℕ). bytes ++ first.1) line ∙ ap (λ (bytes : List ℕ). second.0 ++ bytes) rest ∙ sym second.4
+    first.4 ∙ ap (λ (bytes : List ℕ). bytes ++ first.1) line ∙ ap (λ (bytes : List ℕ). second.0 ++ bytes) rest
+    ∙ sym second.4
 
 outcome_in_hex : (outcome : Seen) → IsOutcomeText false outcome (outcome_text outcome)
 outcome_in_hex Nothing = refl

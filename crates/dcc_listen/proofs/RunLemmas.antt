@@ -23,38 +23,64 @@ pub record Hearing (old now : InputState) (framer : Framer) (heard : List ℕ �
   pub stands : StandsFor framer halves
   pub members : heard halves
 
-pub AllZip-views : {A B : Type 0} (R : A → B → Type 0) {C : Type 0} (view : C → B) (xs : List A) (ys : List C) → AllZip (λ x y. R x (view y)) xs ys → AllZip R xs (map view ys)
+pub AllZip-views : {A B : Type 0} (R : A → B → Type 0) {C : Type 0} (view : C → B) (xs : List A) (ys : List C)
+    → AllZip (λ x y. R x (view y)) xs ys → AllZip R xs (map view ys)
 AllZip-views R view [] [] h = h
 AllZip-views R view [] (y ∷ ys) h = h
 AllZip-views R view (x ∷ xs) [] h = h
 AllZip-views R view (x ∷ xs) (y ∷ ys) h = (h.0, AllZip-views R view xs ys h.1)
 
 -- a fault ends the capture
-pub hears_up_to : (starts ends : Members) (old now new : InputState) (before : Option (List ℕ)) (writes : ℕ) (halves : List ℕ) (fault : KeptFault) → Gave captures old halves now → HaveHeard starts ends halves
+pub hears_up_to : (starts ends : Members) (old now new : InputState) (before : Option (List ℕ)) (writes : ℕ)
+    (halves : List ℕ) (fault : KeptFault) → Gave captures old halves now → HaveHeard starts ends halves
     → AnswersRun now (Err fault) new → Runs starts old before writes (Err (as_tool_fault fault)) ends new before writes
 hears_up_to starts ends old now new before writes halves (kept.Number line) gave heard stops =
-    record { kept = stops.1; heard = reads_up_to captures old now new (kept.Number line) halves (HaveHeard starts ends) gave stops.0 heard; written = refl; no_failure = refl }
+    record {
+      kept = stops.1;
+      heard = reads_up_to captures old now new (kept.Number line) halves (HaveHeard starts ends) gave stops.0
+          heard;
+      written = refl;
+      no_failure = refl;
+    }
 hears_up_to starts ends old now new before writes halves kept.Read gave heard stops =
-    record { kept = stops.1; heard = reads_up_to captures old now new kept.Read halves (HaveHeard starts ends) gave stops.0 heard; written = refl; no_failure = refl }
+    record {
+      kept = stops.1;
+      heard = reads_up_to captures old now new kept.Read halves (HaveHeard starts ends) gave stops.0 heard;
+      written = refl;
+      no_failure = refl;
+    }
 hears_up_to starts ends old now new before writes halves kept.TooMuch gave heard stops =
-    record { kept = stops.1; heard = reads_up_to captures old now new kept.TooMuch halves (HaveHeard starts ends) gave stops.0 heard; written = refl; no_failure = refl }
+    record {
+      kept = stops.1;
+      heard = reads_up_to captures old now new kept.TooMuch halves (HaveHeard starts ends) gave stops.0 heard;
+      written = refl;
+      no_failure = refl;
+    }
 hears_up_to starts ends old now new before writes halves (kept.Line line fault) gave heard stops = absurd stops
 
 -- the capture ends
-pub hears_all : (starts ends : Members) (old now new : InputState) (halves : List ℕ) → Gave captures old halves now → HaveHeard starts ends halves → AnswersRun now (Ok None) new → HearsAll starts old ends new
+pub hears_all : (starts ends : Members) (old now new : InputState) (halves : List ℕ) → Gave captures old halves now
+    → HaveHeard starts ends halves → AnswersRun now (Ok None) new → HearsAll starts old ends new
 hears_all starts ends old now new halves gave heard stops =
     let last = stops.0.items in
     record {
       fault = last.fault;
-      heard = (up_to_fault captures old now halves None (HaveHeard starts ends) gave stops.2 heard, last.failures ∙ gave.failures);
+      heard = (
+        up_to_fault captures old now halves None (HaveHeard starts ends) gave stops.2 heard,
+        last.failures
+            ∙ gave.failures,
+      );
       at_end = stops.1;
-      lines = uses_all_lines captures old new (halves ++ []) (Gave-append captures old now new halves [] gave last) stops.1;
+      lines = uses_all_lines captures old new (halves ++ []) (Gave-append captures old now new halves [] gave last)
+          stops.1;
     }
 
-pub ran : (starts ends : Members) (old new : InputState) (before after : Option (List ℕ)) (writes now : ℕ) → HearsAll starts old ends new → Writes before writes (fleet_text ends) (Ok tt) after now
+pub ran : (starts ends : Members) (old new : InputState) (before after : Option (List ℕ)) (writes now : ℕ)
+    → HearsAll starts old ends new → Writes before writes (fleet_text ends) (Ok tt) after now
     → Runs starts old before writes (Ok tt) ends new after now
 ran starts ends old new before after writes now all wrote = (all, wrote.0, wrote.1)
 
-pub stopped : (starts ends : Members) (old new : InputState) (before after : Option (List ℕ)) (writes now : ℕ) (failed : Failed) → HearsAll starts old ends new → Writes before writes (fleet_text ends) (Err failed) after now
+pub stopped : (starts ends : Members) (old new : InputState) (before after : Option (List ℕ)) (writes now : ℕ)
+    (failed : Failed) → HearsAll starts old ends new → Writes before writes (fleet_text ends) (Err failed) after now
     → Runs starts old before writes (Err told.Write) ends new after now
 stopped starts ends old new before after writes now failed all wrote = (all, wrote.0, wrote.1)

@@ -1,5 +1,6 @@
 -- Which words stand in lines.
-use Rattle.std.proofs.Common.{zero, suc, ◌≡◌, ℕ, ◌+◌, ◌/◌, ◌%◌, ◌<◌, ◌≤◌, Bool, true, false, not, List, [], ◌∷◌, length, codes, get_or, All, Option, None, Some, inl, inr, refl, arith}
+use Rattle.std.proofs.Common.{zero, suc, ◌≡◌, ℕ, ◌+◌, ◌/◌, ◌%◌, ◌<◌, ◌≤◌, Bool, true, false, not, List, [], ◌∷◌}
+use Rattle.std.proofs.Common.{length, codes, get_or, All, Option, None, Some, inl, inr, refl, arith}
 use Rattle.std.specs.Char.{is_ascii_digit}
 use Rattle.std.specs.Fmt.{decimal}
 use Rattle.std.specs.List.{list_all, AllByRecursion}
@@ -17,14 +18,16 @@ use Rattle.dcc_packet.specs.Spelling.{spelling}
 use Rattle.dcc_packet.specs.Words.{Word, is_separator}
 use Rattle.dcc_packet.specs.Written.{direction_word, state_word}
 use Rattle.dcc_packet.proofs.Decimal.{short}
-use Rattle.dcc_packet.proofs.WrittenWords.{literal, test_from_digits, IsWord-decimal, IsWord-address, IsWord-direction, IsWord-state, hex_plain}
+use Rattle.dcc_packet.proofs.WrittenWords.{literal, test_from_digits, IsWord-decimal, IsWord-address}
+use Rattle.dcc_packet.proofs.WrittenWords.{IsWord-direction, IsWord-state, hex_plain}
 use Rattle.dcc_regs.specs.Loco.{is_pending_for}
 use Rattle.dcc_listen.specs.FleetText.{own_address_word, pending_text}
 use Rattle.dcc_listen.proofs.LinesBack.{is_plain, IsToken}
 use Rattle.dcc_listen.proofs.NumbersBack.{on_words}
 use Rattle.dcc_listen.proofs.PendingBack.{IsWrite-pending}
 
-pub keyword_token : (word : Word) → 0 < length word → list_all (λ b. not (is_separator b)) word ≡ true → list_all is_plain word ≡ true → length word ≤ 12 → IsToken word
+pub keyword_token : (word : Word) → 0 < length word → list_all (λ b. not (is_separator b)) word ≡ true
+    → list_all is_plain word ≡ true → length word ≤ 12 → IsToken word
 keyword_token word some apart plain few = record { word_is = literal word some apart; plain = plain; short = few }
 
 plain_digit : (c : ℕ) → is_ascii_digit c ≡ true → is_plain c ≡ true
@@ -37,7 +40,8 @@ plain_digits (c ∷ cs) h =
     rw (plain_digit c parts.0, plain_digits cs parts.1) refl
 
 decimal_plain : (n : ℕ) → n < 65536 → list_all is_plain (decimal n) ≡ true
-decimal_plain n h = plain_digits (decimal n) (test_from_digits (decimal n) (decimal_is_IsNumeral n (omega (arith, h))).0.1)
+decimal_plain n h =
+    plain_digits (decimal n) (test_from_digits (decimal n) (decimal_is_IsNumeral n (omega (arith, h))).0.1)
 
 pub decimal_token : (n : ℕ) → n < 65536 → IsToken (decimal n)
 decimal_token n h = record { word_is = IsWord-decimal n h; plain = decimal_plain n h; short = omega (arith, short n h) }
@@ -45,8 +49,18 @@ decimal_token n h = record { word_is = IsWord-decimal n h; plain = decimal_plain
 pub address_token : (address : Option Address) → IsToken (own_address_word address)
 address_token None = keyword_token (codes "none") (omega arith) refl refl (omega arith)
 address_token (Some Broadcast) = record { word_is = IsWord-address Broadcast; plain = refl; short = omega arith }
-address_token (Some (Short s)) = let range = s.in_range in record { word_is = IsWord-address (Short s); plain = decimal_plain s.number (omega arith); short = omega (arith, short s.number (omega arith)) }
-address_token (Some (Long l)) = let range = l.in_range in record { word_is = IsWord-address (Long l); plain = decimal_plain l.number (omega arith); short = omega (arith, short l.number (omega arith)) }
+address_token (Some (Short s)) =
+    let range = s.in_range in record {
+      word_is = IsWord-address (Short s);
+      plain = decimal_plain s.number (omega arith);
+      short = omega (arith, short s.number (omega arith));
+    }
+address_token (Some (Long l)) =
+    let range = l.in_range in record {
+      word_is = IsWord-address (Long l);
+      plain = decimal_plain l.number (omega arith);
+      short = omega (arith, short l.number (omega arith));
+    }
 
 pub direction_token : (forward : Bool) → IsToken (direction_word forward)
 direction_token true = record { word_is = IsWord-direction true; plain = refl; short = omega arith }
@@ -60,13 +74,16 @@ pub on_tokens : (on : ℕ → Bool) (k c : ℕ) → k + c ≤ 1000 → AllByRecu
 on_tokens on k zero h = tt
 on_tokens on k (suc c) h = go (on_tokens on (suc k) c (omega (arith, h))) (on k) refl
   where
-    go : AllByRecursion IsToken (on_words on (suc k) c) → (b : Bool) → on k ≡ b → AllByRecursion IsToken (on_words on k (suc c))
+    go : AllByRecursion IsToken (on_words on (suc k) c) → (b : Bool) → on k ≡ b
+        → AllByRecursion IsToken (on_words on k (suc c))
     go rest true is = rw is (decimal_token k (omega (arith, h)), rest)
     go rest false is = rw is rest
 
 all_from_test : (word : List ℕ) → list_all is_plain word ≡ true → All (λ b. is_plain b ≡ true) word
 all_from_test [] h = All-nil (λ b. is_plain b ≡ true)
-all_from_test (x ∷ xs) h = let parts = and_parts (is_plain x) (list_all is_plain xs) h in All-cons (λ b. is_plain b ≡ true) x xs parts.0 (all_from_test xs parts.1)
+all_from_test (x ∷ xs) h =
+    let parts = and_parts (is_plain x) (list_all is_plain xs) h in All-cons (λ b. is_plain b ≡ true) x xs parts.0
+    (all_from_test xs parts.1)
 
 hex_digit : (i : ℕ) → is_plain (get_or lower_digits i 0) ≡ true
 hex_digit i =
@@ -81,7 +98,8 @@ unfolding encode_with
 hex_is_plain [] = refl
 hex_is_plain (b ∷ bs) = rw (hex_digit (b / 16), hex_digit (b % 16), hex_is_plain bs) refl
 
-pub pending_token : (active : Option Address) (pending : Option Packet) → is_pending_for active pending ≡ true → IsToken (pending_text pending)
+pub pending_token : (active : Option Address) (pending : Option Packet) → is_pending_for active pending ≡ true
+    → IsToken (pending_text pending)
 pending_token active None h = keyword_token (codes "none") (omega arith) refl refl (omega arith)
 pending_token active (Some p) h =
     let frame = (IsWrite-pending active p h).frame in

@@ -17,8 +17,8 @@ use Rattle.dcc_io.specs.InputState.{InputState}
 use Rattle.dcc_listen.specs.VerdictLine.{verdict_line}
 use Rattle.dcc_io.specs.Written.{AppendsFront}
 
--- two captures were read to their ends, and this is the verdict on their packets. Where it is Alike, and only there, they are
--- alike for the decoder, and then they leave it the same in each register, whatever it held at the start
+-- two captures were read to their ends, and this is the verdict on their packets. Where it is Alike, and only there,
+-- they are alike for the decoder, and then they leave it the same in each register, whatever it held at the start
 pub record Compared (who : Who) (left right left' right' : InputState) (verdict : Verdict) : Type 0 where
   pub packets : List Packet
   pub others : List Packet
@@ -34,21 +34,31 @@ ReadsSome old new = (new ≡ old) ⊎ ReadsOn old new
 
 -- one of two captures could not be read, and of the other no fault was met
 abbrev pub OneFails : InputState → InputState → ToolFault → InputState → InputState → Type 0
-OneFails left right fault left' right' = (GatherFails left fault left' × ReadsSome right right') ⊎ (ReadsSome left left' × GatherFails right fault right')
+OneFails left right fault left' right' =
+    (GatherFails left fault left' × ReadsSome right right') ⊎ (ReadsSome left left' × GatherFails right fault right')
 
 -- a capture's fault is answered where it stands, or there is no memory, and then nothing is written
-abbrev pub StopsComparing : InputState → InputState → Option (List ℕ) → ℕ → ToolFault → InputState → InputState → Option (List ℕ) → ℕ → Type 0
-StopsComparing left right before writes fault left' right' after now = OneFails left right fault left' right' × (after ≡ before) × (now ≡ writes)
+abbrev pub StopsComparing : InputState → InputState → Option (List ℕ) → ℕ → ToolFault → InputState → InputState
+    → Option (List ℕ) → ℕ → Type 0
+StopsComparing left right before writes fault left' right' after now =
+    OneFails left right fault left' right' × (after ≡ before) × (now ≡ writes)
 
 -- Both captures are read to their ends before anything is written. A fault comes only where its cause stands.
-abbrev pub Compares : Who → InputState → InputState → Option (List ℕ) → ℕ → Result Verdict ToolFault → InputState → InputState → Option (List ℕ) → ℕ → Type 0
+abbrev pub Compares : Who → InputState → InputState → Option (List ℕ) → ℕ → Result Verdict ToolFault → InputState
+    → InputState → Option (List ℕ) → ℕ → Type 0
 Compares who left right before writes (Ok verdict) left' right' after now =
     Compared who left right left' right' verdict × Appends before after (verdict_line verdict) × (now ≡ writes)
-Compares who left right before writes (Err (Number line)) left' right' after now = StopsComparing left right before writes (Number line) left' right' after now
-Compares who left right before writes (Err (Line line fault)) left' right' after now = StopsComparing left right before writes (Line line fault) left' right' after now
-Compares who left right before writes (Err Read) left' right' after now = StopsComparing left right before writes Read left' right' after now
-Compares who left right before writes (Err TooMuch) left' right' after now = StopsComparing left right before writes TooMuch left' right' after now
-Compares who left right before writes (Err NoMemory) left' right' after now = StopsComparing left right before writes NoMemory left' right' after now
+Compares who left right before writes (Err (Number line)) left' right' after now =
+    StopsComparing left right before writes (Number line) left' right' after now
+Compares who left right before writes (Err (Line line fault)) left' right' after now =
+    StopsComparing left right before writes (Line line fault) left' right' after now
+Compares who left right before writes (Err Read) left' right' after now =
+    StopsComparing left right before writes Read left' right' after now
+Compares who left right before writes (Err TooMuch) left' right' after now =
+    StopsComparing left right before writes TooMuch left' right' after now
+Compares who left right before writes (Err NoMemory) left' right' after now =
+    StopsComparing left right before writes NoMemory left' right' after now
 Compares who left right before writes (Err Write) left' right' after now =
-    (verdict : Verdict) × Compared who left right left' right' verdict × AppendsFront before after (verdict_line verdict) × HasRisen writes now
+    (verdict : Verdict) × Compared who left right left' right' verdict
+    × AppendsFront before after (verdict_line verdict) × HasRisen writes now
 Compares who left right before writes (Err (Usage usage)) left' right' after now = ⊥

@@ -16,8 +16,9 @@ use Rattle.dcc_io.specs.InputState.{InputState}
 use Rattle.dcc_listen.specs.VerdictLine.{verdict_line}
 use Rattle.dcc_io.specs.Written.{AppendsFront}
 
--- both captures of an input were read to their ends, and this is the verdict on their packets. Where it is Alike, and only
--- there, they are alike for the decoder, and then they leave it the same in each register, whatever it held at the start
+-- both captures of an input were read to their ends, and this is the verdict on their packets. Where it is Alike, and
+-- only there, they are alike for the decoder, and then they leave it the same in each register, whatever it held at the
+-- start
 pub record ComparedBoth (who : Who) (input input' : InputState) (verdict : Verdict) : Type 0 where
   pub packets : List Packet
   pub others : List Packet
@@ -28,17 +29,25 @@ pub record ComparedBoth (who : Who) (input input' : InputState) (verdict : Verdi
 
 -- a fault of the input is answered where it stands, or there is no memory, and then nothing is written
 abbrev pub StopsComparingBoth : InputState → Option (List ℕ) → ℕ → ToolFault → InputState → Option (List ℕ) → ℕ → Type 0
-StopsComparingBoth input before writes fault input' after now = BothFail input fault input' × (after ≡ before) × (now ≡ writes)
+StopsComparingBoth input before writes fault input' after now =
+    BothFail input fault input' × (after ≡ before) × (now ≡ writes)
 
 -- Both captures are read to their ends before anything is written. A fault comes only where its cause stands.
-abbrev pub ComparesBoth : Who → InputState → Option (List ℕ) → ℕ → Result Verdict ToolFault → InputState → Option (List ℕ) → ℕ → Type 0
+abbrev pub ComparesBoth : Who → InputState → Option (List ℕ) → ℕ → Result Verdict ToolFault → InputState
+    → Option (List ℕ) → ℕ → Type 0
 ComparesBoth who input before writes (Ok verdict) input' after now =
     ComparedBoth who input input' verdict × Appends before after (verdict_line verdict) × (now ≡ writes)
-ComparesBoth who input before writes (Err (Number line)) input' after now = StopsComparingBoth input before writes (Number line) input' after now
-ComparesBoth who input before writes (Err (Line line fault)) input' after now = StopsComparingBoth input before writes (Line line fault) input' after now
-ComparesBoth who input before writes (Err Read) input' after now = StopsComparingBoth input before writes Read input' after now
-ComparesBoth who input before writes (Err TooMuch) input' after now = StopsComparingBoth input before writes TooMuch input' after now
-ComparesBoth who input before writes (Err NoMemory) input' after now = StopsComparingBoth input before writes NoMemory input' after now
+ComparesBoth who input before writes (Err (Number line)) input' after now =
+    StopsComparingBoth input before writes (Number line) input' after now
+ComparesBoth who input before writes (Err (Line line fault)) input' after now =
+    StopsComparingBoth input before writes (Line line fault) input' after now
+ComparesBoth who input before writes (Err Read) input' after now =
+    StopsComparingBoth input before writes Read input' after now
+ComparesBoth who input before writes (Err TooMuch) input' after now =
+    StopsComparingBoth input before writes TooMuch input' after now
+ComparesBoth who input before writes (Err NoMemory) input' after now =
+    StopsComparingBoth input before writes NoMemory input' after now
 ComparesBoth who input before writes (Err Write) input' after now =
-    (verdict : Verdict) × ComparedBoth who input input' verdict × AppendsFront before after (verdict_line verdict) × HasRisen writes now
+    (verdict : Verdict) × ComparedBoth who input input' verdict × AppendsFront before after (verdict_line verdict)
+    × HasRisen writes now
 ComparesBoth who input before writes (Err (Usage usage)) input' after now = ⊥

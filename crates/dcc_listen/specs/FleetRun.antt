@@ -26,7 +26,8 @@ abbrev pub HaveHeard : Members → Members → List ℕ → Type 0
 HaveHeard starts ends halves = AllZip (λ start end. HasHeardHalves halves start.0 start.1 end.0 end.1) starts ends
 
 -- all was read up to this fault, which is kept, each member has heard all before it, and nothing was written
-pub record HearsUpTo (starts : Members) (old : InputState) (before : Option (List ℕ)) (writes : ℕ) (fault : KeptFault) (ends : Members) (new : InputState) (after : Option (List ℕ)) (now : ℕ) : Type 0 where
+pub record HearsUpTo (starts : Members) (old : InputState) (before : Option (List ℕ)) (writes : ℕ) (fault : KeptFault)
+    (ends : Members) (new : InputState) (after : Option (List ℕ)) (now : ℕ) : Type 0 where
   pub kept : new.fault ≡ Some fault
   pub heard : ReadsUpTo captures old (Some fault) new (HaveHeard starts ends)
   pub written : after ≡ before
@@ -40,12 +41,18 @@ pub record HearsAll (starts : Members) (old : InputState) (ends : Members) (new 
   pub lines : UsesAllLines old new
 
 -- A fault comes only where its cause stands, and each member has heard all that stands before it.
-abbrev pub Runs : Members → InputState → Option (List ℕ) → ℕ → Result (Unit {0}) ToolFault → Members → InputState → Option (List ℕ) → ℕ → Type 0
-Runs starts old before writes (Ok done) ends new after now = HearsAll starts old ends new × Appends before after (fleet_text ends) × (now ≡ writes)
-Runs starts old before writes (Err (Number line)) ends new after now = HearsUpTo starts old before writes (kept.Number line) ends new after now
-Runs starts old before writes (Err Read) ends new after now = HearsUpTo starts old before writes kept.Read ends new after now
-Runs starts old before writes (Err TooMuch) ends new after now = HearsUpTo starts old before writes kept.TooMuch ends new after now
-Runs starts old before writes (Err Write) ends new after now = HearsAll starts old ends new × AppendsFront before after (fleet_text ends) × HasRisen writes now
+abbrev pub Runs : Members → InputState → Option (List ℕ) → ℕ → Result (Unit {0}) ToolFault → Members → InputState
+    → Option (List ℕ) → ℕ → Type 0
+Runs starts old before writes (Ok done) ends new after now =
+    HearsAll starts old ends new × Appends before after (fleet_text ends) × (now ≡ writes)
+Runs starts old before writes (Err (Number line)) ends new after now =
+    HearsUpTo starts old before writes (kept.Number line) ends new after now
+Runs starts old before writes (Err Read) ends new after now =
+    HearsUpTo starts old before writes kept.Read ends new after now
+Runs starts old before writes (Err TooMuch) ends new after now =
+    HearsUpTo starts old before writes kept.TooMuch ends new after now
+Runs starts old before writes (Err Write) ends new after now =
+    HearsAll starts old ends new × AppendsFront before after (fleet_text ends) × HasRisen writes now
 Runs starts old before writes (Err (Line line fault)) ends new after now = ⊥
 Runs starts old before writes (Err NoMemory) ends new after now = ⊥
 Runs starts old before writes (Err (Usage usage)) ends new after now = ⊥

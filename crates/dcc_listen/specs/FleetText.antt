@@ -1,5 +1,6 @@
 -- The decoder text that is written for a fleet, from what each member is and what its registers hold.
-use Rattle.std.specs.Prelude.{zero, suc, ℕ, ◌==◌, Bool, true, List, [], ◌∷◌, ◌++◌, codes, Option, None, Some, if◌then◌else◌}
+use Rattle.std.specs.Prelude.{zero, suc, ℕ, ◌==◌, Bool, true, List, [], ◌∷◌, ◌++◌, codes, Option, None, Some}
+use Rattle.std.specs.Prelude.{if◌then◌else◌}
 use Rattle.std.specs.List.{flat_map}
 use Rattle.hex.specs.Hex.{encode_lower}
 use Rattle.dcc_packet.specs.declared.address.Address.{Address}
@@ -70,7 +71,9 @@ abbrev pub loco_address_line : Option Address → List ℕ
 loco_address_line address = (codes "loco " ++ own_address_word address) ++ codes "\n"
 
 abbrev pub speed_line : RegisterMap → List ℕ
-speed_line m = (codes "speed " ++ speed_text (speed_held (m registers.Speed))) ++ (32 ∷ direction_word (forward_held (m registers.Direction)) ++ codes "\n")
+speed_line m =
+    (codes "speed " ++ speed_text (speed_held (m registers.Speed)))
+    ++ (32 ∷ direction_word (forward_held (m registers.Direction)) ++ codes "\n")
 
 abbrev pub functions_line : RegisterMap → List ℕ
 functions_line m = (codes "on" ++ numbers_below (λ n. holds_one (m (registers.Function n))) 69) ++ codes "\n"
@@ -82,7 +85,8 @@ abbrev pub pending_line : RegisterMap → List ℕ
 pending_line m = (codes "pending " ++ pending_text (pending_held (m registers.Pending))) ++ codes "\n"
 
 abbrev pub loco_front : Option Address → RegisterMap → List ℕ
-loco_front address m = loco_address_line address ++ (speed_line m ++ (functions_line m ++ (states_line m ++ pending_line m)))
+loco_front address m =
+    loco_address_line address ++ (speed_line m ++ (functions_line m ++ (states_line m ++ pending_line m)))
 
 -- the lines of an accessory decoder
 abbrev pub board_line : Board → List ℕ
@@ -92,7 +96,9 @@ abbrev pub outs_line : RegisterMap → List ℕ
 outs_line m = (codes "out" ++ numbers_below (λ n. holds_one (m (registers.Out n))) 8) ++ codes "\n"
 
 abbrev pub four_numbers : (ℕ → ℕ) → List ℕ
-four_numbers numbers = behind_space (numbers 0) ++ (behind_space (numbers 1) ++ (behind_space (numbers 2) ++ (behind_space (numbers 3) ++ codes "\n")))
+four_numbers numbers =
+    behind_space (numbers 0)
+    ++ (behind_space (numbers 1) ++ (behind_space (numbers 2) ++ (behind_space (numbers 3) ++ codes "\n")))
 
 abbrev pub positions_line : RegisterMap → List ℕ
 positions_line m = codes "position" ++ four_numbers (λ n. number_held (m (registers.Position n)))

@@ -44,10 +44,15 @@ pub record GatheredBoth (old : InputState) (packets others : List Packet) (new :
 -- the input was read up to this fault, whose cause stands
 abbrev pub ReadsBothUpTo : InputState → KeptFault → InputState → Type 0
 ReadsBothUpTo old kept.Read new = HasRisen old.failures new.failures × (new.ahead ≡ [])
-    × IfSome old.text (λ text. IsSomeAnd new.text (λ rest. (used : List ℕ) × (text ≡ used ++ rest) × ((both_before_failure old used).fault ≡ Some kept.Read)))
-ReadsBothUpTo old (kept.Number line) new = (new.failures ≡ old.failures) × IfSome old.text (λ text. (both_in old text).fault ≡ Some (kept.Number line))
-ReadsBothUpTo old (kept.Line line fault) new = (new.failures ≡ old.failures) × IfSome old.text (λ text. (both_in old text).fault ≡ Some (kept.Line line fault))
-ReadsBothUpTo old kept.TooMuch new = (new.failures ≡ old.failures) × IfSome old.text (λ text. (both_in old text).fault ≡ Some kept.TooMuch)
+    × IfSome old.text
+    (λ text. IsSomeAnd new.text
+    (λ rest. (used : List ℕ) × (text ≡ used ++ rest) × ((both_before_failure old used).fault ≡ Some kept.Read)))
+ReadsBothUpTo old (kept.Number line) new =
+    (new.failures ≡ old.failures) × IfSome old.text (λ text. (both_in old text).fault ≡ Some (kept.Number line))
+ReadsBothUpTo old (kept.Line line fault) new =
+    (new.failures ≡ old.failures) × IfSome old.text (λ text. (both_in old text).fault ≡ Some (kept.Line line fault))
+ReadsBothUpTo old kept.TooMuch new =
+    (new.failures ≡ old.failures) × IfSome old.text (λ text. (both_in old text).fault ≡ Some kept.TooMuch)
 
 -- the input keeps this fault already, whose cause stands, or it was read up to it and keeps it now
 abbrev pub StopsBothAt : InputState → KeptFault → InputState → Type 0

@@ -16,17 +16,22 @@ use Rattle.dcc_io.specs.Held.{Holds, HoldsOrFails}
 
 -- each of the bytes that were held and of a listing of these outcomes was written or is held, or a
 -- write failed or took no byte
-abbrev pub HoldsListing : Bool → List (ℕ × Seen) → Option (List ℕ) → ℕ → List ℕ → Result (Unit {0}) Failed → List ℕ → Option (List ℕ) → ℕ → Type 0
+abbrev pub HoldsListing : Bool → List (ℕ × Seen) → Option (List ℕ) → ℕ → List ℕ → Result (Unit {0}) Failed → List ℕ
+    → Option (List ℕ) → ℕ → Type 0
 HoldsListing words outcomes before failures held result left after now =
     (text : List ℕ) × IsListing words outcomes text × HoldsOrFails before failures (held ++ text) result left after now
 
 -- all that was held is written and this is answered, or a write failed or took no byte
-abbrev pub WritesRest : Option (List ℕ) → ℕ → List ℕ → Result (Unit {0}) ToolFault → Result (Unit {0}) ToolFault → Option (List ℕ) → ℕ → Type 0
+abbrev pub WritesRest : Option (List ℕ) → ℕ → List ℕ → Result (Unit {0}) ToolFault → Result (Unit {0}) ToolFault
+    → Option (List ℕ) → ℕ → Type 0
 WritesRest before failures held answer result after now =
     ((result ≡ answer) × Appends before after held × (now ≡ failures))
     ⊎ ((result ≡ Err Write) × AppendsFront before after held × HasRisen failures now)
 
 -- the next run was answered, behind a write of what was held, or that write failed or took no byte
-abbrev pub TakesRun : InputState → Option (List ℕ) → ℕ → List ℕ → Result (Result (Option Run) KeptFault) Failed → InputState → List ℕ → Option (List ℕ) → ℕ → Type 0
-TakesRun old before failures held (Ok answer) new left after now = AnswersRun old answer new × Holds before after held left × (now ≡ failures)
-TakesRun old before failures held (Err failed) new left after now = (new ≡ old) × AppendsFront before after held × HasRisen failures now
+abbrev pub TakesRun : InputState → Option (List ℕ) → ℕ → List ℕ → Result (Result (Option Run) KeptFault) Failed
+    → InputState → List ℕ → Option (List ℕ) → ℕ → Type 0
+TakesRun old before failures held (Ok answer) new left after now =
+    AnswersRun old answer new × Holds before after held left × (now ≡ failures)
+TakesRun old before failures held (Err failed) new left after now =
+    (new ≡ old) × AppendsFront before after held × HasRisen failures now

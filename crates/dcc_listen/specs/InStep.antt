@@ -16,7 +16,8 @@ SideRead false start now framer packets = Gathering start now framer packets
 SideRead true start now framer packets = Gathered start packets now
 
 -- the packets of both captures, as far as they were read, were given
-pub record ReadInStep (who : Who) (left right left' right' : InputState) (left_framer right_framer : Framer) (left_ended right_ended : Bool) (comparer : Comparer) : Type 0 where
+pub record ReadInStep (who : Who) (left right left' right' : InputState) (left_framer right_framer : Framer)
+    (left_ended right_ended : Bool) (comparer : Comparer) : Type 0 where
   pub lists : Lists
   pub stands : StandsFor comparer lists
   pub who_is : comparer.who ≡ who
@@ -26,7 +27,8 @@ pub record ReadInStep (who : Who) (left right left' right' : InputState) (left_f
   pub right_is : lists.right_ended ≡ right_ended
 
 -- the packets of one list were given up to here, and those of a capture as far as it was read
-pub record ReadBeside (who : Who) (packets : List Packet) (given : ℕ) (left_ended : Bool) (input input' : InputState) (framer : Framer) (ended : Bool) (comparer : Comparer) : Type 0 where
+pub record ReadBeside (who : Who) (packets : List Packet) (given : ℕ) (left_ended : Bool) (input input' : InputState)
+    (framer : Framer) (ended : Bool) (comparer : Comparer) : Type 0 where
   pub lists : Lists
   pub stands : StandsFor comparer lists
   pub who_is : comparer.who ≡ who

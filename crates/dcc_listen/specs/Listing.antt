@@ -33,7 +33,8 @@ IsLine words half outcome line = (text : List ℕ) × IsOutcomeText words outcom
 abbrev pub IsListing : Bool → List (ℕ × Seen) → List ℕ → Type 0
 IsListing words [] text = text ≡ []
 IsListing words (found ∷ more) text =
-    (line : List ℕ) × (rest : List ℕ) × IsLine words (found.0 + 1) found.1 line × IsListing words more rest × (text ≡ line ++ rest)
+    (line : List ℕ) × (rest : List ℕ) × IsLine words (found.0 + 1) found.1 line × IsListing words more rest
+    × (text ≡ line ++ rest)
 
 -- the text of an outcome, packets in hex
 abbrev pub outcome_text : Seen → List ℕ

@@ -21,8 +21,10 @@ SameRegisters one other = (r : Register) → one r ≡ other r
 
 -- this state is of that decoder: the same address, and the decoder that is restored from it has the same registers
 abbrev pub Saves : Saved → Who × RegisterMap → Type 0
-Saves (saved.Loco state) (who.Loco address, m) = (state.address ≡ address) × SameRegisters (loco_registers (loco_content state)) m
-Saves (saved.Board state) (who.Board board, m) = (state.board ≡ board) × SameRegisters (board_registers (board_content state)) m
+Saves (saved.Loco state) (who.Loco address, m) =
+    (state.address ≡ address) × SameRegisters (loco_registers (loco_content state)) m
+Saves (saved.Board state) (who.Board board, m) =
+    (state.board ≡ board) × SameRegisters (board_registers (board_content state)) m
 Saves (saved.Loco state) (who.Board board, m) = ⊥
 Saves (saved.Board state) (who.Loco address, m) = ⊥
 
@@ -45,7 +47,8 @@ line_feeds (byte ∷ bytes) = if byte == 10 then 1 + line_feeds bytes else line_
 pub record ReadsBack (members : List (Who × RegisterMap)) (line : ℕ) (rest : List ℕ) : Type 0 where
   pub states : List Saved
   pub behind : ℕ
-  pub reads : decoder_text (record { line = line; bytes = fleet_text members ++ rest }) ≡ Ok (states, record { line = behind; bytes = rest })
+  pub reads : decoder_text (record { line = line; bytes = fleet_text members ++ rest }) ≡ Ok
+      (states, record { line = behind; bytes = rest })
   pub saves : SavesEach states members
   pub lines : behind ≡ line + line_feeds (fleet_text members)
 

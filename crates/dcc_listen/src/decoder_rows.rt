@@ -4,7 +4,11 @@ ghost use Rattle.arrayvec.specs.ArrayVec.{array_vec_len};
 ghost use Rattle.dcc_packet.specs.Written.{address_word, direction_word};
 ghost use Rattle.dcc_regs.specs.Loco.{holds_one as is_on_value, cv_of};
 ghost use Rattle.dcc_io.specs.Spaced.{behind_space};
-ghost use Rattle.dcc_listen.specs.FleetText.{speed_held, forward_held, pending_held, number_held, numbers_below, own_address_word, speed_text, pending_text, cv_line, loco_address_line, speed_line, functions_line, states_line, pending_line, loco_front, board_line, outs_line, four_numbers, positions_line, aspects_line, board_text};
+ghost use Rattle.dcc_listen.specs.FleetText.{speed_held, forward_held, pending_held, number_held, numbers_below};
+ghost use Rattle.dcc_listen.specs.FleetText.{own_address_word, speed_text, pending_text, cv_line, loco_address_line};
+ghost use Rattle.dcc_listen.specs.FleetText.{speed_line, functions_line, states_line, pending_line, loco_front};
+ghost use Rattle.dcc_listen.specs.FleetText.{board_line, outs_line, four_numbers, positions_line, aspects_line};
+ghost use Rattle.dcc_listen.specs.FleetText.{board_text};
 
 use arrayvec::ArrayVec;
 use dcc_io::{append, append_decimal, append_hex};

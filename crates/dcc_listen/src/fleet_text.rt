@@ -13,7 +13,8 @@ pub(crate) fn write_fleet<W: Sink>(
     decoders: &[Box<dyn Decoder>],
     writer: &mut W,
 ) -> Result<(), Failed>
-    ensures { Writes (W.contents writer.old) (W.failures writer.old) (fleet_text (map (λ decoder. (who decoder, registers decoder)) decoders.now)) result
+    ensures { Writes (W.contents writer.old) (W.failures writer.old)
+        (fleet_text (map (λ decoder. (who decoder, registers decoder)) decoders.now)) result
         (W.contents writer.new) (W.failures writer.new) }
 {
     match write_all(writer, b"dcc-decoders 2\n") {
@@ -31,7 +32,8 @@ pub(crate) fn write_fleet<W: Sink>(
 
 /// Writes the lines of a decoder.
 fn write_decoder<W: Sink>(decoder: &dyn Decoder, writer: &mut W) -> Result<(), Failed>
-    ensures { Writes (W.contents writer.old) (W.failures writer.old) (decoder_text (who decoder.now) (registers decoder.now)) result
+    ensures { Writes (W.contents writer.old) (W.failures writer.old)
+        (decoder_text (who decoder.now) (registers decoder.now)) result
         (W.contents writer.new) (W.failures writer.new) }
 {
     match decoder.who() {
@@ -47,7 +49,8 @@ fn write_decoder<W: Sink>(decoder: &dyn Decoder, writer: &mut W) -> Result<(), F
 
 /// Writes the lines of the CVs that are not 0.
 fn write_cvs<W: Sink>(decoder: &dyn Decoder, writer: &mut W) -> Result<(), Failed>
-    ensures { Writes (W.contents writer.old) (W.failures writer.old) (cvs_text (cv_of (registers decoder.now)) 1024) result
+    ensures { Writes (W.contents writer.old) (W.failures writer.old) (cvs_text (cv_of (registers decoder.now)) 1024)
+        result
         (W.contents writer.new) (W.failures writer.new) }
 {
     for n in 0..1024u16 {

@@ -10,7 +10,9 @@ use std::alloc::AllocError;
 /// Holds the packet that some halves showed, if they showed one.
 #[inline(always)]
 pub(crate) fn hold_seen(packets: &mut Vec<Packet>, seen: &Seen) -> Result<(), AllocError>
-    ensures { OnOk result ((shown : List Packet) × AreSpelled shown (frames_of seen.now) × (packets.new.items ≡ packets.old.items ++ shown) × (length shown ≤ 1)) }
+    ensures { OnOk result
+        ((shown : List Packet) × AreSpelled shown (frames_of seen.now)
+        × (packets.new.items ≡ packets.old.items ++ shown) × (length shown ≤ 1)) }
 {
     match seen {
         Seen::Packet(frame) => Ok(packets.push(Packet::read(frame))?),

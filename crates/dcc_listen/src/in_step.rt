@@ -21,7 +21,9 @@ pub(crate) fn compare_in_step<L: Source, R: Source>(
     right: &mut Input<R>,
     who: Who,
 ) -> Result<Verdict, ToolFault>
-    ensures compared { IfOk result (λ verdict. (packets others : List PacketOf) × Gathered left.old packets left.new × Gathered right.old others right.new × IsVerdict who packets others verdict) }
+    ensures compared { IfOk result
+        (λ verdict. (packets others : List PacketOf) × Gathered left.old packets left.new
+        × Gathered right.old others right.new × IsVerdict who packets others verdict) }
     ensures fails { IfErr result (λ fault. OneFails left.old right.old fault left.new right.new) }
 {
     if let Some(fault) = left.fault() {
@@ -87,7 +89,9 @@ pub(crate) fn compare_beside<R: Source>(
     who: Who,
 ) -> Result<Verdict, ToolFault>
     requires { length packets.now < 2 ^ 32 }
-    ensures compared { IfOk result (λ verdict. (others : List PacketOf) × Gathered input.old others input.new × IsVerdict who packets.now others verdict) }
+    ensures compared { IfOk result
+        (λ verdict. (others : List PacketOf) × Gathered input.old others input.new
+        × IsVerdict who packets.now others verdict) }
     ensures fails { IfErr result (λ fault. GatherFails input.old fault input.new) }
 {
     if let Some(fault) = input.fault() {

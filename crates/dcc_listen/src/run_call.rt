@@ -22,11 +22,15 @@ pub fn run<R: Source, W: Sink>(
     writer: &mut W,
 ) -> Result<(), ToolFault>
     // A fault that the input keeps is answered again: nothing is read, heard or written.
-    ensures kept { IfSome input.old.fault (λ fault. (result ≡ Err (as_tool_fault fault)) × (input.new ≡ input.old) × (decoders.new ≡ decoders.old) × (writer.new ≡ writer.old)) }
+    ensures kept { IfSome input.old.fault
+        (λ fault. (result ≡ Err (as_tool_fault fault)) × (input.new ≡ input.old) × (decoders.new ≡ decoders.old)
+        × (writer.new ≡ writer.old)) }
     ensures cause { HasCause input.old.fault input.old.failures }
 
     // Else the fleet hears the capture, up to the first fault, and its text is written if there is none.
-    ensures runs { input.old.fault ≡ None → Runs (map (λ decoder. (who decoder, registers decoder)) decoders.old) input.old (W.contents writer.old) (W.failures writer.old) result
+    ensures runs { input.old.fault ≡ None
+        → Runs (map (λ decoder. (who decoder, registers decoder)) decoders.old) input.old (W.contents writer.old)
+        (W.failures writer.old) result
         (map (λ decoder. (who decoder, registers decoder)) decoders.new) input.new (W.contents writer.new) (W.failures writer.new) }
 {
     if let Some(fault) = input.fault() {

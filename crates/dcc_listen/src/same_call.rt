@@ -62,7 +62,8 @@ pub fn same<L: Source, R: Source, W: Sink>(
 
 /// Writes the line of a verdict.
 pub(crate) fn write_verdict<W: Sink>(writer: &mut W, verdict: Verdict) -> Result<(), Failed>
-    ensures { Writes (W.contents writer.old) (W.failures writer.old) (line_of verdict) result (W.contents writer.new) (W.failures writer.new) }
+    ensures { Writes (W.contents writer.old) (W.failures writer.old) (line_of verdict) result (W.contents writer.new)
+        (W.failures writer.new) }
 {
     write_all(writer, verdict_line(verdict).as_slice())
 }

@@ -29,7 +29,8 @@ pub fn same_input<R: Source, W: Sink>(
     who: Who,
 ) -> Result<Verdict, ToolFault>
     // A fault that the input keeps is answered again, and nothing is read or written.
-    ensures kept { IfSome input.old.fault (λ fault. (result ≡ Err (as_tool_fault fault)) × (input.new ≡ input.old) × (writer.new ≡ writer.old)) }
+    ensures kept { IfSome input.old.fault
+        (λ fault. (result ≡ Err (as_tool_fault fault)) × (input.new ≡ input.old) × (writer.new ≡ writer.old)) }
     ensures cause { HasCause input.old.fault input.old.failures }
 
     // Else both captures are read, up to the first fault, and the verdict is written if there is none.
@@ -59,7 +60,9 @@ fn compare_both<R: Source>(
     input: &mut Input<R>,
     who: Who,
 ) -> Result<Verdict, ToolFault>
-    ensures compared { IfOk result (λ verdict. (packets others : List Packet) × GatheredBoth input.old packets others input.new × IsVerdict who packets others verdict) }
+    ensures compared { IfOk result
+        (λ verdict. (packets others : List Packet) × GatheredBoth input.old packets others input.new
+        × IsVerdict who packets others verdict) }
     ensures fails { IfErr result (λ fault. BothFail input.old fault input.new) }
 {
     let packets = match gather_first(alloc, input) {

@@ -29,11 +29,13 @@ pub fn show<R: Source, W: Sink>(
     words: bool,
 ) -> Result<(), ToolFault>
     // A fault that the input keeps is answered again, and nothing is read or written.
-    ensures kept { IfSome input.old.fault (λ fault. (result ≡ Err (as_tool_fault fault)) × (input.new ≡ input.old) × (writer.new ≡ writer.old)) }
+    ensures kept { IfSome input.old.fault
+        (λ fault. (result ≡ Err (as_tool_fault fault)) × (input.new ≡ input.old) × (writer.new ≡ writer.old)) }
     ensures cause { HasCause input.old.fault input.old.failures }
 
     // Else the listing of the capture is written, up to the first fault.
-    ensures shows { input.old.fault ≡ None → Shows words input.old (W.contents writer.old) (W.failures writer.old) result
+    ensures shows { input.old.fault ≡ None
+        → Shows words input.old (W.contents writer.old) (W.failures writer.old) result
         input.new (W.contents writer.new) (W.failures writer.new) }
 {
     if let Some(fault) = input.fault() {
@@ -113,7 +115,8 @@ fn hold_seen<W: Sink>(
     writer: &mut W,
 ) -> Result<(), Failed>
     requires { 0 < half }
-    ensures { (place : ℕ) → half ≡ place + 1 → HoldsListing words (reported place seen.now) (W.contents writer.old) (W.failures writer.old)
+    ensures { (place : ℕ) → half ≡ place + 1
+        → HoldsListing words (reported place seen.now) (W.contents writer.old) (W.failures writer.old)
         held.old result held.new (W.contents writer.new) (W.failures writer.new) }
 {
     match seen {
@@ -131,7 +134,8 @@ fn hold_outcome<W: Sink>(
     words: bool,
     writer: &mut W,
 ) -> Result<(), Failed>
-    ensures { (text : List ℕ) × IsLine words half seen.now text × HoldsOrFails (W.contents writer.old) (W.failures writer.old) (held.old ++ text) result held.new
+    ensures { (text : List ℕ) × IsLine words half seen.now text
+        × HoldsOrFails (W.contents writer.old) (W.failures writer.old) (held.old ++ text) result held.new
         (W.contents writer.new) (W.failures writer.new) }
 {
     held.hold(outcome_line(half, seen, words).as_slice(), writer)

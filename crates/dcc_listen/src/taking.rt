@@ -17,7 +17,8 @@ pub(crate) fn next_packet<R: Source>(
     framer: &mut Framer,
 ) -> Result<Option<Packet>, KeptFault>
     requires { input.old.fault ≡ None }
-    ensures takes { (start : InputState) (packets : List Packet) → start.fault ≡ None → Gathering start input.old framer.old packets → TakesPacket start packets result input.new framer.new }
+    ensures takes { (start : InputState) (packets : List Packet) → start.fault ≡ None
+        → Gathering start input.old framer.old packets → TakesPacket start packets result input.new framer.new }
     ensures fault { IfOk result (λ _. input.new.fault ≡ None) }
     ensures bytes { IfOk result (λ item. input.new.bytes + length (option_to_list item) ≤ input.old.bytes) }
 {
@@ -53,7 +54,8 @@ pub(crate) fn pass_rest<R: Source>(
     framer: &mut Framer,
 ) -> Result<(), KeptFault>
     requires { input.old.fault ≡ None }
-    ensures { (start : InputState) (packets : List Packet) → start.fault ≡ None → Gathering start input.old framer.old packets → PassesRest start packets result input.new }
+    ensures { (start : InputState) (packets : List Packet) → start.fault ≡ None
+        → Gathering start input.old framer.old packets → PassesRest start packets result input.new }
 {
     'packets: loop {
         match next_packet(input, framer) {

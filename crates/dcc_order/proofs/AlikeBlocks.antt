@@ -1,8 +1,11 @@
 -- Alike blocks leave the same state.
-use Rattle.std.proofs.Common.{◌≡◌, ◌∙◌, refl, sym, ap, Bool, true, false, cond, List, [], ◌∷◌, Option, Some, None, ◌⊎◌, inl, inr, ◌<◌, arith}
+use Rattle.std.proofs.Common.{◌≡◌, ◌∙◌, refl, sym, ap, Bool, true, false, cond, List, [], ◌∷◌, Option, Some, None}
+use Rattle.std.proofs.Common.{◌⊎◌, inl, inr, ◌<◌, arith}
 use Rattle.std.specs.Prelude.{◌&&◌, ◌||◌, filter, Contains, ◌≢◌}
 use Rattle.std.specs.List.{AllByRecursion}
-use Rattle.std.proofs.lemmas.List.Elements.{All-contains, All-from_recursion, Contains-append_left, Contains-append_right, Contains-push_cases, Contains-append_cases, Contains-push}
+use Rattle.std.proofs.lemmas.List.Elements.{All-contains, All-from_recursion, Contains-append_left}
+use Rattle.std.proofs.lemmas.List.Elements.{Contains-append_right, Contains-push_cases, Contains-append_cases}
+use Rattle.std.proofs.lemmas.List.Elements.{Contains-push}
 use Rattle.dcc_packet.specs.declared.packet.Packet.{Packet}
 use Rattle.dcc_regs.specs.declared.register.Register.{Register}
 use Rattle.dcc_regs.specs.declared.register.Value.{Value}
@@ -42,19 +45,25 @@ some_first : {X : Type 0} (a b : X) (o : Option X) → later_of (Some a) (later_
 some_first a b None = refl
 some_first a b (Some x) = refl
 
-last_unrepeated_from : (before : Option Packet) (l : List Packet) → later_of before (last_of (unrepeated before l)) ≡ later_of before (last_of l)
+last_unrepeated_from : (before : Option Packet) (l : List Packet)
+    → later_of before (last_of (unrepeated before l)) ≡ later_of before (last_of l)
 last_unrepeated_from before [] = refl
 last_unrepeated_from None (p ∷ l) = ap (later_of None) (last_unrepeated_from (Some p) l)
 last_unrepeated_from (Some b) (p ∷ l) = by_case (same b p) refl (last_unrepeated_from (Some p) l)
   where
-    by_case : (t : Bool) → same b p ≡ t → later_of (Some p) (last_of (unrepeated (Some p) l)) ≡ later_of (Some p) (last_of l) →
-        later_of (Some b) (last_of (cond t (unrepeated (Some p) l) (p ∷ unrepeated (Some p) l))) ≡ later_of (Some b) (later_of (Some p) (last_of l))
-    by_case true e rest = ap (λ z. later_of (Some z) (last_of (unrepeated (Some p) l))) ((Decides-same b p).0 e) ∙ rest ∙ sym (some_first b p (last_of l))
+    by_case : (t : Bool) → same b p ≡ t
+        → later_of (Some p) (last_of (unrepeated (Some p) l)) ≡ later_of (Some p) (last_of l) →
+        later_of (Some b) (last_of (cond t (unrepeated (Some p) l) (p ∷ unrepeated (Some p) l))) ≡ later_of (Some b)
+        (later_of (Some p) (last_of l))
+    by_case true e rest =
+        ap (λ z. later_of (Some z) (last_of (unrepeated (Some p) l))) ((Decides-same b p).0 e) ∙ rest
+        ∙ sym (some_first b p (last_of l))
     by_case false e rest = ap (later_of (Some b)) rest
 
 -- a packet that is left out is not the last of its kind
 last_unrepeated : (l : List Packet) → last_of (unrepeated None l) ≡ last_of l
-last_unrepeated l = sym (none_first (last_of (unrepeated None l))) ∙ last_unrepeated_from None l ∙ none_first (last_of l)
+last_unrepeated l =
+    sym (none_first (last_of (unrepeated None l))) ∙ last_unrepeated_from None l ∙ none_first (last_of l)
 
 contains_head : (x : Packet) (l : List Packet) → Contains (x ∷ l) x
 contains_head x l = Contains-append_left (x ∷ []) l x (Contains-push [] x)
@@ -71,14 +80,16 @@ contains_cases x l p h = elim (Contains-append_cases (x ∷ []) l p h) [
   | inr rest ↦ inr rest
 ]
 
-none_gives : (f : Packet → Option Value) (l : List Packet) (p : Packet) → last_set f l ≡ None → Contains l p → f p ≡ None
+none_gives : (f : Packet → Option Value) (l : List Packet) (p : Packet) → last_set f l ≡ None → Contains l p
+    → f p ≡ None
 none_gives f [] p e h = absurd (contains_none p h)
 none_gives f (x ∷ l) p e h = elim (contains_cases x l p h) [
   | inl is ↦ ap f (sym is) ∙ (none_both (f x) (last_set f l) e).0
   | inr rest ↦ none_gives f l p (none_both (f x) (last_set f l) e).1 rest
 ]
 
-no_setter : (f : Packet → Option Value) (test : Packet → Bool) (l : List Packet) → last_set f l ≡ None → ((x : Packet) → test x ≡ true → f x ≢ None) → filter test l ≡ []
+no_setter : (f : Packet → Option Value) (test : Packet → Bool) (l : List Packet) → last_set f l ≡ None
+    → ((x : Packet) → test x ≡ true → f x ≢ None) → filter test l ≡ []
 no_setter f test [] e only = refl
 no_setter f test (x ∷ l) e only = by_case (test x) refl (no_setter f test l (none_both (f x) (last_set f l) e).1 only)
   where
@@ -91,9 +102,11 @@ pub record LastSetter (f : Packet → Option Value) (block : List Packet) (v : V
   pub setter : Packet
   pub within : Contains block setter
   pub gives : f setter ≡ Some v
-  pub ends : (test : Packet → Bool) → test setter ≡ true → ((x : Packet) → test x ≡ true → f x ≢ None) → last_of (filter test block) ≡ Some setter
+  pub ends : (test : Packet → Bool) → test setter ≡ true → ((x : Packet) → test x ≡ true → f x ≢ None)
+      → last_of (filter test block) ≡ Some setter
 
-last_filter : (test : Packet → Bool) (x : Packet) (l : List Packet) (p : Packet) → last_of (filter test l) ≡ Some p → last_of (filter test (x ∷ l)) ≡ Some p
+last_filter : (test : Packet → Bool) (x : Packet) (l : List Packet) (p : Packet) → last_of (filter test l) ≡ Some p
+    → last_of (filter test (x ∷ l)) ≡ Some p
 last_filter test x l p e = by_case (test x)
   where
     by_case : (t : Bool) → last_of (cond t (x ∷ filter test l) (filter test l)) ≡ Some p
@@ -104,7 +117,8 @@ last_setter : (f : Packet → Option Value) (l : List Packet) (v : Value) → la
 last_setter f [] v e = cc
 last_setter f (x ∷ l) v e = by_case (last_set f l) refl (last_setter f l)
   where
-    by_case : (o : Option Value) → last_set f l ≡ o → ((w : Value) → last_set f l ≡ Some w → LastSetter f l w) → LastSetter f (x ∷ l) v
+    by_case : (o : Option Value) → last_set f l ≡ o → ((w : Value) → last_set f l ≡ Some w → LastSetter f l w)
+        → LastSetter f (x ∷ l) v
     by_case (Some w) h rest =
         let here : last_set f l ≡ Some v = h ∙ sym (ap (later_of (f x)) h) ∙ e in
         let last = rest v here in
@@ -135,24 +149,33 @@ or_cases : (a b : Bool) → (a || b) ≡ true → (a ≡ true) ⊎ (b ≡ true)
 or_cases true b e = inl refl
 or_cases false b e = inr e
 
-module _ (f : Packet → Option Value) (left right : List Packet) (members : SameMembers left right) (v w : Value) (a : LastSetter f left v) (b : LastSetter f right w) where
+module _ (f : Packet → Option Value) (left right : List Packet) (members : SameMembers left right) (v w : Value)
+    (a : LastSetter f left v) (b : LastSetter f right w) where
   pair : Packet → Bool
   pair x = same a.setter x || same b.setter x
 
   pair_sets : (x : Packet) → pair x ≡ true → f x ≢ None
   unfolding pair
   pair_sets x t none = elim (or_cases (same a.setter x) (same b.setter x) t) [
-    | inl e ↦ (let is : f a.setter ≡ f x = ap f ((Decides-same a.setter x).0 e) in let bad : Some v ≡ None = sym a.gives ∙ is ∙ none in cc)
-    | inr e ↦ (let is : f b.setter ≡ f x = ap f ((Decides-same b.setter x).0 e) in let bad : Some w ≡ None = sym b.gives ∙ is ∙ none in cc)
+    | inl e ↦
+        (let is : f a.setter ≡ f x = ap f ((Decides-same a.setter x).0 e) in
+        let bad : Some v ≡ None = sym a.gives ∙ is ∙ none in cc)
+    | inr e ↦
+        (let is : f b.setter ≡ f x = ap f ((Decides-same b.setter x).0 e) in
+        let bad : Some w ≡ None = sym b.gives ∙ is ∙ none in cc)
   ]
 
   -- the packets that set a register last in each block are the same where they take the same turns
   same_setter : turns a.setter b.setter left ≡ turns a.setter b.setter right → a.setter ≡ b.setter
   unfolding pair
   same_setter e =
-      let here : last_of (filter pair left) ≡ Some a.setter = a.ends pair (or_left (same a.setter a.setter) (same b.setter a.setter) (same-refl a.setter)) pair_sets in
-      let there : last_of (filter pair right) ≡ Some b.setter = b.ends pair (or_right (same a.setter b.setter) (same b.setter b.setter) (same-refl b.setter)) pair_sets in
-      let both : Some a.setter ≡ Some b.setter = sym here ∙ sym (last_unrepeated (filter pair left)) ∙ ap last_of e ∙ last_unrepeated (filter pair right) ∙ there in
+      let here : last_of (filter pair left) ≡ Some a.setter =
+      a.ends pair (or_left (same a.setter a.setter) (same b.setter a.setter) (same-refl a.setter)) pair_sets in
+      let there : last_of (filter pair right) ≡ Some b.setter =
+      b.ends pair (or_right (same a.setter b.setter) (same b.setter b.setter) (same-refl b.setter)) pair_sets in
+      let both : Some a.setter ≡ Some b.setter =
+      sym here ∙ sym (last_unrepeated (filter pair left)) ∙ ap last_of e ∙ last_unrepeated (filter pair right)
+      ∙ there in
       cc
 
 -- what holds of each packet of a block: the decoder hears it, and it is no own write
@@ -162,23 +185,27 @@ InBlock who p = (hears who p ≡ true) × (is_own_write p ≡ false)
 member : (P : Packet → Type 0) (l : List Packet) (p : Packet) → AllByRecursion P l → Contains l p → P p
 member P l p all h = All-contains P l p (All-from_recursion P l all) h
 
-same_last_set : (who : Who) (mode : SpeedMode) (r : Register) (left right : List Packet) → AllByRecursion (InBlock who) left → AllByRecursion (InBlock who) right → AlikeBlocks left right →
+same_last_set : (who : Who) (mode : SpeedMode) (r : Register) (left right : List Packet)
+    → AllByRecursion (InBlock who) left → AllByRecursion (InBlock who) right → AlikeBlocks left right →
     last_set (λ p. sets mode p r) left ≡ last_set (λ p. sets mode p r) right
 same_last_set who mode r left right lefts rights alike = by_case (last_set f left) (last_set f right) refl refl
   where
     f : Packet → Option Value
     f p = sets mode p r
 
-    by_case : (a b : Option Value) → last_set (λ p. sets mode p r) left ≡ a → last_set (λ p. sets mode p r) right ≡ b → a ≡ b
+    by_case : (a b : Option Value) → last_set (λ p. sets mode p r) left ≡ a → last_set (λ p. sets mode p r) right ≡ b
+        → a ≡ b
     by_case None None x y = refl
     by_case (Some v) None x y =
         let a = last_setter (λ p. sets mode p r) left v x in
-        let none : sets mode a.setter r ≡ None = none_gives (λ p. sets mode p r) right a.setter y ((alike.members a.setter).0 a.within) in
+        let none : sets mode a.setter r ≡ None =
+        none_gives (λ p. sets mode p r) right a.setter y ((alike.members a.setter).0 a.within) in
         let bad : Some v ≡ None = sym a.gives ∙ none in
         cc
     by_case None (Some w) x y =
         let b = last_setter (λ p. sets mode p r) right w y in
-        let none : sets mode b.setter r ≡ None = none_gives (λ p. sets mode p r) left b.setter x ((alike.members b.setter).1 b.within) in
+        let none : sets mode b.setter r ≡ None =
+        none_gives (λ p. sets mode p r) left b.setter x ((alike.members b.setter).1 b.within) in
         let bad : Some w ≡ None = sym b.gives ∙ none in
         cc
     by_case (Some v) (Some w) x y = decided (same_value v w) refl
@@ -207,16 +234,22 @@ same_last_set who mode r left right lefts rights alike = by_case (last_set f lef
               second_sets = b.gives;
               apart = λ is. true_is_not_false (sym ((Decides-same_value v w).1 is) ∙ e);
             } in
-            let is : a.setter ≡ b.setter = same_setter (λ p. sets mode p r) left right alike.members v w a b (alike.order a.setter b.setter a.within in_left conflict) in
+            let is : a.setter ≡ b.setter =
+            same_setter (λ p. sets mode p r) left right alike.members v w a b
+            (alike.order a.setter b.setter a.within in_left conflict) in
             sym a.gives ∙ ap (λ p. sets mode p r) is ∙ b.gives
 
 -- a block changes no CV bit
-run_block_bits : (who : Who) (s : State) (l : List Packet) → AllByRecursion (InBlock who) l → (r : Register) → (run s l).bits r ≡ s.bits r
+run_block_bits : (who : Who) (s : State) (l : List Packet) → AllByRecursion (InBlock who) l → (r : Register)
+    → (run s l).bits r ≡ s.bits r
 run_block_bits who s [] all r = refl
-run_block_bits who s (p ∷ l) all r = run_block_bits who (step s p) l all.1 r ∙ ap (λ t. cond (t && is_pending s.pending p) (overwritten (s.bits r) (sets_bit p r)) (s.bits r)) all.0.1
+run_block_bits who s (p ∷ l) all r =
+    run_block_bits who (step s p) l all.1 r
+    ∙ ap (λ t. cond (t && is_pending s.pending p) (overwritten (s.bits r) (sets_bit p r)) (s.bits r)) all.0.1
 
 -- a block that is not empty leaves nothing pending, where there is such a register
-run_block_pending : (who : Who) (s : State) (p : Packet) (l : List Packet) → AllByRecursion (InBlock who) (p ∷ l) → (run s (p ∷ l)).pending ≡ overwritten s.pending (Some (PendingValue None))
+run_block_pending : (who : Who) (s : State) (p : Packet) (l : List Packet) → AllByRecursion (InBlock who) (p ∷ l)
+    → (run s (p ∷ l)).pending ≡ overwritten s.pending (Some (PendingValue None))
 run_block_pending who s p [] all = ap (λ t. overwritten s.pending (Some (PendingValue (cond t (Some p) None)))) all.0.1
 run_block_pending who s p (q ∷ l) all =
     run_block_pending who (step s p) q l all.1
@@ -228,17 +261,22 @@ run_block_plain : (who : Who) (s : State) (l : List Packet) → AllByRecursion (
 run_block_plain who s [] all r = sym (overwritten-none (s.plain r))
 run_block_plain who s (p ∷ l) all r =
     run_block_plain who (step s p) l all.1 r
-    ∙ ap (λ mode. overwritten (overwritten (s.plain r) (sets (mode_in s.bits) p r)) (last_set (λ q. sets mode q r) l)) (ap mode_in (λ i q. run_block_bits who s (p ∷ []) (all.0, tt) q i))
+    ∙ ap (λ mode. overwritten (overwritten (s.plain r) (sets (mode_in s.bits) p r)) (last_set (λ q. sets mode q r) l))
+    (ap mode_in (λ i q. run_block_bits who s (p ∷ []) (all.0, tt) q i))
     ∙ overwritten-overwritten (s.plain r) (sets (mode_in s.bits) p r) (last_set (λ q. sets (mode_in s.bits) q r) l)
 
-block_pending : (who : Who) (s : State) (left right : List Packet) → AllByRecursion (InBlock who) left → AllByRecursion (InBlock who) right → SameMembers left right → (run s left).pending ≡ (run s right).pending
+block_pending : (who : Who) (s : State) (left right : List Packet) → AllByRecursion (InBlock who) left
+    → AllByRecursion (InBlock who) right → SameMembers left right → (run s left).pending ≡ (run s right).pending
 block_pending who s [] [] lefts rights members = refl
-block_pending who s [] (q ∷ right) lefts rights members = absurd (contains_none q ((members q).1 (contains_head q right)))
+block_pending who s [] (q ∷ right) lefts rights members =
+    absurd (contains_none q ((members q).1 (contains_head q right)))
 block_pending who s (p ∷ left) [] lefts rights members = absurd (contains_none p ((members p).0 (contains_head p left)))
-block_pending who s (p ∷ left) (q ∷ right) lefts rights members = run_block_pending who s p left lefts ∙ sym (run_block_pending who s q right rights)
+block_pending who s (p ∷ left) (q ∷ right) lefts rights members =
+    run_block_pending who s p left lefts ∙ sym (run_block_pending who s q right rights)
 
 -- alike blocks leave the same state
-pub alike_blocks : (who : Who) (s : State) (left right : List Packet) → AllByRecursion (InBlock who) left → AllByRecursion (InBlock who) right → AlikeBlocks left right → run s left ≡ run s right
+pub alike_blocks : (who : Who) (s : State) (left right : List Packet) → AllByRecursion (InBlock who) left
+    → AllByRecursion (InBlock who) right → AlikeBlocks left right → run s left ≡ run s right
 alike_blocks who s left right lefts rights alike = same_state (run s left) (run s right)
     (block_pending who s left right lefts rights alike.members)
     (λ r. run_block_bits who s left lefts r ∙ sym (run_block_bits who s right rights r))

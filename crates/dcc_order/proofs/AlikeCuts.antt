@@ -15,8 +15,10 @@ use Rattle.dcc_regs.specs.declared.register.Value.TheVariants.{Pending as Pendin
 use Rattle.dcc_packet.proofs.SameFrames.{Decides-same}
 use Rattle.dcc_regs.proofs.OwnWrites.{sets-own_write}
 use Rattle.dcc_regs.proofs.Stepping.{overwritten-none}
-use Rattle.dcc_regs.proofs.Runs.{State, step, run, start, read, after-run, run-append, same_state, sets_bit, overwritten-twice}
-use Rattle.dcc_order.specs.AlikeLists.{begins_with_two, capped, Cut, LastBlock, Block, in_first_block, cut, cut_for, AlikeCuts}
+use Rattle.dcc_regs.proofs.Runs.{State, step, run, start, read, after-run, run-append, same_state, sets_bit}
+use Rattle.dcc_regs.proofs.Runs.{overwritten-twice}
+use Rattle.dcc_order.specs.AlikeLists.{begins_with_two, capped, Cut, LastBlock, Block, in_first_block, cut, cut_for}
+use Rattle.dcc_order.specs.AlikeLists.{AlikeCuts}
 use Rattle.dcc_order.specs.Laws.{AlikeListsLeaveTheSame, AlikeListsAgreeAfterEachBlock, through_block}
 use Rattle.std.proofs.Common.{ℕ, zero, suc}
 use Rattle.dcc_regs.specs.declared.register.Register.TheVariants.{CvBit}
@@ -46,7 +48,8 @@ abbrev WellCut : Who → Cut → Type 0
 WellCut who (LastBlock block) = AllByRecursion (InBlock who) block
 WellCut who (Block block write rest) = AllByRecursion (InBlock who) block × WellCut who rest
 
-well_in_first_block : (who : Who) (p : Packet) (x : Cut) → InBlock who p → WellCut who x → WellCut who (in_first_block p x)
+well_in_first_block : (who : Who) (p : Packet) (x : Cut) → InBlock who p → WellCut who x
+    → WellCut who (in_first_block p x)
 well_in_first_block who p (LastBlock block) here well = (here, well)
 well_in_first_block who p (Block block write rest) here well = ((here, well.0), well.1)
 
@@ -54,13 +57,16 @@ well_cut : (who : Who) (l : List Packet) → AllByRecursion (λ p. hears who p �
 well_cut who [] all = tt
 well_cut who (p ∷ l) all = by_case (is_own_write p) refl (well_cut who l all.1)
   where
-    by_case : (t : Bool) → is_own_write p ≡ t → WellCut who (cut l) → WellCut who (cond t (Block [] p (cut l)) (in_first_block p (cut l)))
+    by_case : (t : Bool) → is_own_write p ≡ t → WellCut who (cut l)
+        → WellCut who (cond t (Block [] p (cut l)) (in_first_block p (cut l)))
     by_case true e rest = (tt, rest)
     by_case false e rest = well_in_first_block who p (cut l) (all.0, e) rest
 
-alike_cuts : (who : Who) (s : State) (x y : Cut) → WellCut who x → WellCut who y → AlikeCuts x y → run s (flat x) ≡ run s (flat y)
+alike_cuts : (who : Who) (s : State) (x y : Cut) → WellCut who x → WellCut who y → AlikeCuts x y
+    → run s (flat x) ≡ run s (flat y)
 unfolding flat
-alike_cuts who s (LastBlock left) (LastBlock right) lefts rights alike = alike_blocks who s left right lefts rights alike
+alike_cuts who s (LastBlock left) (LastBlock right) lefts rights alike =
+    alike_blocks who s left right lefts rights alike
 alike_cuts who s (LastBlock left) (Block right other rest) lefts rights alike = absurd alike
 alike_cuts who s (Block left write rest) (LastBlock right) lefts rights alike = absurd alike
 alike_cuts who s (Block left write x) (Block right other y) lefts rights alike =
@@ -77,20 +83,27 @@ both_true false b e = cc
 -- a third copy of an own write writes the same again
 third_copy : (s : State) (p : Packet) → is_own_write p ≡ true → step (step (step s p) p) p ≡ step (step s p) p
 third_copy s p write = same_state (step (step (step s p) p) p) (step (step s p) p) pending_again
-    (λ r. ap (λ v. cond (is_own_write p && is_pending v p) (overwritten ((step (step s p) p).bits r) (sets_bit p r)) ((step (step s p) p).bits r)) (overwritten-twice s.pending (Some (PendingValue (left_pending p))))
+    (λ r. ap
+    (λ v. cond (is_own_write p && is_pending v p) (overwritten ((step (step s p) p).bits r) (sets_bit p r))
+    ((step (step s p) p).bits r)) (overwritten-twice s.pending (Some (PendingValue (left_pending p))))
     ∙ written_again (is_own_write p && is_pending (step s p).pending p) ((step s p).bits r) (sets_bit p r))
-    (λ r. ap (overwritten ((step (step s p) p).plain r)) (sets-own_write (mode_in (step (step s p) p).bits) p r write) ∙ overwritten-none ((step (step s p) p).plain r))
+    (λ r. ap (overwritten ((step (step s p) p).plain r)) (sets-own_write (mode_in (step (step s p) p).bits) p r write)
+    ∙ overwritten-none ((step (step s p) p).plain r))
   where
     -- a register that has it stays, and one that a decoder does not have stays none
     pending_again : (step (step (step s p) p) p).pending ≡ (step (step s p) p).pending
-    pending_again = overwritten-twice (overwritten s.pending (Some (PendingValue (left_pending p)))) (Some (PendingValue (left_pending p)))
+    pending_again =
+        overwritten-twice (overwritten s.pending (Some (PendingValue (left_pending p))))
+        (Some (PendingValue (left_pending p)))
 
-    written_again : (t : Bool) (v o : Option Value) → cond t (overwritten (cond t (overwritten v o) v) o) (cond t (overwritten v o) v) ≡ cond t (overwritten v o) v
+    written_again : (t : Bool) (v o : Option Value)
+        → cond t (overwritten (cond t (overwritten v o) v) o) (cond t (overwritten v o) v) ≡ cond t (overwritten v o) v
     written_again true v o = overwritten-twice v o
     written_again false v o = refl
 
 -- an own write before two copies of it changes nothing
-left_out : (s : State) (p : Packet) (l : List Packet) → is_own_write p ≡ true → begins_with_two l p ≡ true → run s l ≡ run (step s p) l
+left_out : (s : State) (p : Packet) (l : List Packet) → is_own_write p ≡ true → begins_with_two l p ≡ true
+    → run s l ≡ run (step s p) l
 left_out s p [] write two = cc
 left_out s p (q ∷ []) write two = cc
 left_out s p (q ∷ r ∷ l) write two =
@@ -106,8 +119,11 @@ run-capped : (s : State) (l : List Packet) → run s (capped l) ≡ run s l
 run-capped s [] = refl
 run-capped s (p ∷ l) = by_case (is_own_write p && begins_with_two l p) refl (run-capped s l) (run-capped (step s p) l)
   where
-    by_case : (t : Bool) → (is_own_write p && begins_with_two l p) ≡ t → run s (capped l) ≡ run s l → run (step s p) (capped l) ≡ run (step s p) l → run s (cond t (capped l) (p ∷ capped l)) ≡ run (step s p) l
-    by_case true e here rest = here ∙ left_out s p l (both_true (is_own_write p) (begins_with_two l p) e).0 (both_true (is_own_write p) (begins_with_two l p) e).1
+    by_case : (t : Bool) → (is_own_write p && begins_with_two l p) ≡ t → run s (capped l) ≡ run s l
+        → run (step s p) (capped l) ≡ run (step s p) l → run s (cond t (capped l) (p ∷ capped l)) ≡ run (step s p) l
+    by_case true e here rest =
+        here ∙ left_out s p l (both_true (is_own_write p) (begins_with_two l p) e).0
+        (both_true (is_own_write p) (begins_with_two l p) e).1
     by_case false e here rest = rest
 
 all_capped : (P : Packet → Type 0) (l : List Packet) → AllByRecursion P l → AllByRecursion P (capped l)
@@ -119,7 +135,9 @@ all_capped P (p ∷ l) all = by_case (is_own_write p && begins_with_two l p) (al
     by_case false rest = (all.0, rest)
 
 all_heard : (who : Who) (l : List Packet) → AllByRecursion (λ p. hears who p ≡ true) (capped (heard who l))
-all_heard who l = all_capped (λ p. hears who p ≡ true) (heard who l) (recursion_from_All (λ p. hears who p ≡ true) (heard who l) (filter_passes (hears who) l))
+all_heard who l =
+    all_capped (λ p. hears who p ≡ true) (heard who l)
+    (recursion_from_All (λ p. hears who p ≡ true) (heard who l) (filter_passes (hears who) l))
 
 run-cut_for : (who : Who) (s : State) (l : List Packet) → run s (flat (cut_for who l)) ≡ run s (heard who l)
 run-cut_for who s l = ap (run s) (flat-cut (capped (heard who l))) ∙ run-capped s (heard who l)
@@ -129,15 +147,20 @@ alike_lists who left right alike m r =
     after-run m (heard who left) r
     ∙ ap (λ s. read s r) (
     sym (run-cut_for who (start m) left)
-    ∙ alike_cuts who (start m) (cut_for who left) (cut_for who right) (well_cut who (capped (heard who left)) (all_heard who left)) (well_cut who (capped (heard who right)) (all_heard who right)) alike
+    ∙ alike_cuts who (start m) (cut_for who left) (cut_for who right)
+    (well_cut who (capped (heard who left)) (all_heard who left))
+    (well_cut who (capped (heard who right)) (all_heard who right)) alike
     ∙ run-cut_for who (start m) right)
     ∙ sym (after-run m (heard who right) r)
 
-alike_through : (who : Who) (s : State) (k : ℕ) (x y : Cut) → WellCut who x → WellCut who y → AlikeCuts x y → run s (through_block k x) ≡ run s (through_block k y)
-alike_through who s k (LastBlock left) (LastBlock right) lefts rights alike = alike_blocks who s left right lefts rights alike
+alike_through : (who : Who) (s : State) (k : ℕ) (x y : Cut) → WellCut who x → WellCut who y → AlikeCuts x y
+    → run s (through_block k x) ≡ run s (through_block k y)
+alike_through who s k (LastBlock left) (LastBlock right) lefts rights alike =
+    alike_blocks who s left right lefts rights alike
 alike_through who s k (LastBlock left) (Block right other rest) lefts rights alike = absurd alike
 alike_through who s k (Block left write rest) (LastBlock right) lefts rights alike = absurd alike
-alike_through who s zero (Block left write x) (Block right other y) lefts rights alike = alike_blocks who s left right lefts.0 rights.0 alike.0
+alike_through who s zero (Block left write x) (Block right other y) lefts rights alike =
+    alike_blocks who s left right lefts.0 rights.0 alike.0
 alike_through who s (suc k) (Block left write x) (Block right other y) lefts rights alike =
     run-append s left (write ∷ through_block k x)
     ∙ alike_through who (step (run s left) write) k x y lefts.1 rights.1 alike.2
@@ -149,5 +172,6 @@ pub alike_after_each_block : AlikeListsAgreeAfterEachBlock
 alike_after_each_block who left right alike k m cv place =
     after-run m (through_block k (cut_for who left)) (CvBit cv place)
     ∙ ap (λ s. read s (CvBit cv place)) (alike_through who (start m) k (cut_for who left) (cut_for who right)
-    (well_cut who (capped (heard who left)) (all_heard who left)) (well_cut who (capped (heard who right)) (all_heard who right)) alike)
+    (well_cut who (capped (heard who left)) (all_heard who left))
+    (well_cut who (capped (heard who right)) (all_heard who right)) alike)
     ∙ sym (after-run m (through_block k (cut_for who right)) (CvBit cv place))

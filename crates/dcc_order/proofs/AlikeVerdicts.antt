@@ -9,8 +9,10 @@ use Rattle.dcc_order.specs.AlikeLists.{AlikeFor, cut_for}
 use Rattle.dcc_order.specs.Verdicts.{IsVerdict, IsVerdictFrom}
 use Rattle.dcc_order.proofs.CutTests.{alike_from_verdict, verdict_of_alike}
 
-pub alike_is : (who : Who) (left right : List Packet) (v : Verdict) → IsVerdict who left right v → (v ≡ Alike) ↔ AlikeFor who left right
+pub alike_is : (who : Who) (left right : List Packet) (v : Verdict) → IsVerdict who left right v
+    → (v ≡ Alike) ↔ AlikeFor who left right
 alike_is who left right v is = (
-  λ e. alike_from_verdict 0 (cut_for who left) (cut_for who right) (subst (IsVerdictFrom 0 (cut_for who left) (cut_for who right)) e is),
+  λ e. alike_from_verdict 0 (cut_for who left) (cut_for who right)
+      (subst (IsVerdictFrom 0 (cut_for who left) (cut_for who right)) e is),
   λ alike. verdict_of_alike 0 (cut_for who left) (cut_for who right) v alike is,
 )

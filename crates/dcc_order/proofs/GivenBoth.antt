@@ -15,7 +15,8 @@ pub record Side (whole given : List Packet) (given_end : Bool) (rest : List Pack
   pub is : given_end ≡ ended
 
 -- both lists, as far as they were given
-pub record Giving (who : Who) (left right left_rest right_rest : List Packet) (left_ended right_ended : Bool) (c : Comparison) : Type 0 where
+pub record Giving (who : Who) (left right left_rest right_rest : List Packet) (left_ended right_ended : Bool)
+    (c : Comparison) : Type 0 where
   pub lists : Lists
   pub stands : StandsFor c lists
   pub who_is : c.who ≡ who
@@ -23,8 +24,10 @@ pub record Giving (who : Who) (left right left_rest right_rest : List Packet) (l
   pub right_side : Side right lists.right lists.right_ended right_rest right_ended
 
 -- the verdict of all that may follow is that of the two lists
-pub verdict_of_both : (who : Who) (left right left_rest right_rest : List Packet) (left_ended right_ended : Bool) (c : Comparison) (v : Verdict) →
-    (g : Giving who left right left_rest right_rest left_ended right_ended c) → IsVerdictOfAll c.who g.lists v → IsVerdict who left right v
+pub verdict_of_both : (who : Who) (left right left_rest right_rest : List Packet) (left_ended right_ended : Bool)
+    (c : Comparison) (v : Verdict) →
+    (g : Giving who left right left_rest right_rest left_ended right_ended c) → IsVerdictOfAll c.who g.lists v
+    → IsVerdict who left right v
 verdict_of_both who left right left_rest right_rest left_ended right_ended c v g all =
     subst (λ w. IsVerdict w left right v) g.who_is
     (subst (λ l. IsVerdict c.who l right v) (sym g.left_side.parts)

@@ -16,7 +16,9 @@ use Rattle.dcc_order.specs.HearingLaws.{NoHalvesHeard, OneListOfPackets}
 
 frames_in-append : (a b : List (ℕ × Seen)) → frames_in (a ++ b) ≡ frames_in a ++ frames_in b
 frames_in-append [] b = refl
-frames_in-append (at ∷ later) b = ap (λ frames. frames_of at.1 ++ frames) (frames_in-append later b) ∙ sym (append_assoc (frames_of at.1) (frames_in later) (frames_in b))
+frames_in-append (at ∷ later) b =
+    ap (λ frames. frames_of at.1 ++ frames) (frames_in-append later b)
+    ∙ sym (append_assoc (frames_of at.1) (frames_in later) (frames_in b))
 
 frames_in-reported : (place : ℕ) (answer : Seen) → frames_in (reported place answer) ≡ frames_of answer
 unfolding reported
@@ -25,7 +27,8 @@ frames_in-reported place (PacketSeen frame) = refl
 frames_in-reported place (Refused fault) = refl
 
 -- a half more adds the packets that it shows
-pub packets_more : (halves more : List ℕ) (answer : Seen) (place : ℕ) (packets shown : List Packet) → seen more ≡ seen halves ++ reported place answer
+pub packets_more : (halves more : List ℕ) (answer : Seen) (place : ℕ) (packets shown : List Packet)
+    → seen more ≡ seen halves ++ reported place answer
     → ArePackets packets halves → AreSpelled shown (frames_of answer) → ArePackets (packets ++ shown) more
 packets_more halves more answer place packets shown e before now =
     map-append spelling packets shown
@@ -34,8 +37,10 @@ packets_more halves more answer place packets shown e before now =
     ∙ sym (frames_in-append (seen halves) (reported place answer))
     ∙ ap frames_in (sym e)
 
-pub heard_half : {who who' who'' : Who} {m m' m'' : RegisterMap} (halves more : List ℕ) (answer : Seen) (place : ℕ) (shown : List Packet) → seen more ≡ seen halves ++ reported place answer
-    → AreSpelled shown (frames_of answer) → HasHeardHalves halves who m who' m' → HasHeard shown who' m' who'' m'' → HasHeardHalves more who m who'' m''
+pub heard_half : {who who' who'' : Who} {m m' m'' : RegisterMap} (halves more : List ℕ) (answer : Seen) (place : ℕ)
+    (shown : List Packet) → seen more ≡ seen halves ++ reported place answer
+    → AreSpelled shown (frames_of answer) → HasHeardHalves halves who m who' m' → HasHeard shown who' m' who'' m''
+    → HasHeardHalves more who m who'' m''
 heard_half halves more answer place shown e spelled before now = record {
   packets = before.packets ++ shown;
   seen = packets_more halves more answer place before.packets shown e before.seen spelled;
@@ -57,7 +62,8 @@ pub one_list_of_packets : OneListOfPackets
 one_list_of_packets halves ps qs e f = same_packets ps qs (e ∙ sym f)
 
 pub no_halves_heard : NoHalvesHeard
-no_halves_heard who start = record { packets = []; seen = ap frames_in (sym seen-none); heard = heard_nothing who start }
+no_halves_heard who start =
+    record { packets = []; seen = ap frames_in (sym seen-none); heard = heard_nothing who start }
 
 -- no halves hold no packets
 pub no_packets : ArePackets [] []

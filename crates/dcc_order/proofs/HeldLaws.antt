@@ -1,5 +1,6 @@
 -- Two blocks, held by numbers.
-use Rattle.std.proofs.Common.{ℕ, zero, suc, ◌+◌, ◌<◌, ◌≤◌, ◌≡◌, ◌∙◌, refl, sym, ap, subst, List, [], ◌∷◌, ◌++◌, length, arith, get_or, set, map, take, cond}
+use Rattle.std.proofs.Common.{ℕ, zero, suc, ◌+◌, ◌<◌, ◌≤◌, ◌≡◌, ◌∙◌, refl, sym, ap, subst, List, [], ◌∷◌, ◌++◌}
+use Rattle.std.proofs.Common.{length, arith, get_or, set, map, take, cond}
 use Rattle.std.specs.Prelude.{Contains, ◌↔◌, Result, Ok, Err, IsOk, is_ok}
 use Rattle.std.proofs.lemmas.List.{length-append, map-append, length-map, length-take, take-append-le, get_or_default}
 use Rattle.dcc_packet.specs.declared.packet.Packet.{Packet}
@@ -15,25 +16,30 @@ use Rattle.dcc_order.proofs.MemberLaws.{number-within, stands_at, known_member, 
 use Rattle.dcc_order.proofs.OrderLaws.{CountedAlike, order_from_counts, counts_from_order}
 
 -- what a call gives where it succeeds
-pub on_ok : {A T E : Type 0} (r : Result T E) (got done failed : A) → got ≡ cond (is_ok r) done failed → IsOk r → got ≡ done
+pub on_ok : {A T E : Type 0} (r : Result T E) (got done failed : A) → got ≡ cond (is_ok r) done failed → IsOk r
+    → got ≡ done
 on_ok (Ok x) got done failed e ok = e
 on_ok (Err y) got done failed e ok = absurd (cc)
 
-numbered_push : (members : List Packet) (ns : List ℕ) (n : ℕ) → Numbered members ns → n < length members → Numbered members (ns ++ n ∷ [])
+numbered_push : (members : List Packet) (ns : List ℕ) (n : ℕ) → Numbered members ns → n < length members
+    → Numbered members (ns ++ n ∷ [])
 numbered_push members [] n all here = (here, tt)
 numbered_push members (m ∷ ns) n all here = (all.0, numbered_push members ns n all.1 here)
 
-numbered_more : (members : List Packet) (x : Packet) (ns : List ℕ) → Numbered members ns → Numbered (members ++ x ∷ []) ns
+numbered_more : (members : List Packet) (x : Packet) (ns : List ℕ) → Numbered members ns
+    → Numbered (members ++ x ∷ []) ns
 numbered_more members x [] all = tt
 numbered_more members x (n ∷ ns) all = (
   (let total = length-append members (x ∷ []) in let here = all.0 in omega (arith, total, here)),
   numbered_more members x ns all.1,
 )
 
-packets-push : (members : List Packet) (ns : List ℕ) (n : ℕ) → packets_of members (ns ++ n ∷ []) ≡ packets_of members ns ++ get_or members n Idle ∷ []
+packets-push : (members : List Packet) (ns : List ℕ) (n : ℕ)
+    → packets_of members (ns ++ n ∷ []) ≡ packets_of members ns ++ get_or members n Idle ∷ []
 packets-push members ns n = map-append (λ n. get_or members n Idle) ns (n ∷ [])
 
-packets-more : (members : List Packet) (x : Packet) (ns : List ℕ) → Numbered members ns → packets_of (members ++ x ∷ []) ns ≡ packets_of members ns
+packets-more : (members : List Packet) (x : Packet) (ns : List ℕ) → Numbered members ns
+    → packets_of (members ++ x ∷ []) ns ≡ packets_of members ns
 packets-more members x [] all = refl
 packets-more members x (n ∷ ns) all =
     ap (λ p. p ∷ packets_of (members ++ x ∷ []) ns) (get-push_old members x Idle n all.0)
@@ -45,47 +51,69 @@ pub record Kept (members : List Packet) (ns others : List ℕ) : Type 0 where
   pub first_numbered : Numbered members ns
   pub second_numbered : Numbered members others
 
-packets_known : (members : List Packet) (ns : List ℕ) (x : Packet) → number_of members x < length members → packets_of members (ns ++ number_of members x ∷ []) ≡ packets_of members ns ++ x ∷ []
-packets_known members ns x inside = packets-push members ns (number_of members x) ∙ ap (λ p. packets_of members ns ++ p ∷ []) (sym (stands_at members x Idle inside))
+packets_known : (members : List Packet) (ns : List ℕ) (x : Packet) → number_of members x < length members
+    → packets_of members (ns ++ number_of members x ∷ []) ≡ packets_of members ns ++ x ∷ []
+packets_known members ns x inside =
+    packets-push members ns (number_of members x)
+    ∙ ap (λ p. packets_of members ns ++ p ∷ []) (sym (stands_at members x Idle inside))
 
-packets_new : (members : List Packet) (ns : List ℕ) (x : Packet) → Numbered members ns → packets_of (members ++ x ∷ []) (ns ++ length members ∷ []) ≡ packets_of members ns ++ x ∷ []
+packets_new : (members : List Packet) (ns : List ℕ) (x : Packet) → Numbered members ns
+    → packets_of (members ++ x ∷ []) (ns ++ length members ∷ []) ≡ packets_of members ns ++ x ∷ []
 packets_new members ns x all =
     packets-push (members ++ x ∷ []) ns (length members)
     ∙ ap (λ l. l ++ get_or (members ++ x ∷ []) (length members) Idle ∷ []) (packets-more members x ns all)
     ∙ ap (λ p. packets_of members ns ++ p ∷ []) (get-push_new members x Idle (length members) refl)
 
-kept_known : (members : List Packet) (ns others : List ℕ) (x : Packet) → Kept members ns others → number_of members x < length members →
+kept_known : (members : List Packet) (ns others : List ℕ) (x : Packet) → Kept members ns others
+    → number_of members x < length members →
     Kept members (ns ++ number_of members x ∷ []) others
 kept_known members ns others x kept inside = record {
-  members_of = subst (AreMembers members) (sym (packets_known members ns x inside)) (known_member members (packets_of members ns) x kept.members_of inside);
+  members_of =
+      subst (AreMembers members) (sym (packets_known members ns x inside))
+      (known_member members (packets_of members ns) x kept.members_of inside);
   first_numbered = numbered_push members ns (number_of members x) kept.first_numbered inside;
   second_numbered = kept.second_numbered;
 }
 
-kept_new : (members : List Packet) (ns others : List ℕ) (x : Packet) → Kept members ns others → number_of members x ≡ length members →
+kept_new : (members : List Packet) (ns others : List ℕ) (x : Packet) → Kept members ns others
+    → number_of members x ≡ length members →
     Kept (members ++ x ∷ []) (ns ++ length members ∷ []) others
 kept_new members ns others x kept none = record {
-  members_of = subst (AreMembers (members ++ x ∷ [])) (sym (packets_new members ns x kept.first_numbered)) (new_member members (packets_of members ns) x kept.members_of none);
-  first_numbered = numbered_push (members ++ x ∷ []) ns (length members) (numbered_more members x ns kept.first_numbered)
+  members_of =
+      subst (AreMembers (members ++ x ∷ [])) (sym (packets_new members ns x kept.first_numbered))
+      (new_member members (packets_of members ns) x kept.members_of none);
+  first_numbered =
+      numbered_push (members ++ x ∷ []) ns (length members) (numbered_more members x ns kept.first_numbered)
       (let total = length-append members (x ∷ []) in omega (arith, total));
   second_numbered = numbered_more members x others kept.second_numbered;
 }
 
-kept_of : (places : List Place) (count : ℕ) (others : List ℕ) → AreHeld places count others → Kept (members_at places count) (numbers_at places) others
-kept_of places count others held = record { members_of = held.members; first_numbered = held.first_numbered; second_numbered = held.second_numbered }
+kept_of : (places : List Place) (count : ℕ) (others : List ℕ) → AreHeld places count others
+    → Kept (members_at places count) (numbers_at places) others
+kept_of places count others held =
+    record { members_of = held.members; first_numbered = held.first_numbered; second_numbered = held.second_numbered }
 
-held_of : (places : List Place) (count : ℕ) (others : List ℕ) → count ≤ length places → Kept (members_at places count) (numbers_at places) others → AreHeld places count others
-held_of places count others inside kept = record { within = inside; members = kept.members_of; first_numbered = kept.first_numbered; second_numbered = kept.second_numbered }
+held_of : (places : List Place) (count : ℕ) (others : List ℕ) → count ≤ length places
+    → Kept (members_at places count) (numbers_at places) others → AreHeld places count others
+held_of places count others inside kept =
+    record {
+      within = inside;
+      members = kept.members_of;
+      first_numbered = kept.first_numbered;
+      second_numbered = kept.second_numbered;
+    }
 
 pub count_of : (places : List Place) (count : ℕ) → count ≤ length places → length (members_at places count) ≡ count
 count_of places count inside = length-map (take count places) (λ place. place.member) ∙ simp length-take (omega arith)
 
-take_set : (places : List Place) (k : ℕ) (r : Place) → k < length places → take (suc k) (set places k r) ≡ take k places ++ r ∷ []
+take_set : (places : List Place) (k : ℕ) (r : Place) → k < length places
+    → take (suc k) (set places k r) ≡ take k places ++ r ∷ []
 take_set [] k r h = absurd (omega arith)
 take_set (p ∷ places) zero r h = refl
 take_set (p ∷ places) (suc k) r h = ap (λ l. p ∷ l) (take_set places k r (omega arith))
 
-numbers_set : (places : List Place) (k : ℕ) (r d : Place) → k < length places → r.number ≡ (get_or places k d).number → numbers_at (set places k r) ≡ numbers_at places
+numbers_set : (places : List Place) (k : ℕ) (r d : Place) → k < length places → r.number ≡ (get_or places k d).number
+    → numbers_at (set places k r) ≡ numbers_at places
 numbers_set [] k r d h e = absurd (omega arith)
 numbers_set (p ∷ places) zero r d h e = ap (λ n. n ∷ numbers_at places) e
 numbers_set (p ∷ places) (suc k) r d h e = ap (λ l. p.number ∷ l) (numbers_set places k r d (omega arith) e)
@@ -135,53 +163,79 @@ module _ (places : List Place) (count : ℕ) (others : List ℕ) (held : AreHeld
       omega (arith, place, size, low, e)
 
   -- a packet that is a member already
-  pub known_held : number_of members x < length members → AreHeld (places ++ place (number_of members x) ∷ []) count others
+  pub known_held : number_of members x < length members
+      → AreHeld (places ++ place (number_of members x) ∷ []) count others
   known_held inside =
       let n = number_of members x in
-      held_of (places ++ place n ∷ []) count others (let more = longer n in let has = held.within in omega (arith, more, has))
-      (subst (λ front. Kept (map (λ place. place.member) front) (numbers_at (places ++ place n ∷ [])) others) (sym (same_front n))
+      held_of (places ++ place n ∷ []) count others
+      (let more = longer n in let has = held.within in omega (arith, more, has))
+      (subst (λ front. Kept (map (λ place. place.member) front) (numbers_at (places ++ place n ∷ [])) others)
+      (sym (same_front n))
       (subst (λ ns. Kept members ns others) (sym (more_numbers n))
       (kept_known members (numbers_at places) others x (kept_of places count others held) inside)))
 
-  pub known_view : number_of members x < length members → held_at (places ++ place (number_of members x) ∷ []) count others ≡ record (held_at places count others) { first = (held_at places count others).first ++ x ∷ [] }
+  pub known_view : number_of members x < length members
+      → held_at (places ++ place (number_of members x) ∷ []) count others ≡ record (held_at places count others)
+      { first = (held_at places count others).first ++ x ∷ [] }
   known_view inside =
       let n = number_of members x in
-      ap (λ front. let v : Held = record { first = packets_of (map (λ place. place.member) front) (numbers_at (places ++ place n ∷ [])); second = packets_of (map (λ place. place.member) front) others } in v) (same_front n)
-      ∙ ap (λ ns. let v : Held = record { first = packets_of members ns; second = packets_of members others } in v) (more_numbers n)
-      ∙ ap (λ l. let v : Held = record { first = l; second = packets_of members others } in v) (packets_known members (numbers_at places) x inside)
+      ap (λ front.
+      let v : Held = record { first = packets_of (map (λ place. place.member) front) (numbers_at (places ++ place n ∷ [])); second = packets_of (map (λ place. place.member) front) others } in
+      v) (same_front n)
+      ∙ ap (λ ns. let v : Held = record { first = packets_of members ns; second = packets_of members others } in v)
+      (more_numbers n)
+      ∙ ap (λ l. let v : Held = record { first = l; second = packets_of members others } in v)
+      (packets_known members (numbers_at places) x inside)
 
   -- a packet that is no member yet: it is put where its number is
   abbrev now : Place → List Place
   now d = set (places ++ place count ∷ []) count (record (get_or (places ++ place count ∷ []) count d) { member = x })
 
-  new_front : (d : Place) → take (suc count) (now d) ≡ take count places ++ record (get_or (places ++ place count ∷ []) count d) { member = x } ∷ []
+  new_front : (d : Place)
+      → take (suc count) (now d) ≡ take count places
+      ++ record (get_or (places ++ place count ∷ []) count d) { member = x } ∷ []
   new_front d =
-      take_set (places ++ place count ∷ []) count (record (get_or (places ++ place count ∷ []) count d) { member = x }) (let more = longer count in let has = held.within in omega (arith, more, has))
+      take_set (places ++ place count ∷ []) count (record (get_or (places ++ place count ∷ []) count d) { member = x })
+      (let more = longer count in let has = held.within in omega (arith, more, has))
       ∙ ap (λ l. l ++ record (get_or (places ++ place count ∷ []) count d) { member = x } ∷ []) (same_front count)
 
   pub new_members : (d : Place) → members_at (now d) (suc count) ≡ members ++ x ∷ []
-  new_members d = ap (map (λ place. place.member)) (new_front d) ∙ map-append (λ place. place.member) (take count places) (record (get_or (places ++ place count ∷ []) count d) { member = x } ∷ [])
+  new_members d =
+      ap (map (λ place. place.member)) (new_front d)
+      ∙ map-append (λ place. place.member) (take count places)
+      (record (get_or (places ++ place count ∷ []) count d) { member = x } ∷ [])
 
   new_numbers : (d : Place) → numbers_at (now d) ≡ numbers_at places ++ length members ∷ []
   new_numbers d =
-      numbers_set (places ++ place count ∷ []) count (record (get_or (places ++ place count ∷ []) count d) { member = x }) d (let more = longer count in let has = held.within in omega (arith, more, has)) refl
+      numbers_set (places ++ place count ∷ []) count
+      (record (get_or (places ++ place count ∷ []) count d) { member = x }) d
+      (let more = longer count in let has = held.within in omega (arith, more, has)) refl
       ∙ more_numbers count
       ∙ ap (λ n. numbers_at places ++ n ∷ []) (sym (count_of places count held.within))
 
   pub new_held : (d : Place) → number_of members x ≡ length members → AreHeld (now d) (suc count) others
   new_held d none =
       held_of (now d) (suc count) others
-      (let more = longer count in let has = held.within in let same_length = length-set_place (places ++ place count ∷ []) count (record (get_or (places ++ place count ∷ []) count d) { member = x }) in omega (arith, more, has, same_length))
+      (let more = longer count in let has = held.within in
+      let same_length = length-set_place (places ++ place count ∷ []) count (record (get_or (places ++ place count ∷ []) count d) { member = x }) in
+      omega (arith, more, has, same_length))
       (subst (λ ms. Kept ms (numbers_at (now d)) others) (sym (new_members d))
       (subst (λ ns. Kept (members ++ x ∷ []) ns others) (sym (new_numbers d))
       (kept_new members (numbers_at places) others x (kept_of places count others held) none)))
 
-  pub new_view : (d : Place) → held_at (now d) (suc count) others ≡ record (held_at places count others) { first = (held_at places count others).first ++ x ∷ [] }
+  pub new_view : (d : Place)
+      → held_at (now d) (suc count) others ≡ record (held_at places count others)
+      { first = (held_at places count others).first ++ x ∷ [] }
   new_view d =
-      ap (λ ms. let v : Held = record { first = packets_of ms (numbers_at (now d)); second = packets_of ms others } in v) (new_members d)
-      ∙ ap (λ ns. let v : Held = record { first = packets_of (members ++ x ∷ []) ns; second = packets_of (members ++ x ∷ []) others } in v) (new_numbers d)
-      ∙ ap (λ l. let v : Held = record { first = l; second = packets_of (members ++ x ∷ []) others } in v) (packets_new members (numbers_at places) x held.first_numbered)
-      ∙ ap (λ l. let v : Held = record { first = packets_of members (numbers_at places) ++ x ∷ []; second = l } in v) (packets-more members x others held.second_numbered)
+      ap (λ ms. let v : Held = record { first = packets_of ms (numbers_at (now d)); second = packets_of ms others } in
+      v) (new_members d)
+      ∙ ap (λ ns.
+      let v : Held = record { first = packets_of (members ++ x ∷ []) ns; second = packets_of (members ++ x ∷ []) others } in
+      v) (new_numbers d)
+      ∙ ap (λ l. let v : Held = record { first = l; second = packets_of (members ++ x ∷ []) others } in v)
+      (packets_new members (numbers_at places) x held.first_numbered)
+      ∙ ap (λ l. let v : Held = record { first = packets_of members (numbers_at places) ++ x ∷ []; second = l } in v)
+      (packets-more members x others held.second_numbered)
 
   -- a packet of the second block that is a member
   pub second_held : number_of members x < length members → AreHeld places count (others ++ number_of members x ∷ [])
@@ -192,27 +246,37 @@ module _ (places : List Place) (count : ℕ) (others : List ℕ) (held : AreHeld
     second_numbered = numbered_push members others (number_of members x) held.second_numbered inside;
   }
 
-  pub second_view : number_of members x < length members → held_at places count (others ++ number_of members x ∷ []) ≡ record (held_at places count others) { second = (held_at places count others).second ++ x ∷ [] }
-  second_view inside = ap (λ l. let v : Held = record { first = packets_of members (numbers_at places); second = l } in v) (packets_known members others x inside)
+  pub second_view : number_of members x < length members
+      → held_at places count (others ++ number_of members x ∷ []) ≡ record (held_at places count others)
+      { second = (held_at places count others).second ++ x ∷ [] }
+  second_view inside =
+      ap (λ l. let v : Held = record { first = packets_of members (numbers_at places); second = l } in v)
+      (packets_known members others x inside)
 
 -- a packet of these numbers is a member
-packets_are_members : (members : List Packet) (ns : List ℕ) → Numbered members ns → (p : Packet) → Contains (packets_of members ns) p → (n : ℕ) × (n < length members) × Contains ns n × (get_or members n Idle ≡ p)
+packets_are_members : (members : List Packet) (ns : List ℕ) → Numbered members ns → (p : Packet)
+    → Contains (packets_of members ns) p → (n : ℕ) × (n < length members) × Contains ns n × (get_or members n Idle ≡ p)
 packets_are_members members [] all p h = absurd (let low : h.0 < 0 = h.1 in omega arith)
 packets_are_members members (n ∷ ns) all p (zero, inside, is) = (n, all.0, (zero, (omega arith), refl), is)
 packets_are_members members (n ∷ ns) all p (suc k, inside, is) =
-    let rest = packets_are_members members ns all.1 p (k, (let low : suc k < suc (length (packets_of members ns)) = inside in omega arith), is) in
+    let rest = packets_are_members members ns all.1 p
+    (k, (let low : suc k < suc (length (packets_of members ns)) = inside in omega arith), is) in
     (rest.0, rest.1, (suc rest.2.0, (let low : rest.2.0 < length ns = rest.2.1 in omega arith), rest.2.2), rest.3)
 
-number_gives : (members : List Packet) (ns : List ℕ) (n : ℕ) → Contains ns n → Contains (packets_of members ns) (get_or members n Idle)
+number_gives : (members : List Packet) (ns : List ℕ) (n : ℕ) → Contains ns n
+    → Contains (packets_of members ns) (get_or members n Idle)
 number_gives members [] n h = absurd (let low : h.0 < 0 = h.1 in omega arith)
 number_gives members (m ∷ ns) n (zero, inside, is) = (zero, (omega arith), ap (λ k. get_or members k Idle) is)
 number_gives members (m ∷ ns) n (suc k, inside, is) =
     let rest = number_gives members ns n (k, (let low : suc k < suc (length ns) = inside in omega arith), is) in
     (suc rest.0, (let low : rest.0 < length (packets_of members ns) = rest.1 in omega arith), rest.2)
 
-numbers_back : (members : List Packet) → EachOnce members → (ns : List ℕ) → Numbered members ns → map (number_of members) (packets_of members ns) ≡ ns
+numbers_back : (members : List Packet) → EachOnce members → (ns : List ℕ) → Numbered members ns
+    → map (number_of members) (packets_of members ns) ≡ ns
 numbers_back members once [] all = refl
-numbers_back members once (n ∷ ns) all = ap (λ k. k ∷ map (number_of members) (packets_of members ns)) (once n Idle all.0) ∙ ap (λ l. n ∷ l) (numbers_back members once ns all.1)
+numbers_back members once (n ∷ ns) all =
+    ap (λ k. k ∷ map (number_of members) (packets_of members ns)) (once n Idle all.0)
+    ∙ ap (λ l. n ∷ l) (numbers_back members once ns all.1)
 
 module _ (places : List Place) (count : ℕ) (others : List ℕ) (held : AreHeld places count others) where
   abbrev ms : List Packet
@@ -222,7 +286,8 @@ module _ (places : List Place) (count : ℕ) (others : List ℕ) (held : AreHeld
   size = count_of places count held.within
 
   -- the blocks have the same packets exactly where the second has each number
-  pub members_by_numbers : ((k : ℕ) → k < count → Contains others k) ↔ SameMembers (held_at places count others).first (held_at places count others).second
+  pub members_by_numbers : ((k : ℕ) → k < count → Contains others k) ↔ SameMembers (held_at places count others).first
+      (held_at places count others).second
   members_by_numbers = (
     λ each p. (
       λ h.
@@ -236,24 +301,32 @@ module _ (places : List Place) (count : ℕ) (others : List ℕ) (held : AreHeld
     λ same k below.
         let inside : k < length ms = (let is = size in omega (arith, below, is)) in
         let p = get_or ms k Idle in
-        let n = packets_are_members ms others held.second_numbered p ((same p).0 ((held.members.same_set p).0 (k, inside, get_or_default ms k p Idle inside))) in
-        subst (Contains others) (sym (held.members.once n.0 Idle n.1) ∙ ap (number_of ms) n.3 ∙ held.members.once k Idle inside) n.2,
+        let n = packets_are_members ms others held.second_numbered p
+        ((same p).0 ((held.members.same_set p).0 (k, inside, get_or_default ms k p Idle inside))) in
+        subst (Contains others)
+        (sym (held.members.once n.0 Idle n.1) ∙ ap (number_of ms) n.3 ∙ held.members.once k Idle inside) n.2,
   )
 
   member_at : (k : ℕ) (d : Packet) (e : Place) → k < count → get_or ms k d ≡ (get_or places k e).member
   member_at k d e below = go places count k d e below held.within
     where
-      go : (places : List Place) (count k : ℕ) (d : Packet) (e : Place) → k < count → count ≤ length places → get_or (map (λ place. place.member) (take count places)) k d ≡ (get_or places k e).member
+      go : (places : List Place) (count k : ℕ) (d : Packet) (e : Place) → k < count → count ≤ length places
+          → get_or (map (λ place. place.member) (take count places)) k d ≡ (get_or places k e).member
       go [] count k d e below inside = absurd (let low : count ≤ 0 = inside in omega arith)
       go (p ∷ places) zero k d e below inside = absurd (omega arith)
       go (p ∷ places) (suc count) zero d e below inside = refl
-      go (p ∷ places) (suc count) (suc k) d e below inside = go places count k d e (omega arith) (let low : suc count ≤ suc (length places) = inside in omega arith)
+      go (p ∷ places) (suc count) (suc k) d e below inside =
+          go places count k d e (omega arith) (let low : suc count ≤ suc (length places) = inside in omega arith)
 
   -- any two packets that conflict take the same turns exactly where the number of one of them does with each before it
-  pub order_by_numbers : ((own : ℕ) → own < count → NumberedAlike places others own) ↔ SameOrder (held_at places count others).first (held_at places count others).second
+  pub order_by_numbers : ((own : ℕ) → own < count → NumberedAlike places others own) ↔ SameOrder
+      (held_at places count others).first (held_at places count others).second
   order_by_numbers = (
-    λ each. order_from_counts ms first second held.members (λ own inside. let low : own < count = (let is = size in omega (arith, is, inside)) in counted own low (each own low)),
-    λ order own below. numbered own (counts_from_order ms first second held.members order own (let is = size in omega (arith, is, below))) below,
+    λ each. order_from_counts ms first second held.members
+        (λ own inside. let low : own < count = (let is = size in omega (arith, is, inside)) in counted own low
+        (each own low)),
+    λ order own below. numbered own
+        (counts_from_order ms first second held.members order own (let is = size in omega (arith, is, below))) below,
   )
     where
       first : List Packet

@@ -1,5 +1,6 @@
 -- The packets of a block, each once, and their numbers.
-use Rattle.std.proofs.Common.{ℕ, zero, suc, ◌+◌, ◌<◌, ◌≤◌, ◌≡◌, ◌∙◌, refl, sym, ap, subst, Bool, true, false, cond, List, [], ◌∷◌, ◌++◌, inl, inr, length, arith, eqb, get_or}
+use Rattle.std.proofs.Common.{ℕ, zero, suc, ◌+◌, ◌<◌, ◌≤◌, ◌≡◌, ◌∙◌, refl, sym, ap, subst, Bool, true, false, cond}
+use Rattle.std.proofs.Common.{List, [], ◌∷◌, ◌++◌, inl, inr, length, arith, eqb, get_or}
 use Rattle.std.specs.Prelude.{Contains, not}
 use Rattle.std.proofs.lemmas.Bool.Decides.{Decides-eqb}
 use Rattle.std.proofs.lemmas.List.{length-append}
@@ -16,19 +17,23 @@ pub number-within : (members : List Packet) (p : Packet) → number_of members p
 number-within [] p = omega arith
 number-within (m ∷ members) p = by_case (not (same p m)) (number-within members p)
   where
-    by_case : (t : Bool) → number_of members p ≤ length members → cond t (1 + number_of members p) 0 ≤ suc (length members)
+    by_case : (t : Bool) → number_of members p ≤ length members
+        → cond t (1 + number_of members p) 0 ≤ suc (length members)
     by_case true below = omega arith
     by_case false below = omega arith
 
 -- a packet that has a number stands there
-pub stands_at : (members : List Packet) (p d : Packet) → number_of members p < length members → p ≡ get_or members (number_of members p) d
-stands_at members p d inside = (Decides-same p (get_or members (number_of members p) d)).0 (passes_at_first (same p) members d inside)
+pub stands_at : (members : List Packet) (p d : Packet) → number_of members p < length members
+    → p ≡ get_or members (number_of members p) d
+stands_at members p d inside =
+    (Decides-same p (get_or members (number_of members p) d)).0 (passes_at_first (same p) members d inside)
 
 pub place_contains : (members : List Packet) (p : Packet) → number_of members p < length members → Contains members p
 place_contains members p inside = (number_of members p, inside, sym (stands_at members p p inside))
 
 -- one more packet that is a member already
-pub known_member : (members block : List Packet) (x : Packet) → AreMembers members block → number_of members x < length members → AreMembers members (block ++ x ∷ [])
+pub known_member : (members block : List Packet) (x : Packet) → AreMembers members block
+    → number_of members x < length members → AreMembers members (block ++ x ∷ [])
 known_member members block x are inside = record {
   same_set = λ p. (
     λ h. Contains-append_left block (x ∷ []) p ((are.same_set p).0 h),
@@ -40,19 +45,22 @@ known_member members block x are inside = record {
   once = are.once;
 }
 
-pub get-push_old : (members : List Packet) (x d : Packet) (k : ℕ) → k < length members → get_or (members ++ x ∷ []) k d ≡ get_or members k d
+pub get-push_old : (members : List Packet) (x d : Packet) (k : ℕ) → k < length members
+    → get_or (members ++ x ∷ []) k d ≡ get_or members k d
 get-push_old [] x d k h = absurd (omega arith)
 get-push_old (m ∷ members) x d zero h = refl
 get-push_old (m ∷ members) x d (suc k) h = get-push_old members x d k (omega arith)
 
-pub get-push_new : (members : List Packet) (x d : Packet) (k : ℕ) → k ≡ length members → get_or (members ++ x ∷ []) k d ≡ x
+pub get-push_new : (members : List Packet) (x d : Packet) (k : ℕ) → k ≡ length members
+    → get_or (members ++ x ∷ []) k d ≡ x
 get-push_new [] x d zero h = refl
 get-push_new [] x d (suc k) h = absurd (omega arith)
 get-push_new (m ∷ members) x d zero h = absurd (omega arith)
 get-push_new (m ∷ members) x d (suc k) h = get-push_new members x d k (omega arith)
 
 -- one more packet that is no member yet
-pub new_member : (members block : List Packet) (x : Packet) → AreMembers members block → number_of members x ≡ length members → AreMembers (members ++ x ∷ []) (block ++ x ∷ [])
+pub new_member : (members block : List Packet) (x : Packet) → AreMembers members block
+    → number_of members x ≡ length members → AreMembers (members ++ x ∷ []) (block ++ x ∷ [])
 new_member members block x are none = record {
   same_set = λ p. (
     λ h. elim (Contains-push_cases members x p h) [
@@ -67,36 +75,46 @@ new_member members block x are none = record {
   once = λ k d h. at_place k d h;
 }
   where
-    found : (p : Packet) (t : Bool) → eqb (number_of members p) (length members) ≡ t → number_of (members ++ x ∷ []) p ≡ cond t (length members + cond (same p x) 0 1) (number_of members p)
-    found p t e = position_or_len_push (same p) members x ∙ ap (λ z. cond z (length members + cond (same p x) 0 1) (number_of members p)) e
+    found : (p : Packet) (t : Bool) → eqb (number_of members p) (length members) ≡ t
+        → number_of (members ++ x ∷ []) p ≡ cond t (length members + cond (same p x) 0 1) (number_of members p)
+    found p t e =
+        position_or_len_push (same p) members x
+        ∙ ap (λ z. cond z (length members + cond (same p x) 0 1) (number_of members p)) e
 
-    old_place : (k : ℕ) (d : Packet) → k < length members → number_of (members ++ x ∷ []) (get_or (members ++ x ∷ []) k d) ≡ k
+    old_place : (k : ℕ) (d : Packet) → k < length members
+        → number_of (members ++ x ∷ []) (get_or (members ++ x ∷ []) k d) ≡ k
     old_place k d inside =
         ap (number_of (members ++ x ∷ [])) (get-push_old members x d k inside)
         ∙ found (get_or members k d) false (apart (eqb (number_of members (get_or members k d)) (length members)) refl)
         ∙ are.once k d inside
       where
-        apart : (t : Bool) → eqb (number_of members (get_or members k d)) (length members) ≡ t → eqb (number_of members (get_or members k d)) (length members) ≡ false
+        apart : (t : Bool) → eqb (number_of members (get_or members k d)) (length members) ≡ t
+            → eqb (number_of members (get_or members k d)) (length members) ≡ false
         apart false e = e
         apart true e = absurd (
-            let here : number_of members (get_or members k d) ≡ length members = (Decides-eqb (number_of members (get_or members k d)) (length members)).0 e in
+            let here : number_of members (get_or members k d) ≡ length members =
+            (Decides-eqb (number_of members (get_or members k d)) (length members)).0 e in
             let there : number_of members (get_or members k d) ≡ k = are.once k d inside in
             omega arith)
 
-    new_place : (k : ℕ) (d : Packet) → k ≡ length members → number_of (members ++ x ∷ []) (get_or (members ++ x ∷ []) k d) ≡ k
+    new_place : (k : ℕ) (d : Packet) → k ≡ length members
+        → number_of (members ++ x ∷ []) (get_or (members ++ x ∷ []) k d) ≡ k
     new_place k d last =
         ap (number_of (members ++ x ∷ [])) (get-push_new members x d k last)
         ∙ found x true ((Decides-eqb (number_of members x) (length members)).1 none)
         ∙ ap (λ t. length members + cond t 0 1) (same-refl x)
         ∙ (let e : length members + 0 ≡ k = omega arith in e)
 
-    at_place : (k : ℕ) (d : Packet) → k < length (members ++ x ∷ []) → number_of (members ++ x ∷ []) (get_or (members ++ x ∷ []) k d) ≡ k
+    at_place : (k : ℕ) (d : Packet) → k < length (members ++ x ∷ [])
+        → number_of (members ++ x ∷ []) (get_or (members ++ x ∷ []) k d) ≡ k
     at_place k d inside = by_case (eqb k (length members)) refl
       where
-        by_case : (t : Bool) → eqb k (length members) ≡ t → number_of (members ++ x ∷ []) (get_or (members ++ x ∷ []) k d) ≡ k
+        by_case : (t : Bool) → eqb k (length members) ≡ t
+            → number_of (members ++ x ∷ []) (get_or (members ++ x ∷ []) k d) ≡ k
         by_case true e = new_place k d ((Decides-eqb k (length members)).0 e)
         by_case false e = old_place k d (
             let total : length (members ++ x ∷ []) ≡ length members + 1 = length-append members (x ∷ []) in
-            let other : k ≡ length members → ⊥ = λ i. true_is_not_false (sym ((Decides-eqb k (length members)).1 i) ∙ e) in
+            let other : k ≡ length members → ⊥ =
+            λ i. true_is_not_false (sym ((Decides-eqb k (length members)).1 i) ∙ e) in
             let bound : k < length (members ++ x ∷ []) = inside in
             omega arith)

@@ -1,5 +1,6 @@
 -- The order of packets that conflict, by the numbers of the packets.
-use Rattle.std.proofs.Common.{ℕ, ◌<◌, ◌≡◌, ◌∙◌, refl, sym, ap, subst, arith, Bool, true, false, None, inl, inr, List, length, get_or, map}
+use Rattle.std.proofs.Common.{ℕ, ◌<◌, ◌≡◌, ◌∙◌, refl, sym, ap, subst, arith, Bool, true, false, None, inl, inr, List}
+use Rattle.std.proofs.Common.{length, get_or, map}
 use Rattle.std.specs.Prelude.{Contains, ◌⊎◌, ◌||◌, filter}
 use Rattle.std.proofs.Math.Path.{fun_ext}
 use Rattle.std.proofs.lemmas.Bool.{cases_order}
@@ -46,35 +47,52 @@ other_way p q clash =
 
 -- a member and those before it that it conflicts with, and the count of their turns
 abbrev pub CountedAlike : List Packet → List Packet → List Packet → ℕ → Type 0
-CountedAlike members left right own = (rival : ℕ) (d e : Packet) → rival < own → Conflict (get_or members own d) (get_or members rival e) →
+CountedAlike members left right own =
+    (rival : ℕ) (d e : Packet) → rival < own → Conflict (get_or members own d) (get_or members rival e) →
     turns_of own rival (map (number_of members) left) ≡ turns_of own rival (map (number_of members) right)
 
-module _ (members left right : List Packet) (are : AreMembers members left) (counted : (own : ℕ) → own < length members → CountedAlike members left right own) where
+module _ (members left right : List Packet) (are : AreMembers members left)
+    (counted : (own : ℕ) → own < length members → CountedAlike members left right own) where
   -- of two members the later one comes first here
-  below : (one other : ℕ) (d e : Packet) → one < length members → other < one → Conflict (get_or members one d) (get_or members other e) →
+  below : (one other : ℕ) (d e : Packet) → one < length members → other < one
+      → Conflict (get_or members one d) (get_or members other e) →
       SameTurns left right (get_or members one d) (get_or members other e)
   below one other d e one_in low clash =
-      (same_turns_counted members are.once one other d e one_in (omega (arith, low, one_in)) (apart (get_or members one d) (get_or members other e) clash) left right).1
+      (same_turns_counted members are.once one other d e one_in (omega (arith, low, one_in))
+      (apart (get_or members one d) (get_or members other e) clash) left right).1
       (counted one one_in other d e low clash)
 
   pub order_from_counts : SameOrder left right
   order_from_counts p q hp hq clash =
       let one = (are.same_set p).1 hp in
       let other = (are.same_set q).1 hq in
-      let there : Conflict (get_or members one.0 p) (get_or members other.0 q) = subst (λ x. Conflict x (get_or members other.0 q)) (sym one.2) (subst (Conflict p) (sym other.2) clash) in
-      subst (λ x. SameTurns left right x q) one.2 (subst (SameTurns left right (get_or members one.0 p)) other.2 (by_place one.0 other.0 one.1 other.1 there (cases_order one.0 other.0)))
+      let there : Conflict (get_or members one.0 p) (get_or members other.0 q) =
+      subst (λ x. Conflict x (get_or members other.0 q)) (sym one.2) (subst (Conflict p) (sym other.2) clash) in
+      subst (λ x. SameTurns left right x q) one.2
+      (subst (SameTurns left right (get_or members one.0 p)) other.2
+      (by_place one.0 other.0 one.1 other.1 there (cases_order one.0 other.0)))
     where
-      by_place : (one other : ℕ) → one < length members → other < length members → Conflict (get_or members one p) (get_or members other q) → (one ≡ other) ⊎ ((one < other) ⊎ (other < one)) →
+      by_place : (one other : ℕ) → one < length members → other < length members
+          → Conflict (get_or members one p) (get_or members other q) → (one ≡ other) ⊎ ((one < other) ⊎ (other < one)) →
           SameTurns left right (get_or members one p) (get_or members other q)
-      by_place one other one_in other_in there (inr (inl low)) = turned (get_or members other q) (get_or members one p) left right (below other one q p other_in low (other_way (get_or members one p) (get_or members other q) there))
-      by_place one other one_in other_in there (inl e) = absurd (apart (get_or members one p) (get_or members other q) there (get_or_default members one p q one_in ∙ ap (λ k. get_or members k q) e))
+      by_place one other one_in other_in there (inr (inl low)) =
+          turned (get_or members other q) (get_or members one p) left right
+          (below other one q p other_in low (other_way (get_or members one p) (get_or members other q) there))
+      by_place one other one_in other_in there (inl e) =
+          absurd (apart (get_or members one p) (get_or members other q) there
+          (get_or_default members one p q one_in ∙ ap (λ k. get_or members k q) e))
       by_place one other one_in other_in there (inr (inr low)) = below one other p q one_in low there
 
-stands : (members block : List Packet) → AreMembers members block → (k : ℕ) (d : Packet) → k < length members → Contains block (get_or members k d)
-stands members block are k d inside = (are.same_set (get_or members k d)).0 (k, inside, get_or_default members k (get_or members k d) d inside)
+stands : (members block : List Packet) → AreMembers members block → (k : ℕ) (d : Packet) → k < length members
+    → Contains block (get_or members k d)
+stands members block are k d inside =
+    (are.same_set (get_or members k d)).0 (k, inside, get_or_default members k (get_or members k d) d inside)
 
-pub counts_from_order : (members left right : List Packet) → AreMembers members left → SameOrder left right → (own : ℕ) → own < length members → CountedAlike members left right own
+pub counts_from_order : (members left right : List Packet) → AreMembers members left → SameOrder left right → (own : ℕ)
+    → own < length members → CountedAlike members left right own
 counts_from_order members left right are order own own_in rival d e rival_before clash =
     let rival_in : rival < length members = (omega (arith, rival_before, own_in)) in
-    (same_turns_counted members are.once own rival d e own_in rival_in (apart (get_or members own d) (get_or members rival e) clash) left right).0
-    (order (get_or members own d) (get_or members rival e) (stands members left are own d own_in) (stands members left are rival e rival_in) clash)
+    (same_turns_counted members are.once own rival d e own_in rival_in
+    (apart (get_or members own d) (get_or members rival e) clash) left right).0
+    (order (get_or members own d) (get_or members rival e) (stands members left are own d own_in)
+    (stands members left are rival e rival_in) clash)

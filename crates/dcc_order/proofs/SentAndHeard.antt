@@ -15,11 +15,13 @@ all_frames (one ∷ more) = (frames.spellings_are_frames one.packet one.fits, al
 pub nothing_else_is_seen : NothingElseIsSeen
 nothing_else_is_seen sent = seen-sent_all (map spelled_out sent) (all_frames sent)
 
-frames_at_last_halves : (place : ℕ) (all : List SentPacket) → map spelling (map (λ (one : SentPacket). one.packet) all) ≡ frames_in (at_last_halves place (map spelled_out all))
+frames_at_last_halves : (place : ℕ) (all : List SentPacket)
+    → map spelling (map (λ (one : SentPacket). one.packet) all) ≡ frames_in (at_last_halves place (map spelled_out all))
 unfolding at_last_halves
 frames_at_last_halves place [] = refl
 frames_at_last_halves place (one ∷ more) =
-    ap (λ rest. spelling one.packet ∷ rest) (frames_at_last_halves (place + length (sent (spelling one.packet) one.timing)) more)
+    ap (λ rest. spelling one.packet ∷ rest)
+    (frames_at_last_halves (place + length (sent (spelling one.packet) one.timing)) more)
 
 pub sent_packets_are_heard : SentPacketsAreHeard
 sent_packets_are_heard all = frames_at_last_halves 0 all ∙ sym (ap frames_in (nothing_else_is_seen all))

@@ -8,7 +8,8 @@ pub no_packet : (packets : List Packet) → AreSpelled packets [] → packets �
 no_packet [] e = refl
 no_packet (p ∷ packets) e = absurd (cc)
 
-pub one_packet : (packets : List Packet) (frame : List ℕ) (p : Packet) → ((q : Packet) → spelling q ≡ frame → q ≡ p) → AreSpelled packets (frame ∷ []) → packets ≡ p ∷ []
+pub one_packet : (packets : List Packet) (frame : List ℕ) (p : Packet) → ((q : Packet) → spelling q ≡ frame → q ≡ p)
+    → AreSpelled packets (frame ∷ []) → packets ≡ p ∷ []
 one_packet [] frame p only e = absurd (cc)
 one_packet (q ∷ []) frame p only e = let same : spelling q ≡ frame = cc in ap (λ (r : Packet). r ∷ []) (only q same)
 one_packet (q ∷ r ∷ packets) frame p only e = absurd (cc)

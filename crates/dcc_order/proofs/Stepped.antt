@@ -1,5 +1,6 @@
 -- A walk over a list that changes one element at a time.
-use Rattle.std.proofs.Common.{◌≡◌, ℕ, zero, suc, ◌+◌, ◌<◌, ◌≤◌, List, [], ◌∷◌, length, get_or, refl, arith, subst, add-one}
+use Rattle.std.proofs.Common.{◌≡◌, ℕ, zero, suc, ◌+◌, ◌<◌, ◌≤◌, List, [], ◌∷◌, length, get_or, refl, arith, subst}
+use Rattle.std.proofs.Common.{add-one}
 use Rattle.std.proofs.Math.ListN.{set}
 use Rattle.std.specs.Prelude.{⊤}
 use Rattle.std.specs.List.{AllZip}
@@ -13,7 +14,8 @@ SteppedTo R (suc n) (x ∷ xs) [] = ⊥
 SteppedTo R (suc n) (x ∷ xs) (y ∷ ys) = R x y × SteppedTo R n xs ys
 
 -- one more element is changed, as it was first
-pub SteppedTo-set : {A : Type 0} → (R : A → A → Type 0) (n : ℕ) (xs ys : List A) (d y : A) → n < length xs → SteppedTo R n xs ys → R (get_or xs n d) y → SteppedTo R (suc n) xs (set ys n y)
+pub SteppedTo-set : {A : Type 0} → (R : A → A → Type 0) (n : ℕ) (xs ys : List A) (d y : A) → n < length xs
+    → SteppedTo R n xs ys → R (get_or xs n d) y → SteppedTo R (suc n) xs (set ys n y)
 SteppedTo-set R n [] ys d y h s r = absurd (omega arith)
 SteppedTo-set R zero (x ∷ xs) [] d y h s r = absurd (cc)
 SteppedTo-set R zero (x ∷ xs) (z ∷ zs) d y h s r = let e : zs ≡ xs = cc in (r, e)
@@ -21,7 +23,8 @@ SteppedTo-set R (suc n) (x ∷ xs) [] d y h s r = s
 SteppedTo-set R (suc n) (x ∷ xs) (z ∷ zs) d y h s r = (s.0, SteppedTo-set R n xs zs d y (omega arith) s.1 r)
 
 -- the element that is changed next is as it was
-pub SteppedTo-next : {A : Type 0} → (R : A → A → Type 0) (n : ℕ) (xs ys : List A) (d : A) → SteppedTo R n xs ys → get_or ys n d ≡ get_or xs n d
+pub SteppedTo-next : {A : Type 0} → (R : A → A → Type 0) (n : ℕ) (xs ys : List A) (d : A) → SteppedTo R n xs ys
+    → get_or ys n d ≡ get_or xs n d
 SteppedTo-next R zero xs ys d s = rw s refl
 SteppedTo-next R (suc n) [] [] d s = refl
 SteppedTo-next R (suc n) [] (z ∷ zs) d s = absurd s
@@ -29,7 +32,8 @@ SteppedTo-next R (suc n) (x ∷ xs) [] d s = absurd s
 SteppedTo-next R (suc n) (x ∷ xs) (z ∷ zs) d s = SteppedTo-next R n xs zs d s.1
 
 -- all elements were changed
-pub AllZip-from_stepped : {A : Type 0} → (R : A → A → Type 0) (n : ℕ) (xs ys : List A) → length xs ≤ n → SteppedTo R n xs ys → AllZip R xs ys
+pub AllZip-from_stepped : {A : Type 0} → (R : A → A → Type 0) (n : ℕ) (xs ys : List A) → length xs ≤ n
+    → SteppedTo R n xs ys → AllZip R xs ys
 AllZip-from_stepped R zero [] [] h s = tt
 AllZip-from_stepped R zero [] (y ∷ ys) h s = absurd (cc)
 AllZip-from_stepped R zero (x ∷ xs) ys h s = absurd (omega arith)
@@ -39,13 +43,15 @@ AllZip-from_stepped R (suc n) (x ∷ xs) [] h s = s
 AllZip-from_stepped R (suc n) (x ∷ xs) (y ∷ ys) h s = (s.0, AllZip-from_stepped R n xs ys (omega arith) s.1)
 
 -- one more element is changed, as it is now
-pub SteppedTo-more : {A : Type 0} → (R : A → A → Type 0) (n : ℕ) (xs ys : List A) (d y : A) → n < length xs → SteppedTo R n xs ys → R (get_or ys n d) y → SteppedTo R (n + 1) xs (set ys n y)
+pub SteppedTo-more : {A : Type 0} → (R : A → A → Type 0) (n : ℕ) (xs ys : List A) (d y : A) → n < length xs
+    → SteppedTo R n xs ys → R (get_or ys n d) y → SteppedTo R (n + 1) xs (set ys n y)
 SteppedTo-more {A} R n xs ys d y h s r =
     let P : A → Type 0 = λ z. R z y in
     rw add-one (SteppedTo-set R n xs ys d y h s (subst P (SteppedTo-next R n xs ys d s) r))
 
 -- two relations of each element, one after the other
-pub AllZip-then : {A B C : Type 0} → (R : A → B → Type 0) (S : B → C → Type 0) (T : A → C → Type 0) → ((x : A) (y : B) (z : C) → R x y → S y z → T x z)
+pub AllZip-then : {A B C : Type 0} → (R : A → B → Type 0) (S : B → C → Type 0) (T : A → C → Type 0)
+    → ((x : A) (y : B) (z : C) → R x y → S y z → T x z)
     → (xs : List A) (ys : List B) (zs : List C) → AllZip R xs ys → AllZip S ys zs → AllZip T xs zs
 AllZip-then R S T join [] [] [] r s = tt
 AllZip-then R S T join [] [] (z ∷ zs) r s = s

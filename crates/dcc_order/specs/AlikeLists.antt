@@ -1,5 +1,6 @@
 -- When two lists of packets are alike for a decoder.
-use Rattle.std.specs.Prelude.{◌≡◌, ◌↔◌, ◌&&◌, ◌||◌, Bool, false, List, [], ◌∷◌, Option, Some, None, if◌then◌else◌, filter, Contains}
+use Rattle.std.specs.Prelude.{◌≡◌, ◌↔◌, ◌&&◌, ◌||◌, Bool, false, List, [], ◌∷◌, Option, Some, None, if◌then◌else◌}
+use Rattle.std.specs.Prelude.{filter, Contains}
 use Rattle.dcc_packet.specs.declared.packet.Packet.{Packet}
 use Rattle.dcc_packet.specs.SamePacket.{same}
 use Rattle.dcc_regs.specs.declared.register.Who.{Who}
@@ -45,7 +46,8 @@ cut_for who packets = cut (capped (heard who packets))
 -- a list without each item that is equal to the one before it
 abbrev pub unrepeated : Option Packet → List Packet → List Packet
 unrepeated before [] = []
-unrepeated before (p ∷ later) = if is_repeated before p then unrepeated (Some p) later else p ∷ unrepeated (Some p) later
+unrepeated before (p ∷ later) =
+    if is_repeated before p then unrepeated (Some p) later else p ∷ unrepeated (Some p) later
 
 -- a packet is one of two
 abbrev pub is_one_of : Packet → Packet → Packet → Bool
@@ -75,7 +77,8 @@ pub record AlikeBlocks (left right : List Packet) : Type 0 where
 -- two cut lists have the same writes, and alike blocks before, between and behind them
 abbrev pub AlikeCuts : Cut → Cut → Type 0
 AlikeCuts (LastBlock left) (LastBlock right) = AlikeBlocks left right
-AlikeCuts (Block left write lefts) (Block right other rights) = AlikeBlocks left right × (write ≡ other) × AlikeCuts lefts rights
+AlikeCuts (Block left write lefts) (Block right other rights) =
+    AlikeBlocks left right × (write ≡ other) × AlikeCuts lefts rights
 AlikeCuts (LastBlock left) (Block right other rights) = ⊥
 AlikeCuts (Block left write lefts) (LastBlock right) = ⊥
 

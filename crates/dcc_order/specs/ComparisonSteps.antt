@@ -37,5 +37,6 @@ begun_block c = record c { held = nothing_held; block = c.block + 1; left_end = 
 -- a write ends the right block: the verdict is settled, or the next block of both lists begins
 abbrev pub ClosesRight : Comparison → Packet → Comparison → Type 0
 ClosesRight c p new =
-    ((v : Verdict) × IsVerdictAtEnds c.block c.held.first c.left_end c.held.second (Some p) v × (new ≡ heard_right (record c { wants = Done v }) p))
+    ((v : Verdict) × IsVerdictAtEnds c.block c.held.first c.left_end c.held.second (Some p) v
+    × (new ≡ heard_right (record c { wants = Done v }) p))
     ⊎ (AlikeBlocks c.held.first c.held.second × EndAlike c.left_end (Some p) × (new ≡ heard_right (begun_block c) p))

@@ -1,5 +1,6 @@
 -- What a comparison of two lists keeps, and the lists that it stands for.
-use Rattle.std.specs.Prelude.{ℕ, zero, suc, ◌≡◌, ◌≤◌, ◌⊎◌, true, false, List, [], Option, Some, None, is_none, length, fold}
+use Rattle.std.specs.Prelude.{ℕ, zero, suc, ◌≡◌, ◌≤◌, ◌⊎◌, true, false, List, [], Option, Some, None, is_none, length}
+use Rattle.std.specs.Prelude.{fold}
 use Rattle.dcc_packet.specs.declared.packet.Packet.{Packet}
 use Rattle.dcc_regs.specs.Heard.{heard}
 use Rattle.dcc_regs.specs.Result.{is_repeated}
@@ -36,7 +37,8 @@ open_cut block end = cut_then block end (LastBlock [])
 
 -- the verdict on two blocks that have ended so, whatever is behind their writes
 abbrev pub IsVerdictAtEnds : ℕ → List Packet → Option Packet → List Packet → Option Packet → Verdict → Type 0
-IsVerdictAtEnds k left write right other verdict = (lefts rights : Cut) → IsVerdictFrom k (cut_then left write lefts) (cut_then right other rights) verdict
+IsVerdictAtEnds k left write right other verdict =
+    (lefts rights : Cut) → IsVerdictFrom k (cut_then left write lefts) (cut_then right other rights) verdict
 
 -- two blocks end with one write
 abbrev pub EndAlike : Option Packet → Option Packet → Type 0
@@ -48,12 +50,14 @@ EndAlike None None = ⊥
 -- the difference of two blocks of number k
 abbrev pub BlocksDiffer : ℕ → List Packet → List Packet → Verdict → Type 0
 BlocksDiffer k left right verdict =
-    (¬ SameMembers left right × (verdict ≡ Members k)) ⊎ (SameMembers left right × ¬ SameOrder left right × (verdict ≡ Order k))
+    (¬ SameMembers left right × (verdict ≡ Members k))
+    ⊎ (SameMembers left right × ¬ SameOrder left right × (verdict ≡ Order k))
 
 -- two cut lists begin with so many alike blocks and equal writes, and go on as these
 abbrev pub AlikeUpTo : ℕ → Cut → Cut → Cut → Cut → Type 0
 AlikeUpTo zero x y u w = (x ≡ u) × (y ≡ w)
-AlikeUpTo (suc k) (Block left write x) (Block right other y) u w = AlikeBlocks left right × (write ≡ other) × AlikeUpTo k x y u w
+AlikeUpTo (suc k) (Block left write x) (Block right other y) u w =
+    AlikeBlocks left right × (write ≡ other) × AlikeUpTo k x y u w
 AlikeUpTo (suc k) (LastBlock left) y u w = ⊥
 AlikeUpTo (suc k) (Block left write x) (LastBlock right) u w = ⊥
 
@@ -69,7 +73,8 @@ pub record WantsLeft (c : Comparison) (lists : Lists) : Type 0 where
   pub goes_on : GoesOn c lists
   pub left_open : lists.left_ended ≡ false
   pub right_open : lists.right_ended ≡ false
-  pub up_to : AlikeUpTo c.block (cut_for c.who lists.left) (cut_for c.who lists.right) (LastBlock c.held.first) (LastBlock [])
+  pub up_to : AlikeUpTo c.block (cut_for c.who lists.left) (cut_for c.who lists.right) (LastBlock c.held.first)
+      (LastBlock [])
   pub none_yet : c.held.second ≡ []
 
 -- while the right side is wanted, the block of the left one has ended, by a write or with the list
@@ -77,7 +82,8 @@ pub record WantsRight (c : Comparison) (lists : Lists) : Type 0 where
   pub goes_on : GoesOn c lists
   pub left_end : lists.left_ended ≡ is_none c.left_end
   pub right_open : lists.right_ended ≡ false
-  pub up_to : AlikeUpTo c.block (cut_for c.who lists.left) (cut_for c.who lists.right) (open_cut c.held.first c.left_end) (LastBlock c.held.second)
+  pub up_to : AlikeUpTo c.block (cut_for c.who lists.left) (cut_for c.who lists.right)
+      (open_cut c.held.first c.left_end) (LastBlock c.held.second)
 
 -- a verdict is settled, and is Alike only once both lists have ended
 pub record Settled (c : Comparison) (lists : Lists) (verdict : Verdict) : Type 0 where

@@ -1,4 +1,5 @@
--- The bytes of a frame as one number, by which a packet is found among others. This is how code looks, and no definition to believe.
+-- The bytes of a frame as one number, by which a packet is found among others. This is how code looks, and no
+-- definition to believe.
 use Rattle.std.specs.Prelude.{ℕ, ◌+◌, ◌*◌, ◌≡◌, Option, List, [], ◌∷◌}
 use Rattle.std.specs.List.{position}
 use Rattle.dcc_wire.specs.Frames.{IsFrame}
@@ -13,4 +14,5 @@ frame_number (byte ∷ bytes) = byte + 256 * frame_number bytes
 
 -- the place of each packet among members is found by the number of its frame
 abbrev pub IsIndex : (ℕ → Option ℕ) → List Packet → Type 0
-IsIndex found members = (p : Packet) → IsFrame (spelling p) → found (frame_number (spelling p)) ≡ position (same p) members
+IsIndex found members =
+    (p : Packet) → IsFrame (spelling p) → found (frame_number (spelling p)) ≡ position (same p) members

@@ -1,5 +1,6 @@
 -- Two lists of packets that are given packet by packet, and what can be said of them before they end.
-use Rattle.std.specs.Prelude.{ℕ, zero, suc, ◌+◌, ◌≡◌, min, Bool, true, false, List, [], ◌∷◌, ◌++◌, Option, Some, None, length}
+use Rattle.std.specs.Prelude.{ℕ, zero, suc, ◌+◌, ◌≡◌, min, Bool, true, false, List, [], ◌∷◌, ◌++◌, Option, Some, None}
+use Rattle.std.specs.Prelude.{length}
 use Rattle.dcc_packet.specs.declared.packet.Packet.{Packet}
 use Rattle.dcc_regs.specs.declared.register.Who.{Who}
 use Rattle.dcc_order.specs.declared.verdict.Verdict.{Verdict}
@@ -33,7 +34,8 @@ MayFollow false further = Unit {0}
 
 -- a verdict is that of every two lists that continue these
 abbrev pub IsVerdictOfAll : Who → Lists → Verdict → Type 0
-IsVerdictOfAll who lists verdict = (lefts rights : List Packet) → MayFollow lists.left_ended lefts → MayFollow lists.right_ended rights →
+IsVerdictOfAll who lists verdict =
+    (lefts rights : List Packet) → MayFollow lists.left_ended lefts → MayFollow lists.right_ended rights →
     IsVerdict who (lists.left ++ lefts) (lists.right ++ rights) verdict
 
 -- how many writes a cut list has

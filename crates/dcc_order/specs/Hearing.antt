@@ -30,10 +30,11 @@ abbrev pub ArePackets : List Packet → List ℕ → Type 0
 ArePackets packets halves = AreSpelled packets (frames_in (seen halves))
 
 -- a decoder has heard a list of halves: it has heard the packets in them
-pub record HasHeardHalves (halves : List ℕ) (who : Who) (start : RegisterMap) (who' : Who) (now : RegisterMap) : Type 0 where
-  pub packets : List Packet
-  pub seen : ArePackets packets halves
-  pub heard : HasHeard packets who start who' now
+pub record HasHeardHalves (halves : List ℕ) (who : Who) (start : RegisterMap) (who' : Who) (now : RegisterMap) : Type 0
+  where
+    pub packets : List Packet
+    pub seen : ArePackets packets halves
+    pub heard : HasHeard packets who start who' now
 
 -- the halves of a track that comes in pieces
 abbrev pub joined : List (Bor (List ℕ)) → List ℕ

@@ -8,7 +8,8 @@ use Rattle.dcc_order.specs.Hearing.{ArePackets, HasHeardHalves}
 
 -- a list of halves holds one list of packets
 abbrev pub OneListOfPackets : Type 0
-OneListOfPackets = (halves : List ℕ) (one other : List Packet) → ArePackets one halves → ArePackets other halves → one ≡ other
+OneListOfPackets =
+    (halves : List ℕ) (one other : List Packet) → ArePackets one halves → ArePackets other halves → one ≡ other
 
 -- a decoder that has heard no half is as it was
 abbrev pub NoHalvesHeard : Type 0
@@ -25,4 +26,5 @@ pub record AlikeHalves (who : Who) (left right : List ℕ) : Type 0 where
 -- decoders that are equal at the start and hear such halves, each in its own way, hold the same in each register
 abbrev pub AlikeHalvesLeaveTheSame : Type 0
 AlikeHalvesLeaveTheSame = (who : Who) (start : RegisterMap) (left right : List ℕ) → AlikeHalves who left right →
-    (one other : Who) (now after : RegisterMap) → HasHeardHalves left who start one now → HasHeardHalves right who start other after → now ≡ after
+    (one other : Who) (now after : RegisterMap) → HasHeardHalves left who start one now
+    → HasHeardHalves right who start other after → now ≡ after

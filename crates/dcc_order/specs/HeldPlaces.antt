@@ -40,5 +40,7 @@ pub record AreHeld (places : List Place) (count : ℕ) (others : List ℕ) : Typ
 
 -- a member takes the same turns, by its number, with each member before it that it conflicts with
 abbrev pub NumberedAlike : List Place → List ℕ → ℕ → Type 0
-NumberedAlike places others own = (rival : ℕ) (d e : Place) → rival < own → Conflict (slice_index_or places own d).member (slice_index_or places rival e).member →
+NumberedAlike places others own =
+    (rival : ℕ) (d e : Place) → rival < own
+    → Conflict (slice_index_or places own d).member (slice_index_or places rival e).member →
     turns_of own rival (numbers_at places) ≡ turns_of own rival others

@@ -13,7 +13,8 @@ use Rattle.dcc_order.specs.AlikeLists.{Cut, LastBlock, Block, cut_for, AlikeFor}
 
 -- whatever the registers are at the start, the two lists leave the same in each
 abbrev pub LeaveTheSame : Who → List Packet → List Packet → Type 0
-LeaveTheSame who left right = (start : RegisterMap) (register : Register) → result who start left register ≡ result who start right register
+LeaveTheSame who left right =
+    (start : RegisterMap) (register : Register) → result who start left register ≡ result who start right register
 
 -- lists that are alike for a decoder leave the same in each of its registers: the plain ones, the CV bits and Pending
 abbrev pub AlikeListsLeaveTheSame : Type 0
@@ -29,8 +30,11 @@ through_block (suc k) (Block block write rest) = block ++ write ∷ through_bloc
 abbrev pub AlikeListsAgreeAfterEachBlock : Type 0
 AlikeListsAgreeAfterEachBlock = (who : Who) (left right : List Packet) → AlikeFor who left right →
     (k : ℕ) (start : RegisterMap) (cv place : ℕ) →
-    result_of_heard start (through_block k (cut_for who left)) (CvBit cv place) ≡ result_of_heard start (through_block k (cut_for who right)) (CvBit cv place)
+    result_of_heard start (through_block k (cut_for who left)) (CvBit cv place) ≡ result_of_heard start
+    (through_block k (cut_for who right)) (CvBit cv place)
 
 -- the verdict on two lists is Alike exactly where they are alike for the decoder
 abbrev pub AlikeIsTheVerdict : Type 0
-AlikeIsTheVerdict = (who : Who) (left right : List Packet) (verdict : Verdict) → IsVerdict who left right verdict → (verdict ≡ Alike) ↔ AlikeFor who left right
+AlikeIsTheVerdict =
+    (who : Who) (left right : List Packet) (verdict : Verdict) → IsVerdict who left right verdict
+    → (verdict ≡ Alike) ↔ AlikeFor who left right

@@ -19,21 +19,26 @@ abbrev pub cut_more : Cut → Packet → Cut
 cut_more (LastBlock block) p = if is_own_write p then Block block p (LastBlock []) else LastBlock (block ++ p ∷ [])
 cut_more (Block block write rest) p = Block block write (cut_more rest p)
 
--- a packet that is not heard changes nothing, nor does an own write behind two copies of it; any other ends the last block or joins it
+-- a packet that is not heard changes nothing, nor does an own write behind two copies of it; any other ends the last
+-- block or joins it
 abbrev pub OneMorePacket : Type 0
 OneMorePacket = (who : Who) (packets : List Packet) (p : Packet) →
     cut_for who (packets ++ p ∷ []) ≡
     (if hears who p
-    then (if is_own_write p && ends_with_two (heard who packets) p then cut_for who packets else cut_more (cut_for who packets) p)
+    then (if is_own_write p && ends_with_two (heard who packets) p then cut_for who packets else cut_more
+    (cut_for who packets) p)
     else cut_for who packets)
 
--- a cut list goes on as another: its finished blocks and their writes are the same there, and its last block begins one there
+-- a cut list goes on as another: its finished blocks and their writes are the same there, and its last block begins one
+-- there
 abbrev pub GoesOnAs : Cut → Cut → Type 0
 GoesOnAs (LastBlock block) (LastBlock longer) = (more : List Packet) × (longer ≡ block ++ more)
 GoesOnAs (LastBlock block) (Block longer write rest) = (more : List Packet) × (longer ≡ block ++ more)
-GoesOnAs (Block block write rest) (Block same_block same_write further) = (same_block ≡ block) × (same_write ≡ write) × GoesOnAs rest further
+GoesOnAs (Block block write rest) (Block same_block same_write further) =
+    (same_block ≡ block) × (same_write ≡ write) × GoesOnAs rest further
 GoesOnAs (Block block write rest) (LastBlock longer) = ⊥
 
 -- whatever packets follow, the blocks that a write has ended stay as they are
 abbrev pub FinishedBlocksStay : Type 0
-FinishedBlocksStay = (who : Who) (packets further : List Packet) → GoesOnAs (cut_for who packets) (cut_for who (packets ++ further))
+FinishedBlocksStay =
+    (who : Who) (packets further : List Packet) → GoesOnAs (cut_for who packets) (cut_for who (packets ++ further))

@@ -19,8 +19,10 @@ spelled_out one = record { bytes = spelling one.packet; timing = one.timing }
 
 -- the halves of such packets that are sent one after the other hold these packets, in order
 abbrev pub SentPacketsAreHeard : Type 0
-SentPacketsAreHeard = (sent : List SentPacket) → ArePackets (map (λ one. one.packet) sent) (sent_all (map spelled_out sent))
+SentPacketsAreHeard =
+    (sent : List SentPacket) → ArePackets (map (λ one. one.packet) sent) (sent_all (map spelled_out sent))
 
 -- their frames are seen in them, each at its last half, and nothing else is: no refusal either
 abbrev pub NothingElseIsSeen : Type 0
-NothingElseIsSeen = (sent : List SentPacket) → seen (sent_all (map spelled_out sent)) ≡ at_last_halves 0 (map spelled_out sent)
+NothingElseIsSeen =
+    (sent : List SentPacket) → seen (sent_all (map spelled_out sent)) ≡ at_last_halves 0 (map spelled_out sent)

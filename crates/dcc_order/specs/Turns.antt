@@ -1,5 +1,6 @@
 -- How two packets take turns in a block, in short: how many turns they take, and which has the last.
-use Rattle.std.specs.Prelude.{ℕ, ◌+◌, ◌≡◌, ◌<◌, slice_index_or, ◌||◌, ◌==◌, true, false, List, [], ◌∷◌, Option, Some, None, filter, fold, length, if◌then◌else◌}
+use Rattle.std.specs.Prelude.{ℕ, ◌+◌, ◌≡◌, ◌<◌, slice_index_or, ◌||◌, ◌==◌, true, false, List, [], ◌∷◌, Option, Some}
+use Rattle.std.specs.Prelude.{None, filter, fold, length, if◌then◌else◌}
 use Rattle.dcc_packet.specs.declared.packet.Packet.{Packet}
 use Rattle.dcc_regs.specs.Result.{is_repeated}
 use Rattle.dcc_order.specs.declared.turns.Turns.{Turns}
@@ -16,7 +17,8 @@ last_turn p q block = last_behind None (filter (is_one_of p q) block)
 
 -- how many turns a packet and its rival take in a block, and whether the rival has the last
 abbrev pub turns_taken : Packet → Packet → List Packet → Turns
-turns_taken p rival block = record { count = length (turns p rival block); rival_last = is_repeated (last_turn p rival block) rival }
+turns_taken p rival block =
+    record { count = length (turns p rival block); rival_last = is_repeated (last_turn p rival block) rival }
 
 -- before any turn
 abbrev pub no_turns : Turns
@@ -24,7 +26,8 @@ no_turns = record { count = 0; rival_last = false }
 
 -- the packet itself comes: it takes a turn unless it had the last one
 abbrev pub own_turn : Turns → Turns
-own_turn taken = if taken.rival_last || taken.count == 0 then record { count = taken.count + 1; rival_last = false } else taken
+own_turn taken =
+    if taken.rival_last || taken.count == 0 then record { count = taken.count + 1; rival_last = false } else taken
 
 -- its rival comes
 abbrev pub rival_turn : Turns → Turns

@@ -17,9 +17,12 @@ BlocksVerdict k left right verdict further =
 abbrev pub IsVerdictFrom : ℕ → Cut → Cut → Verdict → Type 0
 IsVerdictFrom k (LastBlock left) (LastBlock right) verdict = BlocksVerdict k left right verdict (verdict ≡ Alike)
 IsVerdictFrom k (Block left write lefts) (Block right other rights) verdict =
-    BlocksVerdict k left right verdict (((write ≢ other) × (verdict ≡ Writes)) ⊎ ((write ≡ other) × IsVerdictFrom (k + 1) lefts rights verdict))
-IsVerdictFrom k (LastBlock left) (Block right other rights) verdict = BlocksVerdict k left right verdict (verdict ≡ Writes)
-IsVerdictFrom k (Block left write lefts) (LastBlock right) verdict = BlocksVerdict k left right verdict (verdict ≡ Writes)
+    BlocksVerdict k left right verdict
+    (((write ≢ other) × (verdict ≡ Writes)) ⊎ ((write ≡ other) × IsVerdictFrom (k + 1) lefts rights verdict))
+IsVerdictFrom k (LastBlock left) (Block right other rights) verdict =
+    BlocksVerdict k left right verdict (verdict ≡ Writes)
+IsVerdictFrom k (Block left write lefts) (LastBlock right) verdict =
+    BlocksVerdict k left right verdict (verdict ≡ Writes)
 
 -- the verdict on two lists of packets for a decoder
 abbrev pub IsVerdict : Who → List Packet → List Packet → Verdict → Type 0

@@ -1,6 +1,7 @@
 //! Two lists of packets, compared while they are given.
 
-ghost use Rattle.std.specs.Prelude.{◌≡◌, ◌<◌, ◌≤◌, ◌-◌, ◌^◌, true, false, Some, None, OnOk, OnErr, IfSome, IsTrue, length};
+ghost use Rattle.std.specs.Prelude.{◌≡◌, ◌<◌, ◌≤◌, ◌-◌, ◌^◌, true, false, Some, None, OnOk, OnErr, IfSome, IsTrue};
+ghost use Rattle.std.specs.Prelude.{length};
 ghost use Rattle.dcc_regs.specs.Heard.{hears as is_heard_by};
 ghost use Rattle.dcc_order.specs.declared.verdict.Verdict.{Verdict as VerdictOf};
 
@@ -57,12 +58,15 @@ impl Comparer {
         ensures left { result ≡ Wants.Left → (lists : Lists) → StandsFor self.now lists → lists.left_ended ≡ false }
         ensures right { result ≡ Wants.Right → (lists : Lists) → StandsFor self.now lists → lists.right_ended ≡ false }
         // and where both were given, the verdict is there.
-        ensures ends { (lists : Lists) → StandsFor self.now lists → lists.left_ended ≡ true → lists.right_ended ≡ true → (v : VerdictOf) × (result ≡ Wants.Done v) }
+        ensures ends { (lists : Lists) → StandsFor self.now lists → lists.left_ended ≡ true → lists.right_ended ≡ true
+            → (v : VerdictOf) × (result ≡ Wants.Done v) }
 
         // The verdict is that of all lists that continue those that were given,
-        ensures done { (v : VerdictOf) → result ≡ Wants.Done v → (lists : Lists) → StandsFor self.now lists → IsVerdictOfAll self.now.who lists v }
+        ensures done { (v : VerdictOf) → result ≡ Wants.Done v → (lists : Lists) → StandsFor self.now lists
+            → IsVerdictOfAll self.now.who lists v }
         // and is Alike only once both have ended.
-        ensures alike { result ≡ Wants.Done Verdict.Alike → (lists : Lists) → StandsFor self.now lists → (lists.left_ended ≡ true) × (lists.right_ended ≡ true) }
+        ensures alike { result ≡ Wants.Done Verdict.Alike → (lists : Lists) → StandsFor self.now lists
+            → (lists.left_ended ≡ true) × (lists.right_ended ≡ true) }
     {
         self.comparison.wants
     }
@@ -72,7 +76,8 @@ impl Comparer {
     pub fn give(&mut self, item: Option<Packet>) -> Result<(), NoMemory>
         requires left { self.old.wants ≡ Wants.Left → IfSome item (λ _. self.old.left_given < 2 ^ 32 - 1) }
         requires right { self.old.wants ≡ Wants.Right → IfSome item (λ _. self.old.right_given < 2 ^ 32 - 1) }
-        ensures stands { OnOk result ((lists : Lists) → StandsFor self.old lists → StandsFor self.new (with_item self.old.wants item lists)) }
+        ensures stands { OnOk result
+            ((lists : Lists) → StandsFor self.old lists → StandsFor self.new (with_item self.old.wants item lists)) }
         ensures who { self.new.who ≡ self.old.who }
         ensures unchanged { OnErr result (self.new ≡ self.old) }
         ensures end { item ≡ None → result ≡ Ok tt }
@@ -93,7 +98,8 @@ impl Comparer {
     /// How many packets are held: until the verdict is there, those of the two open blocks, whose number is the smaller of the
     /// two numbers of writes.
     pub fn held(&self) -> u64
-        ensures { (lists : Lists) → StandsFor self.now lists → ((v : VerdictOf) → ¬ (self.now.wants ≡ Wants.Done v)) → result ≡ most_held self.now.who lists }
+        ensures { (lists : Lists) → StandsFor self.now lists → ((v : VerdictOf) → ¬ (self.now.wants ≡ Wants.Done v))
+            → result ≡ most_held self.now.who lists }
     {
         self.comparison.held_len()
     }

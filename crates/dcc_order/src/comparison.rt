@@ -1,6 +1,7 @@
 //! Two lists that are compared as they are given.
 
-ghost use Rattle.std.specs.Prelude.{◌≡◌, ◌<◌, ◌+◌, ◌-◌, ◌^◌, ◌++◌, ◌∷◌, [], true, false, None, OnOk, OnErr, IfSome, IfNone, MatchOption};
+ghost use Rattle.std.specs.Prelude.{◌≡◌, ◌<◌, ◌+◌, ◌-◌, ◌^◌, ◌++◌, ◌∷◌, [], true, false, None, OnOk, OnErr, IfSome};
+ghost use Rattle.std.specs.Prelude.{IfNone, MatchOption};
 ghost use Rattle.dcc_regs.specs.Heard.{hears as is_heard_by};
 ghost use Rattle.dcc_order.specs.AlikeLists.{AlikeBlocks};
 ghost use Rattle.dcc_order.specs.Comparisons.{StandsFor, heard_next, BlocksDiffer, EndAlike, IsVerdictAtEnds};
@@ -56,7 +57,8 @@ impl Comparison {
         requires reached { (lists : Lists) × StandsFor self.old lists }
         requires left { self.old.wants ≡ Wants.Left → IfSome item (λ _. self.old.left_given < 2 ^ 32 - 1) }
         requires right { self.old.wants ≡ Wants.Right → IfSome item (λ _. self.old.right_given < 2 ^ 32 - 1) }
-        ensures stands { OnOk result ((lists : Lists) → StandsFor self.old lists → StandsFor self.new (with_item self.old.wants item lists)) }
+        ensures stands { OnOk result
+            ((lists : Lists) → StandsFor self.old lists → StandsFor self.new (with_item self.old.wants item lists)) }
         ensures who { self.new.who ≡ self.old.who }
         ensures unchanged { OnErr result (self.new ≡ self.old) }
         ensures end { item ≡ None → result ≡ Ok tt }
@@ -75,7 +77,8 @@ impl Comparison {
 
     /// How many packets are held.
     pub fn held_len(&self) -> u64
-        ensures { (lists : Lists) → StandsFor self.now lists → ((v : VerdictOf) → ¬ (self.now.wants ≡ Wants.Done v)) → result ≡ most_held self.now.who lists }
+        ensures { (lists : Lists) → StandsFor self.now lists → ((v : VerdictOf) → ¬ (self.now.wants ≡ Wants.Done v))
+            → result ≡ most_held self.now.who lists }
     {
         // No block is longer than its list, so what is read here bounds them.
         let _left = self.left_given;
@@ -86,7 +89,8 @@ impl Comparison {
     /// The left list ends.
     fn end_left(&mut self)
         requires { self.old.wants ≡ Wants.Left }
-        ensures stands { (lists : Lists) → StandsFor self.old lists → StandsFor self.new (record lists { left_ended = true }) }
+        ensures stands { (lists : Lists) → StandsFor self.old lists
+            → StandsFor self.new (record lists { left_ended = true }) }
         ensures who { self.new.who ≡ self.old.who }
     {
         self.left_end = None;
@@ -97,7 +101,9 @@ impl Comparison {
     fn give_left(&mut self, packet: &Packet) -> Result<(), AllocError>
         requires wants { self.old.wants ≡ Wants.Left }
         requires few { self.old.left_given < 2 ^ 32 - 1 }
-        ensures stands { OnOk result ((lists : Lists) → StandsFor self.old lists → StandsFor self.new (record lists { left = lists.left ++ packet.now ∷ [] })) }
+        ensures stands { OnOk result
+            ((lists : Lists) → StandsFor self.old lists
+            → StandsFor self.new (record lists { left = lists.left ++ packet.now ∷ [] })) }
         ensures err { OnErr result (self.new ≡ self.old) }
         ensures unheard { is_heard_by self.old.who packet.now ≡ false → result ≡ Ok tt }
         ensures who { self.new.who ≡ self.old.who }
@@ -129,7 +135,8 @@ impl Comparison {
     /// A write behind two copies of it.
     fn leave_out_left(&mut self, packet: &Packet)
         requires { self.old.left_given < 2 ^ 32 - 1 }
-        ensures { self.new ≡ record self.old { left_given = self.old.left_given + 1; left_heard = heard_next self.old.left_heard packet.now } }
+        ensures { self.new ≡ record self.old
+            { left_given = self.old.left_given + 1; left_heard = heard_next self.old.left_heard packet.now } }
     {
         self.left_heard = self.left_heard.and(packet);
         self.left_given += 1;
@@ -159,7 +166,8 @@ impl Comparison {
     /// The right list ends.
     fn end_right(&mut self)
         requires { self.old.wants ≡ Wants.Right }
-        ensures stands { (lists : Lists) → StandsFor self.old lists → StandsFor self.new (record lists { right_ended = true }) }
+        ensures stands { (lists : Lists) → StandsFor self.old lists
+            → StandsFor self.new (record lists { right_ended = true }) }
         ensures who { self.new.who ≡ self.old.who }
     {
         if let Some(verdict) = self.verdict_at(&None) {
@@ -172,7 +180,9 @@ impl Comparison {
         requires wants { self.old.wants ≡ Wants.Right }
         requires few { self.old.right_given < 2 ^ 32 - 1 }
         requires numbered { self.old.block < 2 ^ 32 - 1 }
-        ensures stands { OnOk result ((lists : Lists) → StandsFor self.old lists → StandsFor self.new (record lists { right = lists.right ++ packet.now ∷ [] })) }
+        ensures stands { OnOk result
+            ((lists : Lists) → StandsFor self.old lists
+            → StandsFor self.new (record lists { right = lists.right ++ packet.now ∷ [] })) }
         ensures err { OnErr result (self.new ≡ self.old) }
         ensures unheard { is_heard_by self.old.who packet.now ≡ false → result ≡ Ok tt }
         ensures who { self.new.who ≡ self.old.who }
@@ -204,7 +214,8 @@ impl Comparison {
     /// A write behind two copies of it.
     fn leave_out_right(&mut self, packet: &Packet)
         requires { self.old.right_given < 2 ^ 32 - 1 }
-        ensures { self.new ≡ record self.old { right_given = self.old.right_given + 1; right_heard = heard_next self.old.right_heard packet.now } }
+        ensures { self.new ≡ record self.old
+            { right_given = self.old.right_given + 1; right_heard = heard_next self.old.right_heard packet.now } }
     {
         self.right_heard = self.right_heard.and(packet);
         self.right_given += 1;
@@ -250,8 +261,11 @@ impl Comparison {
 
     /// The verdict where both blocks have ended, the right one so. None where the next blocks decide.
     fn verdict_at(&mut self, right_end: &Option<Packet>) -> Option<Verdict>
-        ensures some { IfSome result (λ v. IsVerdictAtEnds self.old.block self.old.held.first self.old.left_end self.old.held.second right_end.now v) }
-        ensures none { IfNone result (AlikeBlocks self.old.held.first self.old.held.second × EndAlike self.old.left_end right_end.now) }
+        ensures some { IfSome result
+            (λ v. IsVerdictAtEnds self.old.block self.old.held.first self.old.left_end self.old.held.second
+            right_end.now v) }
+        ensures none { IfNone result
+            (AlikeBlocks self.old.held.first self.old.held.second × EndAlike self.old.left_end right_end.now) }
         ensures unchanged { self.new ≡ self.old }
     {
         if let Some(verdict) = self.difference() {
@@ -273,7 +287,8 @@ impl Comparison {
 
     /// The difference of the two blocks.
     fn difference(&mut self) -> Option<Verdict>
-        ensures found { MatchOption result (AlikeBlocks self.old.held.first self.old.held.second) (λ v. BlocksDiffer self.old.block self.old.held.first self.old.held.second v) }
+        ensures found { MatchOption result (AlikeBlocks self.old.held.first self.old.held.second)
+            (λ v. BlocksDiffer self.old.block self.old.held.first self.old.held.second v) }
         ensures unchanged { self.new ≡ self.old }
     {
         if !self.held.has_same_members() {

@@ -9,7 +9,8 @@ use dcc_regs::Decoder;
 
 /// Each member hears a packet.
 pub fn hear_packet<D: Decoder>(decoders: &mut [D], packet: &Packet)
-    ensures { AllZip (λ old now. HasHeard (packet.now ∷ []) (D.who old) (D.registers old) (D.who now) (D.registers now)) decoders.old decoders.new }
+    ensures { AllZip (λ old now. HasHeard (packet.now ∷ []) (D.who old) (D.registers old) (D.who now) (D.registers now))
+        decoders.old decoders.new }
 {
     for decoder in decoders.iter_mut() {
         hear_one(decoder, packet);
@@ -18,7 +19,8 @@ pub fn hear_packet<D: Decoder>(decoders: &mut [D], packet: &Packet)
 
 /// One member hears a packet.
 fn hear_one<D: Decoder>(decoder: &mut D, packet: &Packet)
-    ensures { HasHeard (packet.now ∷ []) (D.who decoder.old) (D.registers decoder.old) (D.who decoder.new) (D.registers decoder.new) }
+    ensures { HasHeard (packet.now ∷ []) (D.who decoder.old) (D.registers decoder.old) (D.who decoder.new)
+        (D.registers decoder.new) }
 {
     decoder.apply(packet);
 }

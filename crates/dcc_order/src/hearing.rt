@@ -72,10 +72,12 @@ pub fn hear_half_run<D: Decoder>(
     ensures stands { (halves : List ℕ) → StandsFor framer.old halves → StandsFor framer.new (halves ++ replicate n us) }
     ensures sees { (halves : List ℕ) → StandsFor framer.old halves →
         seen_in (halves ++ replicate n us) ≡ seen_in halves ++ reported (length halves + result.at - 1) result.seen }
-    ensures before { (halves : List ℕ) → StandsFor framer.old halves → seen_in (halves ++ replicate (result.at - 1) us) ≡ seen_in halves }
+    ensures before { (halves : List ℕ) → StandsFor framer.old halves
+        → seen_in (halves ++ replicate (result.at - 1) us) ≡ seen_in halves }
     ensures nothing { result.seen ≡ Seen.Nothing → result.at ≡ n }
     ensures something { result.seen ≢ Seen.Nothing → (1 ≤ result.at) × (result.at ≤ n) }
-    ensures hunts { result.seen ≢ Seen.Nothing → framer.new ≡ rest_after_run (Hunting (ones_left result.seen)) (class_of us) (n - result.at) }
+    ensures hunts { result.seen ≢ Seen.Nothing
+        → framer.new ≡ rest_after_run (Hunting (ones_left result.seen)) (class_of us) (n - result.at) }
 
     // What the run showed is some list of packets, one or none,
     ensures spelled { (packets : List Packet) × AreSpelled packets (frames_of result.seen) }
@@ -123,10 +125,12 @@ pub fn hear_run(decoders: &mut [Box<dyn Decoder>], framer: &mut Framer, us: u16,
     ensures stands { (halves : List ℕ) → StandsFor framer.old halves → StandsFor framer.new (halves ++ replicate n us) }
     ensures sees { (halves : List ℕ) → StandsFor framer.old halves →
         seen_in (halves ++ replicate n us) ≡ seen_in halves ++ reported (length halves + result.at - 1) result.seen }
-    ensures before { (halves : List ℕ) → StandsFor framer.old halves → seen_in (halves ++ replicate (result.at - 1) us) ≡ seen_in halves }
+    ensures before { (halves : List ℕ) → StandsFor framer.old halves
+        → seen_in (halves ++ replicate (result.at - 1) us) ≡ seen_in halves }
     ensures nothing { result.seen ≡ Seen.Nothing → result.at ≡ n }
     ensures something { result.seen ≢ Seen.Nothing → (1 ≤ result.at) × (result.at ≤ n) }
-    ensures hunts { result.seen ≢ Seen.Nothing → framer.new ≡ rest_after_run (Hunting (ones_left result.seen)) (class_of us) (n - result.at) }
+    ensures hunts { result.seen ≢ Seen.Nothing
+        → framer.new ≡ rest_after_run (Hunting (ones_left result.seen)) (class_of us) (n - result.at) }
 
     // What the run showed is some list of packets, one or none,
     ensures spelled { (packets : List Packet) × AreSpelled packets (frames_of result.seen) }

@@ -1,6 +1,7 @@
 //! Two blocks that are held until both have ended and can be compared.
 
-ghost use Rattle.std.specs.Prelude.{◌≡◌, ◌↔◌, ◌+◌, ◌<◌, ◌^◌, ◌++◌, ◌∷◌, [], true, false, IsTrue, OnOk, OnErr, length, Contains};
+ghost use Rattle.std.specs.Prelude.{◌≡◌, ◌↔◌, ◌+◌, ◌<◌, ◌^◌, ◌++◌, ◌∷◌, [], true, false, IsTrue, OnOk, OnErr, length};
+ghost use Rattle.std.specs.Prelude.{Contains};
 ghost use Rattle.dcc_order.specs.AlikeLists.{SameMembers, SameOrder};
 ghost use Rattle.dcc_order.specs.Held.{nothing_held};
 
@@ -88,7 +89,8 @@ impl HeldBlocks {
 
     /// One more packet of the second block. The answer is whether the first has it: where not, nothing has changed.
     pub fn push_second(&mut self, packet: &Packet) -> Result<bool, AllocError>
-        ensures known { result ≡ Ok true → (self.new ≡ record self.old { second = self.old.second ++ packet.now ∷ [] }) }
+        ensures known { result ≡ Ok true
+            → (self.new ≡ record self.old { second = self.old.second ++ packet.now ∷ [] }) }
         ensures foreign { result ≡ Ok false → (¬ Contains self.old.first packet.now) × (self.new ≡ self.old) }
         ensures err { OnErr result (self.new ≡ self.old) }
     {
@@ -103,7 +105,8 @@ impl HeldBlocks {
 
     /// How many packets are held.
     pub fn len(&self) -> u64
-        ensures { length self.now.first + length self.now.second < 2 ^ 64 → result ≡ length self.now.first + length self.now.second }
+        ensures { length self.now.first + length self.now.second < 2 ^ 64
+            → result ≡ length self.now.first + length self.now.second }
     {
         let first = self.places.len() as u64;
         first.saturating_add(self.others.len() as u64)

@@ -1,6 +1,7 @@
 //! The places of a list of packets, each with a number and, beside it, the packet of a number.
 
-ghost use Rattle.std.specs.Prelude.{◌≡◌, ◌↔◌, ◌<◌, ◌≤◌, ℕ, IsTrue, length, slice_index_or, slice_set, vec_len, vec_capacity, Contains};
+ghost use Rattle.std.specs.Prelude.{◌≡◌, ◌↔◌, ◌<◌, ◌≤◌, ℕ, IsTrue, length, slice_index_or, slice_set, vec_len};
+ghost use Rattle.std.specs.Prelude.{vec_capacity, Contains};
 ghost use Rattle.std.specs.BTreeMap.{get};
 ghost use Rattle.std.specs.List.{AllByRecursion};
 ghost use Rattle.std.specs.Option.{unwrap_or};
@@ -37,7 +38,9 @@ pub fn number_at(index: &BTreeMap<u64, usize>, frame: u64, count: usize) -> usiz
 /// This packet has the number of this place.
 pub fn set_member(places: &mut Vec<Place>, at: usize, packet: &Packet)
     requires { at < vec_len places.old }
-    ensures { (d : Place) → places.new.items ≡ slice_set places.old.items at (record (slice_index_or places.old.items at d) { member = packet.now }) }
+    ensures { (d : Place)
+        → places.new.items ≡ slice_set places.old.items at
+        (record (slice_index_or places.old.items at d) { member = packet.now }) }
 {
     places[at] = Place {
         number: places[at].number,
@@ -59,7 +62,8 @@ pub fn has_each_below(numbers: &[usize], count: usize, turns: &mut Vec<Turns>) -
 
 /// Whether each rival has a turn, where it alone takes any.
 fn each_has_come(turns: &[Turns]) -> bool
-    ensures { IsTrue result ↔ ((k : ℕ) (t : TurnsOf) → k < length turns.now → IsTrue (slice_index_or turns.now k t).rival_last) }
+    ensures { IsTrue result ↔
+        ((k : ℕ) (t : TurnsOf) → k < length turns.now → IsTrue (slice_index_or turns.now k t).rival_last) }
 {
     for taken in turns {
         if !taken.rival_came_last() {

@@ -69,7 +69,8 @@ impl Turns {
 
 /// The packet that all these are of comes.
 fn take_own_turn(turns: &mut [Turns])
-    requires { (rival : ℕ) (d : Turns) → rival < length turns.old → (slice_index_or turns.old rival d).count < 2 ^ 64 - 1 }
+    requires { (rival : ℕ) (d : Turns) → rival < length turns.old
+        → (slice_index_or turns.old rival d).count < 2 ^ 64 - 1 }
     ensures { turns.new ≡ map own_turn turns.old }
 {
     for taken in turns.iter_mut() {
@@ -79,8 +80,10 @@ fn take_own_turn(turns: &mut [Turns])
 
 /// The packet of this number comes.
 pub fn take_turn(turns: &mut [Turns], own: usize, number: usize)
-    requires { (rival : ℕ) (d : Turns) → rival < length turns.old → (slice_index_or turns.old rival d).count < 2 ^ 64 - 1 }
-    ensures { (rival : ℕ) (d : Turns) → rival < length turns.old → slice_index_or turns.new rival d ≡ with_turn own rival (slice_index_or turns.old rival d) number }
+    requires { (rival : ℕ) (d : Turns) → rival < length turns.old
+        → (slice_index_or turns.old rival d).count < 2 ^ 64 - 1 }
+    ensures { (rival : ℕ) (d : Turns) → rival < length turns.old
+        → slice_index_or turns.new rival d ≡ with_turn own rival (slice_index_or turns.old rival d) number }
 {
     if number == own {
         take_own_turn(turns);

@@ -1,5 +1,6 @@
 -- The error byte behind the bytes of a frame.
-use Rattle.std.proofs.Common.{◌≡◌, ℕ, ◌-◌, ◌+◌, List, [], ◌∷◌, ◌++◌, length, take, get_or, ap, sym, ◌∙◌, subst, arith, refl}
+use Rattle.std.proofs.Common.{◌≡◌, ℕ, ◌-◌, ◌+◌, List, [], ◌∷◌, ◌++◌, length, take, get_or, ap, sym, ◌∙◌, subst, arith}
+use Rattle.std.proofs.Common.{refl}
 use Rattle.std.proofs.lemmas.List.{take_at, take_all, take_more, length-append}
 use Rattle.dcc_packet.specs.Rows.{IsRow, HasRow}
 use Rattle.dcc_wire.specs.Frames.{IsFrame, xor_of, with_error_byte}
@@ -8,8 +9,10 @@ use Rattle.dcc_wire.proofs.ErrorByte.{last_is_error_byte}
 -- the bytes before the error byte are known
 pub same_bytes : (a b : List ℕ) → with_error_byte a ≡ with_error_byte b → a ≡ b
 same_bytes a b e =
-    let n : length a ≡ length b = omega (arith, ap length e, length-append a (xor_of a ∷ []), length-append b (xor_of b ∷ [])) in
-    sym (take_at a (xor_of a ∷ []) (length a) refl) ∙ ap (take (length a)) e ∙ take_at b (xor_of b ∷ []) (length a) (sym n)
+    let n : length a ≡ length b =
+    omega (arith, ap length e, length-append a (xor_of a ∷ []), length-append b (xor_of b ∷ [])) in
+    sym (take_at a (xor_of a ∷ []) (length a) refl) ∙ ap (take (length a)) e
+    ∙ take_at b (xor_of b ∷ []) (length a) (sym n)
 
 last_of : (bytes : List ℕ) (n : ℕ) → n + 1 ≡ length bytes → bytes ≡ take n bytes ++ get_or bytes n 0 ∷ []
 last_of bytes n e = sym (take_all (n + 1) bytes (omega arith)) ∙ take_more bytes n 0 (omega arith)

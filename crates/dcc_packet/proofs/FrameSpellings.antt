@@ -1,5 +1,6 @@
 -- The spelling of a packet is a frame.
-use Rattle.std.proofs.Common.{ℕ, ◌+◌, ◌*◌, ◌<◌, ◌≤◌, Bool, true, false, List, [], ◌∷◌, ◌++◌, length, bit_xor, arith, length-append}
+use Rattle.std.proofs.Common.{ℕ, ◌+◌, ◌*◌, ◌<◌, ◌≤◌, Bool, true, false, List, [], ◌∷◌, ◌++◌, length, bit_xor, arith}
+use Rattle.std.proofs.Common.{length-append}
 use Rattle.std.proofs.lemmas.Nat.{xor_of_8}
 use Rattle.std.specs.List.{fold}
 use Rattle.dcc_wire.specs.Frames.{AllBytes, IsFrame, xor_of, with_error_byte}
@@ -14,10 +15,12 @@ use Rattle.dcc_packet.specs.declared.cv.CvNumber.{CvNumber}
 use Rattle.dcc_packet.specs.declared.functions.Group.{Group}
 use Rattle.dcc_packet.specs.declared.functions.Group.TheVariants.{F0, F5, F9, F13, F21, F29, F37, F45, F53, F61}
 use Rattle.dcc_packet.specs.declared.instruction.What.{What}
-use Rattle.dcc_packet.specs.declared.instruction.What.TheVariants.{Reset, Speed28, Speed128, Functions, BinaryState, CvWrite, CvVerify, CvBitWrite, CvBitVerify}
+use Rattle.dcc_packet.specs.declared.instruction.What.TheVariants.{Reset, Speed28, Speed128, Functions, BinaryState}
+use Rattle.dcc_packet.specs.declared.instruction.What.TheVariants.{CvWrite, CvVerify, CvBitWrite, CvBitVerify}
 use Rattle.dcc_packet.specs.declared.packet.Packet.TheVariants.{Idle, Loco, Accessory, Signal, Other}
 use Rattle.dcc_packet.specs.Group.{group_max}
-use Rattle.dcc_packet.specs.Rows.{bit, address_bytes, function_bytes, cv_bytes, instruction_bytes, accessory_bytes, signal_bytes}
+use Rattle.dcc_packet.specs.Rows.{bit, address_bytes, function_bytes, cv_bytes, instruction_bytes, accessory_bytes}
+use Rattle.dcc_packet.specs.Rows.{signal_bytes}
 use Rattle.dcc_packet.specs.Spelling.{ValueFits}
 use Rattle.dcc_packet.specs.SpellingLaws.{SpellingsAreFrames}
 
@@ -49,7 +52,8 @@ framed bytes row =
       least = omega (arith, count, row.least);
       most = omega (arith, count, row.most);
       error_byte = xor_of-with_error_byte bytes;
-      each = AllBytes-index (with_error_byte bytes) (AllBytes-append bytes (xor_of bytes ∷ []) row.all (one_byte (xor_of bytes) error));
+      each = AllBytes-index (with_error_byte bytes)
+          (AllBytes-append bytes (xor_of bytes ∷ []) row.all (one_byte (xor_of bytes) error));
     }
 
 bit_small : (b : Bool) → bit b ≤ 1
@@ -89,19 +93,25 @@ functions_are F61 bits h = record { least = omega arith; most = omega arith; all
 
 cv_is : (kind : ℕ) (cv : CvNumber) (last : ℕ) → kind ≤ 0xEC → last < 256 → IsInstruction (cv_bytes kind cv.number last)
 unfolding AllBytes
-cv_is kind cv last low small = record { least = omega arith; most = omega arith; all = (omega arith, (omega arith, (small, tt))) }
+cv_is kind cv last low small =
+    record { least = omega arith; most = omega arith; all = (omega arith, (omega arith, (small, tt))) }
 
 instruction_is : (what : What) → ValueFits what → IsInstruction (instruction_bytes what)
 unfolding AllBytes
 instruction_is Reset fits = record { least = omega arith; most = omega arith; all = (omega arith, tt) }
-instruction_is (Speed28 forward speed) fits = record { least = omega arith; most = omega arith; all = (omega (arith, bit_small forward), tt) }
-instruction_is (Speed128 forward speed) fits = record { least = omega arith; most = omega arith; all = (omega arith, (omega (arith, bit_small forward), tt)) }
+instruction_is (Speed28 forward speed) fits =
+    record { least = omega arith; most = omega arith; all = (omega (arith, bit_small forward), tt) }
+instruction_is (Speed128 forward speed) fits =
+    record { least = omega arith; most = omega arith; all = (omega arith, (omega (arith, bit_small forward), tt)) }
 instruction_is (Functions functions) fits = functions_are functions.group functions.bits functions.in_range
-instruction_is (BinaryState state on) fits = record { least = omega arith; most = omega arith; all = (omega arith, (omega (arith, bit_small on), tt)) }
+instruction_is (BinaryState state on) fits =
+    record { least = omega arith; most = omega arith; all = (omega arith, (omega (arith, bit_small on), tt)) }
 instruction_is (CvWrite cv value) fits = cv_is 0xEC cv value (omega arith) fits
 instruction_is (CvVerify cv value) fits = cv_is 0xE4 cv value (omega arith) fits
-instruction_is (CvBitWrite cv place one) fits = cv_is 0xE8 cv (0xF0 + 8 * bit one + place.place) (omega arith) (omega (arith, bit_small one))
-instruction_is (CvBitVerify cv place one) fits = cv_is 0xE8 cv (0xE0 + 8 * bit one + place.place) (omega arith) (omega (arith, bit_small one))
+instruction_is (CvBitWrite cv place one) fits =
+    cv_is 0xE8 cv (0xF0 + 8 * bit one + place.place) (omega arith) (omega (arith, bit_small one))
+instruction_is (CvBitVerify cv place one) fits =
+    cv_is 0xE8 cv (0xE0 + 8 * bit one + place.place) (omega arith) (omega (arith, bit_small one))
 
 loco_is : (to what : List ℕ) → IsAddress to → IsInstruction what → IsRowOfBytes (to ++ what)
 loco_is to what first second = let count = length-append to what in record {
@@ -112,11 +122,13 @@ loco_is to what first second = let count = length-append to what in record {
 
 accessory_is : (board : Board) (output : Output) (on : Bool) → IsRowOfBytes (accessory_bytes board output on)
 unfolding AllBytes
-accessory_is board output on = record { least = omega arith; most = omega arith; all = (omega arith, (omega (arith, bit_small on), tt)) }
+accessory_is board output on =
+    record { least = omega arith; most = omega arith; all = (omega arith, (omega (arith, bit_small on), tt)) }
 
 signal_is : (address : SignalAddress) (aspect : ℕ) → aspect < 256 → IsRowOfBytes (signal_bytes address aspect)
 unfolding AllBytes
-signal_is address aspect small = record { least = omega arith; most = omega arith; all = (omega arith, (omega arith, (small, tt))) }
+signal_is address aspect small =
+    record { least = omega arith; most = omega arith; all = (omega arith, (omega arith, (small, tt))) }
 
 idle_is : IsRowOfBytes (0xFF ∷ 0 ∷ [])
 unfolding AllBytes

@@ -1,5 +1,6 @@
 -- No two packets have one spelling.
-use Rattle.std.proofs.Common.{◌≡◌, ℕ, ◌+◌, ◌-◌, ◌*◌, ◌/◌, ◌%◌, ◌<◌, ◌≤◌, Bool, List, [], ◌∷◌, length, ap, refl, sym, arith, inl, inr}
+use Rattle.std.proofs.Common.{◌≡◌, ℕ, ◌+◌, ◌-◌, ◌*◌, ◌/◌, ◌%◌, ◌<◌, ◌≤◌, Bool, List, [], ◌∷◌, length, ap, refl, sym}
+use Rattle.std.proofs.Common.{arith, inl, inr}
 use Rattle.dcc_packet.specs.declared.address.Address.{Address}
 use Rattle.dcc_packet.specs.declared.address.Address.TheVariants.{Broadcast, Short, Long}
 use Rattle.dcc_packet.specs.declared.cv.CvNumber.{CvNumber}
@@ -7,16 +8,21 @@ use Rattle.dcc_packet.specs.declared.cv.BitPlace.{BitPlace}
 use Rattle.dcc_packet.specs.declared.functions.Group.{Group}
 use Rattle.dcc_packet.specs.declared.functions.Group.TheVariants.{F0, F5, F9}
 use Rattle.dcc_packet.specs.declared.instruction.What.{What}
-use Rattle.dcc_packet.specs.declared.instruction.What.TheVariants.{Reset, Speed28, Speed128, Functions, BinaryState, CvWrite, CvVerify, CvBitWrite, CvBitVerify}
+use Rattle.dcc_packet.specs.declared.instruction.What.TheVariants.{Reset, Speed28, Speed128, Functions, BinaryState}
+use Rattle.dcc_packet.specs.declared.instruction.What.TheVariants.{CvWrite, CvVerify, CvBitWrite, CvBitVerify}
 use Rattle.dcc_packet.specs.Group.{group_max}
-use Rattle.dcc_packet.specs.Rows.{bit, function_bytes, cv_bytes, instruction_bytes, loco_bytes, idle_bytes, accessory_bytes, signal_bytes}
+use Rattle.dcc_packet.specs.Rows.{bit, function_bytes, cv_bytes, instruction_bytes, loco_bytes, idle_bytes}
+use Rattle.dcc_packet.specs.Rows.{accessory_bytes, signal_bytes}
 use Rattle.dcc_packet.specs.declared.packet.Packet.{Packet}
 use Rattle.dcc_packet.specs.declared.packet.Packet.TheVariants.{Idle, Loco, Accessory, Signal, Other}
 use Rattle.dcc_packet.specs.Spelling.{spelling}
 use Rattle.dcc_packet.proofs.FrameParts.{same_bytes}
-use Rattle.dcc_packet.proofs.Same.{bit_below, same_bit, same_short, same_long, same_board, same_output, same_signal, same_cv, same_place, same_speed28, same_speed128, same_functions, same_state, same_other}
+use Rattle.dcc_packet.proofs.Same.{bit_below, same_bit, same_short, same_long, same_board, same_output, same_signal}
+use Rattle.dcc_packet.proofs.Same.{same_cv, same_place, same_speed28, same_speed128, same_functions, same_state}
+use Rattle.dcc_packet.proofs.Same.{same_other}
 
-one_group : (g k : Group) (a b : ℕ) → a ≤ group_max g → b ≤ group_max k → function_bytes g a ≡ function_bytes k b → (g ≡ k) × (a ≡ b)
+one_group : (g k : Group) (a b : ℕ) → a ≤ group_max g → b ≤ group_max k → function_bytes g a ≡ function_bytes k b
+    → (g ≡ k) × (a ≡ b)
 one_group g k a b fits_a fits_b e = grind arith
 
 one_cv : (kind : ℕ) (c d : CvNumber) (x y : ℕ) → cv_bytes kind c.number x ≡ cv_bytes kind d.number y → (c ≡ d) × (x ≡ y)
@@ -25,7 +31,8 @@ one_cv kind c d x y e =
     let low : (c.number - 1) % 256 ≡ (d.number - 1) % 256 = cc in
     (same_cv c d (omega arith), cc)
 
-one_bit : (kind : ℕ) (a b : Bool) (p q : BitPlace) → kind + 8 * bit a + p.place ≡ kind + 8 * bit b + q.place → (a ≡ b) × (p ≡ q)
+one_bit : (kind : ℕ) (a b : Bool) (p q : BitPlace) → kind + 8 * bit a + p.place ≡ kind + 8 * bit b + q.place
+    → (a ≡ b) × (p ≡ q)
 one_bit kind a b p q e =
     let below_a = bit_below a in
     let below_b = bit_below b in
@@ -58,7 +65,8 @@ to (CvVerify c x) = 232
 to (CvBitWrite c p b) = 236
 to (CvBitVerify c p b) = 236
 
-leads_group : (g : Group) (b : ℕ) → b ≤ group_max g → (128 ≤ head (function_bytes g b)) × (head (function_bytes g b) < 224)
+leads_group : (g : Group) (b : ℕ) → b ≤ group_max g
+    → (128 ≤ head (function_bytes g b)) × (head (function_bytes g b) < 224)
 leads_group F0 b h = (omega arith, omega arith)
 leads_group F5 b h = (omega arith, omega arith)
 leads_group F9 b h = (omega arith, omega arith)
@@ -85,7 +93,8 @@ leads (CvBitVerify c p b) = (omega arith, omega arith)
 one_what : (w v : What) → instruction_bytes w ≡ instruction_bytes v → w ≡ v
 one_what Reset Reset e = refl
 one_what (Speed28 f b) (Speed28 g c) e =
-    let byte : 64 + 32 * bit f + 16 * (b.bits % 2) + b.bits / 2 ≡ 64 + 32 * bit g + 16 * (c.bits % 2) + c.bits / 2 = cc in
+    let byte : 64 + 32 * bit f + 16 * (b.bits % 2) + b.bits / 2 ≡ 64 + 32 * bit g + 16 * (c.bits % 2) + c.bits / 2 =
+    cc in
     let below_f = bit_below f in
     let below_g = bit_below g in
     let forward : f ≡ g = same_bit f g (omega arith) in
@@ -139,13 +148,15 @@ address_to Broadcast = 1
 address_to (Short a) = 128
 address_to (Long a) = 232
 
-address_leads : (a : Address) (w : What) → (address_from a ≤ head (loco_bytes a w)) × (head (loco_bytes a w) < address_to a)
+address_leads : (a : Address) (w : What)
+    → (address_from a ≤ head (loco_bytes a w)) × (head (loco_bytes a w) < address_to a)
 address_leads Broadcast w = (omega arith, omega arith)
 address_leads (Short a) w = (omega arith, omega arith)
 address_leads (Long a) w = (omega arith, omega arith)
 
 one_loco : (a b : Address) (w v : What) → loco_bytes a w ≡ loco_bytes b v → (a ≡ b) × (w ≡ v)
-one_loco Broadcast Broadcast w v e = let rest : instruction_bytes w ≡ instruction_bytes v = cc in (refl, one_what w v rest)
+one_loco Broadcast Broadcast w v e =
+    let rest : instruction_bytes w ≡ instruction_bytes v = cc in (refl, one_what w v rest)
 one_loco (Short a) (Short b) w v e =
     let first : a.number ≡ b.number = cc in
     let rest : instruction_bytes w ≡ instruction_bytes v = cc in
@@ -190,9 +201,11 @@ one_packet Idle Idle e = refl
 one_packet (Loco a w) (Loco b v) e =
     let same = one_loco a b w v (same_bytes (loco_bytes a w) (loco_bytes b v) e) in cc
 one_packet (Accessory b o x) (Accessory c u y) e =
-    let bytes : accessory_bytes b o x ≡ accessory_bytes c u y = same_bytes (accessory_bytes b o x) (accessory_bytes c u y) e in
+    let bytes : accessory_bytes b o x ≡ accessory_bytes c u y =
+    same_bytes (accessory_bytes b o x) (accessory_bytes c u y) e in
     let first : 128 + b.number % 64 ≡ 128 + c.number % 64 = cc in
-    let second : 128 + 16 * (7 - b.number / 64) + 8 * bit x + o.number ≡ 128 + 16 * (7 - c.number / 64) + 8 * bit y + u.number = cc in
+    let second : 128 + 16 * (7 - b.number / 64) + 8 * bit x + o.number ≡ 128 + 16 * (7 - c.number / 64) + 8 * bit y + u.number =
+    cc in
     let below_x = bit_below x in
     let below_y = bit_below y in
     let board : b ≡ c = same_board b c (omega arith) in
@@ -202,7 +215,8 @@ one_packet (Accessory b o x) (Accessory c u y) e =
 one_packet (Signal a x) (Signal b y) e =
     let bytes : signal_bytes a x ≡ signal_bytes b y = same_bytes (signal_bytes a x) (signal_bytes b y) e in
     let first : 128 + a.number / 4 % 64 ≡ 128 + b.number / 4 % 64 = cc in
-    let second : 16 * (7 - a.number / 4 / 64) + 2 * (a.number % 4) + 1 ≡ 16 * (7 - b.number / 4 / 64) + 2 * (b.number % 4) + 1 = cc in
+    let second : 16 * (7 - a.number / 4 / 64) + 2 * (a.number % 4) + 1 ≡ 16 * (7 - b.number / 4 / 64) + 2 * (b.number % 4) + 1 =
+    cc in
     let address : a ≡ b = same_signal a b (omega arith) in
     let aspect : x ≡ y = cc in
     cc
@@ -213,7 +227,8 @@ one_packet (Other a) (Accessory b o x) e = absurd (a.no_row (accessory_bytes b o
 one_packet (Other a) (Signal b x) e = absurd (a.no_row (signal_bytes b x, inr (inr (inr (b, x, refl))), e))
 one_packet Idle (Other a) e = absurd (a.no_row (idle_bytes, inl refl, sym e))
 one_packet (Loco b v) (Other a) e = absurd (a.no_row (loco_bytes b v, inr (inl (b, v, refl)), sym e))
-one_packet (Accessory b o x) (Other a) e = absurd (a.no_row (accessory_bytes b o x, inr (inr (inl (b, o, x, refl))), sym e))
+one_packet (Accessory b o x) (Other a) e =
+    absurd (a.no_row (accessory_bytes b o x, inr (inr (inl (b, o, x, refl))), sym e))
 one_packet (Signal b x) (Other a) e = absurd (a.no_row (signal_bytes b x, inr (inr (inr (b, x, refl))), sym e))
 one_packet p q e =
     let bytes : bytes_of p ≡ bytes_of q = same_bytes (bytes_of p) (bytes_of q) e in

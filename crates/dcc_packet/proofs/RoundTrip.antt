@@ -7,7 +7,8 @@ use Rattle.dcc_packet.specs.declared.fault.PacketFault.{PacketFault}
 use Rattle.dcc_packet.specs.Words.{words}
 use Rattle.dcc_packet.specs.declared.address.Address.{Address}
 use Rattle.dcc_packet.specs.declared.instruction.What.{What}
-use Rattle.dcc_packet.specs.declared.instruction.What.TheVariants.{Reset, Speed28, Speed128, Functions, BinaryState, CvWrite, CvVerify, CvBitWrite, CvBitVerify}
+use Rattle.dcc_packet.specs.declared.instruction.What.TheVariants.{Reset, Speed28, Speed128, Functions, BinaryState}
+use Rattle.dcc_packet.specs.declared.instruction.What.TheVariants.{CvWrite, CvVerify, CvBitWrite, CvBitVerify}
 use Rattle.dcc_packet.specs.declared.functions.GroupBits.{GroupBits}
 use Rattle.dcc_packet.specs.declared.state.StateNumber.{StateNumber}
 use Rattle.dcc_packet.specs.declared.cv.CvNumber.{CvNumber}
@@ -21,21 +22,28 @@ use Rattle.dcc_packet.specs.declared.packet.Packet.TheVariants.{Idle, Loco, Acce
 use Rattle.dcc_packet.specs.declared.speed.SpeedBits28.{SpeedBits28}
 use Rattle.dcc_packet.specs.Written.{written_line, written_words, address_word, switch_word, instruction_words}
 use Rattle.dcc_packet.specs.Spelling.{BytesFit, ValueFits}
-use Rattle.dcc_packet.specs.Line.{idle, accessory, signal, frame, reset, speed28, speed128, functions, binary_state, cv_value, cv_bit, cv_access, cv_write, cv_verify, cv_bit_write, cv_bit_verify, instruction, loco, spelled, said, Says}
+use Rattle.dcc_packet.specs.Line.{idle, accessory, signal, frame, reset, speed28, speed128, functions, binary_state}
+use Rattle.dcc_packet.specs.Line.{cv_value, cv_bit, cv_access, cv_write, cv_verify, cv_bit_write, cv_bit_verify}
+use Rattle.dcc_packet.specs.Line.{instruction, loco, spelled, said, Says}
 use Rattle.dcc_packet.specs.Spelling.{spelling}
 use Rattle.dcc_packet.proofs.OneSpelling.{one_packet}
 use Rattle.dcc_packet.proofs.WrittenWords.{written_are_words}
-use Rattle.dcc_packet.proofs.WordsBack.{address_back, direction_back, speed28_bits_back, speed128_bits_back, group_back, group_bits_back, state_number_back, cv_back, place_back, state_back, switch_back, board_back, output_back, signal_back, hex_back, small_number-decimal}
+use Rattle.dcc_packet.proofs.WordsBack.{address_back, direction_back, speed28_bits_back, speed128_bits_back}
+use Rattle.dcc_packet.proofs.WordsBack.{group_back, group_bits_back, state_number_back, cv_back, place_back}
+use Rattle.dcc_packet.proofs.WordsBack.{state_back, switch_back, board_back, output_back, signal_back, hex_back}
+use Rattle.dcc_packet.proofs.WordsBack.{small_number-decimal}
 
 reset_back : instruction (instruction_words Reset) ≡ Ok Reset
 unfolding instruction reset
 reset_back = refl
 
-speed28_back : (forward : Bool) (speed : SpeedBits28) → instruction (instruction_words (Speed28 forward speed)) ≡ Ok (Speed28 forward speed)
+speed28_back : (forward : Bool) (speed : SpeedBits28)
+    → instruction (instruction_words (Speed28 forward speed)) ≡ Ok (Speed28 forward speed)
 unfolding instruction speed28
 speed28_back forward speed = rw (direction_back forward, speed28_bits_back speed) refl
 
-speed128_back : (forward : Bool) (speed : SpeedBits128) → instruction (instruction_words (Speed128 forward speed)) ≡ Ok (Speed128 forward speed)
+speed128_back : (forward : Bool) (speed : SpeedBits128)
+    → instruction (instruction_words (Speed128 forward speed)) ≡ Ok (Speed128 forward speed)
 unfolding instruction speed128
 speed128_back forward speed = rw (direction_back forward, speed128_bits_back speed) refl
 
@@ -43,23 +51,28 @@ functions_back : (f : GroupBits) → instruction (instruction_words (Functions f
 unfolding instruction functions
 functions_back f = rw (group_back f.group, group_bits_back f) refl
 
-binary_state_back : (n : StateNumber) (on : Bool) → instruction (instruction_words (BinaryState n on)) ≡ Ok (BinaryState n on)
+binary_state_back : (n : StateNumber) (on : Bool)
+    → instruction (instruction_words (BinaryState n on)) ≡ Ok (BinaryState n on)
 unfolding instruction binary_state
 binary_state_back n on = rw (state_number_back n, switch_back on) refl
 
-cv_write_back : (cv : CvNumber) (value : ℕ) → value < 256 → instruction (instruction_words (CvWrite cv value)) ≡ Ok (CvWrite cv value)
+cv_write_back : (cv : CvNumber) (value : ℕ) → value < 256
+    → instruction (instruction_words (CvWrite cv value)) ≡ Ok (CvWrite cv value)
 unfolding instruction cv_access cv_write cv_value
 cv_write_back cv value h = rw (cv_back cv, small_number-decimal value h) refl
 
-cv_verify_back : (cv : CvNumber) (value : ℕ) → value < 256 → instruction (instruction_words (CvVerify cv value)) ≡ Ok (CvVerify cv value)
+cv_verify_back : (cv : CvNumber) (value : ℕ) → value < 256
+    → instruction (instruction_words (CvVerify cv value)) ≡ Ok (CvVerify cv value)
 unfolding instruction cv_access cv_verify cv_value
 cv_verify_back cv value h = rw (cv_back cv, small_number-decimal value h) refl
 
-cv_bit_write_back : (cv : CvNumber) (p : BitPlace) (one : Bool) → instruction (instruction_words (CvBitWrite cv p one)) ≡ Ok (CvBitWrite cv p one)
+cv_bit_write_back : (cv : CvNumber) (p : BitPlace) (one : Bool)
+    → instruction (instruction_words (CvBitWrite cv p one)) ≡ Ok (CvBitWrite cv p one)
 unfolding instruction cv_access cv_bit_write cv_bit
 cv_bit_write_back cv p one = rw (cv_back cv, place_back p, state_back one) refl
 
-cv_bit_verify_back : (cv : CvNumber) (p : BitPlace) (one : Bool) → instruction (instruction_words (CvBitVerify cv p one)) ≡ Ok (CvBitVerify cv p one)
+cv_bit_verify_back : (cv : CvNumber) (p : BitPlace) (one : Bool)
+    → instruction (instruction_words (CvBitVerify cv p one)) ≡ Ok (CvBitVerify cv p one)
 unfolding instruction cv_access cv_bit_verify cv_bit
 cv_bit_verify_back cv p one = rw (cv_back cv, place_back p, state_back one) refl
 
@@ -75,11 +88,13 @@ what_back (CvVerify c v) h = cv_verify_back c v h
 what_back (CvBitWrite c p b) h = cv_bit_write_back c p b
 what_back (CvBitVerify c p b) h = cv_bit_verify_back c p b
 
-loco_back : (to : Address) (what : What) → ValueFits what → loco (address_word to ∷ instruction_words what) ≡ Ok (Loco to what)
+loco_back : (to : Address) (what : What) → ValueFits what
+    → loco (address_word to ∷ instruction_words what) ≡ Ok (Loco to what)
 unfolding loco
 loco_back to what h = rw (address_back to, what_back what h) refl
 
-accessory_back : (b : Board) (o : Output) (on : Bool) → accessory (decimal b.number ∷ decimal o.number ∷ switch_word on ∷ []) ≡ Ok (Accessory b o on)
+accessory_back : (b : Board) (o : Output) (on : Bool)
+    → accessory (decimal b.number ∷ decimal o.number ∷ switch_word on ∷ []) ≡ Ok (Accessory b o on)
 unfolding accessory
 accessory_back b o on = rw (board_back b, output_back o, switch_back on) refl
 
@@ -114,9 +129,11 @@ spelled-injective (Err f) (Ok q) e = absurd cc
 spelled-injective (Err f) (Err g) e = cc
 
 -- words say one thing
-pub one_answer : (line : List (List ℕ)) (one other : Result Packet PacketFault) → Says line one → Says line other → one ≡ other
+pub one_answer : (line : List (List ℕ)) (one other : Result Packet PacketFault) → Says line one → Says line other
+    → one ≡ other
 one_answer line one other h k = spelled-injective one other (h ∙ sym k)
 
 -- a written line says nothing but its packet
-pub only_answer : (p : Packet) → BytesFit p → (answer : Result Packet PacketFault) → Says (words (written_line p)) answer → answer ≡ Ok p
+pub only_answer : (p : Packet) → BytesFit p → (answer : Result Packet PacketFault)
+    → Says (words (written_line p)) answer → answer ≡ Ok p
 only_answer p fits answer h = one_answer (words (written_line p)) answer (Ok p) h (says_back p fits)

@@ -92,12 +92,17 @@ pub same_functions : (a b : GroupBits) → a.group ≡ b.group → a.bits ≡ b.
 same_functions a b g e =
     let one : (group : Group) (n : ℕ) → IsProp (n ≤ group_max group) = λ group n. hlevel props in
     let P : ℕ → Type 0 = λ n. (h : n ≤ group_max a.group) → a ≡ record { group = a.group; bits = n; in_range = h } in
-    let Q : Group → Type 0 = λ group. (h : b.bits ≤ group_max group) → a ≡ record { group = group; bits = b.bits; in_range = h } in
-    subst Q g (subst P e (λ h i. record { group = a.group; bits = a.bits; in_range = one a.group a.bits a.in_range h i })) b.in_range
+    let Q : Group → Type 0 =
+    λ group. (h : b.bits ≤ group_max group) → a ≡ record { group = group; bits = b.bits; in_range = h } in
+    subst Q g
+    (subst P e (λ h i. record { group = a.group; bits = a.bits; in_range = one a.group a.bits a.in_range h i }))
+    b.in_range
 
 pub same_other : (a b : OtherFrame) → a.frame ≡ b.frame → a ≡ b
 same_other a b e =
     let one : (f : List ℕ) → IsProp (IsFrame f) = λ f. hlevel props in
     let none : (f : List ℕ) → IsProp (¬ (HasRow f)) = λ f. hlevel props in
-    let P : List ℕ → Type 0 = λ f. (v : IsFrame f) (h : ¬ (HasRow f)) → a ≡ record { frame = f; valid = v; no_row = h } in
-    subst P e (λ v h i. record { frame = a.frame; valid = one a.frame a.valid v i; no_row = none a.frame a.no_row h i }) b.valid b.no_row
+    let P : List ℕ → Type 0 =
+    λ f. (v : IsFrame f) (h : ¬ (HasRow f)) → a ≡ record { frame = f; valid = v; no_row = h } in
+    subst P e (λ v h i. record { frame = a.frame; valid = one a.frame a.valid v i; no_row = none a.frame a.no_row h i })
+    b.valid b.no_row

@@ -24,7 +24,9 @@ use Rattle.dcc_packet.specs.declared.accessory.Output.{Output}
 use Rattle.dcc_packet.specs.declared.accessory.SignalAddress.{SignalAddress}
 use Rattle.dcc_packet.specs.declared.speed.SpeedBits28.{SpeedBits28}
 use Rattle.dcc_packet.specs.Written.{address_word, direction_word, group_word, state_word, switch_word}
-use Rattle.dcc_packet.specs.LineWords.{number, small_number, address, direction, speed28_bits, speed128_bits, group, group_bits, state_number, cv_number, bit_place, bit_state, switch, board_number, output_number, signal_number, framed, hex_frame}
+use Rattle.dcc_packet.specs.LineWords.{number, small_number, address, direction, speed28_bits, speed128_bits, group}
+use Rattle.dcc_packet.specs.LineWords.{group_bits, state_number, cv_number, bit_place, bit_state, switch}
+use Rattle.dcc_packet.specs.LineWords.{board_number, output_number, signal_number, framed, hex_frame}
 use Rattle.dcc_packet.proofs.UpTo.{up_to_ok, from_one_to_ok}
 use Rattle.dcc_packet.proofs.Decimal.{short}
 use Rattle.dcc_packet.proofs.WrittenWords.{test_from_digits, group_is_byte}
@@ -45,18 +47,26 @@ small_number-decimal n h =
 
 pub address_back : (to : Address) → address (address_word to) ≡ Ok to
 address_back Broadcast = refl
-address_back (Short s) = rw (small_number-decimal s.number (omega arith)) (from_one_to_ok 127 s.number faults.Short (λ h. Short (record { number = s.number; in_range = h })) s.in_range)
-address_back (Long s) = rw (number-decimal s.number (omega arith)) (up_to_ok 10239 s.number faults.Long (λ h. Long (record { number = s.number; in_range = h })) s.in_range)
+address_back (Short s) =
+    rw (small_number-decimal s.number (omega arith))
+    (from_one_to_ok 127 s.number faults.Short (λ h. Short (record { number = s.number; in_range = h })) s.in_range)
+address_back (Long s) =
+    rw (number-decimal s.number (omega arith))
+    (up_to_ok 10239 s.number faults.Long (λ h. Long (record { number = s.number; in_range = h })) s.in_range)
 
 pub direction_back : (forward : Bool) → direction (direction_word forward) ≡ Ok forward
 direction_back true = refl
 direction_back false = refl
 
 pub speed28_bits_back : (speed : SpeedBits28) → speed28_bits (decimal speed.bits) ≡ Ok speed
-speed28_bits_back speed = rw (small_number-decimal speed.bits (omega arith)) (up_to_ok 31 speed.bits faults.SpeedBits (λ h. record { bits = speed.bits; in_range = h }) speed.in_range)
+speed28_bits_back speed =
+    rw (small_number-decimal speed.bits (omega arith))
+    (up_to_ok 31 speed.bits faults.SpeedBits (λ h. record { bits = speed.bits; in_range = h }) speed.in_range)
 
 pub speed128_bits_back : (speed : SpeedBits128) → speed128_bits (decimal speed.bits) ≡ Ok speed
-speed128_bits_back speed = rw (small_number-decimal speed.bits (omega arith)) (up_to_ok 127 speed.bits faults.SpeedBits (λ h. record { bits = speed.bits; in_range = h }) speed.in_range)
+speed128_bits_back speed =
+    rw (small_number-decimal speed.bits (omega arith))
+    (up_to_ok 127 speed.bits faults.SpeedBits (λ h. record { bits = speed.bits; in_range = h }) speed.in_range)
 
 pub group_back : (g : Group) → group (group_word g) ≡ Ok g
 group_back F0 = refl
@@ -72,16 +82,24 @@ group_back F61 = refl
 
 pub group_bits_back : (f : GroupBits) → group_bits f.group (decimal f.bits) ≡ Ok f
 group_bits_back f =
-    rw (small_number-decimal f.bits (omega (arith, group_is_byte f.group, f.in_range))) (up_to_ok (group_max f.group) f.bits faults.GroupBits (λ h. record { group = f.group; bits = f.bits; in_range = h }) f.in_range)
+    rw (small_number-decimal f.bits (omega (arith, group_is_byte f.group, f.in_range)))
+    (up_to_ok (group_max f.group) f.bits faults.GroupBits
+    (λ h. record { group = f.group; bits = f.bits; in_range = h }) f.in_range)
 
 pub state_number_back : (n : StateNumber) → state_number (decimal n.number) ≡ Ok n
-state_number_back n = rw (small_number-decimal n.number (omega arith)) (up_to_ok 127 n.number faults.StateNumber (λ h. record { number = n.number; in_range = h }) n.in_range)
+state_number_back n =
+    rw (small_number-decimal n.number (omega arith))
+    (up_to_ok 127 n.number faults.StateNumber (λ h. record { number = n.number; in_range = h }) n.in_range)
 
 pub cv_back : (cv : CvNumber) → cv_number (decimal cv.number) ≡ Ok cv
-cv_back cv = rw (number-decimal cv.number (omega arith)) (from_one_to_ok 1024 cv.number faults.CvNumber (λ h. record { number = cv.number; in_range = h }) cv.in_range)
+cv_back cv =
+    rw (number-decimal cv.number (omega arith))
+    (from_one_to_ok 1024 cv.number faults.CvNumber (λ h. record { number = cv.number; in_range = h }) cv.in_range)
 
 pub place_back : (p : BitPlace) → bit_place (decimal p.place) ≡ Ok p
-place_back p = rw (small_number-decimal p.place (omega arith)) (up_to_ok 7 p.place faults.BitPlace (λ h. record { place = p.place; in_range = h }) p.in_range)
+place_back p =
+    rw (small_number-decimal p.place (omega arith))
+    (up_to_ok 7 p.place faults.BitPlace (λ h. record { place = p.place; in_range = h }) p.in_range)
 
 pub state_back : (one : Bool) → bit_state (state_word one) ≡ Ok one
 state_back true = refl
@@ -92,13 +110,19 @@ switch_back true = refl
 switch_back false = refl
 
 pub board_back : (b : Board) → board_number (decimal b.number) ≡ Ok b
-board_back b = rw (number-decimal b.number (omega arith)) (up_to_ok 511 b.number faults.Board (λ h. record { number = b.number; in_range = h }) b.in_range)
+board_back b =
+    rw (number-decimal b.number (omega arith))
+    (up_to_ok 511 b.number faults.Board (λ h. record { number = b.number; in_range = h }) b.in_range)
 
 pub output_back : (o : Output) → output_number (decimal o.number) ≡ Ok o
-output_back o = rw (small_number-decimal o.number (omega arith)) (up_to_ok 7 o.number faults.Output (λ h. record { number = o.number; in_range = h }) o.in_range)
+output_back o =
+    rw (small_number-decimal o.number (omega arith))
+    (up_to_ok 7 o.number faults.Output (λ h. record { number = o.number; in_range = h }) o.in_range)
 
 pub signal_back : (s : SignalAddress) → signal_number (decimal s.number) ≡ Ok s
-signal_back s = rw (number-decimal s.number (omega arith)) (up_to_ok 2047 s.number faults.Signal (λ h. record { number = s.number; in_range = h }) s.in_range)
+signal_back s =
+    rw (number-decimal s.number (omega arith))
+    (up_to_ok 2047 s.number faults.Signal (λ h. record { number = s.number; in_range = h }) s.in_range)
 
 pub framed_is : (f : List ℕ) → IsFrame f → framed (frame_of f) ≡ Ok f
 framed_is f h =

@@ -1,5 +1,6 @@
 -- The words of a written line are the words that were written.
-use Rattle.std.proofs.Common.{◌≡◌, ℕ, ◌<◌, ◌≤◌, Bool, true, false, not, List, [], ◌∷◌, ◌++◌, length, get_or, filter, All, ap, ◌∙◌, refl, arith, codes, ◌/◌, ◌%◌, inl, inr}
+use Rattle.std.proofs.Common.{◌≡◌, ℕ, ◌<◌, ◌≤◌, Bool, true, false, not, List, [], ◌∷◌, ◌++◌, length, get_or, filter}
+use Rattle.std.proofs.Common.{All, ap, ◌∙◌, refl, arith, codes, ◌/◌, ◌%◌, inl, inr}
 use Rattle.std.specs.List.{slice_split, list_all, AllByRecursion}
 use Rattle.std.specs.Fmt.{decimal}
 use Rattle.std.specs.Char.{is_ascii_digit, digit_value}
@@ -17,11 +18,13 @@ use Rattle.dcc_packet.specs.Words.{is_separator, words}
 use Rattle.dcc_packet.specs.declared.address.Address.{Address}
 use Rattle.dcc_packet.specs.declared.address.Address.TheVariants.{Broadcast, Short, Long}
 use Rattle.dcc_packet.specs.declared.instruction.What.{What}
-use Rattle.dcc_packet.specs.declared.instruction.What.TheVariants.{Reset, Speed28, Speed128, Functions, BinaryState, CvWrite, CvVerify, CvBitWrite, CvBitVerify}
+use Rattle.dcc_packet.specs.declared.instruction.What.TheVariants.{Reset, Speed28, Speed128, Functions, BinaryState}
+use Rattle.dcc_packet.specs.declared.instruction.What.TheVariants.{CvWrite, CvVerify, CvBitWrite, CvBitVerify}
 use Rattle.dcc_packet.specs.declared.functions.Group.{Group}
 use Rattle.dcc_packet.specs.declared.functions.Group.TheVariants.{F0, F5, F9, F13, F21, F29, F37, F45, F53, F61}
 use Rattle.dcc_packet.specs.Group.{group_max}
-use Rattle.dcc_packet.specs.Written.{spaced, written_line, written_words, address_word, direction_word, group_word, state_word, switch_word, instruction_words}
+use Rattle.dcc_packet.specs.Written.{spaced, written_line, written_words, address_word, direction_word, group_word}
+use Rattle.dcc_packet.specs.Written.{state_word, switch_word, instruction_words}
 use Rattle.dcc_packet.specs.declared.packet.Packet.{Packet}
 use Rattle.dcc_packet.specs.declared.packet.Packet.TheVariants.{Idle, Loco, Accessory, Signal, Other}
 use Rattle.dcc_packet.specs.declared.packet.OtherFrame.{OtherFrame}
@@ -35,9 +38,11 @@ pub record IsWord (word : List ℕ) : Type 0 where
   pub plain : All (λ b. is_separator b ≡ false) word
 
 -- the words of a written line are the words that were written
-pub words_spaced : (word : List ℕ) (rest : List (List ℕ)) → IsWord word → AllByRecursion IsWord rest → words (word ++ spaced rest) ≡ word ∷ rest
+pub words_spaced : (word : List ℕ) (rest : List (List ℕ)) → IsWord word → AllByRecursion IsWord rest
+    → words (word ++ spaced rest) ≡ word ∷ rest
 words_spaced word [] h t =
-    ap words (append-nil word) ∙ ap (filter is_some_word) (slice_split_none is_separator word h.plain) ∙ filter_some word [] h.some
+    ap words (append-nil word) ∙ ap (filter is_some_word) (slice_split_none is_separator word h.plain)
+    ∙ filter_some word [] h.some
 words_spaced word (next ∷ rest) h t =
     ap (filter is_some_word) (slice_split_at is_separator word 32 (next ++ spaced rest) h.plain refl)
     ∙ filter_some word (slice_split is_separator (next ++ spaced rest)) h.some
@@ -47,7 +52,8 @@ pub not_true : (b : Bool) → not b ≡ true → b ≡ false
 not_true true h = absurd cc
 not_true false h = refl
 
-pub plain_from_test : (word : List ℕ) → list_all (λ b. not (is_separator b)) word ≡ true → All (λ b. is_separator b ≡ false) word
+pub plain_from_test : (word : List ℕ) → list_all (λ b. not (is_separator b)) word ≡ true
+    → All (λ b. is_separator b ≡ false) word
 plain_from_test [] h = All-nil (λ b. is_separator b ≡ false)
 plain_from_test (x ∷ xs) h =
     let parts = and_parts (not (is_separator x)) (list_all (λ b. not (is_separator b)) xs) h in
@@ -65,7 +71,8 @@ test_from_digits (c ∷ cs) h = rw (ascii_digit c h.0, test_from_digits cs h.1) 
 
 pub all_plain : (ds : List ℕ) → AllDigits 10 ds → All (λ b. is_separator b ≡ false) ds
 all_plain [] h = All-nil (λ b. is_separator b ≡ false)
-all_plain (c ∷ cs) h = All-cons (λ b. is_separator b ≡ false) c cs (digit_is_plain c (ascii_digit c h.0)) (all_plain cs h.1)
+all_plain (c ∷ cs) h =
+    All-cons (λ b. is_separator b ≡ false) c cs (digit_is_plain c (ascii_digit c h.0)) (all_plain cs h.1)
 
 pub IsWord-decimal : (n : ℕ) → n < 65536 → IsWord (decimal n)
 IsWord-decimal n h =
@@ -74,8 +81,18 @@ IsWord-decimal n h =
 
 pub IsWord-address : (to : Address) → IsWord (address_word to)
 IsWord-address Broadcast = record { some = omega arith; plain = plain_from_test (codes "all") refl }
-IsWord-address (Short s) = record { some = omega arith; plain = All-cons (λ b. is_separator b ≡ false) 115 (decimal s.number) refl (IsWord-decimal s.number (omega arith)).plain }
-IsWord-address (Long s) = record { some = omega arith; plain = All-cons (λ b. is_separator b ≡ false) 108 (decimal s.number) refl (IsWord-decimal s.number (omega arith)).plain }
+IsWord-address (Short s) =
+    record {
+      some = omega arith;
+      plain = All-cons (λ b. is_separator b ≡ false) 115 (decimal s.number) refl
+          (IsWord-decimal s.number (omega arith)).plain;
+    }
+IsWord-address (Long s) =
+    record {
+      some = omega arith;
+      plain = All-cons (λ b. is_separator b ≡ false) 108 (decimal s.number) refl
+          (IsWord-decimal s.number (omega arith)).plain;
+    }
 
 pub literal : (word : List ℕ) → 0 < length word → list_all (λ b. not (is_separator b)) word ≡ true → IsWord word
 literal word some h = record { some = some; plain = plain_from_test word h }
@@ -112,14 +129,44 @@ IsWord-group F61 = literal (codes "61") (omega arith) refl
 
 pub instruction_is_words : (what : What) → ValueFits what → AllByRecursion IsWord (instruction_words what)
 instruction_is_words Reset h = (literal (codes "reset") (omega arith) refl, tt)
-instruction_is_words (Speed28 f b) h = (literal (codes "speed28") (omega arith) refl, (IsWord-direction f, (IsWord-decimal b.bits (omega arith), tt)))
-instruction_is_words (Speed128 f b) h = (literal (codes "speed128") (omega arith) refl, (IsWord-direction f, (IsWord-decimal b.bits (omega arith), tt)))
-instruction_is_words (Functions f) h = (literal (codes "functions") (omega arith) refl, (IsWord-group f.group, (IsWord-decimal f.bits (omega (arith, group_is_byte f.group, f.in_range)), tt)))
-instruction_is_words (BinaryState n on) h = (literal (codes "state") (omega arith) refl, (IsWord-decimal n.number (omega arith), (IsWord-switch on, tt)))
-instruction_is_words (CvWrite c v) h = (literal (codes "cv") (omega arith) refl, (literal (codes "write") (omega arith) refl, (IsWord-decimal c.number (omega arith), (IsWord-decimal v (omega arith), tt))))
-instruction_is_words (CvVerify c v) h = (literal (codes "cv") (omega arith) refl, (literal (codes "verify") (omega arith) refl, (IsWord-decimal c.number (omega arith), (IsWord-decimal v (omega arith), tt))))
-instruction_is_words (CvBitWrite c p b) h = (literal (codes "cv") (omega arith) refl, (literal (codes "bitwrite") (omega arith) refl, (IsWord-decimal c.number (omega arith), (IsWord-decimal p.place (omega arith), (IsWord-state b, tt)))))
-instruction_is_words (CvBitVerify c p b) h = (literal (codes "cv") (omega arith) refl, (literal (codes "bitverify") (omega arith) refl, (IsWord-decimal c.number (omega arith), (IsWord-decimal p.place (omega arith), (IsWord-state b, tt)))))
+instruction_is_words (Speed28 f b) h =
+    (literal (codes "speed28") (omega arith) refl, (IsWord-direction f, (IsWord-decimal b.bits (omega arith), tt)))
+instruction_is_words (Speed128 f b) h =
+    (literal (codes "speed128") (omega arith) refl, (IsWord-direction f, (IsWord-decimal b.bits (omega arith), tt)))
+instruction_is_words (Functions f) h = (
+  literal (codes "functions") (omega arith) refl,
+  (IsWord-group f.group, (IsWord-decimal f.bits (omega (arith, group_is_byte f.group, f.in_range)), tt)),
+)
+instruction_is_words (BinaryState n on) h =
+    (literal (codes "state") (omega arith) refl, (IsWord-decimal n.number (omega arith), (IsWord-switch on, tt)))
+instruction_is_words (CvWrite c v) h = (
+  literal (codes "cv") (omega arith) refl,
+  (
+    literal (codes "write") (omega arith) refl,
+    (IsWord-decimal c.number (omega arith), (IsWord-decimal v (omega arith), tt)),
+  ),
+)
+instruction_is_words (CvVerify c v) h = (
+  literal (codes "cv") (omega arith) refl,
+  (
+    literal (codes "verify") (omega arith) refl,
+    (IsWord-decimal c.number (omega arith), (IsWord-decimal v (omega arith), tt)),
+  ),
+)
+instruction_is_words (CvBitWrite c p b) h = (
+  literal (codes "cv") (omega arith) refl,
+  (
+    literal (codes "bitwrite") (omega arith) refl,
+    (IsWord-decimal c.number (omega arith), (IsWord-decimal p.place (omega arith), (IsWord-state b, tt))),
+  ),
+)
+instruction_is_words (CvBitVerify c p b) h = (
+  literal (codes "cv") (omega arith) refl,
+  (
+    literal (codes "bitverify") (omega arith) refl,
+    (IsWord-decimal c.number (omega arith), (IsWord-decimal p.place (omega arith), (IsWord-state b, tt))),
+  ),
+)
 
 pub digit_plain : (i : ℕ) → is_separator (get_or lower_digits i 0) ≡ false
 digit_plain i =
@@ -133,21 +180,28 @@ pub hex_plain : (bytes : List ℕ) → All (λ b. is_separator b ≡ false) (enc
 unfolding encode_with
 hex_plain [] = All-nil (λ b. is_separator b ≡ false)
 hex_plain (b ∷ bs) =
-    All-cons (λ b. is_separator b ≡ false) (get_or lower_digits (b / 16) 0) (get_or lower_digits (b % 16) 0 ∷ encode_lower bs) (digit_plain (b / 16))
-    (All-cons (λ b. is_separator b ≡ false) (get_or lower_digits (b % 16) 0) (encode_lower bs) (digit_plain (b % 16)) (hex_plain bs))
+    All-cons (λ b. is_separator b ≡ false) (get_or lower_digits (b / 16) 0)
+    (get_or lower_digits (b % 16) 0 ∷ encode_lower bs) (digit_plain (b / 16))
+    (All-cons (λ b. is_separator b ≡ false) (get_or lower_digits (b % 16) 0) (encode_lower bs) (digit_plain (b % 16))
+    (hex_plain bs))
 
 IsWord-hex : (o : OtherFrame) → IsWord (encode_lower o.frame)
-IsWord-hex o = record { some = omega (arith, length-encode_with lower_digits o.frame, o.valid.least); plain = hex_plain o.frame }
+IsWord-hex o =
+    record { some = omega (arith, length-encode_with lower_digits o.frame, o.valid.least); plain = hex_plain o.frame }
 
 -- the words of a written line are those that were written
 pub written_are_words : (p : Packet) → BytesFit p → words (written_line p) ≡ written_words p
 written_are_words Idle h = words_spaced (codes "idle") [] (literal (codes "idle") (omega arith) refl) tt
 written_are_words (Loco to what) h =
-    words_spaced (codes "loco") (address_word to ∷ instruction_words what) (literal (codes "loco") (omega arith) refl) (IsWord-address to, instruction_is_words what h)
+    words_spaced (codes "loco") (address_word to ∷ instruction_words what) (literal (codes "loco") (omega arith) refl)
+    (IsWord-address to, instruction_is_words what h)
 written_are_words (Accessory b o on) h =
-    words_spaced (codes "accessory") (decimal b.number ∷ decimal o.number ∷ switch_word on ∷ []) (literal (codes "accessory") (omega arith) refl)
+    words_spaced (codes "accessory") (decimal b.number ∷ decimal o.number ∷ switch_word on ∷ [])
+    (literal (codes "accessory") (omega arith) refl)
     (IsWord-decimal b.number (omega arith), (IsWord-decimal o.number (omega arith), (IsWord-switch on, tt)))
 written_are_words (Signal s a) h =
     words_spaced (codes "signal") (decimal s.number ∷ decimal a ∷ []) (literal (codes "signal") (omega arith) refl)
     (IsWord-decimal s.number (omega arith), (IsWord-decimal a (omega arith), tt))
-written_are_words (Other o) h = words_spaced (codes "frame") (encode_lower o.frame ∷ []) (literal (codes "frame") (omega arith) refl) (IsWord-hex o, tt)
+written_are_words (Other o) h =
+    words_spaced (codes "frame") (encode_lower o.frame ∷ []) (literal (codes "frame") (omega arith) refl)
+    (IsWord-hex o, tt)

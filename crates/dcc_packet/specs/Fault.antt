@@ -1,7 +1,9 @@
 -- The numbers of the refusals.
 use Rattle.std.specs.Prelude.{ℕ}
 use Rattle.dcc_packet.specs.declared.fault.PacketFault.{PacketFault}
-use Rattle.dcc_packet.specs.declared.fault.PacketFault.TheVariants.{Short, Long, Board, Output, Signal, CvNumber, BitPlace, SpeedBits, GroupBits, Word, Number, Frame, State, StateNumber}
+use Rattle.dcc_packet.specs.declared.fault.PacketFault.TheVariants.{Short, Long, Board, Output, Signal, CvNumber}
+use Rattle.dcc_packet.specs.declared.fault.PacketFault.TheVariants.{BitPlace, SpeedBits, GroupBits, Word, Number}
+use Rattle.dcc_packet.specs.declared.fault.PacketFault.TheVariants.{Frame, State, StateNumber}
 
 -- the number behind the letter P
 abbrev pub number_of : PacketFault → ℕ

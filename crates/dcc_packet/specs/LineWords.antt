@@ -1,5 +1,6 @@
 -- What single words of packet lines say.
-use Rattle.std.specs.Prelude.{ℕ, ◌&&◌, nat_le, Bool, true, false, List, length, codes, slice_index, drop, ◌==◌, if◌then◌else◌, Result, Ok, Err}
+use Rattle.std.specs.Prelude.{ℕ, ◌&&◌, nat_le, Bool, true, false, List, length, codes, slice_index, drop, ◌==◌}
+use Rattle.std.specs.Prelude.{if◌then◌else◌, Result, Ok, Err}
 use Rattle.std.specs.Char.{is_ascii_digit}
 use Rattle.std.specs.List.{list_all}
 use Rattle.std.specs.Str.Parse.{digits_value}
@@ -23,7 +24,8 @@ use Rattle.dcc_wire.specs.declared.frame.FrameFault.{FrameFault}
 use Rattle.dcc_wire.specs.FrameOf.{frame_of}
 use Rattle.hex.specs.declared.error.FromHexError.{FromHexError}
 use Rattle.hex.specs.Hex.{decode_of}
-use Rattle.dcc_packet.specs.Values.{short_of, long_of, speed28_of, speed128_of, functions_of, state_of, cv_of, place_of, board_of, output_of, signal_of}
+use Rattle.dcc_packet.specs.Values.{short_of, long_of, speed28_of, speed128_of, functions_of, state_of, cv_of}
+use Rattle.dcc_packet.specs.Values.{place_of, board_of, output_of, signal_of}
 use Rattle.dcc_packet.specs.Words.{Word, is_word}
 
 -- the second step, where the first gave a value
@@ -39,7 +41,8 @@ is_numeral word = nat_le 1 (length word) && nat_le (length word) 5 && list_all i
 -- a numeral, at most 65535
 abbrev pub number : Word → Result ℕ PacketFault
 number word =
-    if is_numeral word then (if nat_le (digits_value 10 word) 65535 then Ok (digits_value 10 word) else Err faults.Number)
+    if is_numeral word
+    then (if nat_le (digits_value 10 word) 65535 then Ok (digits_value 10 word) else Err faults.Number)
     else Err faults.Number
 
 -- such a number up to 255

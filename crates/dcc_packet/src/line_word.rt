@@ -1,7 +1,9 @@
 //! What single words of packet lines say.
 ghost use Rattle.std.specs.Prelude.{◌≡◌};
 ghost use Rattle.dcc_wire.specs.FrameOf.{frame_of};
-ghost use Rattle.dcc_packet.specs.LineWords.{address, direction, speed28_bits, speed128_bits, group, group_bits, state_number, cv_number, bit_place, bit_state, board_number, output_number, switch, signal_number, framed, hex_frame};
+ghost use Rattle.dcc_packet.specs.LineWords.{address, direction, speed28_bits, speed128_bits, group, group_bits};
+ghost use Rattle.dcc_packet.specs.LineWords.{state_number, cv_number, bit_place, bit_state, board_number};
+ghost use Rattle.dcc_packet.specs.LineWords.{output_number, switch, signal_number, framed, hex_frame};
 
 use crate::numeral::{number, small_number};
 use crate::{

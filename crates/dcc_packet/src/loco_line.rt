@@ -1,6 +1,8 @@
 //! Packet lines to locomotives, behind the word `loco`.
 ghost use Rattle.std.specs.Prelude.{◌≡◌};
-ghost use Rattle.dcc_packet.specs.Line.{loco, instruction, reset, speed28, speed128, functions, binary_state, cv_access, cv_write, cv_verify, cv_bit_write, cv_bit_verify, cv_value, cv_bit};
+ghost use Rattle.dcc_packet.specs.Line.{loco, instruction, reset, speed28, speed128, functions, binary_state};
+ghost use Rattle.dcc_packet.specs.Line.{cv_access, cv_write, cv_verify, cv_bit_write, cv_bit_verify, cv_value};
+ghost use Rattle.dcc_packet.specs.Line.{cv_bit};
 
 use crate::line_word::{
     address, bit_place, bit_state, cv_number, direction, group, group_bits, speed28_bits,

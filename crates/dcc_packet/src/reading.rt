@@ -1,6 +1,7 @@
 //! Frames as packets.
 ghost use Rattle.std.specs.Prelude.{◌≡◌, ◌≢◌, ◌≤◌, ◌<◌, ◌++◌, ◌∷◌, [], IfSome, IfNone, Bool, ℕ};
-ghost use Rattle.dcc_packet.specs.Rows.{instruction_bytes, address_bytes, loco_bytes, accessory_bytes, signal_bytes, IsRow};
+ghost use Rattle.dcc_packet.specs.Rows.{instruction_bytes, address_bytes, loco_bytes, accessory_bytes, signal_bytes};
+ghost use Rattle.dcc_packet.specs.Rows.{IsRow};
 ghost use Rattle.dcc_wire.specs.Frames.{with_error_byte};
 ghost use Rattle.dcc_packet.specs.Spelling.{spelling};
 ghost use Rattle.dcc_packet.specs.declared.accessory.Board.{Board};

@@ -2,7 +2,8 @@
 ghost use Rattle.std.specs.Prelude.{◌≡◌, ◌≤◌, ◌+◌, ◌-◌, ◌*◌, ◌/◌, ◌%◌, ◌++◌, ◌∷◌, [], length};
 ghost use Rattle.arrayvec.specs.ArrayVec.{array_vec_len};
 ghost use Rattle.dcc_wire.specs.Frames.{with_error_byte, xor_of};
-ghost use Rattle.dcc_packet.specs.Rows.{bit, address_bytes, instruction_bytes, function_bytes, cv_bytes, accessory_bytes, signal_bytes};
+ghost use Rattle.dcc_packet.specs.Rows.{bit, address_bytes, instruction_bytes, function_bytes, cv_bytes};
+ghost use Rattle.dcc_packet.specs.Rows.{accessory_bytes, signal_bytes};
 ghost use Rattle.dcc_packet.specs.Spelling.{spelling};
 
 use crate::bits::bit;

@@ -3,7 +3,8 @@ ghost use Rattle.std.specs.Prelude.{◌≡◌, ◌+◌, ◌≤◌, ◌<◌, ◌+
 ghost use Rattle.std.specs.Fmt.{decimal};
 ghost use Rattle.hex.specs.Hex.{encode_lower};
 ghost use Rattle.arrayvec.specs.ArrayString.{array_string_len};
-ghost use Rattle.dcc_packet.specs.Written.{address_word, direction_word, state_word, group_word, switch_word, with_word};
+ghost use Rattle.dcc_packet.specs.Written.{address_word, direction_word, state_word, group_word, switch_word};
+ghost use Rattle.dcc_packet.specs.Written.{with_word};
 
 use crate::{Address, Group};
 use arrayvec::ArrayString;

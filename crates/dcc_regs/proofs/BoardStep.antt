@@ -9,7 +9,9 @@ use Rattle.dcc_regs.specs.declared.register.Who.{Who}
 use Rattle.dcc_packet.specs.declared.accessory.Board.{Board as OwnBoard}
 use Rattle.dcc_regs.specs.declared.register.Who.TheVariants.{Board as BoardWho}
 use Rattle.dcc_regs.specs.declared.register.Register.{Register}
-use Rattle.dcc_regs.specs.declared.register.Register.TheVariants.{Speed as SpeedRegister, Direction, Function, State as StateRegister, CvBit, Pending as PendingRegister, Out, Position, Aspect}
+use Rattle.dcc_regs.specs.declared.register.Register.TheVariants.{Speed as SpeedRegister, Direction, Function}
+use Rattle.dcc_regs.specs.declared.register.Register.TheVariants.{State as StateRegister, CvBit}
+use Rattle.dcc_regs.specs.declared.register.Register.TheVariants.{Pending as PendingRegister, Out, Position, Aspect}
 use Rattle.dcc_regs.specs.declared.register.Value.TheVariants.{Flag, Number}
 use Rattle.dcc_regs.specs.Heard.{hears}
 use Rattle.dcc_regs.specs.Outputs.{out_set, position_set, aspect_set}
@@ -28,15 +30,18 @@ pub record Obeys (p : Packet) (d d' : BoardContent) : Type 0 where
 there : (n last : ℕ) → nat_le n last ≡ true → n ≤ last
 there n last t = grind (arith, nat_tests)
 
-at_register : (p : Packet) (d d' : BoardContent) → Obeys p d d' → (r : Register) → board_registers d' r ≡ result_of_heard (board_registers d) (p ∷ []) r
+at_register : (p : Packet) (d d' : BoardContent) → Obeys p d d' → (r : Register)
+    → board_registers d' r ≡ result_of_heard (board_registers d) (p ∷ []) r
 at_register p d d' o (Out n) =
     where_there (nat_le n 7) (Flag (d'.outs n)) (Flag (d.outs n)) (cons_option (option_map Flag (out_set p n)) [])
     (λ t. rw (o.outs n (there n 7 t)) (set_by Flag (out_set p n) (d.outs n)))
 at_register p d d' o (Position n) =
-    where_there (nat_le n 3) (side (d'.positions n)) (side (d.positions n)) (cons_option (option_map side (position_set p n)) [])
+    where_there (nat_le n 3) (side (d'.positions n)) (side (d.positions n))
+    (cons_option (option_map side (position_set p n)) [])
     (λ t. rw (o.positions n (there n 3 t)) (set_by side (position_set p n) (d.positions n)))
 at_register p d d' o (Aspect n) =
-    where_there (nat_le n 3) (Number (d'.aspects n)) (Number (d.aspects n)) (cons_option (option_map Number (aspect_set p n)) [])
+    where_there (nat_le n 3) (Number (d'.aspects n)) (Number (d.aspects n))
+    (cons_option (option_map Number (aspect_set p n)) [])
     (λ t. rw (o.aspects n (there n 3 t)) (set_by Number (aspect_set p n) (d.aspects n)))
 at_register p d d' o SpeedRegister = refl
 at_register p d d' o Direction = refl
@@ -45,8 +50,10 @@ at_register p d d' o (StateRegister n) = refl
 at_register p d d' o (CvBit cv place) = refl
 at_register p d d' o PendingRegister = refl
 
-pub step-heard : (who : Who) (p : Packet) (d d' : BoardContent) → hears who p ≡ true → Obeys p d d' → board_registers d' ≡ step who (board_registers d) p
-step-heard who p d d' h o = fun_ext (at_register p d d' o) ∙ sym (ap (result_of_heard (board_registers d)) (heard_one who p h))
+pub step-heard : (who : Who) (p : Packet) (d d' : BoardContent) → hears who p ≡ true → Obeys p d d'
+    → board_registers d' ≡ step who (board_registers d) p
+step-heard who p d d' h o =
+    fun_ext (at_register p d d' o) ∙ sym (ap (result_of_heard (board_registers d)) (heard_one who p h))
 
 byte : (n : ℕ) → n < 256 → nat_le n 255 ≡ true
 byte n h = grind (arith, nat_tests)
@@ -55,19 +62,23 @@ side_small : (one : Bool) → nat_le (if one then 1 else 0) 1 ≡ true
 side_small true = refl
 side_small false = refl
 
-held_out : (own : OwnBoard) (n : ℕ) (on t : Bool) → nat_le n 7 ≡ t → may_hold (BoardWho own) (Out n) (if t then Some (Flag on) else None) ≡ true
+held_out : (own : OwnBoard) (n : ℕ) (on t : Bool) → nat_le n 7 ≡ t
+    → may_hold (BoardWho own) (Out n) (if t then Some (Flag on) else None) ≡ true
 held_out own n on true e = e
 held_out own n on false e = rw e refl
 
-held_position : (own : OwnBoard) (n : ℕ) (one t : Bool) → nat_le n 3 ≡ t → may_hold (BoardWho own) (Position n) (if t then Some (side one) else None) ≡ true
+held_position : (own : OwnBoard) (n : ℕ) (one t : Bool) → nat_le n 3 ≡ t
+    → may_hold (BoardWho own) (Position n) (if t then Some (side one) else None) ≡ true
 held_position own n one true e = rw (e, side_small one) refl
 held_position own n one false e = rw e refl
 
-held_aspect : (own : OwnBoard) (n aspect : ℕ) (t : Bool) → aspect < 256 → nat_le n 3 ≡ t → may_hold (BoardWho own) (Aspect n) (if t then Some (Number aspect) else None) ≡ true
+held_aspect : (own : OwnBoard) (n aspect : ℕ) (t : Bool) → aspect < 256 → nat_le n 3 ≡ t
+    → may_hold (BoardWho own) (Aspect n) (if t then Some (Number aspect) else None) ≡ true
 held_aspect own n aspect true small e = rw (e, byte aspect small) refl
 held_aspect own n aspect false small e = rw e refl
 
-held : (own : OwnBoard) (d : BoardContent) → ((n : ℕ) → d.aspects n < 256) → (r : Register) → may_hold (BoardWho own) r (board_registers d r) ≡ true
+held : (own : OwnBoard) (d : BoardContent) → ((n : ℕ) → d.aspects n < 256) → (r : Register)
+    → may_hold (BoardWho own) r (board_registers d r) ≡ true
 held own d bytes (Out n) = held_out own n (d.outs n) (nat_le n 7) refl
 held own d bytes (Position n) = held_position own n (d.positions n) (nat_le n 3) refl
 held own d bytes (Aspect n) = held_aspect own n (d.aspects n) (nat_le n 3) (bytes n) refl
@@ -78,5 +89,6 @@ held own d bytes (StateRegister n) = refl
 held own d bytes (CvBit cv place) = refl
 held own d bytes PendingRegister = refl
 
-pub possible : (own : OwnBoard) (d : BoardContent) → nat_le own.number 510 ≡ true → ((n : ℕ) → d.aspects n < 256) → IsPossible (BoardWho own) (board_registers d)
+pub possible : (own : OwnBoard) (d : BoardContent) → nat_le own.number 510 ≡ true → ((n : ℕ) → d.aspects n < 256)
+    → IsPossible (BoardWho own) (board_registers d)
 possible own d board bytes = record { decoder = board; registers = held own d bytes }

@@ -9,7 +9,9 @@ use Rattle.dcc_packet.specs.declared.packet.Packet.TheVariants.{Loco as ToLoco, 
 use Rattle.dcc_regs.specs.declared.register.SpeedMode.{SpeedMode}
 use Rattle.dcc_regs.specs.declared.register.SpeedMode.TheVariants.{Steps14, Steps28}
 use Rattle.dcc_regs.specs.declared.register.Register.{Register}
-use Rattle.dcc_regs.specs.declared.register.Register.TheVariants.{Speed as SpeedRegister, Direction, Function, State as StateRegister, CvBit, Pending as PendingRegister, Out, Position, Aspect}
+use Rattle.dcc_regs.specs.declared.register.Register.TheVariants.{Speed as SpeedRegister, Direction, Function}
+use Rattle.dcc_regs.specs.declared.register.Register.TheVariants.{State as StateRegister, CvBit}
+use Rattle.dcc_regs.specs.declared.register.Register.TheVariants.{Pending as PendingRegister, Out, Position, Aspect}
 use Rattle.dcc_regs.specs.declared.register.Value.{Value}
 use Rattle.dcc_regs.specs.declared.register.Value.TheVariants.{Flag}
 use Rattle.dcc_packet.specs.declared.accessory.Board.{Board}
@@ -17,7 +19,8 @@ use Rattle.dcc_packet.specs.declared.accessory.Output.{Output}
 use Rattle.dcc_regs.specs.Heard.{is_full_reset}
 use Rattle.dcc_regs.specs.Outputs.{out_set}
 use Rattle.dcc_regs.specs.Sets.{sets, side}
-use Rattle.dcc_regs.specs.ConflictParts.{Differ, DifferIn, DifferInLoco, DifferAtOutput, DifferInOutputs, DifferInAspects, output_of}
+use Rattle.dcc_regs.specs.ConflictParts.{Differ, DifferIn, DifferInLoco, DifferAtOutput, DifferInOutputs}
+use Rattle.dcc_regs.specs.ConflictParts.{DifferInAspects, output_of}
 use Rattle.dcc_regs.proofs.DifferLemmas.{Off, off_by, never, differ-sym}
 
 nothing : (a : Option Value) → Differ a None → ⊥
@@ -29,7 +32,8 @@ off_out (ToLoco to what) n e = off_by (is_full_reset to what && nat_le n 7)
 off_out (Accessory board output on) n e = absurd (cc)
 off_out p n e = tt
 
-no_position : (p q : Packet) (n : ℕ) → output_of p ≡ None → Differ (sets Steps28 p (Position n)) (sets Steps28 q (Position n)) → ⊥
+no_position : (p q : Packet) (n : ℕ) → output_of p ≡ None
+    → Differ (sets Steps28 p (Position n)) (sets Steps28 q (Position n)) → ⊥
 no_position (Accessory board output on) q n e d = absurd (cc)
 no_position p q n e d = d
 
@@ -43,7 +47,8 @@ none_second None b e = e
 
 pub no_outputs : (p q : Packet) → option_or (output_of p) (output_of q) ≡ None → DifferInOutputs p q → ⊥
 no_outputs p q e (inl d) =
-    never (out_set p d.0) (out_set q d.0) (off_out p d.0 (none_first (output_of p) (output_of q) e)) (off_out q d.0 (none_second (output_of p) (output_of q) e)) d.1
+    never (out_set p d.0) (out_set q d.0) (off_out p d.0 (none_first (output_of p) (output_of q) e))
+    (off_out q d.0 (none_second (output_of p) (output_of q) e)) d.1
 no_outputs p q e (inr d) = no_position p q d.0 (none_first (output_of p) (output_of q) e) d.1
 
 -- an accessory packet and another packet
@@ -51,22 +56,29 @@ pub output_from : (p q : Packet) (n : ℕ) → DifferAtOutput p q n → DifferIn
 output_from p q n (inl d) = inl (n, d)
 output_from p q n (inr d) = inr (n / 2, d)
 
-chosen : {A : Type 0} (f : A → Value) (a : Option Value) (t : Bool) (v : A) → Differ a (option_map f (if t then Some v else None)) → t ≡ true
+chosen : {A : Type 0} (f : A → Value) (a : Option Value) (t : Bool) (v : A)
+    → Differ a (option_map f (if t then Some v else None)) → t ≡ true
 chosen f a true v d = refl
 chosen f a false v d = absurd (nothing a d)
 
-move_out : (p q : Packet) (n k : ℕ) → n ≡ k → Differ (sets Steps28 p (Out n)) (sets Steps28 q (Out n)) → DifferAtOutput p q k
+move_out : (p q : Packet) (n k : ℕ) → n ≡ k → Differ (sets Steps28 p (Out n)) (sets Steps28 q (Out n))
+    → DifferAtOutput p q k
 move_out p q n k e d = inl (subst (λ (n : ℕ). Differ (sets Steps28 p (Out n)) (sets Steps28 q (Out n))) e d)
 
-move_position : (p q : Packet) (n k : ℕ) → n ≡ k / 2 → Differ (sets Steps28 p (Position n)) (sets Steps28 q (Position n)) → DifferAtOutput p q k
-move_position p q n k e d = inr (subst (λ (n : ℕ). Differ (sets Steps28 p (Position n)) (sets Steps28 q (Position n))) e d)
+move_position : (p q : Packet) (n k : ℕ) → n ≡ k / 2
+    → Differ (sets Steps28 p (Position n)) (sets Steps28 q (Position n)) → DifferAtOutput p q k
+move_position p q n k e d =
+    inr (subst (λ (n : ℕ). Differ (sets Steps28 p (Position n)) (sets Steps28 q (Position n))) e d)
 
-output_at : (p : Packet) (board : Board) (output : Output) (on : Bool) → DifferInOutputs p (Accessory board output on) → DifferAtOutput p (Accessory board output on) output.number
+output_at : (p : Packet) (board : Board) (output : Output) (on : Bool) → DifferInOutputs p (Accessory board output on)
+    → DifferAtOutput p (Accessory board output on) output.number
 output_at p board output on (inl d) =
-    move_out p (Accessory board output on) d.0 output.number ((Decides-eqb d.0 output.number).0 (chosen Flag (sets Steps28 p (Out d.0)) (d.0 == output.number) on d.1)) d.1
+    move_out p (Accessory board output on) d.0 output.number
+    ((Decides-eqb d.0 output.number).0 (chosen Flag (sets Steps28 p (Out d.0)) (d.0 == output.number) on d.1)) d.1
 output_at p board output true (inr d) =
     move_position p (Accessory board output true) d.0 output.number
-    ((Decides-eqb d.0 (output.number / 2)).0 (chosen side (sets Steps28 p (Position d.0)) (d.0 == output.number / 2) (output.number % 2 == 1) d.1)) d.1
+    ((Decides-eqb d.0 (output.number / 2)).0
+    (chosen side (sets Steps28 p (Position d.0)) (d.0 == output.number / 2) (output.number % 2 == 1) d.1)) d.1
 output_at p board output false (inr d) = absurd (nothing (sets Steps28 p (Position d.0)) d.1)
 
 at-sym : (p q : Packet) (n : ℕ) → DifferAtOutput p q n → DifferAtOutput q p n
@@ -77,20 +89,24 @@ outputs-sym : (p q : Packet) → DifferInOutputs p q → DifferInOutputs q p
 outputs-sym p q (inl d) = inl (d.0, differ-sym (sets Steps28 p (Out d.0)) (sets Steps28 q (Out d.0)) d.1)
 outputs-sym p q (inr d) = inr (d.0, differ-sym (sets Steps28 p (Position d.0)) (sets Steps28 q (Position d.0)) d.1)
 
-output_there : (p : Packet) (board : Board) (output : Output) (n : ℕ) (on : Bool) → Some output.number ≡ Some n → DifferInOutputs p (Accessory board output on) → DifferAtOutput p (Accessory board output on) n
+output_there : (p : Packet) (board : Board) (output : Output) (n : ℕ) (on : Bool) → Some output.number ≡ Some n
+    → DifferInOutputs p (Accessory board output on) → DifferAtOutput p (Accessory board output on) n
 output_there p board output n on e d =
     let same : output.number ≡ n = cc in
     subst (λ (n : ℕ). DifferAtOutput p (Accessory board output on) n) same (output_at p board output on d)
 
 -- they differ at the output that one of them is for
-pub output_to : (p q : Packet) (n : ℕ) → option_or (output_of p) (output_of q) ≡ Some n → DifferInOutputs p q → DifferAtOutput p q n
+pub output_to : (p q : Packet) (n : ℕ) → option_or (output_of p) (output_of q) ≡ Some n → DifferInOutputs p q
+    → DifferAtOutput p q n
 output_to (Accessory board output on) q n e d =
-    at-sym q (Accessory board output on) n (output_there q board output n on e (outputs-sym (Accessory board output on) q d))
+    at-sym q (Accessory board output on) n
+    (output_there q board output n on e (outputs-sym (Accessory board output on) q d))
 output_to p (Accessory board output on) n e d = output_there p board output n on e d
 output_to p q n e d = absurd (cc)
 
 -- one register or another
-pub by_register : (mode : SpeedMode) (p q : Packet) (C : Type 0) → (DifferInLoco mode p q → C) → (DifferInOutputs p q → C) → (DifferInAspects p q → C)
+pub by_register : (mode : SpeedMode) (p q : Packet) (C : Type 0) → (DifferInLoco mode p q → C)
+    → (DifferInOutputs p q → C) → (DifferInAspects p q → C)
     → (r : Register) → Differ (sets mode p r) (sets mode q r) → C
 by_register mode p q C f g h SpeedRegister d = f (inl d)
 by_register mode p q C f g h Direction d = f (inr (inl d))
@@ -126,11 +142,13 @@ pub in_board : (p q : Packet) → DifferInOutputs p q ⊎ DifferInAspects p q �
 in_board p q (inl d) = (Steps28, outputs_from Steps28 p q d)
 in_board p q (inr d) = (Steps28, aspects_from Steps28 p q d)
 
-of_mode : (mode : SpeedMode) (p q : Packet) → DifferInLoco mode p q → DifferInLoco Steps28 p q ⊎ DifferInLoco Steps14 p q
+of_mode : (mode : SpeedMode) (p q : Packet) → DifferInLoco mode p q
+    → DifferInLoco Steps28 p q ⊎ DifferInLoco Steps14 p q
 of_mode Steps28 p q d = inl d
 of_mode Steps14 p q d = inr d
 
 -- a register of locomotive decoders, or one of accessory decoders
-pub by_kind : (p q : Packet) (C : Type 0) → InSomeMode p q → (DifferInLoco Steps28 p q ⊎ DifferInLoco Steps14 p q → C) → (DifferInOutputs p q ⊎ DifferInAspects p q → C) → C
+pub by_kind : (p q : Packet) (C : Type 0) → InSomeMode p q → (DifferInLoco Steps28 p q ⊎ DifferInLoco Steps14 p q → C)
+    → (DifferInOutputs p q ⊎ DifferInAspects p q → C) → C
 by_kind p q C d f g =
     by_register d.0 p q C (λ e. f (of_mode d.0 p q e)) (λ e. g (inl e)) (λ e. g (inr e)) d.1.register d.1.differ

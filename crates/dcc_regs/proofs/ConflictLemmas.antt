@@ -40,13 +40,16 @@ pub together_of : (p q : Packet) → Conflict p q → HeardTogether p q
 together_of p q c = record { who = c.who; first = c.first_heard; second = c.second_heard }
 
 differ_by : (a b : Option Value) (v w : Value) → a ≡ Some v → b ≡ Some w → v ≢ w → Differ a b
-differ_by a b v w e f d = subst (λ (o : Option Value). Differ o b) (sym e) (subst (λ (o : Option Value). Differ (Some v) o) (sym f) d)
+differ_by a b v w e f d =
+    subst (λ (o : Option Value). Differ o b) (sym e) (subst (λ (o : Option Value). Differ (Some v) o) (sym f) d)
 
 pub differ_of : (p q : Packet) → Conflict p q → (mode : SpeedMode) × DifferIn mode p q
 differ_of p q c = (
   c.mode,
   record {
     register = c.register;
-    differ = differ_by (sets c.mode p c.register) (sets c.mode q c.register) c.one c.other c.first_sets c.second_sets c.apart;
+    differ =
+        differ_by (sets c.mode p c.register) (sets c.mode q c.register) c.one c.other c.first_sets c.second_sets
+        c.apart;
   },
 )

@@ -1,11 +1,14 @@
 -- A CV and its bits.
-use Rattle.std.proofs.Common.{◌≡◌, ◌≢◌, ℕ, zero, suc, ◌<◌, ◌≤◌, Bool, true, false, List, refl, sym, ◌∙◌, ap, arith, replicate, get_or}
+use Rattle.std.proofs.Common.{◌≡◌, ◌≢◌, ℕ, zero, suc, ◌<◌, ◌≤◌, Bool, true, false, List, refl, sym, ◌∙◌, ap, arith}
+use Rattle.std.proofs.Common.{replicate, get_or}
 use Rattle.std.specs.Prelude.{◌&&◌, ◌==◌, None, Some, if◌then◌else◌}
 use Rattle.std.proofs.lemmas.Bool.Decides.{nat_tests, Decides-eqb}
 use Rattle.std.proofs.lemmas.Nat.Bits.{bit_at-zero}
 use mathlib.Core.Path.{fun_ext}
 use Rattle.dcc_regs.specs.declared.register.Register.{Register}
-use Rattle.dcc_regs.specs.declared.register.Register.TheVariants.{Speed as SpeedRegister, Direction, Function, State as StateRegister, CvBit, Pending as PendingRegister, Out, Position, Aspect}
+use Rattle.dcc_regs.specs.declared.register.Register.TheVariants.{Speed as SpeedRegister, Direction, Function}
+use Rattle.dcc_regs.specs.declared.register.Register.TheVariants.{State as StateRegister, CvBit}
+use Rattle.dcc_regs.specs.declared.register.Register.TheVariants.{Pending as PendingRegister, Out, Position, Aspect}
 use Rattle.dcc_regs.specs.declared.register.Speed.TheVariants.{Stop}
 use Rattle.dcc_regs.specs.declared.register.Value.TheVariants.{Flag}
 use Rattle.dcc_regs.specs.Bits.{is_one, byte_of}
@@ -45,7 +48,16 @@ byte_of_bits byte h = (Decides-eqb (byte_of (is_one byte)) byte).0 (at_below 256
 
 same_byte : (f g : ℕ → Bool) → ((k : ℕ) → k ≤ 7 → f k ≡ g k) → byte_of f ≡ byte_of g
 same_byte f g same =
-    rw (same 0 (omega arith), same 1 (omega arith), same 2 (omega arith), same 3 (omega arith), same 4 (omega arith), same 5 (omega arith), same 6 (omega arith), same 7 (omega arith)) refl
+    rw (
+      same 0 (omega arith),
+      same 1 (omega arith),
+      same 2 (omega arith),
+      same 3 (omega arith),
+      same 4 (omega arith),
+      same 5 (omega arith),
+      same 6 (omega arith),
+      same 7 (omega arith),
+    ) refl
 
 bit_there : (cv place : ℕ) → 1 ≤ cv → cv ≤ 1024 → place ≤ 7 → is_cv_bit cv place ≡ true
 bit_there cv place a b h = grind (arith, nat_tests)
@@ -56,9 +68,11 @@ held_bit true false e = refl
 held_bit false one e = absurd (cc)
 
 -- the value of a CV among the registers of a decoder
-pub cv_of-loco : (d : LocoContent) (cv : ℕ) → 1 ≤ cv → cv ≤ 1024 → d.cvs cv < 256 → cv_of (loco_registers d) cv ≡ d.cvs cv
+pub cv_of-loco : (d : LocoContent) (cv : ℕ) → 1 ≤ cv → cv ≤ 1024 → d.cvs cv < 256
+    → cv_of (loco_registers d) cv ≡ d.cvs cv
 cv_of-loco d cv a b h =
-    same_byte (λ place. holds_one (loco_registers d (CvBit cv place))) (is_one (d.cvs cv)) (λ k le. held_bit (is_cv_bit cv k) (is_one (d.cvs cv) k) (bit_there cv k a b le))
+    same_byte (λ place. holds_one (loco_registers d (CvBit cv place))) (is_one (d.cvs cv))
+    (λ k le. held_bit (is_cv_bit cv k) (is_one (d.cvs cv) k) (bit_there cv k a b le))
     ∙ byte_of_bits (d.cvs cv) h
 
 -- functions or states that are all off
@@ -78,10 +92,28 @@ off-all n = fun_ext (get_or-off n)
 
 -- a decoder just made
 pub started-off : (n k : ℕ) (bytes : List ℕ)
-    → loco_registers (record { speed = Stop; forward = true; functions = all_off n; states = all_off k; cvs = cv_in bytes; pending = None }) ≡ loco_registers (started (cv_in bytes))
+    → loco_registers
+    (record {
+      speed = Stop;
+      forward = true;
+      functions = all_off n;
+      states = all_off k;
+      cvs = cv_in bytes;
+      pending = None;
+    }) ≡ loco_registers (started (cv_in bytes))
 started-off n k bytes =
-    ap (λ (f : ℕ → Bool). loco_registers (record { speed = Stop; forward = true; functions = f; states = all_off k; cvs = cv_in bytes; pending = None })) (off-all n)
-    ∙ ap (λ (f : ℕ → Bool). loco_registers (record { speed = Stop; forward = true; functions = off; states = f; cvs = cv_in bytes; pending = None })) (off-all k)
+    ap (λ (f : ℕ → Bool). loco_registers
+    (record {
+      speed = Stop;
+      forward = true;
+      functions = f;
+      states = all_off k;
+      cvs = cv_in bytes;
+      pending = None;
+    })) (off-all n)
+    ∙ ap (λ (f : ℕ → Bool). loco_registers
+    (record { speed = Stop; forward = true; functions = off; states = f; cvs = cv_in bytes; pending = None }))
+    (off-all k)
 
 -- power-up keeps the CVs
 powered_up_at : (d : LocoContent) (r : Register) → loco_registers (started d.cvs) r ≡ powered_up (loco_registers d) r
@@ -99,10 +131,12 @@ pub started-powered_up : (d : LocoContent) → loco_registers (started d.cvs) �
 started-powered_up d = fun_ext (powered_up_at d)
 
 -- the active address is in four CVs
-pub active_address-same : (f g : ℕ → ℕ) → f 1 ≡ g 1 → f 17 ≡ g 17 → f 18 ≡ g 18 → f 29 ≡ g 29 → active_address f ≡ active_address g
+pub active_address-same : (f g : ℕ → ℕ) → f 1 ≡ g 1 → f 17 ≡ g 17 → f 18 ≡ g 18 → f 29 ≡ g 29
+    → active_address f ≡ active_address g
 active_address-same f g a b c d = rw (a, b, c, d) refl
 
-pub active_address-loco : (d : LocoContent) → d.cvs 1 < 256 → d.cvs 17 < 256 → d.cvs 18 < 256 → d.cvs 29 < 256 → active_address d.cvs ≡ active_address (cv_of (loco_registers d))
+pub active_address-loco : (d : LocoContent) → d.cvs 1 < 256 → d.cvs 17 < 256 → d.cvs 18 < 256 → d.cvs 29 < 256
+    → active_address d.cvs ≡ active_address (cv_of (loco_registers d))
 active_address-loco d a b c e =
     sym (active_address-same (cv_of (loco_registers d)) d.cvs
     (cv_of-loco d 1 (omega arith) (omega arith) a) (cv_of-loco d 17 (omega arith) (omega arith) b)
@@ -113,5 +147,16 @@ pub is_one-zero : (k : ℕ) → is_one 0 k ≡ false
 is_one-zero k = rw (bit_at-zero k) refl
 
 pub started-zero : (bytes : List ℕ)
-    → loco_registers (record { speed = Stop; forward = true; functions = is_one 0; states = is_one 0; cvs = cv_in bytes; pending = None }) ≡ loco_registers (started (cv_in bytes))
-started-zero bytes = ap (λ (f : ℕ → Bool). loco_registers (record { speed = Stop; forward = true; functions = f; states = f; cvs = cv_in bytes; pending = None })) (fun_ext is_one-zero)
+    → loco_registers
+    (record {
+      speed = Stop;
+      forward = true;
+      functions = is_one 0;
+      states = is_one 0;
+      cvs = cv_in bytes;
+      pending = None;
+    }) ≡ loco_registers (started (cv_in bytes))
+started-zero bytes =
+    ap (λ (f : ℕ → Bool). loco_registers
+    (record { speed = Stop; forward = true; functions = f; states = f; cvs = cv_in bytes; pending = None }))
+    (fun_ext is_one-zero)

@@ -28,7 +28,8 @@ differ-sym None b d = absurd d
 
 -- a function of a group, F0 aside, is in the group's run
 in_run_by : {C : Type 0} (bits : ℕ) (a b : Option ℕ) (t u : Bool) (o : Option Value)
-    → Differ (option_map Flag (option_map (is_one bits) (if t then a else if u then b else None))) o → (t ≡ true → C) → (u ≡ true → C) → C
+    → Differ (option_map Flag (option_map (is_one bits) (if t then a else if u then b else None))) o → (t ≡ true → C)
+    → (u ≡ true → C) → C
 in_run_by bits a b true u o d f g = f refl
 in_run_by bits a b false true o d f g = g refl
 in_run_by bits a b false false o d f g = absurd d
@@ -43,11 +44,14 @@ within first end n t = grind (arith, nat_tests)
 in_run_at : (mode : SpeedMode) (bits : GroupBits) (n : ℕ) (o : Option Value) → n ≢ 0
     → Differ (option_map Flag (group_bit mode bits n)) o → InRun bits.group n
 in_run_at mode bits n o ne d =
-    in_run_by bits.bits (place_of_f0 mode bits.group) (Some (n - first_function bits.group)) (n == 0) (nat_le (first_function bits.group) n && nat_lt n (first_function bits.group + count_of bits.group)) o d
+    in_run_by bits.bits (place_of_f0 mode bits.group) (Some (n - first_function bits.group)) (n == 0)
+    (nat_le (first_function bits.group) n && nat_lt n (first_function bits.group + count_of bits.group)) o d
     (λ t. absurd (ne ((Decides-eqb n 0).0 t)))
-    (λ t. let w = within (first_function bits.group) (first_function bits.group + count_of bits.group) n t in record { low = w.0; high = w.1 })
+    (λ t. let w = within (first_function bits.group) (first_function bits.group + count_of bits.group) n t in record
+    { low = w.0; high = w.1 })
 
-of_group : (mode : SpeedMode) (to : Address) (bits : GroupBits) (n : ℕ) → function_set mode (ToLoco to (Functions bits)) n ≡ group_bit mode bits n
+of_group : (mode : SpeedMode) (to : Address) (bits : GroupBits) (n : ℕ)
+    → function_set mode (ToLoco to (Functions bits)) n ≡ group_bit mode bits n
 of_group Steps14 Broadcast bits n = refl
 of_group Steps14 (Short own) bits n = refl
 of_group Steps14 (Long own) bits n = refl
@@ -55,18 +59,24 @@ of_group Steps28 Broadcast bits n = refl
 of_group Steps28 (Short own) bits n = refl
 of_group Steps28 (Long own) bits n = refl
 
-in_run_of : (mode : SpeedMode) (to : Address) (bits : GroupBits) (group : Group) (n : ℕ) (o : Option Value) → Some bits.group ≡ Some group → n ≢ 0
+in_run_of : (mode : SpeedMode) (to : Address) (bits : GroupBits) (group : Group) (n : ℕ) (o : Option Value)
+    → Some bits.group ≡ Some group → n ≢ 0
     → Differ (sets mode (ToLoco to (Functions bits)) (Function n)) o → InRun group n
 in_run_of mode to bits group n o e ne d =
     let g : bits.group ≡ group = cc in
-    subst (λ (group : Group). InRun group n) g (in_run_at mode bits n o ne (subst (λ (f : Option Bool). Differ (option_map Flag f) o) (of_group mode to bits n) d))
+    subst (λ (group : Group). InRun group n) g
+    (in_run_at mode bits n o ne
+    (subst (λ (f : Option Bool). Differ (option_map Flag f) o) (of_group mode to bits n) d))
 
 -- what two packets of which one is for a group both set is F0 or in the group's run
-pub in_run : (mode : SpeedMode) (p q : Packet) (group : Group) (n : ℕ) → option_or (group_of p) (group_of q) ≡ Some group → n ≢ 0
+pub in_run : (mode : SpeedMode) (p q : Packet) (group : Group) (n : ℕ)
+    → option_or (group_of p) (group_of q) ≡ Some group → n ≢ 0
     → Differ (sets mode p (Function n)) (sets mode q (Function n)) → InRun group n
-in_run mode (ToLoco to (Functions bits)) q group n e ne d = in_run_of mode to bits group n (sets mode q (Function n)) e ne d
+in_run mode (ToLoco to (Functions bits)) q group n e ne d =
+    in_run_of mode to bits group n (sets mode q (Function n)) e ne d
 in_run mode p (ToLoco to (Functions bits)) group n e ne d =
-    in_run_of mode to bits group n (sets mode p (Function n)) e ne (differ-sym (sets mode p (Function n)) (sets mode (ToLoco to (Functions bits)) (Function n)) d)
+    in_run_of mode to bits group n (sets mode p (Function n)) e ne
+    (differ-sym (sets mode p (Function n)) (sets mode (ToLoco to (Functions bits)) (Function n)) d)
 in_run mode p q group n e ne d = absurd (cc)
 
 -- where no group is meant, a function but F0 is turned off or left
@@ -90,7 +100,8 @@ left_by false on ne = tt
 left_at : (n : ℕ) (on : Bool) → n ≢ 0 → Off (if n == 0 then Some on else None)
 left_at n on ne = left_by (n == 0) on (λ t. ne ((Decides-eqb n 0).0 t))
 
-off_what : (mode : SpeedMode) (to : Address) (what : What) (n : ℕ) → group_of (ToLoco to what) ≡ None → n ≢ 0 → Off (function_set mode (ToLoco to what) n)
+off_what : (mode : SpeedMode) (to : Address) (what : What) (n : ℕ) → group_of (ToLoco to what) ≡ None → n ≢ 0
+    → Off (function_set mode (ToLoco to what) n)
 off_what Steps14 to Reset n e ne = off_by (nat_le n 68)
 off_what Steps28 to Reset n e ne = off_by (nat_le n 68)
 off_what Steps14 Broadcast (Speed28 forward bits) n e ne = tt
@@ -124,7 +135,8 @@ pub only_f0 : (mode : SpeedMode) (p q : Packet) (n : ℕ) → option_or (group_o
     → Differ (sets mode p (Function n)) (sets mode q (Function n)) → ⊥
 only_f0 mode p q n e ne d =
     never (function_set mode p n) (function_set mode q n)
-    (off_at mode p n (none_first (group_of p) (group_of q) e) ne) (off_at mode q n (none_second (group_of p) (group_of q) e) ne) d
+    (off_at mode p n (none_first (group_of p) (group_of q) e) ne)
+    (off_at mode q n (none_second (group_of p) (group_of q) e) ne) d
 
 either_by : {A : Type 0} (k n : ℕ) (t : Bool) → (k == n) ≡ t → (k ≡ n → A) → (k ≢ n → A) → A
 either_by k n true e f g = f ((Decides-eqb k n).0 e)
@@ -138,10 +150,13 @@ at_f0 : (mode : SpeedMode) (p q : Packet) (n : ℕ) → Differ (sets mode p (Fun
 at_f0 mode p q n d e = subst (λ (k : ℕ). Differ (sets mode p (Function k)) (sets mode q (Function k))) e d
 
 -- two packets that agree on F0
-pub agree : (mode : SpeedMode) (p q : Packet) → option_or (group_of p) (group_of q) ≡ None → (Differ (sets mode p (Function 0)) (sets mode q (Function 0)) → ⊥)
+pub agree : (mode : SpeedMode) (p q : Packet) → option_or (group_of p) (group_of q) ≡ None
+    → (Differ (sets mode p (Function 0)) (sets mode q (Function 0)) → ⊥)
     → (n : ℕ) → Differ (sets mode p (Function n)) (sets mode q (Function n)) → ⊥
 agree mode p q e at_zero n d = either n 0 (λ same. at_zero (at_f0 mode p q n d same)) (λ ne. only_f0 mode p q n e ne d)
 
 pub agree_but : (mode : SpeedMode) (p q : Packet) (group : Group) → option_or (group_of p) (group_of q) ≡ Some group
-    → (Differ (sets mode p (Function 0)) (sets mode q (Function 0)) → ⊥) → (n : ℕ) → Differ (sets mode p (Function n)) (sets mode q (Function n)) → InRun group n
-agree_but mode p q group e at_zero n d = either n 0 (λ same. absurd (at_zero (at_f0 mode p q n d same))) (λ ne. in_run mode p q group n e ne d)
+    → (Differ (sets mode p (Function 0)) (sets mode q (Function 0)) → ⊥) → (n : ℕ)
+    → Differ (sets mode p (Function n)) (sets mode q (Function n)) → InRun group n
+agree_but mode p q group e at_zero n d =
+    either n 0 (λ same. absurd (at_zero (at_f0 mode p q n d same))) (λ ne. in_run mode p q group n e ne d)

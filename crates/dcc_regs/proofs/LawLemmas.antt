@@ -8,7 +8,8 @@ use Rattle.dcc_packet.specs.declared.accessory.Board.{Board}
 use Rattle.dcc_packet.specs.declared.address.Address.{Address}
 use Rattle.dcc_packet.specs.declared.address.Address.TheVariants.{Broadcast, Short, Long}
 use Rattle.dcc_packet.specs.declared.instruction.What.{What}
-use Rattle.dcc_packet.specs.declared.instruction.What.TheVariants.{Reset, Speed28, Speed128, Functions, BinaryState, CvWrite, CvVerify, CvBitWrite, CvBitVerify}
+use Rattle.dcc_packet.specs.declared.instruction.What.TheVariants.{Reset, Speed28, Speed128, Functions, BinaryState}
+use Rattle.dcc_packet.specs.declared.instruction.What.TheVariants.{CvWrite, CvVerify, CvBitWrite, CvBitVerify}
 use Rattle.dcc_packet.specs.declared.packet.Packet.{Packet}
 use Rattle.dcc_packet.specs.declared.packet.Packet.TheVariants.{Idle, Loco as ToLoco, Accessory, Signal, Other}
 use Rattle.dcc_packet.specs.SamePacket.{same}
@@ -20,7 +21,8 @@ use Rattle.dcc_regs.specs.declared.register.Value.TheVariants.{Flag}
 use Rattle.dcc_regs.specs.Heard.{hears, is_for}
 use Rattle.dcc_regs.specs.Writes.{bit_set, cv_bit_set, writes_cv29, writes_mode}
 use Rattle.dcc_regs.specs.Result.{is_effective, mode_of}
-use Rattle.dcc_regs.specs.Laws.{ConflictIsMutual, IdleIsUnheard, ModeStays, NoConflictWithItself, OneAddress, PacketsAreDecided, ValuesAreDecided, WritesSetNoPlain}
+use Rattle.dcc_regs.specs.Laws.{ConflictIsMutual, IdleIsUnheard, ModeStays, NoConflictWithItself, OneAddress}
+use Rattle.dcc_regs.specs.Laws.{PacketsAreDecided, ValuesAreDecided, WritesSetNoPlain}
 use Rattle.dcc_regs.proofs.Stepping.{step-keeps}
 use Rattle.dcc_regs.proofs.SameValues.{same_value, Decides-same_value}
 use Rattle.dcc_regs.proofs.OwnWrites.{sets-own_write}
@@ -32,12 +34,15 @@ idle_is_unheard (BoardWho own) = refl
 one_number : (own n m : ℕ) → (own == n) ≡ true → (own == m) ≡ true → n ≡ m
 one_number own n m h k = sym ((Decides-eqb own n).0 h) ∙ (Decides-eqb own m).0 k
 
-one_for : (active : Option Address) (a b : Address) → a ≢ Broadcast → b ≢ Broadcast → is_for active a ≡ true → is_for active b ≡ true → a ≡ b
+one_for : (active : Option Address) (a b : Address) → a ≢ Broadcast → b ≢ Broadcast → is_for active a ≡ true
+    → is_for active b ≡ true → a ≡ b
 one_for active Broadcast b n m h k = absurd (n refl)
 one_for active (Short a) Broadcast n m h k = absurd (m refl)
 one_for active (Long a) Broadcast n m h k = absurd (m refl)
-one_for (Some (Short own)) (Short a) (Short b) n m h k = ap Short (same_short a b (one_number own.number a.number b.number h k))
-one_for (Some (Long own)) (Long a) (Long b) n m h k = ap Long (same_long a b (one_number own.number a.number b.number h k))
+one_for (Some (Short own)) (Short a) (Short b) n m h k =
+    ap Short (same_short a b (one_number own.number a.number b.number h k))
+one_for (Some (Long own)) (Long a) (Long b) n m h k =
+    ap Long (same_long a b (one_number own.number a.number b.number h k))
 one_for None (Short a) b n m h k = absurd (cc)
 one_for None (Long a) b n m h k = absurd (cc)
 one_for (Some Broadcast) (Short a) b n m h k = absurd (cc)
@@ -47,7 +52,8 @@ one_for (Some (Long own)) (Short a) b n m h k = absurd (cc)
 one_for (Some (Short own)) (Short a) (Long b) n m h k = absurd (cc)
 one_for (Some (Long own)) (Long a) (Short b) n m h k = absurd (cc)
 
-no_board : (own : Board) (to : Address) (what : What) → to ≢ Broadcast → hears (BoardWho own) (ToLoco to what) ≡ true → ⊥
+no_board : (own : Board) (to : Address) (what : What) → to ≢ Broadcast → hears (BoardWho own) (ToLoco to what) ≡ true
+    → ⊥
 no_board own Broadcast what n h = n refl
 no_board own (Short to) what n h = absurd (cc)
 no_board own (Long to) what n h = absurd (cc)
@@ -61,7 +67,8 @@ other_cv cv t one e =
     let f : (29 == cv) ≡ false = grind (arith, nat_tests) in
     rw f refl
 
-other_bit : (cv place : ℕ) (t one : Bool) → (cv == 29) ≡ false → (if (29 == cv) && (1 == place) && t then Some one else None) ≡ None
+other_bit : (cv place : ℕ) (t one : Bool) → (cv == 29) ≡ false
+    → (if (29 == cv) && (1 == place) && t then Some one else None) ≡ None
 other_bit cv place t one e =
     let f : (29 == cv) ≡ false = grind (arith, nat_tests) in
     rw f refl
@@ -89,7 +96,10 @@ none_by true o e = ap (option_map Flag) e
 none_by false o e = refl
 
 pub mode_stays : ModeStays
-mode_stays who start p e = ap mode_of (step-keeps who start p (CvBit 29 1) (none_by (is_effective (start PendingRegister) p) (bit_set p 29 1) (bit_stays p e)))
+mode_stays who start p e =
+    ap mode_of
+    (step-keeps who start p (CvBit 29 1)
+    (none_by (is_effective (start PendingRegister) p) (bit_set p 29 1) (bit_stays p e)))
 
 pub writes_set_no_plain_register : WritesSetNoPlain
 writes_set_no_plain_register = sets-own_write
@@ -111,7 +121,8 @@ conflict_is_mutual p q c = record {
 pub no_conflict_with_itself : NoConflictWithItself
 no_conflict_with_itself p c = let both : Some c.one ≡ Some c.other = sym c.first_sets ∙ c.second_sets in c.apart (cc)
 
-decided : {A : Type 0} (test : A → A → Bool) → ((a b : A) → Decides (test a b) (a ≡ b)) → (a b : A) (t : Bool) → test a b ≡ t → (a ≡ b) ⊎ (a ≢ b)
+decided : {A : Type 0} (test : A → A → Bool) → ((a b : A) → Decides (test a b) (a ≡ b)) → (a b : A) (t : Bool)
+    → test a b ≡ t → (a ≡ b) ⊎ (a ≢ b)
 decided test decides a b true e = inl ((decides a b).0 e)
 decided test decides a b false e = inr (λ same. let t : test a b ≡ true = (decides a b).1 same in cc)
 

@@ -11,7 +11,8 @@ use Rattle.dcc_packet.specs.declared.packet.Packet.TheVariants.{Idle, Loco as To
 use Rattle.dcc_regs.specs.declared.register.Who.{Who}
 use Rattle.dcc_regs.specs.declared.register.Who.TheVariants.{Loco as LocoWho, Board as BoardWho}
 use Rattle.dcc_regs.specs.Heard.{hears, is_for, is_full_reset, address_of}
-use Rattle.dcc_regs.specs.ConflictParts.{HeardTogether, meets, both_meet, boards_meet, board_number, some_loco, some_board}
+use Rattle.dcc_regs.specs.ConflictParts.{HeardTogether, meets, both_meet, boards_meet, board_number, some_loco}
+use Rattle.dcc_regs.specs.ConflictParts.{some_board}
 
 self : (n : ℕ) → (n == n) ≡ true
 self n = (Decides-eqb n n).1 refl
@@ -46,7 +47,8 @@ or_second : (a b : Bool) → b ≡ true → (a || b) ≡ true
 or_second true b t = refl
 or_second false b t = t
 
-meets_at : (a b : Address) (active : Option Address) → is_for active a ≡ true → is_for active b ≡ true → meets a b ≡ true
+meets_at : (a b : Address) (active : Option Address) → is_for active a ≡ true → is_for active b ≡ true
+    → meets a b ≡ true
 meets_at a Broadcast active h k = refl
 meets_at Broadcast (Short m) active h k = refl
 meets_at Broadcast (Long m) active h k = refl
@@ -87,7 +89,8 @@ hears_board : (own : Board) (p : Packet) → hears (BoardWho own) p ≡ takes_bo
 unfolding takes_board
 hears_board own (ToLoco to what) = hears_reset own.number (is_full_reset to what)
 hears_board own (Accessory board output on) = refl
-hears_board own (Signal address aspect) = hears_signal own.number address.number (address.number == 2047) (nat_lt address.number 2044) refl refl
+hears_board own (Signal address aspect) =
+    hears_signal own.number address.number (address.number == 2047) (nat_lt address.number 2044) refl refl
 hears_board own (Other frame) = refl
 hears_board own Idle = refl
 
@@ -97,16 +100,19 @@ record MeetAt (o o' : Option Address) : Type 0 where
   second : option_map_or (is_for active) o' false ≡ true
 
 loco_from : (o o' : Option Address) → both_meet meets o o' ≡ true → MeetAt o o'
-loco_from (Some a) (Some b) h = let m = meet_from a b h in record { active = m.active; first = m.first; second = m.second }
+loco_from (Some a) (Some b) h =
+    let m = meet_from a b h in record { active = m.active; first = m.first; second = m.second }
 loco_from o o' h = absurd (cc)
 
-loco_to : (o o' : Option Address) (active : Option Address) → option_map_or (is_for active) o false ≡ true → option_map_or (is_for active) o' false ≡ true
+loco_to : (o o' : Option Address) (active : Option Address) → option_map_or (is_for active) o false ≡ true
+    → option_map_or (is_for active) o' false ≡ true
     → both_meet meets o o' ≡ true
 loco_to (Some a) (Some b) active h k = meets_at a b active h k
 loco_to None o' active h k = absurd (cc)
 loco_to (Some a) None active h k = absurd (cc)
 
-board_to : (o o' : Option ℕ) (own : ℕ) → takes_board own o ≡ true → takes_board own o' ≡ true → both_meet boards_meet o o' ≡ true
+board_to : (o o' : Option ℕ) (own : ℕ) → takes_board own o ≡ true → takes_board own o' ≡ true
+    → both_meet boards_meet o o' ≡ true
 unfolding takes_board
 board_to (Some a) (Some b) own h k = grind (arith, nat_tests)
 board_to None o' own h k = absurd (cc)
@@ -119,8 +125,18 @@ record BoardAt (a b : ℕ) : Type 0 where
 
 board_by : (a b : ℕ) → a ≤ 511 → b ≤ 511 → (t : Bool) → (a == 511) ≡ t → boards_meet a b ≡ true → BoardAt a b
 unfolding takes_board
-board_by a b low high true e h = record { own = record { number = b; in_range = high }; first = grind (arith, nat_tests); second = grind (arith, nat_tests) }
-board_by a b low high false e h = record { own = record { number = a; in_range = low }; first = grind (arith, nat_tests); second = grind (arith, nat_tests) }
+board_by a b low high true e h =
+    record {
+      own = record { number = b; in_range = high };
+      first = grind (arith, nat_tests);
+      second = grind (arith, nat_tests);
+    }
+board_by a b low high false e h =
+    record {
+      own = record { number = a; in_range = low };
+      first = grind (arith, nat_tests);
+      second = grind (arith, nat_tests);
+    }
 
 fits_by : (t : Bool) (m n : ℕ) → m ≤ 511 → (if t then Some m else None) ≡ Some n → n ≤ 511
 fits_by true m n h e = let same : m ≡ n = cc in rw (← same) h
@@ -132,11 +148,14 @@ quarter n h = omega arith
 fits : (p : Packet) (n : ℕ) → board_number p ≡ Some n → n ≤ 511
 fits (ToLoco to what) n e = fits_by (is_full_reset to what) 511 n (omega arith) e
 fits (Accessory board output on) n e = fits_by true board.number n board.in_range e
-fits (Signal address aspect) n e = fits_by (address.number == 2047 || nat_lt address.number 2044) (address.number / 4) n (quarter address.number address.in_range) e
+fits (Signal address aspect) n e =
+    fits_by (address.number == 2047 || nat_lt address.number 2044) (address.number / 4) n
+    (quarter address.number address.in_range) e
 fits (Other frame) n e = absurd (cc)
 fits Idle n e = absurd (cc)
 
-by_boards : (p q : Packet) (o o' : Option ℕ) → board_number p ≡ o → board_number q ≡ o' → both_meet boards_meet o o' ≡ true → HeardTogether p q
+by_boards : (p q : Packet) (o o' : Option ℕ) → board_number p ≡ o → board_number q ≡ o'
+    → both_meet boards_meet o o' ≡ true → HeardTogether p q
 by_boards p q (Some a) (Some b) e f h =
     let at = board_by a b (fits p a e) (fits q b f) (a == 511) refl h in
     record {
@@ -156,9 +175,12 @@ together_loco p q h =
     record { who = LocoWho m.active; first = m.first; second = m.second }
 
 by_who : (p q : Packet) (who : Who) → hears who p ≡ true → hears who q ≡ true → (some_loco p q || some_board p q) ≡ true
-by_who p q (LocoWho active) h k = or_first (some_loco p q) (some_board p q) (loco_to (address_of p) (address_of q) active h k)
+by_who p q (LocoWho active) h k =
+    or_first (some_loco p q) (some_board p q) (loco_to (address_of p) (address_of q) active h k)
 by_who p q (BoardWho own) h k =
-    let t : some_board p q ≡ true = board_to (board_number p) (board_number q) own.number (sym (hears_board own p) ∙ h) (sym (hears_board own q) ∙ k) in
+    let t : some_board p q ≡ true =
+    board_to (board_number p) (board_number q) own.number (sym (hears_board own p) ∙ h)
+    (sym (hears_board own q) ∙ k) in
     or_second (some_loco p q) (some_board p q) t
 
 pub by_together : (p q : Packet) → HeardTogether p q → (some_loco p q || some_board p q) ≡ true

@@ -1,11 +1,13 @@
 -- A packet is told by its own call alone.
 use Rattle.std.proofs.Common.{◌≡◌, refl, ap, Some, None, unwrap_or}
 use Rattle.dcc_packet.specs.declared.instruction.What.{What}
-use Rattle.dcc_packet.specs.declared.instruction.What.TheVariants.{Reset, Speed28, Speed128, Functions, BinaryState, CvWrite, CvVerify, CvBitWrite, CvBitVerify}
+use Rattle.dcc_packet.specs.declared.instruction.What.TheVariants.{Reset, Speed28, Speed128, Functions, BinaryState}
+use Rattle.dcc_packet.specs.declared.instruction.What.TheVariants.{CvWrite, CvVerify, CvBitWrite, CvBitVerify}
 use Rattle.dcc_packet.specs.declared.address.Address.{Address}
 use Rattle.dcc_packet.specs.declared.packet.Packet.{Packet}
 use Rattle.dcc_packet.specs.declared.packet.Packet.TheVariants.{Idle, Loco as ToLoco, Accessory, Signal, Other}
-use Rattle.dcc_regs.specs.Notes.{Note, IdleCall, ResetCall, SpeedCall, FunctionsCall, StateCall, CvAccessCall, TurnoutCall, SignalCall, OtherCall, loco_note, note_of, packet_told}
+use Rattle.dcc_regs.specs.Notes.{Note, IdleCall, ResetCall, SpeedCall, FunctionsCall, StateCall, CvAccessCall}
+use Rattle.dcc_regs.specs.Notes.{TurnoutCall, SignalCall, OtherCall, loco_note, note_of, packet_told}
 
 loco_again : (to : Address) (what : What) → packet_told (loco_note to what) ≡ Some (ToLoco to what)
 loco_again to Reset = refl
@@ -32,7 +34,8 @@ told_call q p e = ap (λ o. note_of (unwrap_or o Idle)) e
 none_told : (note : Note) (p : Packet) → None ≡ Some p → note ≡ note_of p
 none_told note p clash = absurd (cc)
 
-speed_call : (to : Address) (what : What) (p : Packet) → packet_told (SpeedCall to what) ≡ Some p → SpeedCall to what ≡ note_of p
+speed_call : (to : Address) (what : What) (p : Packet) → packet_told (SpeedCall to what) ≡ Some p
+    → SpeedCall to what ≡ note_of p
 speed_call to Reset p e = none_told (SpeedCall to Reset) p e
 speed_call to (Speed28 forward bits) p e = told_call (ToLoco to (Speed28 forward bits)) p e
 speed_call to (Speed128 forward bits) p e = told_call (ToLoco to (Speed128 forward bits)) p e
@@ -43,7 +46,8 @@ speed_call to (CvVerify cv value) p e = none_told (SpeedCall to (CvVerify cv val
 speed_call to (CvBitWrite cv place one) p e = none_told (SpeedCall to (CvBitWrite cv place one)) p e
 speed_call to (CvBitVerify cv place one) p e = none_told (SpeedCall to (CvBitVerify cv place one)) p e
 
-cv_call : (to : Address) (what : What) (p : Packet) → packet_told (CvAccessCall to what) ≡ Some p → CvAccessCall to what ≡ note_of p
+cv_call : (to : Address) (what : What) (p : Packet) → packet_told (CvAccessCall to what) ≡ Some p
+    → CvAccessCall to what ≡ note_of p
 cv_call to Reset p e = none_told (CvAccessCall to Reset) p e
 cv_call to (Speed28 forward bits) p e = none_told (CvAccessCall to (Speed28 forward bits)) p e
 cv_call to (Speed128 forward bits) p e = none_told (CvAccessCall to (Speed128 forward bits)) p e

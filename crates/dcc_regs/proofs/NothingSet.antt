@@ -19,7 +19,8 @@ use Rattle.dcc_packet.specs.declared.state.StateNumber.{StateNumber}
 use Rattle.dcc_packet.specs.declared.speed.SpeedBits128.{SpeedBits128}
 use Rattle.dcc_regs.specs.declared.register.SpeedMode.{SpeedMode}
 use Rattle.dcc_regs.specs.declared.register.SpeedMode.TheVariants.{Steps28}
-use Rattle.dcc_regs.specs.declared.register.Register.TheVariants.{Speed as SpeedRegister, Direction, Function, State as StateRegister, Out, Aspect}
+use Rattle.dcc_regs.specs.declared.register.Register.TheVariants.{Speed as SpeedRegister, Direction, Function}
+use Rattle.dcc_regs.specs.declared.register.Register.TheVariants.{State as StateRegister, Out, Aspect}
 use Rattle.dcc_regs.specs.declared.register.Value.TheVariants.{Speed as SpeedValue, Forward, Flag, Number}
 use Rattle.dcc_regs.specs.declared.register.Speed.TheVariants.{Stop, Emergency}
 use Rattle.dcc_regs.specs.Speeds.{speed_set, direction_set}
@@ -31,22 +32,31 @@ use Rattle.dcc_regs.proofs.OwnWrites.{none_of}
 some_is_not_none : {A : Type 0} (a : A) → Some a ≡ None → ⊥
 some_is_not_none a e = cc
 
-stop_of_step : (forward : Bool) (bits : SpeedBits28) (mode : SpeedMode) → 4 ≤ bits.bits → speed_set mode (Loco Broadcast (Speed28 forward bits)) ≡ None
+stop_of_step : (forward : Bool) (bits : SpeedBits28) (mode : SpeedMode) → 4 ≤ bits.bits
+    → speed_set mode (Loco Broadcast (Speed28 forward bits)) ≡ None
 stop_of_step forward bits mode high = grind arith
 
-turn_of_step : (forward : Bool) (bits : SpeedBits28) → 4 ≤ bits.bits → direction_set (Loco Broadcast (Speed28 forward bits)) ≡ None
+turn_of_step : (forward : Bool) (bits : SpeedBits28) → 4 ≤ bits.bits
+    → direction_set (Loco Broadcast (Speed28 forward bits)) ≡ None
 turn_of_step forward bits high = grind arith
 
-pub broadcast_step : (forward : Bool) (bits : SpeedBits28) → 4 ≤ bits.bits → SetsNothing (Loco Broadcast (Speed28 forward bits))
+pub broadcast_step : (forward : Bool) (bits : SpeedBits28) → 4 ≤ bits.bits
+    → SetsNothing (Loco Broadcast (Speed28 forward bits))
 broadcast_step forward bits high mode r =
-    none_of mode (Loco Broadcast (Speed28 forward bits)) r (stop_of_step forward bits mode high) (turn_of_step forward bits high) (λ n. refl) (λ n. refl) (λ n. refl) (λ n. refl) (λ n. refl)
+    none_of mode (Loco Broadcast (Speed28 forward bits)) r (stop_of_step forward bits mode high)
+    (turn_of_step forward bits high) (λ n. refl) (λ n. refl) (λ n. refl) (λ n. refl) (λ n. refl)
 
-pub broadcast_stop : (forward : Bool) (bits : SpeedBits28) → SetsNothing (Loco Broadcast (Speed28 forward bits)) → 4 ≤ bits.bits
+pub broadcast_stop : (forward : Bool) (bits : SpeedBits28) → SetsNothing (Loco Broadcast (Speed28 forward bits))
+    → 4 ≤ bits.bits
 broadcast_stop forward bits none = by_case (nat_lt bits.bits 2) (nat_lt bits.bits 4) refl refl
   where
     by_case : (low mid : Bool) → nat_lt bits.bits 2 ≡ low → nat_lt bits.bits 4 ≡ mid → 4 ≤ bits.bits
-    by_case true mid e f = absurd (let is : sets Steps28 (Loco Broadcast (Speed28 forward bits)) SpeedRegister ≡ Some (SpeedValue Stop) = grind (arith, e, f) in some_is_not_none (SpeedValue Stop) (sym is ∙ none Steps28 SpeedRegister))
-    by_case false true e f = absurd (let is : sets Steps28 (Loco Broadcast (Speed28 forward bits)) SpeedRegister ≡ Some (SpeedValue Emergency) = grind (arith, e, f) in some_is_not_none (SpeedValue Emergency) (sym is ∙ none Steps28 SpeedRegister))
+    by_case true mid e f =
+        absurd (let is : sets Steps28 (Loco Broadcast (Speed28 forward bits)) SpeedRegister ≡ Some (SpeedValue Stop) = grind (arith, e, f) in
+        some_is_not_none (SpeedValue Stop) (sym is ∙ none Steps28 SpeedRegister))
+    by_case false true e f =
+        absurd (let is : sets Steps28 (Loco Broadcast (Speed28 forward bits)) SpeedRegister ≡ Some (SpeedValue Emergency) = grind (arith, e, f) in
+        some_is_not_none (SpeedValue Emergency) (sym is ∙ none Steps28 SpeedRegister))
     by_case false false e f = grind (arith, e, f)
 
 -- a group has a place for its first function
@@ -62,21 +72,25 @@ first_place F45 = refl
 first_place F53 = refl
 first_place F61 = refl
 
-pub short_speed : (to : ShortAddress) (forward : Bool) (bits : SpeedBits28) → SetsNothing (Loco (Short to) (Speed28 forward bits)) → ⊥
+pub short_speed : (to : ShortAddress) (forward : Bool) (bits : SpeedBits28)
+    → SetsNothing (Loco (Short to) (Speed28 forward bits)) → ⊥
 short_speed to forward bits none = some_is_not_none (Forward forward) (none Steps28 Direction)
 
-pub long_speed : (to : LongAddress) (forward : Bool) (bits : SpeedBits28) → SetsNothing (Loco (Long to) (Speed28 forward bits)) → ⊥
+pub long_speed : (to : LongAddress) (forward : Bool) (bits : SpeedBits28)
+    → SetsNothing (Loco (Long to) (Speed28 forward bits)) → ⊥
 long_speed to forward bits none = some_is_not_none (Forward forward) (none Steps28 Direction)
 
 pub reset : (to : Address) → SetsNothing (Loco to Reset) → ⊥
 reset to none = some_is_not_none (SpeedValue Stop) (none Steps28 SpeedRegister)
 
-pub speed_128 : (to : Address) (forward : Bool) (bits : SpeedBits128) → SetsNothing (Loco to (Speed128 forward bits)) → ⊥
+pub speed_128 : (to : Address) (forward : Bool) (bits : SpeedBits128) → SetsNothing (Loco to (Speed128 forward bits))
+    → ⊥
 speed_128 to forward bits none = some_is_not_none (Forward forward) (none Steps28 Direction)
 
 pub functions : (to : Address) (bits : GroupBits) → SetsNothing (Loco to (Functions bits)) → ⊥
 functions to bits none = some_is_not_none (Flag (is_one bits.bits 0))
-    (sym (ap (λ place. option_map Flag (option_map (is_one bits.bits) place)) (first_place bits.group)) ∙ none Steps28 (Function (first_function bits.group)))
+    (sym (ap (λ place. option_map Flag (option_map (is_one bits.bits) place)) (first_place bits.group))
+    ∙ none Steps28 (Function (first_function bits.group)))
 
 same_number : (n : ℕ) → eqb n n ≡ true
 same_number n = (Decides-eqb n n).1 refl
@@ -87,14 +101,16 @@ or_true false = refl
 
 pub accessory : (board : Board) (output : Output) (on : Bool) → SetsNothing (Accessory board output on) → ⊥
 accessory board output on none = some_is_not_none (Flag on)
-    (sym (ap (λ t. option_map Flag (cond t (Some on) None)) (same_number output.number)) ∙ none Steps28 (Out output.number))
+    (sym (ap (λ t. option_map Flag (cond t (Some on) None)) (same_number output.number))
+    ∙ none Steps28 (Out output.number))
 
 pub signal : (address : SignalAddress) (aspect : ℕ) → SetsNothing (Signal address aspect) → ⊥
 signal address aspect none =
     let n = address.number % 4 in
     let first = eqb address.number 2047 && nat_le n 3 in
     some_is_not_none (Number aspect)
-    (sym (ap (λ t. option_map Number (cond (first || t) (Some aspect) None)) (same_number n) ∙ ap (λ t. option_map Number (cond t (Some aspect) None)) (or_true first)) ∙ none Steps28 (Aspect n))
+    (sym (ap (λ t. option_map Number (cond (first || t) (Some aspect) None)) (same_number n)
+    ∙ ap (λ t. option_map Number (cond t (Some aspect) None)) (or_true first)) ∙ none Steps28 (Aspect n))
 
 or_right : (a b : Bool) → b ≡ true → (a || b) ≡ true
 or_right a b e = ap (λ t. a || t) e ∙ or_true a
@@ -105,10 +121,14 @@ binary_state to state on none = by_number (eqb state.number 0) refl
   where
     by_number : (all : Bool) → eqb state.number 0 ≡ all → ⊥
     by_number true e = some_is_not_none (Flag on)
-        (sym (ap (λ t. option_map Flag (cond (t || eqb 1 state.number) (Some on) None)) e) ∙ none Steps28 (StateRegister 1))
+        (sym (ap (λ t. option_map Flag (cond (t || eqb 1 state.number) (Some on) None)) e)
+        ∙ none Steps28 (StateRegister 1))
     by_number false e =
         let least : nat_le 1 state.number ≡ true = grind (arith, e) in
         let most : nat_le state.number 127 ≡ true = grind (arith, state.in_range) in
-        let here : (eqb state.number 0 || eqb state.number state.number) ≡ true = or_right (eqb state.number 0) (eqb state.number state.number) (same_number state.number) in
-        let is : (nat_le 1 state.number && nat_le state.number 127 && (eqb state.number 0 || eqb state.number state.number)) ≡ true = grind (arith, least, most, here) in
-        some_is_not_none (Flag on) (sym (ap (λ t. option_map Flag (cond t (Some on) None)) is) ∙ none Steps28 (StateRegister state.number))
+        let here : (eqb state.number 0 || eqb state.number state.number) ≡ true =
+        or_right (eqb state.number 0) (eqb state.number state.number) (same_number state.number) in
+        let is : (nat_le 1 state.number && nat_le state.number 127 && (eqb state.number 0 || eqb state.number state.number)) ≡ true =
+        grind (arith, least, most, here) in
+        some_is_not_none (Flag on)
+        (sym (ap (λ t. option_map Flag (cond t (Some on) None)) is) ∙ none Steps28 (StateRegister state.number))

@@ -10,16 +10,20 @@ use Rattle.dcc_regs.specs.declared.register.Who.TheVariants.{Loco as LocoWho}
 use Rattle.dcc_regs.specs.declared.register.Who.{Who}
 use Rattle.dcc_regs.specs.declared.register.SpeedMode.{SpeedMode}
 use Rattle.dcc_regs.specs.declared.register.Register.{Register}
-use Rattle.dcc_regs.specs.declared.register.Register.TheVariants.{Speed as SpeedRegister, Direction, Function, State as StateRegister, CvBit, Pending as PendingRegister, Out, Position, Aspect}
+use Rattle.dcc_regs.specs.declared.register.Register.TheVariants.{Speed as SpeedRegister, Direction, Function}
+use Rattle.dcc_regs.specs.declared.register.Register.TheVariants.{State as StateRegister, CvBit}
+use Rattle.dcc_regs.specs.declared.register.Register.TheVariants.{Pending as PendingRegister, Out, Position, Aspect}
 use Rattle.dcc_regs.specs.declared.register.Value.{Value}
-use Rattle.dcc_regs.specs.declared.register.Value.TheVariants.{Speed as SpeedValue, Forward, Flag, Pending as PendingValue}
+use Rattle.dcc_regs.specs.declared.register.Value.TheVariants.{Speed as SpeedValue, Forward, Flag}
+use Rattle.dcc_regs.specs.declared.register.Value.TheVariants.{Pending as PendingValue}
 use Rattle.dcc_regs.specs.Bits.{is_one}
 use Rattle.dcc_regs.specs.Heard.{heard, hears}
 use Rattle.dcc_regs.specs.Speeds.{speed_set, direction_set}
 use Rattle.dcc_regs.specs.FunctionBits.{function_set}
 use Rattle.dcc_regs.specs.States.{is_binary_state, state_set}
 use Rattle.dcc_regs.specs.Writes.{bit_set, is_own_write}
-use Rattle.dcc_regs.specs.Result.{RegisterMap, set_in_turn, mode_of, is_effective, effective_set, left_pending, result_of_heard, step}
+use Rattle.dcc_regs.specs.Result.{RegisterMap, set_in_turn, mode_of, is_effective, effective_set, left_pending}
+use Rattle.dcc_regs.specs.Result.{result_of_heard, step}
 use Rattle.dcc_regs.specs.Loco.{LocoContent, loco_registers, is_byte_write, is_pending_for, is_function, is_cv_bit}
 use Rattle.dcc_regs.proofs.InParts.{result-nothing}
 
@@ -35,21 +39,26 @@ pub record Obeys (p : Packet) (mode : SpeedMode) (d d' : LocoContent) : Type 0 w
   pub functions : (n : ℕ) → n ≤ 68 → d'.functions n ≡ unwrap_or (function_set mode p n) (d.functions n)
   pub states : (n : ℕ) → n ≤ 127 → d'.states n ≡ unwrap_or (state_set p n) (d.states n)
   pub cvs : (cv place : ℕ) → 1 ≤ cv → place ≤ 7
-      → is_one (d'.cvs cv) place ≡ (if is_effective (Some (PendingValue d.pending)) p then unwrap_or (bit_set p cv place) (is_one (d.cvs cv) place) else is_one (d.cvs cv) place)
+      → is_one (d'.cvs cv)
+      place ≡ (if is_effective (Some (PendingValue d.pending)) p then unwrap_or (bit_set p cv place)
+      (is_one (d.cvs cv) place) else is_one (d.cvs cv) place)
   pub pending : d'.pending ≡ left_pending p
 
 -- a register that a packet may set
-pub set_by : {A : Type 0} (wrap : A → Value) (o : Option A) (old : A) → Some (wrap (unwrap_or o old)) ≡ set_in_turn (Some (wrap old)) (cons_option (option_map wrap o) [])
+pub set_by : {A : Type 0} (wrap : A → Value) (o : Option A) (old : A)
+    → Some (wrap (unwrap_or o old)) ≡ set_in_turn (Some (wrap old)) (cons_option (option_map wrap o) [])
 set_by wrap None old = refl
 set_by wrap (Some x) old = refl
 
 set_where : {A : Type 0} (wrap : A → Value) (t : Bool) (o : Option A) (old : A)
-    → Some (wrap (if t then unwrap_or o old else old)) ≡ set_in_turn (Some (wrap old)) (cons_option (if t then option_map wrap o else None) [])
+    → Some (wrap (if t then unwrap_or o old else old)) ≡ set_in_turn (Some (wrap old))
+    (cons_option (if t then option_map wrap o else None) [])
 set_where wrap true o old = set_by wrap o old
 set_where wrap false o old = refl
 
 -- a register that a decoder may lack
-pub where_there : (t : Bool) (new old : Value) (vs : List Value) → (t ≡ true → Some new ≡ set_in_turn (Some old) vs) → (if t then Some new else None) ≡ set_in_turn (if t then Some old else None) vs
+pub where_there : (t : Bool) (new old : Value) (vs : List Value) → (t ≡ true → Some new ≡ set_in_turn (Some old) vs)
+    → (if t then Some new else None) ≡ set_in_turn (if t then Some old else None) vs
 where_there true new old vs h = h refl
 where_there false new old vs h = refl
 
@@ -65,17 +74,22 @@ cv_there cv place t = grind (arith, nat_tests)
 place_there : (cv place : ℕ) → is_cv_bit cv place ≡ true → place ≤ 7
 place_there cv place t = grind (arith, nat_tests)
 
-at_register : (p : Packet) (mode : SpeedMode) (d d' : LocoContent) → Obeys p mode d d' → (r : Register) → loco_registers d' r ≡ result_of_heard (loco_registers d) (p ∷ []) r
+at_register : (p : Packet) (mode : SpeedMode) (d d' : LocoContent) → Obeys p mode d d' → (r : Register)
+    → loco_registers d' r ≡ result_of_heard (loco_registers d) (p ∷ []) r
 at_register p mode d d' o SpeedRegister = rw (o.speed, o.reads) (set_by SpeedValue (speed_set (mode_held d) p) d.speed)
 at_register p mode d d' o Direction = rw o.forward (set_by Forward (direction_set p) d.forward)
 at_register p mode d d' o (Function n) =
-    where_there (is_function n) (Flag (d'.functions n)) (Flag (d.functions n)) (cons_option (option_map Flag (function_set (mode_held d) p n)) [])
-    (λ t. rw (o.functions n (function_there n t), o.reads) (set_by Flag (function_set (mode_held d) p n) (d.functions n)))
+    where_there (is_function n) (Flag (d'.functions n)) (Flag (d.functions n))
+    (cons_option (option_map Flag (function_set (mode_held d) p n)) [])
+    (λ t. rw (o.functions n (function_there n t), o.reads)
+    (set_by Flag (function_set (mode_held d) p n) (d.functions n)))
 at_register p mode d d' o (StateRegister n) =
-    where_there (is_binary_state n) (Flag (d'.states n)) (Flag (d.states n)) (cons_option (option_map Flag (state_set p n)) [])
+    where_there (is_binary_state n) (Flag (d'.states n)) (Flag (d.states n))
+    (cons_option (option_map Flag (state_set p n)) [])
     (λ t. rw (o.states n (state_there n t)) (set_by Flag (state_set p n) (d.states n)))
 at_register p mode d d' o (CvBit cv place) =
-    where_there (is_cv_bit cv place) (Flag (is_one (d'.cvs cv) place)) (Flag (is_one (d.cvs cv) place)) (cons_option (effective_set (Some (PendingValue d.pending)) p cv place) [])
+    where_there (is_cv_bit cv place) (Flag (is_one (d'.cvs cv) place)) (Flag (is_one (d.cvs cv) place))
+    (cons_option (effective_set (Some (PendingValue d.pending)) p cv place) [])
     (λ t.
     ap (λ b. Some (Flag b)) (o.cvs cv place (cv_there cv place t) (place_there cv place t))
     ∙ set_where Flag (is_effective (Some (PendingValue d.pending)) p) (bit_set p cv place) (is_one (d.cvs cv) place))
@@ -91,19 +105,23 @@ pub heard_none : (who : Who) (p : Packet) → hears who p ≡ false → heard wh
 heard_none who p h = rw h refl
 
 -- a packet that is heard
-pub step-heard : (who : Who) (p : Packet) (mode : SpeedMode) (d d' : LocoContent) → hears who p ≡ true → Obeys p mode d d' → loco_registers d' ≡ step who (loco_registers d) p
-step-heard who p mode d d' h o = fun_ext (at_register p mode d d' o) ∙ sym (ap (result_of_heard (loco_registers d)) (heard_one who p h))
+pub step-heard : (who : Who) (p : Packet) (mode : SpeedMode) (d d' : LocoContent) → hears who p ≡ true
+    → Obeys p mode d d' → loco_registers d' ≡ step who (loco_registers d) p
+step-heard who p mode d d' h o =
+    fun_ext (at_register p mode d d' o) ∙ sym (ap (result_of_heard (loco_registers d)) (heard_one who p h))
 
 -- a packet that is not heard changes nothing
 pub step-unheard : (who : Who) (p : Packet) (m : RegisterMap) → hears who p ≡ false → m ≡ step who m p
 step-unheard who p m h = sym (ap (result_of_heard m) (heard_none who p h) ∙ result-nothing who m)
 
 -- what a heard packet leaves pending
-by_own : (active : Option Address) (p : Packet) → hears (LocoWho active) p ≡ true → is_byte_write p ≡ true → (own : Bool) → is_own_write p ≡ own
+by_own : (active : Option Address) (p : Packet) → hears (LocoWho active) p ≡ true → is_byte_write p ≡ true
+    → (own : Bool) → is_own_write p ≡ own
     → is_pending_for active (if own then Some p else None) ≡ true
 by_own active p h byte true e = rw (e, byte, h) refl
 by_own active p h byte false e = refl
 
-pub pending-heard : (active : Option Address) (p : Packet) (left : Option Packet) → hears (LocoWho active) p ≡ true → is_byte_write p ≡ true → left ≡ left_pending p
+pub pending-heard : (active : Option Address) (p : Packet) (left : Option Packet) → hears (LocoWho active) p ≡ true
+    → is_byte_write p ≡ true → left ≡ left_pending p
     → is_pending_for active left ≡ true
 pending-heard active p left h byte e = rw e (by_own active p h byte (is_own_write p) refl)

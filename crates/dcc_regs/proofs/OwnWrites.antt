@@ -8,7 +8,9 @@ use Rattle.dcc_packet.specs.declared.packet.Packet.TheVariants.{Loco}
 use Rattle.dcc_regs.specs.declared.register.SpeedMode.{SpeedMode}
 use Rattle.dcc_regs.specs.declared.register.SpeedMode.TheVariants.{Steps14, Steps28}
 use Rattle.dcc_regs.specs.declared.register.Register.{Register}
-use Rattle.dcc_regs.specs.declared.register.Register.TheVariants.{Speed as SpeedRegister, Direction, Function, State as StateRegister, CvBit, Pending as PendingRegister, Out, Position, Aspect}
+use Rattle.dcc_regs.specs.declared.register.Register.TheVariants.{Speed as SpeedRegister, Direction, Function}
+use Rattle.dcc_regs.specs.declared.register.Register.TheVariants.{State as StateRegister, CvBit}
+use Rattle.dcc_regs.specs.declared.register.Register.TheVariants.{Pending as PendingRegister, Out, Position, Aspect}
 use Rattle.dcc_regs.specs.declared.register.Value.TheVariants.{Speed as SpeedValue, Forward, Flag, Number}
 use Rattle.dcc_regs.specs.Speeds.{speed_set, direction_set}
 use Rattle.dcc_regs.specs.FunctionBits.{function_set}
@@ -17,8 +19,10 @@ use Rattle.dcc_regs.specs.Outputs.{out_set, position_set, aspect_set}
 use Rattle.dcc_regs.specs.Sets.{sets, side}
 use Rattle.dcc_regs.specs.Writes.{is_own_write}
 
-pub none_of : (mode : SpeedMode) (p : Packet) (r : Register) → speed_set mode p ≡ None → direction_set p ≡ None → ((n : ℕ) → function_set mode p n ≡ None) → ((n : ℕ) → state_set p n ≡ None)
-    → ((n : ℕ) → out_set p n ≡ None) → ((n : ℕ) → position_set p n ≡ None) → ((n : ℕ) → aspect_set p n ≡ None) → sets mode p r ≡ None
+pub none_of : (mode : SpeedMode) (p : Packet) (r : Register) → speed_set mode p ≡ None → direction_set p ≡ None
+    → ((n : ℕ) → function_set mode p n ≡ None) → ((n : ℕ) → state_set p n ≡ None)
+    → ((n : ℕ) → out_set p n ≡ None) → ((n : ℕ) → position_set p n ≡ None) → ((n : ℕ) → aspect_set p n ≡ None)
+    → sets mode p r ≡ None
 none_of mode p SpeedRegister a b c s d f g = ap (option_map SpeedValue) a
 none_of mode p Direction a b c s d f g = ap (option_map Forward) b
 none_of mode p (Function n) a b c s d f g = ap (option_map Flag) (c n)
@@ -30,13 +34,30 @@ none_of mode p (CvBit cv place) a b c s d f g = refl
 none_of mode p PendingRegister a b c s d f g = refl
 
 -- an own write sets no plain register
-pub sets-own_write : (mode : SpeedMode) (p : Packet) (register : Register) → is_own_write p ≡ true → sets mode p register ≡ None
-sets-own_write Steps14 (Loco (Short to) (CvWrite cv value)) r e = none_of Steps14 (Loco (Short to) (CvWrite cv value)) r refl refl (λ n. refl) (λ n. refl) (λ n. refl) (λ n. refl) (λ n. refl)
-sets-own_write Steps14 (Loco (Short to) (CvBitWrite cv place one)) r e = none_of Steps14 (Loco (Short to) (CvBitWrite cv place one)) r refl refl (λ n. refl) (λ n. refl) (λ n. refl) (λ n. refl) (λ n. refl)
-sets-own_write Steps14 (Loco (Long to) (CvWrite cv value)) r e = none_of Steps14 (Loco (Long to) (CvWrite cv value)) r refl refl (λ n. refl) (λ n. refl) (λ n. refl) (λ n. refl) (λ n. refl)
-sets-own_write Steps14 (Loco (Long to) (CvBitWrite cv place one)) r e = none_of Steps14 (Loco (Long to) (CvBitWrite cv place one)) r refl refl (λ n. refl) (λ n. refl) (λ n. refl) (λ n. refl) (λ n. refl)
-sets-own_write Steps28 (Loco (Short to) (CvWrite cv value)) r e = none_of Steps28 (Loco (Short to) (CvWrite cv value)) r refl refl (λ n. refl) (λ n. refl) (λ n. refl) (λ n. refl) (λ n. refl)
-sets-own_write Steps28 (Loco (Short to) (CvBitWrite cv place one)) r e = none_of Steps28 (Loco (Short to) (CvBitWrite cv place one)) r refl refl (λ n. refl) (λ n. refl) (λ n. refl) (λ n. refl) (λ n. refl)
-sets-own_write Steps28 (Loco (Long to) (CvWrite cv value)) r e = none_of Steps28 (Loco (Long to) (CvWrite cv value)) r refl refl (λ n. refl) (λ n. refl) (λ n. refl) (λ n. refl) (λ n. refl)
-sets-own_write Steps28 (Loco (Long to) (CvBitWrite cv place one)) r e = none_of Steps28 (Loco (Long to) (CvBitWrite cv place one)) r refl refl (λ n. refl) (λ n. refl) (λ n. refl) (λ n. refl) (λ n. refl)
+pub sets-own_write : (mode : SpeedMode) (p : Packet) (register : Register) → is_own_write p ≡ true
+    → sets mode p register ≡ None
+sets-own_write Steps14 (Loco (Short to) (CvWrite cv value)) r e =
+    none_of Steps14 (Loco (Short to) (CvWrite cv value)) r refl refl (λ n. refl) (λ n. refl) (λ n. refl) (λ n. refl)
+    (λ n. refl)
+sets-own_write Steps14 (Loco (Short to) (CvBitWrite cv place one)) r e =
+    none_of Steps14 (Loco (Short to) (CvBitWrite cv place one)) r refl refl (λ n. refl) (λ n. refl) (λ n. refl)
+    (λ n. refl) (λ n. refl)
+sets-own_write Steps14 (Loco (Long to) (CvWrite cv value)) r e =
+    none_of Steps14 (Loco (Long to) (CvWrite cv value)) r refl refl (λ n. refl) (λ n. refl) (λ n. refl) (λ n. refl)
+    (λ n. refl)
+sets-own_write Steps14 (Loco (Long to) (CvBitWrite cv place one)) r e =
+    none_of Steps14 (Loco (Long to) (CvBitWrite cv place one)) r refl refl (λ n. refl) (λ n. refl) (λ n. refl)
+    (λ n. refl) (λ n. refl)
+sets-own_write Steps28 (Loco (Short to) (CvWrite cv value)) r e =
+    none_of Steps28 (Loco (Short to) (CvWrite cv value)) r refl refl (λ n. refl) (λ n. refl) (λ n. refl) (λ n. refl)
+    (λ n. refl)
+sets-own_write Steps28 (Loco (Short to) (CvBitWrite cv place one)) r e =
+    none_of Steps28 (Loco (Short to) (CvBitWrite cv place one)) r refl refl (λ n. refl) (λ n. refl) (λ n. refl)
+    (λ n. refl) (λ n. refl)
+sets-own_write Steps28 (Loco (Long to) (CvWrite cv value)) r e =
+    none_of Steps28 (Loco (Long to) (CvWrite cv value)) r refl refl (λ n. refl) (λ n. refl) (λ n. refl) (λ n. refl)
+    (λ n. refl)
+sets-own_write Steps28 (Loco (Long to) (CvBitWrite cv place one)) r e =
+    none_of Steps28 (Loco (Long to) (CvBitWrite cv place one)) r refl refl (λ n. refl) (λ n. refl) (λ n. refl)
+    (λ n. refl) (λ n. refl)
 sets-own_write mode p r e = absurd (cc)

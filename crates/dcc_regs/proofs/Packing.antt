@@ -1,10 +1,12 @@
 -- Truth values that are packed into a number, one to a bit, from the lowest bit up.
-use Rattle.std.proofs.Common.{◌≡◌, ◌≢◌, ℕ, zero, suc, ◌+◌, ◌-◌, ◌*◌, ◌/◌, ◌^◌, ◌%◌, ◌<◌, ◌≤◌, Bool, true, false, refl, sym, ◌∙◌, ap, arith, below_more, bit_and, bit_or}
+use Rattle.std.proofs.Common.{◌≡◌, ◌≢◌, ℕ, zero, suc, ◌+◌, ◌-◌, ◌*◌, ◌/◌, ◌^◌, ◌%◌, ◌<◌, ◌≤◌, Bool, true, false, refl}
+use Rattle.std.proofs.Common.{sym, ◌∙◌, ap, arith, below_more, bit_and, bit_or}
 use Rattle.std.specs.Prelude.{◌==◌, if◌then◌else◌}
 use Rattle.std.specs.Int.{bit_at, w128}
 use Rattle.std.proofs.lemmas.Grind.{common_steps}
 use Rattle.std.proofs.lemmas.Nat.{or_lt, pow_below, pow_pos, and_le_r}
-use Rattle.std.proofs.lemmas.Nat.Bits.{bit_at_or, bit_at_and, bit_at-zero, bit_at-lt, bit_at-suc, bit_at_above, bit_at_ones, bit_at_clear_same, bit_at_clear_other}
+use Rattle.std.proofs.lemmas.Nat.Bits.{bit_at_or, bit_at_and, bit_at-zero, bit_at-lt, bit_at-suc, bit_at_above}
+use Rattle.std.proofs.lemmas.Nat.Bits.{bit_at_ones, bit_at_clear_same, bit_at_clear_other}
 use mir.Val.{bool_byte}
 use Rattle.dcc_regs.specs.Bits.{is_one}
 use Rattle.dcc_regs.proofs.Bits.{same_bit, other_bit, by_number}
@@ -14,7 +16,8 @@ pub shifted_one_128 : (n : ℕ) → n ≤ 127 → 1 * 2 ^ n % 340282366920938463
 shifted_one_128 n h = grind (arith, common_steps)
 
 -- a truth value that is shifted to place n, in numbers below a limit that are wide enough for it
-shifted : (on : Bool) (n limit : ℕ) → 1 * 2 ^ n % limit ≡ 2 ^ n → bool_byte on * 2 ^ n % limit ≡ (if on then 2 ^ n else 0)
+shifted : (on : Bool) (n limit : ℕ) → 1 * 2 ^ n % limit ≡ 2 ^ n
+    → bool_byte on * 2 ^ n % limit ≡ (if on then 2 ^ n else 0)
 shifted true n limit fits = fits
 shifted false n limit fits = grind (arith, common_steps)
 
@@ -24,11 +27,13 @@ nothing_put word k =
     let b : bit_at (bit_or word 0) k ≡ bit_at word k = rw (bit_at_or word 0 k) (omega arith) in
     rw b refl
 
-put_here : (word n mask : ℕ) (on : Bool) → mask ≡ (if on then 2 ^ n else 0) → is_one word n ≡ false → is_one (bit_or word mask) n ≡ on
+put_here : (word n mask : ℕ) (on : Bool) → mask ≡ (if on then 2 ^ n else 0) → is_one word n ≡ false
+    → is_one (bit_or word mask) n ≡ on
 put_here word n mask true e free = same_bit word mask n e
 put_here word n mask false e free = rw e (nothing_put word n ∙ free)
 
-put_elsewhere : (word n mask k : ℕ) (on : Bool) → mask ≡ (if on then 2 ^ n else 0) → k ≢ n → is_one (bit_or word mask) k ≡ is_one word k
+put_elsewhere : (word n mask k : ℕ) (on : Bool) → mask ≡ (if on then 2 ^ n else 0) → k ≢ n
+    → is_one (bit_or word mask) k ≡ is_one word k
 put_elsewhere word n mask k true e ne = other_bit word mask k n e ne
 put_elsewhere word n mask k false e ne = rw e (nothing_put word k)
 
@@ -44,13 +49,15 @@ packed_more word n limit on f fits before free here =
 -- above them all bits are zero
 pub zero_above : (word n limit : ℕ) (on : Bool) → 1 * 2 ^ n % limit ≡ 2 ^ n → ((k : ℕ) → n ≤ k → is_one word k ≡ false)
     → (k : ℕ) → n + 1 ≤ k → is_one (bit_or word (bool_byte on * 2 ^ n % limit)) k ≡ false
-zero_above word n limit on fits none k h = put_elsewhere word n _ k on (shifted on n limit fits) (omega arith) ∙ none k (omega arith)
+zero_above word n limit on fits none k h =
+    put_elsewhere word n _ k on (shifted on n limit fits) (omega arith) ∙ none k (omega arith)
 
 -- a number below a power of two has no bit from there on
 pub zero_from : (word n : ℕ) → word < 2 ^ n → is_one word n ≡ false
 zero_from word n h = rw (bit_at_above word n n h (omega arith)) refl
 
-put_below : (word n mask : ℕ) (on : Bool) → mask ≡ (if on then 2 ^ n else 0) → word < 2 ^ n → bit_or word mask < 2 ^ (n + 1)
+put_below : (word n mask : ℕ) (on : Bool) → mask ≡ (if on then 2 ^ n else 0) → word < 2 ^ n
+    → bit_or word mask < 2 ^ (n + 1)
 put_below word n mask true e h =
     let more : 2 ^ n < 2 ^ (n + 1) = pow_below n (n + 1) (omega arith) in
     or_lt (n + 1) word mask (omega arith) (rw e more)
@@ -59,7 +66,8 @@ put_below word n mask false e h =
     or_lt (n + 1) word mask (omega arith) (rw e (pow_pos (n + 1)))
 
 -- truth values below n make a number below the power of n, and so with the one at n
-pub packed_below : (word n limit : ℕ) (on : Bool) → 1 * 2 ^ n % limit ≡ 2 ^ n → word < 2 ^ n → bit_or word (bool_byte on * 2 ^ n % limit) < 2 ^ (n + 1)
+pub packed_below : (word n limit : ℕ) (on : Bool) → 1 * 2 ^ n % limit ≡ 2 ^ n → word < 2 ^ n
+    → bit_or word (bool_byte on * 2 ^ n % limit) < 2 ^ (n + 1)
 packed_below word n limit on fits h = put_below word n _ on (shifted on n limit fits) h
 
 -- the lowest n bits alone
@@ -87,10 +95,14 @@ high_bits word (suc k) h =
 
 -- a word of 128 bits with one bit turned off
 pub turned_off : (word n k : ℕ) → n ≤ 127 → k ≤ 127
-    → is_one (bit_and word (340282366920938463463374607431768211455 - 1 * 2 ^ n % 340282366920938463463374607431768211456)) k ≡ (if k == n then false else is_one word k)
+    → is_one
+    (bit_and word (340282366920938463463374607431768211455 - 1 * 2 ^ n % 340282366920938463463374607431768211456))
+    k ≡ (if k == n then false else is_one word k)
 turned_off word n k here there =
     by_number k n _ _ _
-    (λ same. let b : bit_at (bit_and word (340282366920938463463374607431768211455 - 1 * 2 ^ n % 340282366920938463463374607431768211456)) n ≡ 0 =
+    (λ same.
+    let b : bit_at (bit_and word (340282366920938463463374607431768211455 - 1 * 2 ^ n % 340282366920938463463374607431768211456)) n ≡ 0 =
     bit_at_clear_same w128 word n (omega arith) in rw (same, b) refl)
-    (λ other. let b : bit_at (bit_and word (340282366920938463463374607431768211455 - 1 * 2 ^ n % 340282366920938463463374607431768211456)) k ≡ bit_at word k =
+    (λ other.
+    let b : bit_at (bit_and word (340282366920938463463374607431768211455 - 1 * 2 ^ n % 340282366920938463463374607431768211456)) k ≡ bit_at word k =
     bit_at_clear_other w128 word n (omega arith) k (omega arith) other in rw b refl)

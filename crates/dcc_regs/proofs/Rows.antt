@@ -9,10 +9,13 @@ use Rattle.dcc_packet.specs.declared.instruction.What.TheVariants.{Reset, Speed2
 use Rattle.dcc_packet.specs.declared.packet.Packet.{Packet}
 use Rattle.dcc_packet.specs.declared.packet.Packet.TheVariants.{Idle, Loco as ToLoco, Accessory}
 use Rattle.dcc_regs.specs.declared.register.Register.{Register}
-use Rattle.dcc_regs.specs.declared.register.Register.TheVariants.{Speed as SpeedRegister, Direction, Function, State as StateRegister, CvBit, Pending as PendingRegister, Out, Position}
+use Rattle.dcc_regs.specs.declared.register.Register.TheVariants.{Speed as SpeedRegister, Direction, Function}
+use Rattle.dcc_regs.specs.declared.register.Register.TheVariants.{State as StateRegister, CvBit}
+use Rattle.dcc_regs.specs.declared.register.Register.TheVariants.{Pending as PendingRegister, Out, Position}
 use Rattle.dcc_regs.specs.declared.register.Speed.TheVariants.{Step14, Step28}
 use Rattle.dcc_regs.specs.declared.register.Value.{Value}
-use Rattle.dcc_regs.specs.declared.register.Value.TheVariants.{Speed as SpeedValue, Forward, Flag, Number, Pending as PendingValue}
+use Rattle.dcc_regs.specs.declared.register.Value.TheVariants.{Speed as SpeedValue, Forward, Flag, Number}
+use Rattle.dcc_regs.specs.declared.register.Value.TheVariants.{Pending as PendingValue}
 use Rattle.dcc_regs.specs.declared.register.Who.TheVariants.{Loco as LocoWho, Board as BoardWho}
 use Rattle.dcc_packet.specs.SamePacket.{same}
 use Rattle.dcc_regs.specs.Board.{board_registers, made}
@@ -60,13 +63,17 @@ stop = speed Broadcast 0 (omega arith) false
 abbrev emergency : Packet
 emergency = speed Broadcast 3 (omega arith) false
 
--- what a decoder of short address 3, just made, holds in a register after a list of packets: CV1 = 3, CV29 as given, all others 0
+-- what a decoder of short address 3, just made, holds in a register after a list of packets: CV1 = 3, CV29 as given,
+-- all others 0
 abbrev after : ℕ → List Packet → Register → Option Value
-after cv29 l = result (LocoWho (Some short_3)) (loco_registers (started (λ n. if n == 1 then 3 else if n == 29 then cv29 else 0))) l
+after cv29 l =
+    result (LocoWho (Some short_3)) (loco_registers (started (λ n. if n == 1 then 3 else if n == 29 then cv29 else 0)))
+    l
 
 -- outputs of a board
 abbrev switched : (board : ℕ) → board ≤ 511 → (output : ℕ) → output ≤ 7 → Packet
-switched board h output k = Accessory (record { number = board; in_range = h }) (record { number = output; in_range = k }) true
+switched board h output k =
+    Accessory (record { number = board; in_range = h }) (record { number = output; in_range = k }) true
 
 -- what board 12, just made, holds in a register after a list of packets
 abbrev board_after : List Packet → Register → Option Value

@@ -3,7 +3,9 @@ use Rattle.std.proofs.Common.{◌≡◌, ◌∙◌, refl, ap, Bool, true, false,
 use Rattle.std.specs.Prelude.{◌&&◌, option_map}
 use Rattle.dcc_packet.specs.declared.packet.Packet.{Packet}
 use Rattle.dcc_regs.specs.declared.register.Register.{Register}
-use Rattle.dcc_regs.specs.declared.register.Register.TheVariants.{Speed as SpeedRegister, Direction, Function, State as StateRegister, CvBit, Pending as PendingRegister, Out, Position, Aspect}
+use Rattle.dcc_regs.specs.declared.register.Register.TheVariants.{Speed as SpeedRegister, Direction, Function}
+use Rattle.dcc_regs.specs.declared.register.Register.TheVariants.{State as StateRegister, CvBit}
+use Rattle.dcc_regs.specs.declared.register.Register.TheVariants.{Pending as PendingRegister, Out, Position, Aspect}
 use Rattle.dcc_regs.specs.declared.register.Value.{Value}
 use Rattle.dcc_regs.specs.declared.register.Value.TheVariants.{Flag, Pending as PendingValue}
 use Rattle.dcc_regs.specs.declared.register.Who.TheVariants.{Loco}
@@ -74,7 +76,8 @@ read s PendingRegister = s.pending
 read s r = s.plain r
 
 -- states with the same parts are the same
-pub same_state : (s t : State) → s.pending ≡ t.pending → ((r : Register) → s.bits r ≡ t.bits r) → ((r : Register) → s.plain r ≡ t.plain r) → s ≡ t
+pub same_state : (s t : State) → s.pending ≡ t.pending → ((r : Register) → s.bits r ≡ t.bits r)
+    → ((r : Register) → s.plain r ≡ t.plain r) → s ≡ t
 same_state s t p b q = λ i. record { pending = p i; bits = λ r. b r i; plain = λ r. q r i }
 
 pub run-append : (s : State) (a b : List Packet) → run s (a ++ b) ≡ run (run s a) b
@@ -114,7 +117,10 @@ unfolding sets_bit
 start-next m p = same_state (start (next m p)) (step (start m) p) (heard-sets m p PendingRegister) at_bit at_plain
   where
     at_bit : (r : Register) → bits_only (next m p) r ≡ bits_step (start m) p r
-    at_bit (CvBit cv place) = heard-sets m p (CvBit cv place) ∙ where_set (is_own_write p && is_pending (m PendingRegister) p) (m (CvBit cv place)) (option_map Flag (bit_set p cv place))
+    at_bit (CvBit cv place) =
+        heard-sets m p (CvBit cv place)
+        ∙ where_set (is_own_write p && is_pending (m PendingRegister) p) (m (CvBit cv place))
+        (option_map Flag (bit_set p cv place))
     at_bit SpeedRegister = none_either (is_own_write p && is_pending (m PendingRegister) p)
     at_bit Direction = none_either (is_own_write p && is_pending (m PendingRegister) p)
     at_bit (Function n) = none_either (is_own_write p && is_pending (m PendingRegister) p)
@@ -124,7 +130,8 @@ start-next m p = same_state (start (next m p)) (step (start m) p) (heard-sets m 
     at_bit (Position n) = none_either (is_own_write p && is_pending (m PendingRegister) p)
     at_bit (Aspect n) = none_either (is_own_write p && is_pending (m PendingRegister) p)
 
-    at_plain : (r : Register) → plain_only (next m p) r ≡ overwritten (plain_only m r) (sets (mode_in (bits_only m)) p r)
+    at_plain : (r : Register)
+        → plain_only (next m p) r ≡ overwritten (plain_only m r) (sets (mode_in (bits_only m)) p r)
     at_plain (CvBit cv place) = refl
     at_plain PendingRegister = refl
     at_plain SpeedRegister = heard-sets m p SpeedRegister

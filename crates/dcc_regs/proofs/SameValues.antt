@@ -8,7 +8,8 @@ use Rattle.dcc_packet.proofs.SameFrames.{Decides-same}
 use Rattle.dcc_regs.specs.declared.register.Speed.{Speed}
 use Rattle.dcc_regs.specs.declared.register.Speed.TheVariants.{Stop, Emergency, Step14, Step28, Step126}
 use Rattle.dcc_regs.specs.declared.register.Value.{Value}
-use Rattle.dcc_regs.specs.declared.register.Value.TheVariants.{Speed as SpeedValue, Forward, Flag, Number, Pending as PendingValue}
+use Rattle.dcc_regs.specs.declared.register.Value.TheVariants.{Speed as SpeedValue, Forward, Flag, Number}
+use Rattle.dcc_regs.specs.declared.register.Value.TheVariants.{Pending as PendingValue}
 
 abbrev same_flag : Bool → Bool → Bool
 same_flag true true = true
@@ -64,7 +65,8 @@ value_there (Forward a) (Forward b) e = ap Forward (flag_there a b e)
 value_there (Flag a) (Flag b) e = ap Flag (flag_there a b e)
 value_there (Number n) (Number m) e = ap Number ((Decides-eqb n m).0 e)
 value_there (PendingValue None) (PendingValue None) e = refl
-value_there (PendingValue (Some p)) (PendingValue (Some q)) e = ap (λ (r : Packet). PendingValue (Some r)) ((Decides-same p q).0 e)
+value_there (PendingValue (Some p)) (PendingValue (Some q)) e =
+    ap (λ (r : Packet). PendingValue (Some r)) ((Decides-same p q).0 e)
 value_there a b e = absurd (cc)
 
 value_self : (a : Value) → same_value a a ≡ true

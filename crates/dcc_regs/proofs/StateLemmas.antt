@@ -25,7 +25,8 @@ only c n o d e = named c.0 n (there (is_binary_state n && (c.0 == 0 || n == c.0)
 
 -- what is told of all states turns each the same way
 from_all : (t u v f g x y : Bool) → u ≡ true → v ≡ true
-    → Differ (option_map Flag (if t && (u || f) then Some x else None)) (option_map Flag (if t && (v || g) then Some y else None))
+    → Differ (option_map Flag (if t && (u || f) then Some x else None))
+    (option_map Flag (if t && (v || g) then Some y else None))
     → Differ (Some (Flag x)) (Some (Flag y))
 from_all true true true f g x y e h d = d
 from_all false u v f g x y e h d = absurd d
@@ -33,7 +34,8 @@ from_all true false v f g x y e h d = absurd (cc)
 from_all true true false f g x y e h d = absurd (cc)
 
 to_all : (u v f g x y : Bool) → u ≡ true → v ≡ true → Differ (Some (Flag x)) (Some (Flag y))
-    → Differ (option_map Flag (if true && (u || f) then Some x else None)) (option_map Flag (if true && (v || g) then Some y else None))
+    → Differ (option_map Flag (if true && (u || f) then Some x else None))
+    (option_map Flag (if true && (v || g) then Some y else None))
 to_all true true f g x y e h d = d
 to_all false v f g x y e h d = absurd (cc)
 to_all true false f g x y e h d = absurd (cc)
@@ -42,13 +44,15 @@ move : (c d : Option (ℕ × Bool)) (n k : ℕ) → n ≡ k → Differ (held c n
 move c d n k e h = subst (λ (m : ℕ). Differ (held c m) (held d m)) e h
 
 at_looked : (c d : ℕ × Bool) (n : ℕ) (t u : Bool) → (c.0 == 0) ≡ t → (d.0 == 0) ≡ u
-    → Differ (held (Some c) n) (held (Some d) n) → Differ (held (Some c) (looked (Some c) (Some d))) (held (Some d) (looked (Some c) (Some d)))
+    → Differ (held (Some c) n) (held (Some d) n)
+    → Differ (held (Some c) (looked (Some c) (Some d))) (held (Some d) (looked (Some c) (Some d)))
 at_looked c d n false u e f h =
     let at : looked (Some c) (Some d) ≡ c.0 = rw e refl in
     move (Some c) (Some d) n (looked (Some c) (Some d)) (only c n (held (Some d) n) h e ∙ sym at) h
 at_looked c d n true false e f h =
     let at : looked (Some c) (Some d) ≡ d.0 = rw (e, f) refl in
-    move (Some c) (Some d) n (looked (Some c) (Some d)) (only d n (held (Some c) n) (differ-sym (held (Some c) n) (held (Some d) n) h) f ∙ sym at) h
+    move (Some c) (Some d) n (looked (Some c) (Some d))
+    (only d n (held (Some c) n) (differ-sym (held (Some c) n) (held (Some d) n) h) f ∙ sym at) h
 at_looked c d n true true e f h =
     let at : looked (Some c) (Some d) ≡ 1 = rw (e, f) refl in
     move (Some c) (Some d) 1 (looked (Some c) (Some d)) (sym at)
@@ -56,7 +60,8 @@ at_looked c d n true true e f h =
     (from_all (is_binary_state n) (c.0 == 0) (d.0 == 0) (n == c.0) (n == d.0) c.1 d.1 e f h))
 
 -- two packets that differ at some state differ at the one that is looked at
-pub differ_at_looked : (c d : Option (ℕ × Bool)) (n : ℕ) → Differ (option_map Flag (state_by c n)) (option_map Flag (state_by d n))
+pub differ_at_looked : (c d : Option (ℕ × Bool)) (n : ℕ)
+    → Differ (option_map Flag (state_by c n)) (option_map Flag (state_by d n))
     → Differ (option_map Flag (state_by c (looked c d))) (option_map Flag (state_by d (looked c d)))
 differ_at_looked None d n h = absurd h
 differ_at_looked (Some c) None n h = absurd (differ-sym (held (Some c) n) None h)

@@ -1,9 +1,11 @@
 -- A walk over a list that writes one element at a time.
-use Rattle.std.proofs.Common.{◌≡◌, ◌≢◌, ℕ, ◌+◌, ◌<◌, ◌≤◌, List, length, get_or, arith, below_more, get_or-set_other, get_or-set_same}
+use Rattle.std.proofs.Common.{◌≡◌, ◌≢◌, ℕ, ◌+◌, ◌<◌, ◌≤◌, List, length, get_or, arith, below_more, get_or-set_other}
+use Rattle.std.proofs.Common.{get_or-set_same}
 use Rattle.std.proofs.Math.ListN.{set}
 
 -- the element at n is written
-pub written_more : {A : Type 0} (xs : List A) (n : ℕ) (y d : A) (f : ℕ → A) → n < length xs → ((k : ℕ) → k < n → get_or xs k d ≡ f k) → y ≡ f n
+pub written_more : {A : Type 0} (xs : List A) (n : ℕ) (y d : A) (f : ℕ → A) → n < length xs
+    → ((k : ℕ) → k < n → get_or xs k d ≡ f k) → y ≡ f n
     → (k : ℕ) → k < n + 1 → get_or (set xs n y) k d ≡ f k
 written_more xs n y d f h before here =
     below_more (λ k. get_or (set xs n y) k d ≡ f k) n

@@ -12,7 +12,8 @@ asks_for_long cvs = is_one (cvs 29) 5 && nat_le 192 (cvs 17) && nat_le (cvs 17) 
 
 -- the long address of CV17 and CV18 where the CVs ask for it, else the short one of CV1, where there is such an address
 abbrev pub active_address : (ℕ → ℕ) → Option Address
-active_address cvs = if asks_for_long cvs then result_ok (long_of ((cvs 17 - 192) * 256 + cvs 18)) else result_ok (short_of (cvs 1))
+active_address cvs =
+    if asks_for_long cvs then result_ok (long_of ((cvs 17 - 192) * 256 + cvs 18)) else result_ok (short_of (cvs 1))
 
 -- a decoder's own address is no broadcast
 abbrev pub is_active : Option Address → Bool

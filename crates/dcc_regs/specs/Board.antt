@@ -1,11 +1,14 @@
 -- The registers of an accessory decoder and their start values.
 use Rattle.std.specs.Prelude.{ℕ, Bool, false, nat_le, None, Some, if◌then◌else◌}
-use Rattle.dcc_regs.specs.declared.register.Register.TheVariants.{Speed as SpeedRegister, Direction, Function, State as StateRegister, CvBit, Pending as PendingRegister, Out, Position, Aspect}
+use Rattle.dcc_regs.specs.declared.register.Register.TheVariants.{Speed as SpeedRegister, Direction, Function}
+use Rattle.dcc_regs.specs.declared.register.Register.TheVariants.{State as StateRegister, CvBit}
+use Rattle.dcc_regs.specs.declared.register.Register.TheVariants.{Pending as PendingRegister, Out, Position, Aspect}
 use Rattle.dcc_regs.specs.declared.register.Value.TheVariants.{Flag, Number}
 use Rattle.dcc_regs.specs.Sets.{side}
 use Rattle.dcc_regs.specs.Result.{RegisterMap}
 
--- what an accessory decoder holds: its outputs, the sides of its pairs of outputs (true is side 1) and its aspects, by number
+-- what an accessory decoder holds: its outputs, the sides of its pairs of outputs (true is side 1) and its aspects, by
+-- number
 pub record BoardContent : Type 0 where
   pub outs : ℕ → Bool
   pub positions : ℕ → Bool

@@ -6,4 +6,9 @@ use Rattle.dcc_regs.specs.Board.{BoardContent}
 
 -- what a decoder in this state holds
 abbrev pub content : BoardState → BoardContent
-content s = record { outs = is_one s.outs; positions = λ n. slice_index_or s.positions n false; aspects = λ n. slice_index s.aspects n }
+content s =
+    record {
+      outs = is_one s.outs;
+      positions = λ n. slice_index_or s.positions n false;
+      aspects = λ n. slice_index s.aspects n;
+    }

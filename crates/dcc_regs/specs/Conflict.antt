@@ -8,7 +8,8 @@ use Rattle.dcc_regs.specs.declared.register.Value.{Value}
 use Rattle.dcc_regs.specs.Heard.{hears}
 use Rattle.dcc_regs.specs.Sets.{sets}
 
--- two packets conflict where some decoder hears both and, in one of the two modes, the same for both, they set one register to two values
+-- two packets conflict where some decoder hears both and, in one of the two modes, the same for both, they set one
+-- register to two values
 pub record Conflict (p q : Packet) : Type 0 where
   pub who : Who
   pub first_heard : hears who p ≡ true

@@ -1,10 +1,12 @@
 -- The functions that a packet turns on and off (RCN-212, NMRA S-9.2.1).
-use Rattle.std.specs.Prelude.{ℕ, Bool, false, ◌&&◌, ◌==◌, nat_lt, nat_le, ◌+◌, ◌-◌, ◌%◌, Option, None, Some, option_map, if◌then◌else◌}
+use Rattle.std.specs.Prelude.{ℕ, Bool, false, ◌&&◌, ◌==◌, nat_lt, nat_le, ◌+◌, ◌-◌, ◌%◌, Option, None, Some}
+use Rattle.std.specs.Prelude.{option_map, if◌then◌else◌}
 use Rattle.dcc_packet.specs.declared.address.Address.TheVariants.{Broadcast}
 use Rattle.dcc_packet.specs.declared.functions.GroupBits.{GroupBits}
 use Rattle.dcc_packet.specs.declared.functions.Group.{Group}
 use Rattle.dcc_packet.specs.declared.functions.Group.TheVariants.{F0, F5, F9, F13, F21, F29, F37, F45, F53, F61}
-use Rattle.dcc_packet.specs.declared.instruction.What.TheVariants.{Reset, Speed28, Speed128, Functions, BinaryState, CvWrite, CvVerify, CvBitWrite, CvBitVerify}
+use Rattle.dcc_packet.specs.declared.instruction.What.TheVariants.{Reset, Speed28, Speed128, Functions, BinaryState}
+use Rattle.dcc_packet.specs.declared.instruction.What.TheVariants.{CvWrite, CvVerify, CvBitWrite, CvBitVerify}
 use Rattle.dcc_packet.specs.declared.packet.Packet.{Packet}
 use Rattle.dcc_packet.specs.declared.packet.Packet.TheVariants.{Idle, Loco as ToLoco, Accessory, Signal, Other}
 use Rattle.dcc_regs.specs.declared.register.SpeedMode.{SpeedMode}
@@ -46,14 +48,16 @@ place_of_f0 mode group = None
 abbrev pub place_of : SpeedMode → Group → ℕ → Option ℕ
 place_of mode group n =
     if n == 0 then place_of_f0 mode group
-    else if nat_le (first_function group) n && nat_lt n (first_function group + count_of group) then Some (n - first_function group)
+    else if nat_le (first_function group) n && nat_lt n (first_function group + count_of group) then Some
+    (n - first_function group)
     else None
 
 -- what a group's bits say of function n
 abbrev pub group_bit : SpeedMode → GroupBits → ℕ → Option Bool
 group_bit mode bits n = option_map (is_one bits.bits) (place_of mode bits.group n)
 
--- whether a packet turns function n on or off: the lowest bit of the baseline speed instruction is F0 where it is read for 14 steps
+-- whether a packet turns function n on or off: the lowest bit of the baseline speed instruction is F0 where it is read
+-- for 14 steps
 abbrev pub function_set : SpeedMode → Packet → ℕ → Option Bool
 function_set mode (ToLoco to Reset) n = if nat_le n 68 then Some false else None
 function_set mode (ToLoco Broadcast (Speed28 forward bits)) n = None

@@ -1,5 +1,6 @@
 -- Who hears which packet (RCN-211, RCN-213; NMRA S-9.2.1).
-use Rattle.std.specs.Prelude.{ℕ, Bool, true, false, ◌&&◌, ◌||◌, ◌==◌, nat_lt, nat_le, ◌+◌, ◌-◌, ◌*◌, ◌/◌, Option, None, Some, List, slice_index, filter, if◌then◌else◌}
+use Rattle.std.specs.Prelude.{ℕ, Bool, true, false, ◌&&◌, ◌||◌, ◌==◌, nat_lt, nat_le, ◌+◌, ◌-◌, ◌*◌, ◌/◌, Option}
+use Rattle.std.specs.Prelude.{None, Some, List, slice_index, filter, if◌then◌else◌}
 use Rattle.std.specs.Option.{option_map_or}
 use Rattle.std.specs.Result.{result_ok}
 use Rattle.dcc_packet.specs.Address.{same_address}
@@ -7,7 +8,8 @@ use Rattle.dcc_packet.specs.Values.{long_of, short_of}
 use Rattle.dcc_packet.specs.declared.address.Address.{Address}
 use Rattle.dcc_packet.specs.declared.address.Address.TheVariants.{Broadcast, Short, Long}
 use Rattle.dcc_packet.specs.declared.instruction.What.{What}
-use Rattle.dcc_packet.specs.declared.instruction.What.TheVariants.{Reset, Speed28, Speed128, Functions, BinaryState, CvWrite, CvVerify, CvBitWrite, CvBitVerify}
+use Rattle.dcc_packet.specs.declared.instruction.What.TheVariants.{Reset, Speed28, Speed128, Functions, BinaryState}
+use Rattle.dcc_packet.specs.declared.instruction.What.TheVariants.{CvWrite, CvVerify, CvBitWrite, CvBitVerify}
 use Rattle.dcc_packet.specs.declared.packet.Packet.{Packet}
 use Rattle.dcc_packet.specs.declared.packet.Packet.TheVariants.{Idle, Loco as ToLoco, Accessory, Signal, Other}
 use Rattle.dcc_regs.specs.declared.register.Who.{Who}
@@ -52,13 +54,15 @@ is_full_reset Broadcast (CvBitVerify cv place one) = false
 is_full_reset (Short to) what = false
 is_full_reset (Long to) what = false
 
--- which decoder hears which packet. A frame of no row is heard by the locomotives whose address it names; board 511 is every board, signal 2047 every signal, and signals 2044 to 2046 are nobody's
+-- which decoder hears which packet. A frame of no row is heard by the locomotives whose address it names; board 511 is
+-- every board, signal 2047 every signal, and signals 2044 to 2046 are nobody's
 abbrev pub hears : Who → Packet → Bool
 hears (Loco active) p = option_map_or (is_for active) (address_of p) false
 hears (Board own) Idle = false
 hears (Board own) (ToLoco to what) = is_full_reset to what
 hears (Board own) (Accessory board output on) = own.number == board.number || board.number == 511
-hears (Board own) (Signal address aspect) = address.number == 2047 || (nat_lt address.number 2044 && own.number == address.number / 4)
+hears (Board own) (Signal address aspect) =
+    address.number == 2047 || (nat_lt address.number 2044 && own.number == address.number / 4)
 hears (Board own) (Other frame) = false
 
 -- what a decoder hears of a list of packets

@@ -19,11 +19,15 @@ use Rattle.dcc_regs.specs.Setting.{mode_in, set_from, overwritten}
 
 -- what a list of packets leaves is what its second part leaves, from what its first part left
 abbrev pub ResultInParts : Type 0
-ResultInParts = (who : Who) (start : RegisterMap) (first second : List Packet) → result who start (first ++ second) ≡ result who (result who start first) second
+ResultInParts =
+    (who : Who) (start : RegisterMap) (first second : List Packet)
+    → result who start (first ++ second) ≡ result who (result who start first) second
 
 -- one packet puts the constants that it sets over what stood there, in a decoder that hears it, and leaves all else
 abbrev pub StepSets : Type 0
-StepSets = (who : Who) (start : RegisterMap) (p : Packet) (r : Register) → step who start p r ≡ (if hears who p then overwritten (start r) (set_from start p r) else start r)
+StepSets =
+    (who : Who) (start : RegisterMap) (p : Packet) (r : Register)
+    → step who start p r ≡ (if hears who p then overwritten (start r) (set_from start p r) else start r)
 
 -- the one call of a packet tells that packet
 abbrev pub NotesTellPackets : Type 0
@@ -39,11 +43,14 @@ IdleIsUnheard = (who : Who) → hears who Idle ≡ false
 
 -- of the packets to short and long addresses a decoder hears those to one address alone
 abbrev pub OneAddress : Type 0
-OneAddress = (who : Who) (a b : Address) (x y : What) → a ≢ Broadcast → b ≢ Broadcast → hears who (ToLoco a x) ≡ true → hears who (ToLoco b y) ≡ true → a ≡ b
+OneAddress =
+    (who : Who) (a b : Address) (x y : What) → a ≢ Broadcast → b ≢ Broadcast → hears who (ToLoco a x) ≡ true
+    → hears who (ToLoco b y) ≡ true → a ≡ b
 
 -- a packet that does not write CV29 leaves the speed mode
 abbrev pub ModeStays : Type 0
-ModeStays = (who : Who) (start : RegisterMap) (p : Packet) → writes_cv29 p ≡ false → mode_in (step who start p) ≡ mode_in start
+ModeStays =
+    (who : Who) (start : RegisterMap) (p : Packet) → writes_cv29 p ≡ false → mode_in (step who start p) ≡ mode_in start
 
 -- a CV write to a short or long address sets no plain register
 abbrev pub WritesSetNoPlain : Type 0

@@ -5,10 +5,21 @@ use Rattle.dcc_regs.specs.Bits.{is_one}
 use Rattle.dcc_regs.specs.Loco.{LocoContent, cv_in, is_speed, is_pending_for}
 use Rattle.dcc_regs.specs.Addresses.{is_active}
 
--- a decoder can be in this state: its address is no broadcast, its speed step is in range, no function above 68 and no state 0 is on, and what is pending is a CV write to its address
+-- a decoder can be in this state: its address is no broadcast, its speed step is in range, no function above 68 and no
+-- state 0 is on, and what is pending is a CV write to its address
 abbrev pub is_state : LocoState → Bool
-is_state s = is_active s.address && is_speed s.speed && nat_lt s.functions (2 ^ 69) && s.states % 2 == 0 && is_pending_for s.address s.pending
+is_state s =
+    is_active s.address && is_speed s.speed && nat_lt s.functions (2 ^ 69) && s.states % 2 == 0 && is_pending_for
+    s.address s.pending
 
 -- what a decoder in this state holds
 abbrev pub content : LocoState → LocoContent
-content s = record { speed = s.speed; forward = s.forward; functions = is_one s.functions; states = is_one s.states; cvs = cv_in s.cvs; pending = s.pending }
+content s =
+    record {
+      speed = s.speed;
+      forward = s.forward;
+      functions = is_one s.functions;
+      states = is_one s.states;
+      cvs = cv_in s.cvs;
+      pending = s.pending;
+    }

@@ -1,5 +1,6 @@
 -- What a packet sets in an accessory decoder: outputs, positions of pairs of outputs, aspects of signals (RCN-213).
-use Rattle.std.specs.Prelude.{ℕ, Bool, true, false, ◌&&◌, ◌||◌, ◌==◌, nat_le, ◌/◌, ◌%◌, Option, None, Some, if◌then◌else◌}
+use Rattle.std.specs.Prelude.{ℕ, Bool, true, false, ◌&&◌, ◌||◌, ◌==◌, nat_le, ◌/◌, ◌%◌, Option, None, Some}
+use Rattle.std.specs.Prelude.{if◌then◌else◌}
 use Rattle.dcc_packet.specs.declared.packet.Packet.{Packet}
 use Rattle.dcc_packet.specs.declared.packet.Packet.TheVariants.{Idle, Loco as ToLoco, Accessory, Signal, Other}
 use Rattle.dcc_regs.specs.Heard.{is_full_reset}
@@ -23,7 +24,8 @@ position_set Idle n = None
 
 -- the aspect that a packet gives signal n of a board
 abbrev pub aspect_set : Packet → ℕ → Option ℕ
-aspect_set (Signal address aspect) n = if (address.number == 2047 && nat_le n 3) || n == address.number % 4 then Some aspect else None
+aspect_set (Signal address aspect) n =
+    if (address.number == 2047 && nat_le n 3) || n == address.number % 4 then Some aspect else None
 aspect_set (ToLoco to what) n = None
 aspect_set (Accessory board output on) n = None
 aspect_set (Other frame) n = None

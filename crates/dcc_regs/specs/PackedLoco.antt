@@ -4,4 +4,12 @@ use Rattle.dcc_regs.specs.Bits.{is_one}
 use Rattle.dcc_regs.specs.Loco.{LocoContent, cv_in}
 
 abbrev pub content : PackedLoco → LocoContent
-content d = record { speed = d.speed; forward = d.forward; functions = is_one d.functions; states = is_one d.states; cvs = cv_in d.cvs.bytes; pending = d.pending }
+content d =
+    record {
+      speed = d.speed;
+      forward = d.forward;
+      functions = is_one d.functions;
+      states = is_one d.states;
+      cvs = cv_in d.cvs.bytes;
+      pending = d.pending;
+    }

@@ -1,7 +1,8 @@
 -- What the registers of a decoder hold after a list of packets. It looks back over the whole list: a register has the
 -- constant that was set last. Pending comes first, as it says which writes take effect; then the bits of the CVs, as
 -- they say how a speed instruction is read; then all others.
-use Rattle.std.specs.Prelude.{◌≡◌, ℕ, Bool, true, false, ◌&&◌, Option, None, Some, option_map, List, [], ◌∷◌, ◌++◌, map, if◌then◌else◌}
+use Rattle.std.specs.Prelude.{◌≡◌, ℕ, Bool, true, false, ◌&&◌, Option, None, Some, option_map, List, [], ◌∷◌, ◌++◌}
+use Rattle.std.specs.Prelude.{map, if◌then◌else◌}
 use Rattle.std.specs.List.{filter_map}
 use Rattle.dcc_packet.specs.declared.packet.Packet.{Packet}
 use Rattle.dcc_packet.specs.SamePacket.{same}
@@ -66,7 +67,8 @@ effective_set held p cv place = if is_effective held p then option_map Flag (bit
 -- a CV bit after the heard packets: the constant of the last effective write that sets it
 abbrev pub cv_bit_after : RegisterMap → List Packet → ℕ → ℕ → Option Value
 cv_bit_after start l cv place =
-    set_in_turn (start (CvBit cv place)) (filter_map (λ at. effective_set (pending_after start at.0) at.1 cv place) (places l))
+    set_in_turn (start (CvBit cv place))
+    (filter_map (λ at. effective_set (pending_after start at.0) at.1 cv place) (places l))
 
 -- how speed instructions are read at that value of bit 1 of CV29
 abbrev pub mode_of : Option Value → SpeedMode
@@ -76,7 +78,8 @@ mode_of held = Steps14
 abbrev pub mode_after : RegisterMap → List Packet → SpeedMode
 mode_after start l = mode_of (cv_bit_after start l 29 1)
 
--- a plain register after the heard packets: the last constant that one of them sets it to, in the mode that the packets before it leave
+-- a plain register after the heard packets: the last constant that one of them sets it to, in the mode that the packets
+-- before it leave
 abbrev pub plain_after : RegisterMap → List Packet → Register → Option Value
 plain_after start l r = set_in_turn (start r) (filter_map (λ at. sets (mode_after start at.0) at.1 r) (places l))
 

@@ -1,7 +1,8 @@
 -- The speed and the direction that a packet sets (RCN-212, NMRA S-9.2.1).
 use Rattle.std.specs.Prelude.{ℕ, Bool, true, ◌||◌, ◌==◌, nat_lt, ◌-◌, ◌/◌, Option, None, Some, if◌then◌else◌}
 use Rattle.dcc_packet.specs.declared.address.Address.TheVariants.{Broadcast}
-use Rattle.dcc_packet.specs.declared.instruction.What.TheVariants.{Reset, Speed28, Speed128, Functions, BinaryState, CvWrite, CvVerify, CvBitWrite, CvBitVerify}
+use Rattle.dcc_packet.specs.declared.instruction.What.TheVariants.{Reset, Speed28, Speed128, Functions, BinaryState}
+use Rattle.dcc_packet.specs.declared.instruction.What.TheVariants.{CvWrite, CvVerify, CvBitWrite, CvBitVerify}
 use Rattle.dcc_packet.specs.declared.packet.Packet.{Packet}
 use Rattle.dcc_packet.specs.declared.packet.Packet.TheVariants.{Idle, Loco as ToLoco, Accessory, Signal, Other}
 use Rattle.dcc_regs.specs.declared.register.SpeedMode.{SpeedMode}
@@ -46,7 +47,8 @@ speed_set mode (Other frame) = None
 -- the direction that a packet sets: a broadcast stop sets it only where bit C is zero, which are the bits 0 and 2
 abbrev pub direction_set : Packet → Option Bool
 direction_set (ToLoco to Reset) = Some true
-direction_set (ToLoco Broadcast (Speed28 forward bits)) = if bits.bits == 0 || bits.bits == 2 then Some forward else None
+direction_set (ToLoco Broadcast (Speed28 forward bits)) =
+    if bits.bits == 0 || bits.bits == 2 then Some forward else None
 direction_set (ToLoco to (Speed28 forward bits)) = Some forward
 direction_set (ToLoco to (Speed128 forward bits)) = Some forward
 direction_set (ToLoco to (Functions bits)) = None

@@ -2,7 +2,8 @@
 use Rattle.std.specs.Prelude.{ℕ, Bool, false, ◌&&◌, ◌||◌, ◌==◌, nat_le, Option, None, Some, unwrap_or, if◌then◌else◌}
 use Rattle.std.specs.Option.{option_or}
 use Rattle.dcc_packet.specs.declared.instruction.What.{What}
-use Rattle.dcc_packet.specs.declared.instruction.What.TheVariants.{Reset, Speed28, Speed128, Functions, BinaryState, CvWrite, CvVerify, CvBitWrite, CvBitVerify}
+use Rattle.dcc_packet.specs.declared.instruction.What.TheVariants.{Reset, Speed28, Speed128, Functions, BinaryState}
+use Rattle.dcc_packet.specs.declared.instruction.What.TheVariants.{CvWrite, CvVerify, CvBitWrite, CvBitVerify}
 use Rattle.dcc_packet.specs.declared.packet.Packet.{Packet}
 use Rattle.dcc_packet.specs.declared.packet.Packet.TheVariants.{Idle, Loco as ToLoco, Accessory, Signal, Other}
 
@@ -10,7 +11,8 @@ use Rattle.dcc_packet.specs.declared.packet.Packet.TheVariants.{Idle, Loco as To
 abbrev pub is_binary_state : ℕ → Bool
 is_binary_state n = nat_le 1 n && nat_le n 127
 
--- the number that an instruction turns on or off, and which of the two. 0 stands for all of 1 to 127; a reset turns all off
+-- the number that an instruction turns on or off, and which of the two. 0 stands for all of 1 to 127; a reset turns all
+-- off
 abbrev pub states_in : What → Option (ℕ × Bool)
 states_in Reset = Some (0, false)
 states_in (BinaryState state on) = Some (state.number, on)

@@ -2,7 +2,8 @@
 use Rattle.std.specs.Prelude.{ℕ, Bool, true, false, not, ◌&&◌, ◌||◌, ◌==◌, Option, None, Some, if◌then◌else◌}
 use Rattle.dcc_packet.specs.declared.address.Address.TheVariants.{Broadcast, Short, Long}
 use Rattle.dcc_packet.specs.declared.instruction.What.{What}
-use Rattle.dcc_packet.specs.declared.instruction.What.TheVariants.{Reset, Speed28, Speed128, Functions, BinaryState, CvWrite, CvVerify, CvBitWrite, CvBitVerify}
+use Rattle.dcc_packet.specs.declared.instruction.What.TheVariants.{Reset, Speed28, Speed128, Functions, BinaryState}
+use Rattle.dcc_packet.specs.declared.instruction.What.TheVariants.{CvWrite, CvVerify, CvBitWrite, CvBitVerify}
 use Rattle.dcc_packet.specs.declared.packet.Packet.{Packet}
 use Rattle.dcc_packet.specs.declared.packet.Packet.TheVariants.{Idle, Loco as ToLoco, Accessory, Signal, Other}
 use Rattle.dcc_regs.specs.Bits.{is_one}
@@ -35,8 +36,10 @@ is_read_only cv = cv == 7 || cv == 8
 
 -- the constant that an instruction sets bit k of CV n to, where it takes effect
 abbrev pub cv_bit_set : What → ℕ → ℕ → Option Bool
-cv_bit_set (CvWrite cv value) n k = if n == cv.number && not (is_read_only cv.number) then Some (is_one value k) else None
-cv_bit_set (CvBitWrite cv place one) n k = if n == cv.number && k == place.place && not (is_read_only cv.number) then Some one else None
+cv_bit_set (CvWrite cv value) n k =
+    if n == cv.number && not (is_read_only cv.number) then Some (is_one value k) else None
+cv_bit_set (CvBitWrite cv place one) n k =
+    if n == cv.number && k == place.place && not (is_read_only cv.number) then Some one else None
 cv_bit_set Reset n k = None
 cv_bit_set (Speed28 forward bits) n k = None
 cv_bit_set (Speed128 forward bits) n k = None

@@ -1,5 +1,6 @@
 //! The plain accessory decoder.
-ghost use Rattle.std.specs.Prelude.{◌≡◌, ℕ, ◌<◌, ◌≤◌, ◌↔◌, unwrap_or, slice_index, slice_index_or, false, true, nat_le, IsOk, IfOk, IfErr, ◌≢◌};
+ghost use Rattle.std.specs.Prelude.{◌≡◌, ℕ, ◌<◌, ◌≤◌, ◌↔◌, unwrap_or, slice_index, slice_index_or, false, true};
+ghost use Rattle.std.specs.Prelude.{nat_le, IsOk, IfOk, IfErr, ◌≢◌};
 ghost use Rattle.dcc_regs.specs.Outputs as table;
 
 use crate::board_state::{BoardState, outs_of};
@@ -49,7 +50,8 @@ impl BoardDecoder {
         ensures valid { IsOk result ↔ (nat_le state.now.board.number 510 ≡ true) }
         ensures fault { IfErr result (λ fault. fault ≡ PacketFault.Board) }
         ensures who { IfOk result (λ d. ⟦<BoardDecoder as Decoder>⟧.who d ≡ BoardWho state.now.board) }
-        ensures registers { IfOk result (λ d. ⟦<BoardDecoder as Decoder>⟧.registers d ≡ board_registers (content_of state.now)) }
+        ensures registers { IfOk result
+            (λ d. ⟦<BoardDecoder as Decoder>⟧.registers d ≡ board_registers (content_of state.now)) }
     {
         if state.board.number() <= 510 {
             Ok(BoardDecoder {
@@ -80,14 +82,16 @@ impl BoardDecoder {
     /// Powers the decoder up.
     pub fn power_up(&mut self)
         ensures who { ⟦<BoardDecoder as Decoder>⟧.who self.new ≡ ⟦<BoardDecoder as Decoder>⟧.who self.old }
-        ensures registers { ⟦<BoardDecoder as Decoder>⟧.registers self.new ≡ board_powered_up (⟦<BoardDecoder as Decoder>⟧.registers self.old) }
+        ensures registers { ⟦<BoardDecoder as Decoder>⟧.registers self.new ≡ board_powered_up
+            (⟦<BoardDecoder as Decoder>⟧.registers self.old) }
     {
         self.outs = [false; 8];
     }
 }
 
 fn set_outs(outs: &mut [bool; 8], packet: &Packet)
-    ensures { (n : ℕ) → n ≤ 7 → slice_index_or outs.new n false ≡ unwrap_or (table.out_set packet.now n) (slice_index_or outs.old n false) }
+    ensures { (n : ℕ) → n ≤ 7
+        → slice_index_or outs.new n false ≡ unwrap_or (table.out_set packet.now n) (slice_index_or outs.old n false) }
 {
     for n in 0..8u8 {
         let at = n as usize;
@@ -96,7 +100,9 @@ fn set_outs(outs: &mut [bool; 8], packet: &Packet)
 }
 
 fn set_positions(positions: &mut [bool; 4], packet: &Packet)
-    ensures { (n : ℕ) → n ≤ 3 → slice_index_or positions.new n false ≡ unwrap_or (table.position_set packet.now n) (slice_index_or positions.old n false) }
+    ensures { (n : ℕ) → n ≤ 3
+        → slice_index_or positions.new n false ≡ unwrap_or (table.position_set packet.now n)
+        (slice_index_or positions.old n false) }
 {
     for n in 0..4u8 {
         let at = n as usize;
@@ -106,7 +112,8 @@ fn set_positions(positions: &mut [bool; 4], packet: &Packet)
 
 /// Gives the signals the aspects that a packet gives them.
 pub fn set_aspects(aspects: &mut [u8; 4], packet: &Packet)
-    ensures { (n : ℕ) → n ≤ 3 → slice_index aspects.new n ≡ unwrap_or (table.aspect_set packet.now n) (slice_index aspects.old n) }
+    ensures { (n : ℕ) → n ≤ 3
+        → slice_index aspects.new n ≡ unwrap_or (table.aspect_set packet.now n) (slice_index aspects.old n) }
 {
     for n in 0..4u8 {
         let at = n as usize;

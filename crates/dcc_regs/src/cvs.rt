@@ -1,5 +1,6 @@
 //! The configuration variables of a locomotive decoder.
-ghost use Rattle.std.specs.Prelude.{◌≡◌, ℕ, ◌<◌, ◌≤◌, ◌-◌, ◌==◌, ◌||◌, ◌&&◌, not, Bool, true, Some, None, unwrap_or, if◌then◌else◌};
+ghost use Rattle.std.specs.Prelude.{◌≡◌, ℕ, ◌<◌, ◌≤◌, ◌-◌, ◌==◌, ◌||◌, ◌&&◌, not, Bool, true, Some, None, unwrap_or};
+ghost use Rattle.std.specs.Prelude.{if◌then◌else◌};
 ghost use Rattle.dcc_regs.specs.Addresses.{active_address as address_at, is_active};
 ghost use Rattle.dcc_regs.specs.Bits.{is_one};
 ghost use Rattle.dcc_regs.specs.Loco.{cv_in, is_cv_bit};
@@ -53,7 +54,11 @@ impl Cvs {
 
     /// Does a heard CV write at its second copy, the first one being pending.
     pub fn hear(&mut self, pending: &Option<Packet>, packet: &Packet)
-        ensures { (cv place : ℕ) → 1 ≤ cv → place ≤ 7 → is_one (cv_in self.new.bytes cv) place ≡ (if is_effective (Some (PendingValue pending.now)) packet.now then unwrap_or (bit_set packet.now cv place) (is_one (cv_in self.old.bytes cv) place) else is_one (cv_in self.old.bytes cv) place) }
+        ensures { (cv place : ℕ) → 1 ≤ cv → place ≤ 7
+            → is_one (cv_in self.new.bytes cv)
+            place ≡ (if is_effective (Some (PendingValue pending.now)) packet.now then unwrap_or
+            (bit_set packet.now cv place) (is_one (cv_in self.old.bytes cv) place) else is_one
+            (cv_in self.old.bytes cv) place) }
     {
         if is_repeated_write(pending, packet) {
             self.write(packet);
@@ -62,7 +67,9 @@ impl Cvs {
 
     /// Does a CV write. CV7 and CV8 stay as they are.
     fn write(&mut self, packet: &Packet)
-        ensures { (cv place : ℕ) → 1 ≤ cv → place ≤ 7 → is_one (cv_in self.new.bytes cv) place ≡ unwrap_or (bit_set packet.now cv place) (is_one (cv_in self.old.bytes cv) place) }
+        ensures { (cv place : ℕ) → 1 ≤ cv → place ≤ 7
+            → is_one (cv_in self.new.bytes cv) place ≡ unwrap_or (bit_set packet.now cv place)
+            (is_one (cv_in self.old.bytes cv) place) }
     {
         match packet {
             Packet::Loco {
@@ -93,7 +100,9 @@ impl Cvs {
 
     /// Gives a CV a value. CV7 and CV8 stay as they are.
     fn put(&mut self, cv: CvNumber, value: u8)
-        ensures { (n : ℕ) → 1 ≤ n → cv_in self.new.bytes n ≡ (if n == cv.number && not (is_read_only cv.number) then value else cv_in self.old.bytes n) }
+        ensures { (n : ℕ) → 1 ≤ n
+            → cv_in self.new.bytes
+            n ≡ (if n == cv.number && not (is_read_only cv.number) then value else cv_in self.old.bytes n) }
     {
         let number = cv.number();
         if number != 7 && number != 8 {

@@ -30,7 +30,8 @@ pub trait Decoder: Drop {
         ensures same_who { who self.new ≡ who self.old }
         ensures step { registers self.new ≡ step (who self.old) (registers self.old) packet.now }
         ensures unheard { hears (who self.old) packet.now ≡ false → registers self.new ≡ registers self.old }
-        ensures kept { (r : Register) → set_from (registers self.old) packet.now r ≡ None → registers self.new r ≡ registers self.old r };
+        ensures kept { (r : Register) → set_from (registers self.old) packet.now r ≡ None
+            → registers self.new r ≡ registers self.old r };
 
     /// What a register holds, None where the decoder has no such register.
     fn get(&self, register: Register) -> Option<Value>

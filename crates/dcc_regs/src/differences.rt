@@ -1,7 +1,9 @@
 //! The registers that two packets set to two values.
 
 ghost use Rattle.std.specs.Prelude.{◌≡◌, ◌↔◌, ℕ, ◌%◌, ◌+◌, ◌<◌, ◌≤◌, IsTrue};
-ghost use Rattle.dcc_regs.specs.ConflictParts.{Differ, DifferAtOutput, DifferInAspects, DifferInLoco, DifferInOutputs, group_of as group_of_packet, output_of as output_of_packet, signal_of as signal_of_packet};
+ghost use Rattle.dcc_regs.specs.ConflictParts.{Differ, DifferAtOutput, DifferInAspects, DifferInLoco};
+ghost use Rattle.dcc_regs.specs.ConflictParts.{DifferInOutputs, group_of as group_of_packet};
+ghost use Rattle.dcc_regs.specs.ConflictParts.{output_of as output_of_packet, signal_of as signal_of_packet};
 ghost use Rattle.dcc_regs.specs.Sets as table;
 ghost use Rattle.dcc_regs.specs.declared.register.Register.TheVariants.{Aspect, Function, State as StateRegister};
 ghost use Rattle.dcc_regs.specs.declared.register.SpeedMode.TheVariants.{Steps28};
@@ -48,7 +50,9 @@ fn differ_at(mode: SpeedMode, p: &Packet, q: &Packet, register: Register) -> boo
 /// Whether both packets set one of the `count` functions from `first` on, and not to one state.
 fn run_differs(mode: SpeedMode, p: &Packet, q: &Packet, first: u8, count: u8) -> bool
     requires { first + count ≤ 69 }
-    ensures { IsTrue result ↔ ((n : ℕ) × (first ≤ n) × (n < first + count) × Differ (table.sets mode p.now (Function n)) (table.sets mode q.now (Function n))) }
+    ensures { IsTrue result ↔
+        ((n : ℕ) × (first ≤ n) × (n < first + count)
+        × Differ (table.sets mode p.now (Function n)) (table.sets mode q.now (Function n))) }
 {
     for n in first..first + count {
         if differ_at(mode, p, q, Register::Function(n)) {
@@ -74,7 +78,8 @@ fn group_of(packet: &Packet) -> Option<Group>
 /// Whether both packets set some function, and not to one state. A packet for no group turns no
 /// function but F0 on, so the functions of one group are enough to look at.
 fn functions_differ(mode: SpeedMode, p: &Packet, q: &Packet) -> bool
-    ensures { IsTrue result ↔ ((n : ℕ) × Differ (table.sets mode p.now (Function n)) (table.sets mode q.now (Function n))) }
+    ensures { IsTrue result ↔
+        ((n : ℕ) × Differ (table.sets mode p.now (Function n)) (table.sets mode q.now (Function n))) }
 {
     if differ_at(mode, p, q, Register::Function(0)) {
         return true;
@@ -87,7 +92,8 @@ fn functions_differ(mode: SpeedMode, p: &Packet, q: &Packet) -> bool
 
 /// Whether both packets set some binary state, and not to one value.
 fn states_differ(mode: SpeedMode, p: &Packet, q: &Packet) -> bool
-    ensures { IsTrue result ↔ ((n : ℕ) × Differ (table.sets mode p.now (StateRegister n)) (table.sets mode q.now (StateRegister n))) }
+    ensures { IsTrue result ↔
+        ((n : ℕ) × Differ (table.sets mode p.now (StateRegister n)) (table.sets mode q.now (StateRegister n))) }
 {
     differ_at(mode, p, q, Register::State(looked(p, q)))
 }
@@ -143,7 +149,8 @@ fn signal_of(packet: &Packet) -> Option<u16>
 
 /// Whether both packets set the aspect of signal `address`, and not to one value.
 fn aspect_differs(p: &Packet, q: &Packet, address: u16) -> bool
-    ensures { IsTrue result ↔ Differ (table.sets Steps28 p.now (Aspect (address % 4))) (table.sets Steps28 q.now (Aspect (address % 4))) }
+    ensures { IsTrue result ↔ Differ (table.sets Steps28 p.now (Aspect (address % 4)))
+        (table.sets Steps28 q.now (Aspect (address % 4))) }
 {
     differ_at(
         SpeedMode::Steps28,

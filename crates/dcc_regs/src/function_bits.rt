@@ -111,7 +111,8 @@ pub fn functions_told(mode: SpeedMode, packet: &Packet) -> (u8, u8)
 
 /// The functions of a group: from the first up to the second, without it.
 fn group_told(group: Group) -> (u8, u8)
-    ensures others { (mode : SpeedModeOf) (n : ℕ) → n ≤ 68 → (n < result.0) ⊎ (result.1 ≤ n) → table.place_of mode group n ≡ None }
+    ensures others { (mode : SpeedModeOf) (n : ℕ) → n ≤ 68 → (n < result.0) ⊎ (result.1 ≤ n)
+        → table.place_of mode group n ≡ None }
     ensures end { result.1 ≤ 69 }
 {
     match group {

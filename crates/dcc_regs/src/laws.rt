@@ -1,6 +1,8 @@
 //! Laws of the definitions, for those who build on decoders.
 
-ghost use Rattle.dcc_regs.specs.Laws.{ConflictIsMutual, IdleIsUnheard, ModeStays, NoConflictWithItself, NoOtherCallTells, NotesTellPackets, OneAddress, PacketsAreDecided, ResultInParts, StepSets, ValuesAreDecided, WritesSetNoPlain};
+ghost use Rattle.dcc_regs.specs.Laws.{ConflictIsMutual, IdleIsUnheard, ModeStays, NoConflictWithItself};
+ghost use Rattle.dcc_regs.specs.Laws.{NoOtherCallTells, NotesTellPackets, OneAddress, PacketsAreDecided};
+ghost use Rattle.dcc_regs.specs.Laws.{ResultInParts, StepSets, ValuesAreDecided, WritesSetNoPlain};
 
 /// What a list of packets leaves is what its second part leaves, from what its first part left.
 pub fn result_in_parts()

@@ -1,5 +1,6 @@
 //! The plain locomotive decoder.
-ghost use Rattle.std.specs.Prelude.{◌≡◌, ℕ, ◌<◌, ◌≤◌, IsTrue, Some, None, if◌then◌else◌, unwrap_or, slice_index_or, true, false, ◌↔◌, IsOk, IfOk, IfErr};
+ghost use Rattle.std.specs.Prelude.{◌≡◌, ℕ, ◌<◌, ◌≤◌, IsTrue, Some, None, if◌then◌else◌, unwrap_or, slice_index_or};
+ghost use Rattle.std.specs.Prelude.{true, false, ◌↔◌, IsOk, IfOk, IfErr};
 ghost use Rattle.dcc_regs.specs.Addresses.{is_active};
 ghost use Rattle.dcc_regs.specs.FunctionBits.{function_set as function_set_of};
 ghost use Rattle.dcc_regs.specs.Loco.{is_speed, is_pending_for};
@@ -61,7 +62,8 @@ impl LocoDecoder {
         ensures valid { IsOk result ↔ (is_state state.now ≡ true) }
         ensures fault { IfErr result (λ fault. fault ≡ PacketFault.State) }
         ensures who { IfOk result (λ d. ⟦<LocoDecoder as Decoder>⟧.who d ≡ LocoWho state.now.address) }
-        ensures registers { IfOk result (λ d. ⟦<LocoDecoder as Decoder>⟧.registers d ≡ loco_registers (content_of state.now)) }
+        ensures registers { IfOk result
+            (λ d. ⟦<LocoDecoder as Decoder>⟧.registers d ≡ loco_registers (content_of state.now)) }
     {
         if state.is_possible() {
             Ok(LocoDecoder {
@@ -97,8 +99,10 @@ impl LocoDecoder {
 
     /// Powers the decoder up: it is as `new` makes one of its present CVs.
     pub fn power_up(&mut self)
-        ensures who { ⟦<LocoDecoder as Decoder>⟧.who self.new ≡ LocoWho (active_address (cv_of (⟦<LocoDecoder as Decoder>⟧.registers self.old))) }
-        ensures registers { ⟦<LocoDecoder as Decoder>⟧.registers self.new ≡ powered_up (⟦<LocoDecoder as Decoder>⟧.registers self.old) }
+        ensures who { ⟦<LocoDecoder as Decoder>⟧.who self.new ≡ LocoWho
+            (active_address (cv_of (⟦<LocoDecoder as Decoder>⟧.registers self.old))) }
+        ensures registers { ⟦<LocoDecoder as Decoder>⟧.registers self.new ≡ powered_up
+            (⟦<LocoDecoder as Decoder>⟧.registers self.old) }
     {
         *self = LocoDecoder::new(&self.cvs.bytes);
     }
@@ -114,8 +118,12 @@ impl LocoDecoder {
     fn obey(&mut self, mode: SpeedMode, packet: &Packet)
         ensures speed { self.new.speed ≡ unwrap_or (table.speed_set mode packet.now) self.old.speed }
         ensures forward { self.new.forward ≡ unwrap_or (table.direction_set packet.now) self.old.forward }
-        ensures functions { (n : ℕ) → n ≤ 68 → slice_index_or self.new.functions n false ≡ unwrap_or (function_set_of mode packet.now n) (slice_index_or self.old.functions n false) }
-        ensures states { (n : ℕ) → n ≤ 127 → slice_index_or self.new.states n false ≡ unwrap_or (state_set_of packet.now n) (slice_index_or self.old.states n false) }
+        ensures functions { (n : ℕ) → n ≤ 68
+            → slice_index_or self.new.functions n false ≡ unwrap_or (function_set_of mode packet.now n)
+            (slice_index_or self.old.functions n false) }
+        ensures states { (n : ℕ) → n ≤ 127
+            → slice_index_or self.new.states n false ≡ unwrap_or (state_set_of packet.now n)
+            (slice_index_or self.old.states n false) }
         ensures address { self.new.address ≡ self.old.address }
         ensures cvs { self.new.cvs ≡ self.old.cvs }
         ensures pending { self.new.pending ≡ self.old.pending }
@@ -139,7 +147,9 @@ impl LocoDecoder {
 }
 
 fn set_functions(functions: &mut [bool; 69], mode: SpeedMode, packet: &Packet)
-    ensures { (n : ℕ) → n ≤ 68 → slice_index_or functions.new n false ≡ unwrap_or (function_set_of mode packet.now n) (slice_index_or functions.old n false) }
+    ensures { (n : ℕ) → n ≤ 68
+        → slice_index_or functions.new n false ≡ unwrap_or (function_set_of mode packet.now n)
+        (slice_index_or functions.old n false) }
 {
     for n in 0..69u8 {
         let at = n as usize;
@@ -148,7 +158,9 @@ fn set_functions(functions: &mut [bool; 69], mode: SpeedMode, packet: &Packet)
 }
 
 fn set_states(states: &mut [bool; 128], packet: &Packet)
-    ensures { (n : ℕ) → n ≤ 127 → slice_index_or states.new n false ≡ unwrap_or (state_set_of packet.now n) (slice_index_or states.old n false) }
+    ensures { (n : ℕ) → n ≤ 127
+        → slice_index_or states.new n false ≡ unwrap_or (state_set_of packet.now n)
+        (slice_index_or states.old n false) }
 {
     for n in 0..128u8 {
         let at = n as usize;

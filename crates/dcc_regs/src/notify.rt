@@ -1,7 +1,8 @@
 //! One call for each kind of packet, for those who want to be told what is heard.
 
 ghost use Rattle.std.specs.Prelude.{◌≡◌};
-ghost use Rattle.dcc_regs.specs.Notes.{Note, IdleCall, ResetCall, SpeedCall, FunctionsCall, StateCall, CvAccessCall, TurnoutCall, SignalCall, OtherCall, note_of};
+ghost use Rattle.dcc_regs.specs.Notes.{Note, IdleCall, ResetCall, SpeedCall, FunctionsCall, StateCall, CvAccessCall};
+ghost use Rattle.dcc_regs.specs.Notes.{TurnoutCall, SignalCall, OtherCall, note_of};
 
 use dcc_packet::{
     Address, Board, GroupBits, OtherFrame, Output, Packet, SignalAddress, StateNumber, What,

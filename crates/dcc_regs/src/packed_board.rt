@@ -1,5 +1,6 @@
 //! An accessory decoder with its outputs packed into one byte and the sides of its pairs into another.
-ghost use Rattle.std.specs.Prelude.{◌≡◌, ℕ, ◌<◌, ◌≤◌, ◌↔◌, unwrap_or, slice_index_or, false, true, nat_le, IsOk, IfOk, IfErr};
+ghost use Rattle.std.specs.Prelude.{◌≡◌, ℕ, ◌<◌, ◌≤◌, ◌↔◌, unwrap_or, slice_index_or, false, true, nat_le, IsOk};
+ghost use Rattle.std.specs.Prelude.{IfOk, IfErr};
 ghost use Rattle.dcc_regs.specs.Bits.{is_one};
 ghost use Rattle.dcc_regs.specs.Outputs as table;
 
@@ -51,7 +52,8 @@ impl PackedBoard {
         ensures valid { IsOk result ↔ (nat_le state.now.board.number 510 ≡ true) }
         ensures fault { IfErr result (λ fault. fault ≡ PacketFault.Board) }
         ensures who { IfOk result (λ d. ⟦<PackedBoard as Decoder>⟧.who d ≡ BoardWho state.now.board) }
-        ensures registers { IfOk result (λ d. ⟦<PackedBoard as Decoder>⟧.registers d ≡ board_registers (content_of state.now)) }
+        ensures registers { IfOk result
+            (λ d. ⟦<PackedBoard as Decoder>⟧.registers d ≡ board_registers (content_of state.now)) }
     {
         if state.board.number() <= 510 {
             Ok(PackedBoard {
@@ -82,7 +84,8 @@ impl PackedBoard {
     /// Powers the decoder up.
     pub fn power_up(&mut self)
         ensures who { ⟦<PackedBoard as Decoder>⟧.who self.new ≡ ⟦<PackedBoard as Decoder>⟧.who self.old }
-        ensures registers { ⟦<PackedBoard as Decoder>⟧.registers self.new ≡ board_powered_up (⟦<PackedBoard as Decoder>⟧.registers self.old) }
+        ensures registers { ⟦<PackedBoard as Decoder>⟧.registers self.new ≡ board_powered_up
+            (⟦<PackedBoard as Decoder>⟧.registers self.old) }
     {
         self.outs = 0;
     }

@@ -1,5 +1,6 @@
 //! A locomotive decoder with its functions packed into one number, its binary states into another.
-ghost use Rattle.std.specs.Prelude.{◌≡◌, ◌==◌, ℕ, ◌<◌, ◌≤◌, ◌⊎◌, Some, None, if◌then◌else◌, unwrap_or, true, ◌↔◌, IsOk, IfOk, IfErr};
+ghost use Rattle.std.specs.Prelude.{◌≡◌, ◌==◌, ℕ, ◌<◌, ◌≤◌, ◌⊎◌, Some, None, if◌then◌else◌, unwrap_or, true, ◌↔◌};
+ghost use Rattle.std.specs.Prelude.{IsOk, IfOk, IfErr};
 ghost use Rattle.dcc_regs.specs.Addresses.{is_active};
 ghost use Rattle.dcc_regs.specs.Bits.{is_one};
 ghost use Rattle.dcc_regs.specs.FunctionBits.{function_set as function_set_of};
@@ -62,7 +63,8 @@ impl PackedLoco {
         ensures valid { IsOk result ↔ (is_state state.now ≡ true) }
         ensures fault { IfErr result (λ fault. fault ≡ PacketFault.State) }
         ensures who { IfOk result (λ d. ⟦<PackedLoco as Decoder>⟧.who d ≡ LocoWho state.now.address) }
-        ensures registers { IfOk result (λ d. ⟦<PackedLoco as Decoder>⟧.registers d ≡ loco_registers (content_of state.now)) }
+        ensures registers { IfOk result
+            (λ d. ⟦<PackedLoco as Decoder>⟧.registers d ≡ loco_registers (content_of state.now)) }
     {
         if state.is_possible() {
             Ok(PackedLoco {
@@ -98,8 +100,10 @@ impl PackedLoco {
 
     /// Powers the decoder up: it is as `new` makes one of its present CVs.
     pub fn power_up(&mut self)
-        ensures who { ⟦<PackedLoco as Decoder>⟧.who self.new ≡ LocoWho (active_address (cv_of (⟦<PackedLoco as Decoder>⟧.registers self.old))) }
-        ensures registers { ⟦<PackedLoco as Decoder>⟧.registers self.new ≡ powered_up (⟦<PackedLoco as Decoder>⟧.registers self.old) }
+        ensures who { ⟦<PackedLoco as Decoder>⟧.who self.new ≡ LocoWho
+            (active_address (cv_of (⟦<PackedLoco as Decoder>⟧.registers self.old))) }
+        ensures registers { ⟦<PackedLoco as Decoder>⟧.registers self.new ≡ powered_up
+            (⟦<PackedLoco as Decoder>⟧.registers self.old) }
     {
         *self = PackedLoco::new(&self.cvs.bytes);
     }

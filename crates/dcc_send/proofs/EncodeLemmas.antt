@@ -1,5 +1,6 @@
 -- How an encoding grows.
-use Rattle.std.proofs.Common.{◌≡◌, ℕ, List, [], ◌∷◌, ◌++◌, Option, None, Some, Ok, Err, refl, sym, ap, ◌∙◌, subst, IfSome, IsSomeAnd}
+use Rattle.std.proofs.Common.{◌≡◌, ℕ, List, [], ◌∷◌, ◌++◌, Option, None, Some, Ok, Err, refl, sym, ap, ◌∙◌, subst}
+use Rattle.std.proofs.Common.{IfSome, IsSomeAnd}
 use Rattle.std.proofs.lemmas.List.{append-nil}
 use Rattle.std.proofs.lemmas.List.Concat.{flat_map-append}
 use Rattle.dcc_packet.specs.declared.packet.Packet.{Packet}
@@ -23,18 +24,23 @@ use Rattle.dcc_io.proofs.WrittenLemmas.{AppendsFront-more}
 use Rattle.dcc_io.proofs.ItemsLemmas.{Gave-none, Gave-append, up_to_fault, reads_up_to, uses_all_lines}
 
 -- so far these frames were read, and their lines written or held
-pub record Encoding (how : Encode) (start now : InputState) (held : List ℕ) (before after : Option (List ℕ)) (writes count : ℕ) : Type 0 where
+pub record Encoding (how : Encode) (start now : InputState) (held : List ℕ) (before after : Option (List ℕ))
+    (writes count : ℕ) : Type 0 where
   pub frames : List (List ℕ)
   pub gave : Gave packet_lines start frames now
   pub holds : Holds before after (encoding how frames) held
   pub failures : count ≡ writes
 
-pub Encoding-start : (how : Encode) (input : InputState) (contents : Option (List ℕ)) (count : ℕ) → input.fault ≡ None → Encoding how input input [] contents contents count count
-Encoding-start how input contents count fault = record { frames = []; gave = Gave-none packet_lines input fault; holds = Holds-same contents []; failures = refl }
+pub Encoding-start : (how : Encode) (input : InputState) (contents : Option (List ℕ)) (count : ℕ) → input.fault ≡ None
+    → Encoding how input input [] contents contents count count
+Encoding-start how input contents count fault =
+    record { frames = []; gave = Gave-none packet_lines input fault; holds = Holds-same contents []; failures = refl }
 
 -- some of what was held was written
-pub Encoding-wrote : (how : Encode) (start now : InputState) (held left : List ℕ) (before after then : Option (List ℕ)) (writes count later : ℕ)
-    → Encoding how start now held before after writes count → Holds after then held left → later ≡ count → Encoding how start now left before then writes later
+pub Encoding-wrote : (how : Encode) (start now : InputState) (held left : List ℕ) (before after then : Option (List ℕ))
+    (writes count later : ℕ)
+    → Encoding how start now held before after writes count → Holds after then held left → later ≡ count
+    → Encoding how start now left before then writes later
 Encoding-wrote how start now held left before after then writes count later so_far wrote same = record {
   frames = so_far.frames;
   gave = so_far.gave;
@@ -45,26 +51,36 @@ Encoding-wrote how start now held left before after then writes count later so_f
 encoding-append : (how : Encode) (xs ys : List (List ℕ)) → encoding how (xs ++ ys) ≡ encoding how xs ++ encoding how ys
 encoding-append how xs ys = flat_map-append (frame_line how) xs ys
 
-encoding-one : (how : Encode) (frames : List (List ℕ)) (frame : List ℕ) → encoding how (frames ++ frame ∷ []) ≡ encoding how frames ++ frame_line how frame
-encoding-one how frames frame = encoding-append how frames (frame ∷ []) ∙ ap (λ (bytes : List ℕ). encoding how frames ++ bytes) (append-nil (frame_line how frame))
+encoding-one : (how : Encode) (frames : List (List ℕ)) (frame : List ℕ)
+    → encoding how (frames ++ frame ∷ []) ≡ encoding how frames ++ frame_line how frame
+encoding-one how frames frame =
+    encoding-append how frames (frame ∷ [])
+    ∙ ap (λ (bytes : List ℕ). encoding how frames ++ bytes) (append-nil (frame_line how frame))
 
-pub Encoding-packet : (how : Encode) (start now new : InputState) (held left : List ℕ) (before after then : Option (List ℕ)) (writes count later : ℕ) (packet : Packet)
-    → Encoding how start now held before after writes count → AnswersPacket now (Ok (Some packet)) new → Holds after then (held ++ frame_line how (spelling packet)) left → later ≡ count
+pub Encoding-packet : (how : Encode) (start now new : InputState) (held left : List ℕ)
+    (before after then : Option (List ℕ)) (writes count later : ℕ) (packet : Packet)
+    → Encoding how start now held before after writes count → AnswersPacket now (Ok (Some packet)) new
+    → Holds after then (held ++ frame_line how (spelling packet)) left → later ≡ count
     → Encoding how start new left before then writes later
-Encoding-packet how start now new held left before after then writes count later packet so_far answer holds same = record {
-  frames = so_far.frames ++ spelling packet ∷ [];
-  gave = Gave-append packet_lines start now new so_far.frames (spelling packet ∷ []) so_far.gave answer.0;
-  holds = subst (λ (bytes : List ℕ). Holds before then bytes left) (sym (encoding-one how so_far.frames (spelling packet)))
-      (Holds-append before after then (encoding how so_far.frames) held (frame_line how (spelling packet)) left so_far.holds holds);
-  failures = same ∙ so_far.failures;
-}
+Encoding-packet how start now new held left before after then writes count later packet so_far answer holds same =
+    record {
+      frames = so_far.frames ++ spelling packet ∷ [];
+      gave = Gave-append packet_lines start now new so_far.frames (spelling packet ∷ []) so_far.gave answer.0;
+      holds = subst (λ (bytes : List ℕ). Holds before then bytes left)
+          (sym (encoding-one how so_far.frames (spelling packet)))
+          (Holds-append before after then (encoding how so_far.frames) held (frame_line how (spelling packet)) left
+          so_far.holds holds);
+      failures = same ∙ so_far.failures;
+    }
 
 -- a front of one line more is a front of all that is written
-front_of_all : (how : Encode) (start now : InputState) (frames : List (List ℕ)) (before after : Option (List ℕ)) → Gave packet_lines start frames now → AppendsFront before after (encoding how frames)
+front_of_all : (how : Encode) (start now : InputState) (frames : List (List ℕ)) (before after : Option (List ℕ))
+    → Gave packet_lines start frames now → AppendsFront before after (encoding how frames)
     → IfSome start.text (λ text. AppendsFront before after (encoding how (frames_in start text).said))
 front_of_all how start now frames before after gave wrote = go start.text now.text gave.text
   where
-    go : (whole rest : Option (List ℕ)) → IfSome whole (λ text. IsSomeAnd rest (λ more. Gives packet_lines start frames now text more))
+    go : (whole rest : Option (List ℕ))
+        → IfSome whole (λ text. IsSomeAnd rest (λ more. Gives packet_lines start frames now text more))
         → IfSome whole (λ text. AppendsFront before after (encoding how (frames_in start text).said))
     go None rest gives = tt
     go (Some text) None gives = absurd gives
@@ -72,46 +88,66 @@ front_of_all how start now frames before after gave wrote = go start.text now.te
         let later = (frames_in now rest).said in
         let lines : encoding how (frames_in start text).said ≡ encoding how frames ++ encoding how later =
         ap (λ (items : Items (List ℕ)). encoding how items.said) gives.in_whole ∙ encoding-append how frames later in
-        subst (λ (bytes : List ℕ). AppendsFront before after bytes) (sym lines) (AppendsFront-more before after (encoding how frames) (encoding how later) wrote)
+        subst (λ (bytes : List ℕ). AppendsFront before after bytes) (sym lines)
+        (AppendsFront-more before after (encoding how frames) (encoding how later) wrote)
 
 -- a write failed where a line was to be held
-pub stops_at_write : (how : Encode) (start now new : InputState) (held : List ℕ) (before after then : Option (List ℕ)) (writes count later : ℕ) (packet : Packet)
-    → Encoding how start now held before after writes count → AnswersPacket now (Ok (Some packet)) new → AppendsFront after then (held ++ frame_line how (spelling packet))
+pub stops_at_write : (how : Encode) (start now new : InputState) (held : List ℕ) (before after then : Option (List ℕ))
+    (writes count later : ℕ) (packet : Packet)
+    → Encoding how start now held before after writes count → AnswersPacket now (Ok (Some packet)) new
+    → AppendsFront after then (held ++ frame_line how (spelling packet))
     → HasRisen count later → EncodesText how start before writes (Err Write) new then later
 stops_at_write how start now new held before after then writes count later packet so_far answer wrote risen =
     let all = Gave-append packet_lines start now new so_far.frames (spelling packet ∷ []) so_far.gave answer.0 in
     let front = subst (λ (bytes : List ℕ). AppendsFront before then bytes) (sym (encoding-one how so_far.frames (spelling packet)))
-    (Holds-fails_with before after then (encoding how so_far.frames) held (frame_line how (spelling packet)) so_far.holds wrote) in
-    (front_of_all how start new (so_far.frames ++ spelling packet ∷ []) before then all front, all.fault, all.failures, subst (λ (n : ℕ). HasRisen n later) so_far.failures risen)
+    (Holds-fails_with before after then (encoding how so_far.frames) held (frame_line how (spelling packet))
+    so_far.holds wrote) in (
+      front_of_all how start new (so_far.frames ++ spelling packet ∷ []) before then all front,
+      all.fault,
+      all.failures,
+      subst (λ (n : ℕ). HasRisen n later) so_far.failures risen,
+    )
 
 -- a write of what was held failed
-pub stops_before_read : (how : Encode) (start now : InputState) (held : List ℕ) (before after then : Option (List ℕ)) (writes count later : ℕ)
-    → Encoding how start now held before after writes count → AppendsFront after then held → HasRisen count later → EncodesText how start before writes (Err Write) now then later
+pub stops_before_read : (how : Encode) (start now : InputState) (held : List ℕ) (before after then : Option (List ℕ))
+    (writes count later : ℕ)
+    → Encoding how start now held before after writes count → AppendsFront after then held → HasRisen count later
+    → EncodesText how start before writes (Err Write) now then later
 stops_before_read how start now held before after then writes count later so_far wrote risen = (
-  front_of_all how start now so_far.frames before then so_far.gave (Holds-fails before after then (encoding how so_far.frames) held so_far.holds wrote),
+  front_of_all how start now so_far.frames before then so_far.gave
+      (Holds-fails before after then (encoding how so_far.frames) held so_far.holds wrote),
   so_far.gave.fault,
   so_far.gave.failures,
   subst (λ (n : ℕ). HasRisen n later) so_far.failures risen,
 )
 
 -- the input has ended, and what was held was written
-pub encodes_all : (how : Encode) (start now new : InputState) (held left : List ℕ) (before after then : Option (List ℕ)) (writes count later : ℕ)
-    → Encoding how start now held before after writes count → AnswersPacket now (Ok None) new → WritesOut after count held left then later → EncodesText how start before writes (Ok tt) new then later
+pub encodes_all : (how : Encode) (start now new : InputState) (held left : List ℕ) (before after then : Option (List ℕ))
+    (writes count later : ℕ)
+    → Encoding how start now held before after writes count → AnswersPacket now (Ok None) new
+    → WritesOut after count held left then later → EncodesText how start before writes (Ok tt) new then later
 encodes_all how start now new held left before after then writes count later so_far answer wrote =
     let last = answer.0 in
     let all = Holds-rest before after then (encoding how so_far.frames) held so_far.holds wrote.1 in (
-      (up_to_fault packet_lines start now so_far.frames None (Encodes how before then) so_far.gave answer.2 all, last.failures ∙ so_far.gave.failures),
+      (
+        up_to_fault packet_lines start now so_far.frames None (Encodes how before then) so_far.gave answer.2 all,
+        last.failures ∙ so_far.gave.failures,
+      ),
       answer.1,
-      uses_all_lines packet_lines start new (so_far.frames ++ []) (Gave-append packet_lines start now new so_far.frames [] so_far.gave last) answer.1,
+      uses_all_lines packet_lines start new (so_far.frames ++ [])
+          (Gave-append packet_lines start now new so_far.frames [] so_far.gave last) answer.1,
       last.fault,
       wrote.2 ∙ so_far.failures,
     )
 
 -- the input has a fault, and what was held was written
-pub encodes_up_to : (how : Encode) (start now new : InputState) (held left : List ℕ) (before after then : Option (List ℕ)) (writes count later : ℕ) (fault : KeptFault)
-    → Encoding how start now held before after writes count → AnswersPacket now (Err fault) new → WritesOut after count held left then later
+pub encodes_up_to : (how : Encode) (start now new : InputState) (held left : List ℕ)
+    (before after then : Option (List ℕ)) (writes count later : ℕ) (fault : KeptFault)
+    → Encoding how start now held before after writes count → AnswersPacket now (Err fault) new
+    → WritesOut after count held left then later
     → EncodesText how start before writes (Err (as_tool_fault fault)) new then later
-encodes_up_to how start now new held left before after then writes count later fault so_far answer wrote = go fault answer
+encodes_up_to how start now new held left before after then writes count later fault so_far answer wrote =
+    go fault answer
   where
     all : Encodes how before then so_far.frames
     all = Holds-rest before after then (encoding how so_far.frames) held so_far.holds wrote.1
@@ -119,8 +155,30 @@ encodes_up_to how start now new held left before after then writes count later f
     same : later ≡ writes
     same = wrote.2 ∙ so_far.failures
 
-    go : (fault : KeptFault) → AnswersPacket now (Err fault) new → EncodesText how start before writes (Err (as_tool_fault fault)) new then later
+    go : (fault : KeptFault) → AnswersPacket now (Err fault) new
+        → EncodesText how start before writes (Err (as_tool_fault fault)) new then later
     go (Number line) answer = answer
-    go (Line line fault) answer = ((answer.1, reads_up_to packet_lines start now new (Line line fault) so_far.frames (Encodes how before then) so_far.gave answer.0 all), same)
-    go Read answer = ((answer.1, reads_up_to packet_lines start now new Read so_far.frames (Encodes how before then) so_far.gave answer.0 all), same)
-    go TooMuch answer = ((answer.1, reads_up_to packet_lines start now new TooMuch so_far.frames (Encodes how before then) so_far.gave answer.0 all), same)
+    go (Line line fault) answer = (
+      (
+        answer.1,
+        reads_up_to packet_lines start now new (Line line fault) so_far.frames (Encodes how before then)
+            so_far.gave answer.0 all,
+      ),
+      same,
+    )
+    go Read answer = (
+      (
+        answer.1,
+        reads_up_to packet_lines start now new Read so_far.frames (Encodes how before then) so_far.gave answer.0
+            all,
+      ),
+      same,
+    )
+    go TooMuch answer = (
+      (
+        answer.1,
+        reads_up_to packet_lines start now new TooMuch so_far.frames (Encodes how before then) so_far.gave
+            answer.0 all,
+      ),
+      same,
+    )

@@ -1,5 +1,7 @@
 -- How the answers of a station grow.
-use Rattle.std.proofs.Common.{◌≡◌, ◌<◌, ◌+◌, ◌-◌, arith, replicate, ℕ, List, [], ◌∷◌, ◌++◌, length, Bool, true, false, eqb, Option, None, Some, Result, Ok, Err, IfErr, ◌↔◌, refl, sym, ap, ◌∙◌, subst, append_assoc, IfSome, IsSomeAnd}
+use Rattle.std.proofs.Common.{◌≡◌, ◌<◌, ◌+◌, ◌-◌, arith, replicate, ℕ, List, [], ◌∷◌, ◌++◌, length, Bool, true, false}
+use Rattle.std.proofs.Common.{eqb, Option, None, Some, Result, Ok, Err, IfErr, ◌↔◌, refl, sym, ap, ◌∙◌, subst}
+use Rattle.std.proofs.Common.{append_assoc, IfSome, IsSomeAnd}
 use Rattle.std.proofs.lemmas.List.{append-nil, replicate-append-replicate}
 use Rattle.std.proofs.lemmas.Bool.{eqb-true, eqb-false}
 use Rattle.dcc_packet.specs.declared.packet.Packet.{Packet}
@@ -23,12 +25,14 @@ use Rattle.dcc_io.specs.Items.{Items, Gives, Gave}
 use Rattle.dcc_io.specs.PacketLines.{items_in}
 use Rattle.dcc_io.specs.PacketRead.{AnswersSaid}
 use Rattle.dcc_io.specs.StationLines.{Asked, Command, Next, asked_by, station_words, station_lines}
-use Rattle.dcc_send.specs.StationEncoded.{refusal, refusal_line, command_line, after_command, Answers, AnswersAll, WroteFront, Answered, StationText}
+use Rattle.dcc_send.specs.StationEncoded.{refusal, refusal_line, command_line, after_command, Answers, AnswersAll}
+use Rattle.dcc_send.specs.StationEncoded.{WroteFront, Answered, StationText}
 use Rattle.dcc_send.specs.Held.{WritesOut, HoldsAnswers, HeldFront, HoldsAnswersOrFails}
 use Rattle.dcc_io.proofs.HeldLemmas.{Holds-same, Holds-wrote, Holds-append, Holds-fails, Holds-fails_with, Holds-rest}
 use Rattle.dcc_io.proofs.ItemsLemmas.{Gave-none, Gave-append, up_to_fault, reads_up_to, uses_all_lines}
 
-pub AnswersAll-append : (how : Encode) (s between new : Sending) (xs ys : List Asked) (first rest : List ℕ) → AnswersAll how s xs first between → AnswersAll how between ys rest new
+pub AnswersAll-append : (how : Encode) (s between new : Sending) (xs ys : List Asked) (first rest : List ℕ)
+    → AnswersAll how s xs first between → AnswersAll how between ys rest new
     → AnswersAll how s (xs ++ ys) (first ++ rest) new
 AnswersAll-append how s between new [] ys first rest a b =
     rw a.0 (subst (λ (t : Sending). AnswersAll how t ys rest new) a.1 b)
@@ -42,10 +46,12 @@ AnswersAll-append how s between new (x ∷ xs) ys first rest a b = (
 )
 
 -- one answer
-pub AnswersAll-one : (how : Encode) (s new : Sending) (item : Asked) (bytes : List ℕ) → Answers how s item bytes new → AnswersAll how s (item ∷ []) bytes new
+pub AnswersAll-one : (how : Encode) (s new : Sending) (item : Asked) (bytes : List ℕ) → Answers how s item bytes new
+    → AnswersAll how s (item ∷ []) bytes new
 AnswersAll-one how s new item bytes a = (new, bytes, [], sym (append-nil bytes), a, (refl, refl))
 
-WroteFront-more : (how : Encode) (s : Sending) (xs ys : List Asked) (before after : Option (List ℕ)) → WroteFront how s xs before after → WroteFront how s (xs ++ ys) before after
+WroteFront-more : (how : Encode) (s : Sending) (xs ys : List Asked) (before after : Option (List ℕ))
+    → WroteFront how s xs before after → WroteFront how s (xs ++ ys) before after
 WroteFront-more how s xs ys before after a = record {
   first = a.first;
   later = a.later ++ ys;
@@ -57,15 +63,19 @@ WroteFront-more how s xs ys before after a = record {
 }
 
 -- nothing was asked
-pub HoldsAnswers-none : (how : Encode) (s : Sending) (contents : Option (List ℕ)) (held : List ℕ) → HoldsAnswers how s [] s contents contents held held
+pub HoldsAnswers-none : (how : Encode) (s : Sending) (contents : Option (List ℕ)) (held : List ℕ)
+    → HoldsAnswers how s [] s contents contents held held
 HoldsAnswers-none how s contents held = record {
   bytes = [];
   answers = (refl, refl);
-  holds = subst (λ (bytes : List ℕ). Holds contents contents bytes held) (sym (append-nil held)) (Holds-same contents held);
+  holds = subst (λ (bytes : List ℕ). Holds contents contents bytes held) (sym (append-nil held))
+      (Holds-same contents held);
 }
 
-pub HoldsAnswers-append : (how : Encode) (s between new : Sending) (xs ys : List Asked) (before after then : Option (List ℕ)) (held mid left : List ℕ)
-    → HoldsAnswers how s xs between before after held mid → HoldsAnswers how between ys new after then mid left → HoldsAnswers how s (xs ++ ys) new before then held left
+pub HoldsAnswers-append : (how : Encode) (s between new : Sending) (xs ys : List Asked)
+    (before after then : Option (List ℕ)) (held mid left : List ℕ)
+    → HoldsAnswers how s xs between before after held mid → HoldsAnswers how between ys new after then mid left
+    → HoldsAnswers how s (xs ++ ys) new before then held left
 HoldsAnswers-append how s between new xs ys before after then held mid left a b = record {
   bytes = a.bytes ++ b.bytes;
   answers = AnswersAll-append how s between new xs ys a.bytes b.bytes a.answers b.answers;
@@ -74,8 +84,10 @@ HoldsAnswers-append how s between new xs ys before after then held mid left a b 
 }
 
 -- some of what was held was written
-HoldsAnswers-wrote : (how : Encode) (s new : Sending) (items : List Asked) (before after then : Option (List ℕ)) (held mid left : List ℕ)
-    → HoldsAnswers how s items new before after held mid → Holds after then mid left → HoldsAnswers how s items new before then held left
+HoldsAnswers-wrote : (how : Encode) (s new : Sending) (items : List Asked) (before after then : Option (List ℕ))
+    (held mid left : List ℕ)
+    → HoldsAnswers how s items new before after held mid → Holds after then mid left
+    → HoldsAnswers how s items new before then held left
 HoldsAnswers-wrote how s new items before after then held mid left a wrote = record {
   bytes = a.bytes;
   answers = a.answers;
@@ -83,8 +95,10 @@ HoldsAnswers-wrote how s new items before after then held mid left a wrote = rec
 }
 
 -- a write failed at a later answer
-HeldFront-append : (how : Encode) (s between : Sending) (xs ys : List Asked) (before after then : Option (List ℕ)) (held mid : List ℕ)
-    → HoldsAnswers how s xs between before after held mid → HeldFront how between ys after then mid → HeldFront how s (xs ++ ys) before then held
+HeldFront-append : (how : Encode) (s between : Sending) (xs ys : List Asked) (before after then : Option (List ℕ))
+    (held mid : List ℕ)
+    → HoldsAnswers how s xs between before after held mid → HeldFront how between ys after then mid
+    → HeldFront how s (xs ++ ys) before then held
 HeldFront-append how s between xs ys before after then held mid a b = record {
   first = xs ++ b.first;
   later = b.later;
@@ -96,7 +110,8 @@ HeldFront-append how s between xs ys before after then held mid a b = record {
       (Holds-fails_with before after then (held ++ a.bytes) mid b.bytes a.holds b.written);
 }
 
-HeldFront-more : (how : Encode) (s : Sending) (xs ys : List Asked) (before after : Option (List ℕ)) (held : List ℕ) → HeldFront how s xs before after held → HeldFront how s (xs ++ ys) before after held
+HeldFront-more : (how : Encode) (s : Sending) (xs ys : List Asked) (before after : Option (List ℕ)) (held : List ℕ)
+    → HeldFront how s xs before after held → HeldFront how s (xs ++ ys) before after held
 HeldFront-more how s xs ys before after held a = record {
   first = a.first;
   later = a.later ++ ys;
@@ -108,38 +123,60 @@ HeldFront-more how s xs ys before after held a = record {
 }
 
 -- a front of the answers to items that were read is one of the answers to all
-front_of_all : (how : Encode) (s : Sending) (start now : InputState) (items : List Asked) (before after : Option (List ℕ)) → Gave station_lines start items now → WroteFront how s items before after
+front_of_all : (how : Encode) (s : Sending) (start now : InputState) (items : List Asked)
+    (before after : Option (List ℕ)) → Gave station_lines start items now → WroteFront how s items before after
     → IfSome start.text (λ text. WroteFront how s (items_in station_words start text).said before after)
 front_of_all how s start now items before after gave wrote = go start.text now.text gave.text
   where
-    go : (whole rest : Option (List ℕ)) → IfSome whole (λ text. IsSomeAnd rest (λ more. Gives station_lines start items now text more))
+    go : (whole rest : Option (List ℕ))
+        → IfSome whole (λ text. IsSomeAnd rest (λ more. Gives station_lines start items now text more))
         → IfSome whole (λ text. WroteFront how s (items_in station_words start text).said before after)
     go None rest gives = tt
     go (Some text) None gives = absurd gives
     go (Some text) (Some rest) gives =
         let later = (items_in station_words now rest).said in
-        let all : (items_in station_words start text).said ≡ items ++ later = ap (λ (n : Items Asked). n.said) gives.in_whole in
-        subst (λ (n : List Asked). WroteFront how s n before after) (sym all) (WroteFront-more how s items later before after wrote)
+        let all : (items_in station_words start text).said ≡ items ++ later =
+        ap (λ (n : Items Asked). n.said) gives.in_whole in
+        subst (λ (n : List Asked). WroteFront how s n before after) (sym all)
+        (WroteFront-more how s items later before after wrote)
 
 -- where nothing was held at the start
-wrote_front : (how : Encode) (s : Sending) (items : List Asked) (before after : Option (List ℕ)) → HeldFront how s items before after [] → WroteFront how s items before after
+wrote_front : (how : Encode) (s : Sending) (items : List Asked) (before after : Option (List ℕ))
+    → HeldFront how s items before after [] → WroteFront how s items before after
 wrote_front how s items before after front =
-    record { first = front.first; later = front.later; whole = front.whole; bytes = front.bytes; new = front.new; answers = front.answers; written = front.written }
+    record {
+      first = front.first;
+      later = front.later;
+      whole = front.whole;
+      bytes = front.bytes;
+      new = front.new;
+      answers = front.answers;
+      written = front.written;
+    }
 
 -- so far these items were read, and what is answered to them written or held
-pub record Answering (how : Encode) (s t : Sending) (start now : InputState) (held : List ℕ) (before after : Option (List ℕ)) (writes count : ℕ) : Type 0 where
+pub record Answering (how : Encode) (s t : Sending) (start now : InputState) (held : List ℕ)
+    (before after : Option (List ℕ)) (writes count : ℕ) : Type 0 where
   pub items : List Asked
   pub gave : Gave station_lines start items now
   pub holds : HoldsAnswers how s items t before after [] held
   pub failures : count ≡ writes
 
-pub Answering-start : (how : Encode) (s : Sending) (input : InputState) (contents : Option (List ℕ)) (count : ℕ) → input.fault ≡ None
+pub Answering-start : (how : Encode) (s : Sending) (input : InputState) (contents : Option (List ℕ)) (count : ℕ)
+    → input.fault ≡ None
     → Answering how s s input input [] contents contents count count
 Answering-start how s input contents count fault =
-    record { items = []; gave = Gave-none station_lines input fault; holds = HoldsAnswers-none how s contents []; failures = refl }
+    record {
+      items = [];
+      gave = Gave-none station_lines input fault;
+      holds = HoldsAnswers-none how s contents [];
+      failures = refl;
+    }
 
-pub Answering-wrote : (how : Encode) (s t : Sending) (start now : InputState) (held left : List ℕ) (before after then : Option (List ℕ)) (writes count later : ℕ)
-    → Answering how s t start now held before after writes count → Holds after then held left → later ≡ count → Answering how s t start now left before then writes later
+pub Answering-wrote : (how : Encode) (s t : Sending) (start now : InputState) (held left : List ℕ)
+    (before after then : Option (List ℕ)) (writes count later : ℕ)
+    → Answering how s t start now held before after writes count → Holds after then held left → later ≡ count
+    → Answering how s t start now left before then writes later
 Answering-wrote how s t start now held left before after then writes count later so_far wrote same = record {
   items = so_far.items;
   gave = so_far.gave;
@@ -147,28 +184,43 @@ Answering-wrote how s t start now held left before after then writes count later
   failures = same ∙ so_far.failures;
 }
 
-pub Answering-line : (how : Encode) (s t new : Sending) (start now next : InputState) (held left : List ℕ) (before after then : Option (List ℕ)) (writes count later : ℕ) (line : StationLine)
-    → Answering how s t start now held before after writes count → AnswersSaid station_words asked_by now (Ok (Some line)) next
-    → HoldsAnswers how t (asked_by line) new after then held left → later ≡ count → Answering how s new start next left before then writes later
-Answering-line how s t new start now next held left before after then writes count later line so_far answer holds same = record {
-  items = so_far.items ++ asked_by line;
-  gave = Gave-append station_lines start now next so_far.items (asked_by line) so_far.gave answer.0;
-  holds = HoldsAnswers-append how s t new so_far.items (asked_by line) before after then [] held left so_far.holds holds;
-  failures = same ∙ so_far.failures;
-}
+pub Answering-line : (how : Encode) (s t new : Sending) (start now next : InputState) (held left : List ℕ)
+    (before after then : Option (List ℕ)) (writes count later : ℕ) (line : StationLine)
+    → Answering how s t start now held before after writes count
+    → AnswersSaid station_words asked_by now (Ok (Some line)) next
+    → HoldsAnswers how t (asked_by line) new after then held left → later ≡ count
+    → Answering how s new start next left before then writes later
+Answering-line how s t new start now next held left before after then writes count later line so_far answer holds same =
+    record {
+      items = so_far.items ++ asked_by line;
+      gave = Gave-append station_lines start now next so_far.items (asked_by line) so_far.gave answer.0;
+      holds = HoldsAnswers-append how s t new so_far.items (asked_by line) before after then [] held left so_far.holds
+          holds;
+      failures = same ∙ so_far.failures;
+    }
 
 -- a write failed where answers were to be held
-pub stops_at_write : (how : Encode) (s t : Sending) (start now next : InputState) (held : List ℕ) (before after then : Option (List ℕ)) (writes count later : ℕ) (line : StationLine)
-    → Answering how s t start now held before after writes count → AnswersSaid station_words asked_by now (Ok (Some line)) next
-    → HeldFront how t (asked_by line) after then held → HasRisen count later → StationText how s start before writes (Err Write) next then later
+pub stops_at_write : (how : Encode) (s t : Sending) (start now next : InputState) (held : List ℕ)
+    (before after then : Option (List ℕ)) (writes count later : ℕ) (line : StationLine)
+    → Answering how s t start now held before after writes count
+    → AnswersSaid station_words asked_by now (Ok (Some line)) next
+    → HeldFront how t (asked_by line) after then held → HasRisen count later
+    → StationText how s start before writes (Err Write) next then later
 stops_at_write how s t start now next held before after then writes count later line so_far answer wrote risen =
     let all = Gave-append station_lines start now next so_far.items (asked_by line) so_far.gave answer.0 in
-    let front = wrote_front how s (so_far.items ++ asked_by line) before then (HeldFront-append how s t so_far.items (asked_by line) before after then [] held so_far.holds wrote) in
-    (front_of_all how s start next (so_far.items ++ asked_by line) before then all front, all.fault, all.failures, subst (λ (n : ℕ). HasRisen n later) so_far.failures risen)
+    let front = wrote_front how s (so_far.items ++ asked_by line) before
+    then (HeldFront-append how s t so_far.items (asked_by line) before after then [] held so_far.holds wrote) in (
+      front_of_all how s start next (so_far.items ++ asked_by line) before then all front,
+      all.fault,
+      all.failures,
+      subst (λ (n : ℕ). HasRisen n later) so_far.failures risen,
+    )
 
 -- a write of what was held failed
-pub stops_before_read : (how : Encode) (s t : Sending) (start now : InputState) (held : List ℕ) (before after then : Option (List ℕ)) (writes count later : ℕ)
-    → Answering how s t start now held before after writes count → AppendsFront after then held → HasRisen count later → StationText how s start before writes (Err Write) now then later
+pub stops_before_read : (how : Encode) (s t : Sending) (start now : InputState) (held : List ℕ)
+    (before after then : Option (List ℕ)) (writes count later : ℕ)
+    → Answering how s t start now held before after writes count → AppendsFront after then held → HasRisen count later
+    → StationText how s start before writes (Err Write) now then later
 stops_before_read how s t start now held before after then writes count later so_far wrote risen =
     let front : WroteFront how s so_far.items before then = record {
       first = so_far.items;
@@ -178,34 +230,55 @@ stops_before_read how s t start now held before after then writes count later so
       new = t;
       answers = so_far.holds.answers;
       written = Holds-fails before after then so_far.holds.bytes held so_far.holds.holds wrote;
-    } in
-    (front_of_all how s start now so_far.items before then so_far.gave front, so_far.gave.fault, so_far.gave.failures, subst (λ (n : ℕ). HasRisen n later) so_far.failures risen)
+    } in (
+      front_of_all how s start now so_far.items before then so_far.gave front,
+      so_far.gave.fault,
+      so_far.gave.failures,
+      subst (λ (n : ℕ). HasRisen n later) so_far.failures risen,
+    )
 
 -- what was held was written
-all_answered : (how : Encode) (s t : Sending) (start now : InputState) (held left : List ℕ) (before after then : Option (List ℕ)) (writes count later : ℕ)
-    (so_far : Answering how s t start now held before after writes count) → WritesOut after count held left then later → Answered how s before then so_far.items
-all_answered how s t start now held left before after then writes count later so_far wrote =
-    (t, record { bytes = so_far.holds.bytes; answers = so_far.holds.answers; written = Holds-rest before after then so_far.holds.bytes held so_far.holds.holds wrote.1 })
+all_answered : (how : Encode) (s t : Sending) (start now : InputState) (held left : List ℕ)
+    (before after then : Option (List ℕ)) (writes count later : ℕ)
+    (so_far : Answering how s t start now held before after writes count) → WritesOut after count held left then later
+    → Answered how s before then so_far.items
+all_answered how s t start now held left before after then writes count later so_far wrote = (
+  t,
+  record {
+    bytes = so_far.holds.bytes;
+    answers = so_far.holds.answers;
+    written = Holds-rest before after then so_far.holds.bytes held so_far.holds.holds wrote.1;
+  },
+)
 
 -- the input has ended, and what was held was written
-pub answers_all : (how : Encode) (s t : Sending) (start now new : InputState) (held left : List ℕ) (before after then : Option (List ℕ)) (writes count later : ℕ)
-    → Answering how s t start now held before after writes count → AnswersSaid station_words asked_by now (Ok None) new → WritesOut after count held left then later
+pub answers_all : (how : Encode) (s t : Sending) (start now new : InputState) (held left : List ℕ)
+    (before after then : Option (List ℕ)) (writes count later : ℕ)
+    → Answering how s t start now held before after writes count → AnswersSaid station_words asked_by now (Ok None) new
+    → WritesOut after count held left then later
     → StationText how s start before writes (Ok tt) new then later
 answers_all how s t start now new held left before after then writes count later so_far answer wrote =
     let last = answer.0 in
     let all = all_answered how s t start now held left before after then writes count later so_far wrote in (
-      (up_to_fault station_lines start now so_far.items None (Answered how s before then) so_far.gave answer.2 all, last.failures ∙ so_far.gave.failures),
+      (
+        up_to_fault station_lines start now so_far.items None (Answered how s before then) so_far.gave answer.2 all,
+        last.failures ∙ so_far.gave.failures,
+      ),
       answer.1,
-      uses_all_lines station_lines start new (so_far.items ++ []) (Gave-append station_lines start now new so_far.items [] so_far.gave last) answer.1,
+      uses_all_lines station_lines start new (so_far.items ++ [])
+          (Gave-append station_lines start now new so_far.items [] so_far.gave last) answer.1,
       last.fault,
       wrote.2 ∙ so_far.failures,
     )
 
 -- the input has a fault, and what was held was written
-pub answers_up_to : (how : Encode) (s t : Sending) (start now new : InputState) (held left : List ℕ) (before after then : Option (List ℕ)) (writes count later : ℕ) (fault : KeptFault)
-    → Answering how s t start now held before after writes count → AnswersSaid station_words asked_by now (Err fault) new → WritesOut after count held left then later
+pub answers_up_to : (how : Encode) (s t : Sending) (start now new : InputState) (held left : List ℕ)
+    (before after then : Option (List ℕ)) (writes count later : ℕ) (fault : KeptFault)
+    → Answering how s t start now held before after writes count
+    → AnswersSaid station_words asked_by now (Err fault) new → WritesOut after count held left then later
     → StationText how s start before writes (Err (as_tool_fault fault)) new then later
-answers_up_to how s t start now new held left before after then writes count later fault so_far answer wrote = go fault answer
+answers_up_to how s t start now new held left before after then writes count later fault so_far answer wrote =
+    go fault answer
   where
     all : Answered how s before then so_far.items
     all = all_answered how s t start now held left before after then writes count later so_far wrote
@@ -213,22 +286,49 @@ answers_up_to how s t start now new held left before after then writes count lat
     same : later ≡ writes
     same = wrote.2 ∙ so_far.failures
 
-    go : (fault : KeptFault) → AnswersSaid station_words asked_by now (Err fault) new → StationText how s start before writes (Err (as_tool_fault fault)) new then later
+    go : (fault : KeptFault) → AnswersSaid station_words asked_by now (Err fault) new
+        → StationText how s start before writes (Err (as_tool_fault fault)) new then later
     go (Number line) answer = answer
-    go (Line line fault) answer = ((answer.1, reads_up_to station_lines start now new (Line line fault) so_far.items (Answered how s before then) so_far.gave answer.0 all), same)
-    go Read answer = ((answer.1, reads_up_to station_lines start now new Read so_far.items (Answered how s before then) so_far.gave answer.0 all), same)
-    go TooMuch answer = ((answer.1, reads_up_to station_lines start now new TooMuch so_far.items (Answered how s before then) so_far.gave answer.0 all), same)
+    go (Line line fault) answer = (
+      (
+        answer.1,
+        reads_up_to station_lines start now new (Line line fault) so_far.items (Answered how s before then)
+            so_far.gave answer.0 all,
+      ),
+      same,
+    )
+    go Read answer = (
+      (
+        answer.1,
+        reads_up_to station_lines start now new Read so_far.items (Answered how s before then) so_far.gave
+            answer.0 all,
+      ),
+      same,
+    )
+    go TooMuch answer = (
+      (
+        answer.1,
+        reads_up_to station_lines start now new TooMuch so_far.items (Answered how s before then) so_far.gave
+            answer.0 all,
+      ),
+      same,
+    )
 
 -- one packet more was sent
-pub HoldsAnswers-next : (how : Encode) (s between new : Sending) (n : ℕ) (before after then : Option (List ℕ)) (held mid left : List ℕ) → HoldsAnswers how s (replicate n Next) between before after held mid
-    → HoldsAnswers how between (Next ∷ []) new after then mid left → HoldsAnswers how s (replicate (n + 1) Next) new before then held left
+pub HoldsAnswers-next : (how : Encode) (s between new : Sending) (n : ℕ) (before after then : Option (List ℕ))
+    (held mid left : List ℕ) → HoldsAnswers how s (replicate n Next) between before after held mid
+    → HoldsAnswers how between (Next ∷ []) new after then mid left
+    → HoldsAnswers how s (replicate (n + 1) Next) new before then held left
 HoldsAnswers-next how s between new n before after then held mid left a b =
-    subst (λ (items : List Asked). HoldsAnswers how s items new before then held left) (replicate-append-replicate n 1 Next)
+    subst (λ (items : List Asked). HoldsAnswers how s items new before then held left)
+    (replicate-append-replicate n 1 Next)
     (HoldsAnswers-append how s between new (replicate n Next) (Next ∷ []) before after then held mid left a b)
 
 -- a write failed within the packets to be sent
-pub stops_sending : (how : Encode) (s between : Sending) (n count : ℕ) (before after then : Option (List ℕ)) (held mid : List ℕ) (writes now later : ℕ) → n < count
-    → HoldsAnswers how s (replicate n Next) between before after held mid → now ≡ writes → HeldFront how between (Next ∷ []) after then mid → HasRisen now later
+pub stops_sending : (how : Encode) (s between : Sending) (n count : ℕ) (before after then : Option (List ℕ))
+    (held mid : List ℕ) (writes now later : ℕ) → n < count
+    → HoldsAnswers how s (replicate n Next) between before after held mid → now ≡ writes
+    → HeldFront how between (Next ∷ []) after then mid → HasRisen now later
     → HeldFront how s (replicate count Next) before then held × HasRisen writes later
 stops_sending how s between n count before after then held mid writes now later within a same b risen =
     let front = HeldFront-append how s between (replicate n Next) (Next ∷ []) before after then held mid a b in
@@ -236,57 +336,83 @@ stops_sending how s between n count before after then held mid writes now later 
     (let total : count ≡ n + 1 + (count - (n + 1)) = omega (arith, within) in
     ap (λ (m : ℕ). replicate m Next) total
     ∙ sym (replicate-append-replicate (n + 1) (count - (n + 1)) Next)
-    ∙ ap (λ (items : List Asked). items ++ replicate (count - (n + 1)) Next) (sym (replicate-append-replicate n 1 Next))) in (
+    ∙ ap (λ (items : List Asked). items ++ replicate (count - (n + 1)) Next)
+    (sym (replicate-append-replicate n 1 Next))) in (
       subst (λ (items : List Asked). HeldFront how s items before then held) (sym whole)
-          (HeldFront-more how s (replicate n Next ++ Next ∷ []) (replicate (count - (n + 1)) Next) before then held front),
+          (HeldFront-more how s (replicate n Next ++ Next ∷ []) (replicate (count - (n + 1)) Next) before then held
+          front),
       subst (λ (m : ℕ). HasRisen m later) same risen,
     )
 
 -- one answer was held, or a write failed
-pub holds_answer : (how : Encode) (s new : Sending) (item : Asked) (bytes : List ℕ) (before after : Option (List ℕ)) (writes now : ℕ) (held left : List ℕ) (result : Result (Unit {0}) Failed)
-    → Answers how s item bytes new → HoldsOrFails before writes (held ++ bytes) result left after now → HoldsAnswersOrFails how s (item ∷ []) before writes held result new left after now
-holds_answer how s new item bytes before after writes now held left (Ok done) a holds = (record { bytes = bytes; answers = AnswersAll-one how s new item bytes a; holds = holds.0 }, holds.1)
-holds_answer how s new item bytes before after writes now held left (Err failed) a wrote =
-    (record { first = item ∷ []; later = []; whole = refl; bytes = bytes; new = new; answers = AnswersAll-one how s new item bytes a; written = wrote.0 }, wrote.1)
+pub holds_answer : (how : Encode) (s new : Sending) (item : Asked) (bytes : List ℕ) (before after : Option (List ℕ))
+    (writes now : ℕ) (held left : List ℕ) (result : Result (Unit {0}) Failed)
+    → Answers how s item bytes new → HoldsOrFails before writes (held ++ bytes) result left after now
+    → HoldsAnswersOrFails how s (item ∷ []) before writes held result new left after now
+holds_answer how s new item bytes before after writes now held left (Ok done) a holds =
+    (record { bytes = bytes; answers = AnswersAll-one how s new item bytes a; holds = holds.0 }, holds.1)
+holds_answer how s new item bytes before after writes now held left (Err failed) a wrote = (
+  record {
+    first = item ∷ [];
+    later = [];
+    whole = refl;
+    bytes = bytes;
+    new = new;
+    answers = AnswersAll-one how s new item bytes a;
+    written = wrote.0;
+  },
+  wrote.1,
+)
 
 -- how a command was refused
 abbrev pub refused_by : Result (Unit {0}) (Refused × Packet) → Option Refused
 refused_by (Ok done) = None
 refused_by (Err refused) = Some refused.0
 
-pub refused_is : (s : Sending) (packet : Packet) (result : Result (Unit {0}) (Refused × Packet)) → (result ≡ Err (NotSendable, packet)) ↔ (is_sendable packet ≡ false)
-    → (result ≡ Err (QueueFull, packet)) ↔ ((is_sendable packet ≡ true) × (length s.waiting ≡ s.queue)) → IfErr result (λ refused. refused.1 ≡ packet) → refused_by result ≡ refusal s packet
+pub refused_is : (s : Sending) (packet : Packet) (result : Result (Unit {0}) (Refused × Packet))
+    → (result ≡ Err (NotSendable, packet)) ↔ (is_sendable packet ≡ false)
+    → (result ≡ Err (QueueFull, packet)) ↔ ((is_sendable packet ≡ true) × (length s.waiting ≡ s.queue))
+    → IfErr result (λ refused. refused.1 ≡ packet) → refused_by result ≡ refusal s packet
 refused_is s packet result not_sendable full back = go (is_sendable packet) (eqb (length s.waiting) s.queue) refl refl
   where
-    none : (answer : Result (Unit {0}) (Refused × Packet)) → answer ≡ result → is_sendable packet ≡ true → eqb (length s.waiting) s.queue ≡ false → IfErr answer (λ refused. refused.1 ≡ packet) → refused_by answer ≡ None
+    none : (answer : Result (Unit {0}) (Refused × Packet)) → answer ≡ result → is_sendable packet ≡ true
+        → eqb (length s.waiting) s.queue ≡ false → IfErr answer (λ refused. refused.1 ≡ packet)
+        → refused_by answer ≡ None
     none (Ok done) is sendable room same = refl
     none (Err (NotSendable, other)) is sendable room same =
-        let refused : is_sendable packet ≡ false = not_sendable.0 (sym is ∙ ap (λ (p : Packet). Err (NotSendable, p)) same) in
+        let refused : is_sendable packet ≡ false =
+        not_sendable.0 (sym is ∙ ap (λ (p : Packet). Err (NotSendable, p)) same) in
         absurd (let clash : true ≡ false = sym sendable ∙ refused in cc)
     none (Err (QueueFull, other)) is sendable room same =
-        absurd (eqb-false (length s.waiting) s.queue room (full.0 (sym is ∙ ap (λ (p : Packet). Err (QueueFull, p)) same)).1)
+        absurd (eqb-false (length s.waiting) s.queue room
+        (full.0 (sym is ∙ ap (λ (p : Packet). Err (QueueFull, p)) same)).1)
 
-    go : (sendable some : Bool) → is_sendable packet ≡ sendable → eqb (length s.waiting) s.queue ≡ some → refused_by result ≡ refusal s packet
+    go : (sendable some : Bool) → is_sendable packet ≡ sendable → eqb (length s.waiting) s.queue ≡ some
+        → refused_by result ≡ refusal s packet
     go false some is_not is_full = rw (is_not, not_sendable.1 is_not) refl
     go true true is is_full = rw (is, is_full, full.1 (is, eqb-true (length s.waiting) s.queue is_full)) refl
     go true false is is_not = rw (is, is_not) (none result refl is is_not back)
 
 -- a command that is accepted
-pub answers_accepted : (how : Encode) (s new : Sending) (packet : Packet) (contents : Option (List ℕ)) (writes : ℕ) (held : List ℕ) → None ≡ refusal s packet → new ≡ accepted s packet
+pub answers_accepted : (how : Encode) (s new : Sending) (packet : Packet) (contents : Option (List ℕ)) (writes : ℕ)
+    (held : List ℕ) → None ≡ refusal s packet → new ≡ accepted s packet
     → HoldsAnswersOrFails how s (Command (spelling packet) ∷ []) contents writes held (Ok tt) new held contents writes
 answers_accepted how s new packet contents writes held none is = (
   record {
     bytes = [];
     answers = AnswersAll-one how s new (Command (spelling packet)) []
         (packet, refl, ap command_line none, is ∙ ap (λ (r : Option Refused). after_command s packet r) none);
-    holds = subst (λ (bytes : List ℕ). Holds contents contents bytes held) (sym (append-nil held)) (Holds-same contents held);
+    holds = subst (λ (bytes : List ℕ). Holds contents contents bytes held) (sym (append-nil held))
+        (Holds-same contents held);
   },
   refl,
 )
 
 -- a command that is refused
-pub answers_refused : (how : Encode) (s new : Sending) (packet : Packet) (refused : Refused) (before after : Option (List ℕ)) (writes now : ℕ) (held left : List ℕ) (result : Result (Unit {0}) Failed)
-    → Some refused ≡ refusal s packet → new ≡ s → HoldsOrFails before writes (held ++ refusal_line refused) result left after now
+pub answers_refused : (how : Encode) (s new : Sending) (packet : Packet) (refused : Refused)
+    (before after : Option (List ℕ)) (writes now : ℕ) (held left : List ℕ) (result : Result (Unit {0}) Failed)
+    → Some refused ≡ refusal s packet → new ≡ s
+    → HoldsOrFails before writes (held ++ refusal_line refused) result left after now
     → HoldsAnswersOrFails how s (Command (spelling packet) ∷ []) before writes held result new left after now
 answers_refused how s new packet refused before after writes now held left result some is holds =
     holds_answer how s new (Command (spelling packet)) (refusal_line refused) before after writes now held left result

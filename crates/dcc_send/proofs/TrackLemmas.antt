@@ -1,6 +1,9 @@
 -- How a reading on the programming track goes on, and what it comes to.
-use Rattle.std.proofs.Common.{◌≡◌, ℕ, ◌≤◌, ◌+◌, Bool, true, false, List, [], ◌∷◌, ◌++◌, Option, None, Some, IfSome, OnOk, Result, Ok, Err, ◌-◌, ◌+◌, length, take, drop, replicate, refl, sym, ap, ◌∙◌, subst, append_assoc, arith}
-use Rattle.std.proofs.lemmas.List.{append-nil, take_all, take_at, take-append-drop, take-replicate, replicate-append-replicate, length-append}
+use Rattle.std.proofs.Common.{◌≡◌, ℕ, ◌≤◌, ◌+◌, Bool, true, false, List, [], ◌∷◌, ◌++◌, Option, None, Some, IfSome}
+use Rattle.std.proofs.Common.{OnOk, Result, Ok, Err, ◌-◌, ◌+◌, length, take, drop, replicate, refl, sym, ap, ◌∙◌}
+use Rattle.std.proofs.Common.{subst, append_assoc, arith}
+use Rattle.std.proofs.lemmas.List.{append-nil, take_all, take_at, take-append-drop, take-replicate}
+use Rattle.std.proofs.lemmas.List.{replicate-append-replicate, length-append}
 use Rattle.std.specs.Io.KnownBytes.{Appends}
 use Rattle.dcc_packet.specs.declared.cv.CvNumber.{CvNumber}
 use Rattle.dcc_service.specs.declared.packet.ServicePacket.{ServicePacket}
@@ -19,28 +22,36 @@ use Rattle.dcc_io.specs.declared.fault.ToolFault.{ToolFault}
 use Rattle.dcc_io.specs.declared.fault.ToolFault.TheVariants as faults
 use Rattle.dcc_io.specs.Failures.{HasRisen}
 use Rattle.dcc_send.specs.TrackAnswers.{TakesAnswer, Tells}
-use Rattle.dcc_send.specs.TrackReading.{value_on, answers_on, answered_line, with_answer, answered_lines, unasked, value_line, reading_text, after_reading, ReadsCv}
+use Rattle.dcc_send.specs.TrackReading.{value_on, answers_on, answered_line, with_answer, answered_lines, unasked}
+use Rattle.dcc_send.specs.TrackReading.{value_line, reading_text, after_reading, ReadsCv}
 use Rattle.dcc_io.specs.Written.{AppendsFront}
 use Rattle.dcc_io.proofs.WrittenLemmas.{AppendsFront-more}
 use Rattle.dcc_io.proofs.WrittenLemmas.{Appends-none, Appends-append, front_behind}
 
 -- the lines of some answers and then of others
 lines-append : (so_far : CvAnswers) (xs ys : List Bool)
-    → answered_lines so_far (xs ++ ys) ≡ answered_lines so_far xs ++ answered_lines (record { cv = so_far.cv; answers = so_far.answers ++ xs }) ys
-lines-append so_far [] ys = ap (λ (answers : List Bool). answered_lines (record { cv = so_far.cv; answers = answers }) ys) (sym (append-nil so_far.answers))
+    → answered_lines so_far (xs ++ ys) ≡ answered_lines so_far xs
+    ++ answered_lines (record { cv = so_far.cv; answers = so_far.answers ++ xs }) ys
+lines-append so_far [] ys =
+    ap (λ (answers : List Bool). answered_lines (record { cv = so_far.cv; answers = answers }) ys)
+    (sym (append-nil so_far.answers))
 lines-append so_far (x ∷ xs) ys =
     let line : List ℕ = answered_line (question_frame so_far) x in
     let next : CvAnswers = with_answer so_far x in
     ap (λ (lines : List ℕ). line ++ lines) (lines-append next xs ys)
     ∙ sym (append_assoc line (answered_lines next xs) _)
-    ∙ ap (λ (answers : List Bool). line ++ answered_lines next xs ++ answered_lines (record { cv = so_far.cv; answers = answers }) ys) (append_assoc so_far.answers (x ∷ []) xs)
+    ∙ ap (λ (answers : List Bool). line ++ answered_lines next xs
+    ++ answered_lines (record { cv = so_far.cv; answers = answers }) ys)
+    (append_assoc so_far.answers (x ∷ []) xs)
 
 -- the line of one answer more
 lines-one : (so_far : CvAnswers) (answer : Bool)
-    → answered_lines (unasked so_far.cv) (so_far.answers ++ answer ∷ []) ≡ answered_lines (unasked so_far.cv) so_far.answers ++ answered_line (question_frame so_far) answer
+    → answered_lines (unasked so_far.cv) (so_far.answers ++ answer ∷ []) ≡ answered_lines (unasked so_far.cv)
+    so_far.answers ++ answered_line (question_frame so_far) answer
 lines-one so_far answer =
     lines-append (unasked so_far.cv) so_far.answers (answer ∷ [])
-    ∙ ap (λ (line : List ℕ). answered_lines (unasked so_far.cv) so_far.answers ++ line) (append-nil (answered_line (question_frame so_far) answer))
+    ∙ ap (λ (line : List ℕ). answered_lines (unasked so_far.cv) so_far.answers ++ line)
+    (append-nil (answered_line (question_frame so_far) answer))
 
 -- the lines of the first answers are the first lines
 first_lines : (cv : CvNumber) (answers all : List Bool) → AreFirstOf answers all
@@ -48,34 +59,44 @@ first_lines : (cv : CvNumber) (answers all : List Bool) → AreFirstOf answers a
 first_lines cv answers all first =
     let n : ℕ = length answers in (
       answered_lines (record { cv = cv; answers = take n all }) (drop n all),
-      ap (answered_lines (unasked cv)) (sym (take-append-drop n all)) ∙ lines-append (unasked cv) (take n all) (drop n all)
-          ∙ ap (λ (xs : List Bool). answered_lines (unasked cv) xs ++ answered_lines (record { cv = cv; answers = take n all }) (drop n all)) (sym first),
+      ap (answered_lines (unasked cv)) (sym (take-append-drop n all))
+          ∙ lines-append (unasked cv) (take n all) (drop n all)
+          ∙ ap (λ (xs : List Bool). answered_lines (unasked cv) xs
+          ++ answered_lines (record { cv = cv; answers = take n all }) (drop n all)) (sym first),
     )
 
 -- so far these answers to the questions about a CV came, and their lines were written
-pub record IsReading (track : Option (List ℕ)) (cv : CvNumber) (so_far : CvAnswers) (before after : Option (List ℕ)) (writes count : ℕ) : Type 0 where
+pub record IsReading (track : Option (List ℕ)) (cv : CvNumber) (so_far : CvAnswers) (before after : Option (List ℕ))
+    (writes count : ℕ) : Type 0 where
   pub same_cv : so_far.cv ≡ cv
   pub first : AreFirstOf so_far.answers (answers_on track cv)
   pub written : Appends before after (answered_lines (unasked cv) so_far.answers)
   pub failures : count ≡ writes
 
-pub IsReading-start : (track : Option (List ℕ)) (cv : CvNumber) (so_far : CvAnswers) (contents : Option (List ℕ)) (count : ℕ) → so_far ≡ unasked cv → IsReading track cv so_far contents contents count count
+pub IsReading-start : (track : Option (List ℕ)) (cv : CvNumber) (so_far : CvAnswers) (contents : Option (List ℕ))
+    (count : ℕ) → so_far ≡ unasked cv → IsReading track cv so_far contents contents count count
 IsReading-start track cv so_far contents count e =
     let P : CvAnswers → Type 0 = λ a. IsReading track cv a contents contents count count in
     subst P (sym e) (record { same_cv = refl; first = refl; written = Appends-none contents; failures = refl })
 
 -- the lines so far, and that of one answer more
-written_more : (cv : CvNumber) (so_far : CvAnswers) (answer : Bool) (before mid after : Option (List ℕ)) → so_far.cv ≡ cv → Appends before mid (answered_lines (unasked cv) so_far.answers)
-    → Appends mid after (answered_line (question_frame so_far) answer) → Appends before after (answered_lines (unasked cv) (so_far.answers ++ answer ∷ []))
+written_more : (cv : CvNumber) (so_far : CvAnswers) (answer : Bool) (before mid after : Option (List ℕ))
+    → so_far.cv ≡ cv → Appends before mid (answered_lines (unasked cv) so_far.answers)
+    → Appends mid after (answered_line (question_frame so_far) answer)
+    → Appends before after (answered_lines (unasked cv) (so_far.answers ++ answer ∷ []))
 written_more cv so_far answer before mid after same first second =
     let lines : answered_lines (unasked cv) (so_far.answers ++ answer ∷ []) ≡ answered_lines (unasked cv) so_far.answers ++ answered_line (question_frame so_far) answer =
     ap (λ c. answered_lines (unasked c) (so_far.answers ++ answer ∷ [])) (sym same) ∙ lines-one so_far answer
     ∙ ap (λ c. answered_lines (unasked c) so_far.answers ++ answered_line (question_frame so_far) answer) same in
-    subst (λ (bytes : List ℕ). Appends before after bytes) (sym lines) (Appends-append before mid after _ _ first second)
+    subst (λ (bytes : List ℕ). Appends before after bytes) (sym lines)
+    (Appends-append before mid after _ _ first second)
 
-pub IsReading-more : (track : Option (List ℕ)) (cv : CvNumber) (so_far next : CvAnswers) (answer : Bool) (before mid after : Option (List ℕ)) (writes count later : ℕ)
-    → IsReading track cv so_far before mid writes count → AreFirstOf (so_far.answers ++ answer ∷ []) (answers_on track cv)
-    → Comes so_far.cv (so_far.answers ++ answer ∷ []) (More next) → Appends mid after (answered_line (question_frame so_far) answer) → later ≡ count
+pub IsReading-more : (track : Option (List ℕ)) (cv : CvNumber) (so_far next : CvAnswers) (answer : Bool)
+    (before mid after : Option (List ℕ)) (writes count later : ℕ)
+    → IsReading track cv so_far before mid writes count
+    → AreFirstOf (so_far.answers ++ answer ∷ []) (answers_on track cv)
+    → Comes so_far.cv (so_far.answers ++ answer ∷ []) (More next)
+    → Appends mid after (answered_line (question_frame so_far) answer) → later ≡ count
     → IsReading track cv next before after writes later
 IsReading-more track cv so_far next answer before mid after writes count later reading first comes line same =
     let P : CvAnswers → Type 0 = λ a. IsReading track cv a before after writes later in
@@ -87,21 +108,27 @@ IsReading-more track cv so_far next answer before mid after writes count later r
     })
 
 -- a write failed within a line
-pub fails_in_line : (track : Option (List ℕ)) (cv : CvNumber) (so_far : CvAnswers) (answer : Bool) (before mid after : Option (List ℕ)) (writes count later : ℕ)
-    → IsReading track cv so_far before mid writes count → AreFirstOf (so_far.answers ++ answer ∷ []) (answers_on track cv)
+pub fails_in_line : (track : Option (List ℕ)) (cv : CvNumber) (so_far : CvAnswers) (answer : Bool)
+    (before mid after : Option (List ℕ)) (writes count later : ℕ)
+    → IsReading track cv so_far before mid writes count
+    → AreFirstOf (so_far.answers ++ answer ∷ []) (answers_on track cv)
     → AppendsFront mid after (answered_line (question_frame so_far) answer) → HasRisen count later
     → ReadsCv track cv before writes (Err faults.Write) after later
 fails_in_line track cv so_far answer before mid after writes count later reading first front risen =
     let rest = first_lines cv (so_far.answers ++ answer ∷ []) (answers_on track cv) first in
     let lines : answered_lines (unasked cv) (so_far.answers ++ answer ∷ []) ≡ answered_lines (unasked cv) so_far.answers ++ answered_line (question_frame so_far) answer =
     ap (λ c. answered_lines (unasked c) (so_far.answers ++ answer ∷ [])) (sym reading.same_cv) ∙ lines-one so_far answer
-    ∙ ap (λ c. answered_lines (unasked c) so_far.answers ++ answered_line (question_frame so_far) answer) reading.same_cv in
+    ∙ ap (λ c. answered_lines (unasked c) so_far.answers ++ answered_line (question_frame so_far) answer)
+    reading.same_cv in
     let whole : reading_text track cv ≡ answered_lines (unasked cv) so_far.answers ++ answered_line (question_frame so_far) answer ++ rest.0 ++ value_line (value_on track cv) =
-    ap (λ (bytes : List ℕ). bytes ++ value_line (value_on track cv)) (rest.1 ∙ ap (λ (bytes : List ℕ). bytes ++ rest.0) lines) in
-    let written = front_behind before mid after (answered_lines (unasked cv) so_far.answers) (answered_line (question_frame so_far) answer) reading.written front in (
+    ap (λ (bytes : List ℕ). bytes ++ value_line (value_on track cv))
+    (rest.1 ∙ ap (λ (bytes : List ℕ). bytes ++ rest.0) lines) in
+    let written = front_behind before mid after (answered_lines (unasked cv) so_far.answers)
+    (answered_line (question_frame so_far) answer) reading.written front in (
       refl,
       subst (λ (bytes : List ℕ). AppendsFront before after bytes) (sym whole)
-          (AppendsFront-more before after _ (value_line (value_on track cv)) (AppendsFront-more before after _ rest.0 written)),
+          (AppendsFront-more before after _ (value_line (value_on track cv))
+          (AppendsFront-more before after _ rest.0 written)),
       subst (λ (n : ℕ). HasRisen n later) reading.failures risen,
     )
 
@@ -126,79 +153,110 @@ reading_of-exact None (Some b) e = absurd (cc)
 reading_of-exact (Some a) None e = absurd (cc)
 
 -- the answers on a track come to the value on it
-outcome : (track : Option (List ℕ)) (cv : CvNumber) (told : Option ℕ) → IfSome track IsCvs → Comes cv (answers_on track cv) (reading_of told) → told ≡ value_on track cv
+outcome : (track : Option (List ℕ)) (cv : CvNumber) (told : Option ℕ) → IfSome track IsCvs
+    → Comes cv (answers_on track cv) (reading_of told) → told ≡ value_on track cv
 outcome None cv told ok comes = reading_of-exact told None (silence_is_no_answer cv (reading_of told) comes)
-outcome (Some cvs) cv told ok comes = reading_of-exact told (Some (cv_value cvs cv)) (truth_is_the_value cv (cv_value cvs cv) (reading_of told) (ok.bytes (cv.number - 1)) comes)
+outcome (Some cvs) cv told ok comes =
+    reading_of-exact told (Some (cv_value cvs cv))
+    (truth_is_the_value cv (cv_value cvs cv) (reading_of told) (ok.bytes (cv.number - 1)) comes)
 
 -- a reading that has come to its end has nine answers
-nine_answers : (cv : CvNumber) (answers : List Bool) (told : Option ℕ) → Comes cv answers (reading_of told) → length answers ≡ 9
+nine_answers : (cv : CvNumber) (answers : List Bool) (told : Option ℕ) → Comes cv answers (reading_of told)
+    → length answers ≡ 9
 nine_answers cv answers None comes = omega (arith, comes.1, ap length comes.2, length-append comes.0 (false ∷ []))
-nine_answers cv answers (Some value) comes = omega (arith, comes.1, ap length comes.2, length-append comes.0 (true ∷ []))
+nine_answers cv answers (Some value) comes =
+    omega (arith, comes.1, ap length comes.2, length-append comes.0 (true ∷ []))
 
 -- a reading that has come to its end has all answers
-all_answers : (track : Option (List ℕ)) (cv : CvNumber) (so_far : CvAnswers) (answer : Bool) (told : Option ℕ) → AreFirstOf (so_far.answers ++ answer ∷ []) (answers_on track cv)
-    → Comes so_far.cv (so_far.answers ++ answer ∷ []) (reading_of told) → so_far.answers ++ answer ∷ [] ≡ answers_on track cv
-all_answers track cv so_far answer told first comes = all_of _ _ (nine_answers so_far.cv (so_far.answers ++ answer ∷ []) told comes) (nine_on track cv) first
+all_answers : (track : Option (List ℕ)) (cv : CvNumber) (so_far : CvAnswers) (answer : Bool) (told : Option ℕ)
+    → AreFirstOf (so_far.answers ++ answer ∷ []) (answers_on track cv)
+    → Comes so_far.cv (so_far.answers ++ answer ∷ []) (reading_of told)
+    → so_far.answers ++ answer ∷ [] ≡ answers_on track cv
+all_answers track cv so_far answer told first comes =
+    all_of _ _ (nine_answers so_far.cv (so_far.answers ++ answer ∷ []) told comes) (nine_on track cv) first
 
 -- and tells the value
-told_value : (track : Option (List ℕ)) (cv : CvNumber) (so_far : CvAnswers) (answer : Bool) (told : Option ℕ) → IfSome track IsCvs → so_far.cv ≡ cv
-    → AreFirstOf (so_far.answers ++ answer ∷ []) (answers_on track cv) → Comes so_far.cv (so_far.answers ++ answer ∷ []) (reading_of told) → told ≡ value_on track cv
+told_value : (track : Option (List ℕ)) (cv : CvNumber) (so_far : CvAnswers) (answer : Bool) (told : Option ℕ)
+    → IfSome track IsCvs → so_far.cv ≡ cv
+    → AreFirstOf (so_far.answers ++ answer ∷ []) (answers_on track cv)
+    → Comes so_far.cv (so_far.answers ++ answer ∷ []) (reading_of told) → told ≡ value_on track cv
 told_value track cv so_far answer told ok same_cv first comes =
     let P : List Bool → Type 0 = λ answers. Comes cv answers (reading_of told) in
     let Q : CvNumber → Type 0 = λ c. Comes c (so_far.answers ++ answer ∷ []) (reading_of told) in
     outcome track cv told ok (subst P (all_answers track cv so_far answer told first comes) (subst Q same_cv comes))
 
 -- the value is told, behind the lines of all answers
-pub tells_value : (track : Option (List ℕ)) (cv : CvNumber) (so_far : CvAnswers) (answer : Bool) (told : Option ℕ) (before mid after then : Option (List ℕ)) (writes count later last : ℕ)
-    (result : Result (Option ℕ) ToolFault) → IfSome track IsCvs → IsReading track cv so_far before mid writes count → AreFirstOf (so_far.answers ++ answer ∷ []) (answers_on track cv)
-    → TakesAnswer so_far answer mid count (Ok (reading_of told)) after later → Tells told after later result then last → ReadsCv track cv before writes result then last
-tells_value track cv so_far answer told before mid after then writes count later last result ok reading first takes tells =
+pub tells_value : (track : Option (List ℕ)) (cv : CvNumber) (so_far : CvAnswers) (answer : Bool) (told : Option ℕ)
+    (before mid after then : Option (List ℕ)) (writes count later last : ℕ)
+    (result : Result (Option ℕ) ToolFault) → IfSome track IsCvs → IsReading track cv so_far before mid writes count
+    → AreFirstOf (so_far.answers ++ answer ∷ []) (answers_on track cv)
+    → TakesAnswer so_far answer mid count (Ok (reading_of told)) after later → Tells told after later result then last
+    → ReadsCv track cv before writes result then last
+tells_value track cv so_far answer told before mid after then writes count later last result ok reading first takes
+    tells =
     let all = all_answers track cv so_far answer told first takes.0 in
     let value = told_value track cv so_far answer told ok reading.same_cv first takes.0 in
     let lines : Appends before after (answered_lines (unasked cv) (answers_on track cv)) =
-    subst (λ (answers : List Bool). Appends before after (answered_lines (unasked cv) answers)) all (written_more cv so_far answer before mid after reading.same_cv reading.written takes.1) in
+    subst (λ (answers : List Bool). Appends before after (answered_lines (unasked cv) answers)) all
+    (written_more cv so_far answer before mid after reading.same_cv reading.written takes.1) in
     ends result value lines (takes.2 ∙ reading.failures) tells
   where
-    ends : (result : Result (Option ℕ) ToolFault) → told ≡ value_on track cv → Appends before after (answered_lines (unasked cv) (answers_on track cv)) → later ≡ writes
+    ends : (result : Result (Option ℕ) ToolFault) → told ≡ value_on track cv
+        → Appends before after (answered_lines (unasked cv) (answers_on track cv)) → later ≡ writes
         → Tells told after later result then last → ReadsCv track cv before writes result then last
     ends (Ok answered) value lines same tells = (
       tells.0 ∙ value,
-      Appends-append before after then _ _ lines (subst (λ (v : Option ℕ). Appends after then (value_line v)) value tells.1),
+      Appends-append before after then _ _ lines
+          (subst (λ (v : Option ℕ). Appends after then (value_line v)) value tells.1),
       tells.2 ∙ same,
     )
     ends (Err fault) value lines same tells = (
       tells.0,
-      front_behind before after then _ _ lines (subst (λ (v : Option ℕ). AppendsFront after then (value_line v)) value tells.1),
+      front_behind before after then _ _ lines
+          (subst (λ (v : Option ℕ). AppendsFront after then (value_line v)) value tells.1),
       subst (λ (n : ℕ). HasRisen n last) same tells.2,
     )
 
 -- eight answers stand before the last of nine
-eight_before : (answers bits : List Bool) (answer last : Bool) → length bits ≡ 8 → answers ++ answer ∷ [] ≡ bits ++ last ∷ [] → (length answers ≡ 8) × (bits ≡ answers)
+eight_before : (answers bits : List Bool) (answer last : Bool) → length bits ≡ 8
+    → answers ++ answer ∷ [] ≡ bits ++ last ∷ [] → (length answers ≡ 8) × (bits ≡ answers)
 eight_before answers bits answer last eight split =
-    let all : length answers ≡ 8 = omega (arith, ap length split, length-append answers (answer ∷ []), length-append bits (last ∷ [])) in
-    (all, sym (take_at bits (last ∷ []) 8 eight) ∙ ap (λ (xs : List Bool). take 8 xs) (sym split) ∙ take_at answers (answer ∷ []) 8 all)
+    let all : length answers ≡ 8 =
+    omega (arith, ap length split, length-append answers (answer ∷ []), length-append bits (last ∷ [])) in (
+      all,
+      sym (take_at bits (last ∷ []) 8 eight) ∙ ap (λ (xs : List Bool). take 8 xs) (sym split)
+          ∙ take_at answers (answer ∷ []) 8 all,
+    )
 
 -- the question behind which a value is told is that of the byte
-byte_asked : (so_far : CvAnswers) (question : ServicePacket) (cv : CvNumber) (value : ℕ) → Asks so_far question → so_far.cv ≡ cv → length so_far.answers ≡ 8
+byte_asked : (so_far : CvAnswers) (question : ServicePacket) (cv : CvNumber) (value : ℕ) → Asks so_far question
+    → so_far.cv ≡ cv → length so_far.answers ≡ 8
     → value ≡ number_of so_far.answers → question ≡ Verify cv value
 byte_asked so_far (Write c x) cv value asks same_cv all is = absurd asks
 byte_asked so_far (BitWrite c place one) cv value asks same_cv all is = absurd asks
 byte_asked so_far (BitVerify c place one) cv value asks same_cv all is = absurd (omega (arith, asks.1, place.in_range))
-byte_asked so_far (Verify c x) cv value asks same_cv all is = ap (λ n. Verify n x) (asks.0 ∙ same_cv) ∙ ap (λ (v : ℕ). Verify cv v) (asks.2 ∙ sym is)
+byte_asked so_far (Verify c x) cv value asks same_cv all is =
+    ap (λ n. Verify n x) (asks.0 ∙ same_cv) ∙ ap (λ (v : ℕ). Verify cv v) (asks.2 ∙ sym is)
 
 -- a decoder that has told its value was asked for the byte last
-pub asked_last : (so_far : CvAnswers) (question : ServicePacket) (before now new : ServiceState) (cv : CvNumber) (answer : Bool) (told : Option ℕ) → Asks so_far question → so_far.cv ≡ cv
-    → IsCvs before.cvs → now.cvs ≡ before.cvs → new ≡ after_question now question → AreFirstOf (so_far.answers ++ answer ∷ []) (answers_on (Some before.cvs) cv)
+pub asked_last : (so_far : CvAnswers) (question : ServicePacket) (before now new : ServiceState) (cv : CvNumber)
+    (answer : Bool) (told : Option ℕ) → Asks so_far question → so_far.cv ≡ cv
+    → IsCvs before.cvs → now.cvs ≡ before.cvs → new ≡ after_question now question
+    → AreFirstOf (so_far.answers ++ answer ∷ []) (answers_on (Some before.cvs) cv)
     → Comes so_far.cv (so_far.answers ++ answer ∷ []) (reading_of told) → new ≡ after_reading before cv
 asked_last so_far question before now new cv answer None asks same_cv ok same is first comes =
-    let clash : None ≡ Some (cv_value before.cvs cv) = told_value (Some before.cvs) cv so_far answer None ok same_cv first comes in absurd (cc)
+    let clash : None ≡ Some (cv_value before.cvs cv) = told_value (Some before.cvs) cv so_far answer None ok same_cv first comes in
+    absurd (cc)
 asked_last so_far question before now new cv answer (Some value) asks same_cv ok same is first comes =
-    let told : Some value ≡ Some (cv_value before.cvs cv) = told_value (Some before.cvs) cv so_far answer (Some value) ok same_cv first comes in
+    let told : Some value ≡ Some (cv_value before.cvs cv) =
+    told_value (Some before.cvs) cv so_far answer (Some value) ok same_cv first comes in
     let exact : value ≡ cv_value before.cvs cv = cc in
     let parts = eight_before so_far.answers comes.0 answer true comes.1 comes.2 in
-    let byte : question ≡ Verify cv value = byte_asked so_far question cv value asks same_cv parts.0 (comes.3 ∙ ap number_of parts.1) in
+    let byte : question ≡ Verify cv value =
+    byte_asked so_far question cv value asks same_cv parts.0 (comes.3 ∙ ap number_of parts.1) in
     is ∙ ap (λ q. after_question now q) (byte ∙ ap (λ (v : ℕ). Verify cv v) exact)
-    ∙ ap (λ (cvs : List ℕ). record { in_service = true; pending = Some (Verify cv (cv_value before.cvs cv)); cvs = cvs }) same
+    ∙ ap (λ (cvs : List ℕ). record
+    { in_service = true; pending = Some (Verify cv (cv_value before.cvs cv)); cvs = cvs }) same
 
 -- a fact that holds holds of an answer Ok too
 pub on_ok : (result : Result (Option ℕ) ToolFault) (P : Type 0) → P → OnOk result P
@@ -210,19 +268,24 @@ on_ok_map (Ok value) P Q each fact = each fact
 on_ok_map (Err fault) P Q each fact = tt
 
 -- a decoder's answer to the question behind true answers is the next one
-pub true_answer : (so_far : CvAnswers) (question : ServicePacket) (cvs now : List ℕ) (cv : CvNumber) (answer : Bool) → now ≡ cvs → so_far.cv ≡ cv → IsCvs now → Asks so_far question
-    → AreFirstOf so_far.answers (answers_on (Some cvs) cv) → answer ≡ acknowledged question now → AreFirstOf (so_far.answers ++ answer ∷ []) (answers_on (Some cvs) cv)
+pub true_answer : (so_far : CvAnswers) (question : ServicePacket) (cvs now : List ℕ) (cv : CvNumber) (answer : Bool)
+    → now ≡ cvs → so_far.cv ≡ cv → IsCvs now → Asks so_far question
+    → AreFirstOf so_far.answers (answers_on (Some cvs) cv) → answer ≡ acknowledged question now
+    → AreFirstOf (so_far.answers ++ answer ∷ []) (answers_on (Some cvs) cv)
 true_answer so_far question cvs now cv answer same same_cv ok asks first is =
-    let all : answers_on (Some now) so_far.cv ≡ answers_on (Some cvs) cv = ap (λ (xs : List ℕ). answers_on (Some xs) so_far.cv) same ∙ ap (λ c. answers_on (Some cvs) c) same_cv in
+    let all : answers_on (Some now) so_far.cv ≡ answers_on (Some cvs) cv =
+    ap (λ (xs : List ℕ). answers_on (Some xs) so_far.cv) same ∙ ap (λ c. answers_on (Some cvs) c) same_cv in
     let P : List Bool → Type 0 = λ xs. AreFirstOf so_far.answers xs in
     let Q : List Bool → Type 0 = λ xs. AreFirstOf (so_far.answers ++ answer ∷ []) xs in
     let R : Bool → Type 0 = λ b. AreFirstOf (so_far.answers ++ b ∷ []) (answers_on (Some now) so_far.cv) in
     subst Q all (subst R (sym is) (next_is_true so_far question now ok asks (subst P (sym all) first)))
 
 -- silence is the next answer of an empty track
-pub next_is_no : (answers : List Bool) → length answers ≤ 8 → AreFirstOf answers (replicate 9 false) → AreFirstOf (answers ++ false ∷ []) (replicate 9 false)
+pub next_is_no : (answers : List Bool) → length answers ≤ 8 → AreFirstOf answers (replicate 9 false)
+    → AreFirstOf (answers ++ false ∷ []) (replicate 9 false)
 next_is_no answers few first =
     let n : ℕ = length answers in
     let longer : length (answers ++ false ∷ []) ≡ n + 1 = omega (arith, length-append answers (false ∷ [])) in
-    ap (λ (xs : List Bool). xs ++ false ∷ []) (first ∙ take-replicate n 9 false (omega arith)) ∙ replicate-append-replicate n 1 false
+    ap (λ (xs : List Bool). xs ++ false ∷ []) (first ∙ take-replicate n 9 false (omega arith))
+    ∙ replicate-append-replicate n 1 false
     ∙ sym (take-replicate (n + 1) 9 false (omega arith)) ∙ ap (λ (m : ℕ). take m (replicate 9 false)) (sym longer)

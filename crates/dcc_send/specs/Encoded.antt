@@ -1,5 +1,6 @@
 -- What `encode` reads and writes.
-use Rattle.std.specs.Prelude.{◌≡◌, ℕ, ◌∷◌, ◌++◌, List, [], Option, None, Some, Result, Ok, Err, decimal, codes, IfSome, if◌then◌else◌}
+use Rattle.std.specs.Prelude.{◌≡◌, ℕ, ◌∷◌, ◌++◌, List, [], Option, None, Some, Result, Ok, Err, decimal, codes}
+use Rattle.std.specs.Prelude.{IfSome, if◌then◌else◌}
 use Rattle.std.specs.List.{flat_map}
 use Rattle.std.specs.Io.KnownBytes.{Appends}
 use Rattle.hex.specs.Hex.{encode_lower}
@@ -42,17 +43,24 @@ Encodes how before after frames = Appends before after (encoding how frames)
 
 -- all was read up to this fault, which is kept, and all before it is encoded
 abbrev pub EncodesUpTo : Encode → InputState → KeptFault → InputState → Option (List ℕ) → Option (List ℕ) → Type 0
-EncodesUpTo how old fault new before after = (new.fault ≡ Some fault) × ReadsUpTo packet_lines old (Some fault) new (Encodes how before after)
+EncodesUpTo how old fault new before after =
+    (new.fault ≡ Some fault) × ReadsUpTo packet_lines old (Some fault) new (Encodes how before after)
 
 -- A fault comes only where its cause stands, and all that stands before it is encoded.
-abbrev pub EncodesText : Encode → InputState → Option (List ℕ) → ℕ → Result (Unit {0}) ToolFault → InputState → Option (List ℕ) → ℕ → Type 0
+abbrev pub EncodesText : Encode → InputState → Option (List ℕ) → ℕ → Result (Unit {0}) ToolFault → InputState
+    → Option (List ℕ) → ℕ → Type 0
 EncodesText how old before writes (Ok done) new after now =
-    ReadsUpTo packet_lines old None new (Encodes how before after) × IsAtEnd new.text × UsesAllLines old new × (new.fault ≡ None) × (now ≡ writes)
-EncodesText how old before writes (Err (Line number fault)) new after now = EncodesUpTo how old (kept.Line number fault) new before after × (now ≡ writes)
-EncodesText how old before writes (Err Read) new after now = EncodesUpTo how old kept.Read new before after × (now ≡ writes)
-EncodesText how old before writes (Err TooMuch) new after now = EncodesUpTo how old kept.TooMuch new before after × (now ≡ writes)
+    ReadsUpTo packet_lines old None new (Encodes how before after) × IsAtEnd new.text × UsesAllLines old new
+    × (new.fault ≡ None) × (now ≡ writes)
+EncodesText how old before writes (Err (Line number fault)) new after now =
+    EncodesUpTo how old (kept.Line number fault) new before after × (now ≡ writes)
+EncodesText how old before writes (Err Read) new after now =
+    EncodesUpTo how old kept.Read new before after × (now ≡ writes)
+EncodesText how old before writes (Err TooMuch) new after now =
+    EncodesUpTo how old kept.TooMuch new before after × (now ≡ writes)
 EncodesText how old before writes (Err Write) new after now =
-    IfSome old.text (λ text. AppendsFront before after (encoding how (frames_in old text).said)) × (new.fault ≡ None) × (new.failures ≡ old.failures) × HasRisen writes now
+    IfSome old.text (λ text. AppendsFront before after (encoding how (frames_in old text).said)) × (new.fault ≡ None)
+    × (new.failures ≡ old.failures) × HasRisen writes now
 EncodesText how old before writes (Err (Number number)) new after now = ⊥
 EncodesText how old before writes (Err NoMemory) new after now = ⊥
 EncodesText how old before writes (Err (Usage usage)) new after now = ⊥

@@ -1,5 +1,6 @@
 -- What `encode` writes with a station.
-use Rattle.std.specs.Prelude.{◌≡◌, ℕ, ◌==◌, not, List, [], ◌∷◌, ◌++◌, Option, None, Some, Result, Ok, Err, length, codes, IfSome, if◌then◌else◌}
+use Rattle.std.specs.Prelude.{◌≡◌, ℕ, ◌==◌, not, List, [], ◌∷◌, ◌++◌, Option, None, Some, Result, Ok, Err, length}
+use Rattle.std.specs.Prelude.{codes, IfSome, if◌then◌else◌}
 use Rattle.std.specs.Io.KnownBytes.{Appends}
 use Rattle.dcc_packet.specs.declared.packet.Packet.{Packet}
 use Rattle.dcc_packet.specs.Spelling.{spelling}
@@ -45,23 +46,28 @@ after_command s packet (Some refused) = s
 -- what a station is asked, these bytes are written of it, and so it is then
 abbrev pub Answers : Encode → sending.Sending → Asked → List ℕ → sending.Sending → Type 0
 Answers how s (Command frame) bytes new =
-    (packet : Packet) × (spelling packet ≡ frame) × (bytes ≡ command_line (refusal s packet)) × (new ≡ after_command s packet (refusal s packet))
-Answers how s Next bytes new = (packet : Packet) × sending.Next s packet new × (bytes ≡ frame_line how (spelling packet))
+    (packet : Packet) × (spelling packet ≡ frame) × (bytes ≡ command_line (refusal s packet))
+    × (new ≡ after_command s packet (refusal s packet))
+Answers how s Next bytes new =
+    (packet : Packet) × sending.Next s packet new × (bytes ≡ frame_line how (spelling packet))
 
 -- all that a station is asked, one after the other
 abbrev pub AnswersAll : Encode → sending.Sending → List Asked → List ℕ → sending.Sending → Type 0
 AnswersAll how s [] bytes new = (bytes ≡ []) × (new ≡ s)
 AnswersAll how s (item ∷ later) bytes new =
-    (between : sending.Sending) × (first rest : List ℕ) × (bytes ≡ first ++ rest) × Answers how s item first between × AnswersAll how between later rest new
+    (between : sending.Sending) × (first rest : List ℕ) × (bytes ≡ first ++ rest) × Answers how s item first between
+    × AnswersAll how between later rest new
 
 -- what a station answers was written
-pub record Wrote (how : Encode) (s : sending.Sending) (items : List Asked) (new : sending.Sending) (before after : Option (List ℕ)) : Type 0 where
+pub record Wrote (how : Encode) (s : sending.Sending) (items : List Asked) (new : sending.Sending)
+    (before after : Option (List ℕ)) : Type 0 where
   pub bytes : List ℕ
   pub answers : AnswersAll how s items bytes new
   pub written : Appends before after bytes
 
 -- a front of what a station answers to the first of these items was written
-pub record WroteFront (how : Encode) (s : sending.Sending) (items : List Asked) (before after : Option (List ℕ)) : Type 0 where
+pub record WroteFront (how : Encode) (s : sending.Sending) (items : List Asked) (before after : Option (List ℕ)) : Type
+    0 where
   pub first : List Asked
   pub later : List Asked
   pub whole : items ≡ first ++ later
@@ -75,18 +81,26 @@ abbrev pub Answered : Encode → sending.Sending → Option (List ℕ) → Optio
 Answered how s before after items = (new : sending.Sending) × Wrote how s items new before after
 
 -- all was read up to this fault, which is kept, and all before it is answered
-abbrev pub AnsweredUpTo : Encode → sending.Sending → InputState → KeptFault → InputState → Option (List ℕ) → Option (List ℕ) → Type 0
-AnsweredUpTo how s old fault new before after = (new.fault ≡ Some fault) × ReadsUpTo station_lines old (Some fault) new (Answered how s before after)
+abbrev pub AnsweredUpTo : Encode → sending.Sending → InputState → KeptFault → InputState → Option (List ℕ)
+    → Option (List ℕ) → Type 0
+AnsweredUpTo how s old fault new before after =
+    (new.fault ≡ Some fault) × ReadsUpTo station_lines old (Some fault) new (Answered how s before after)
 
 -- A fault comes only where its cause stands, and all that stands before it is answered.
-abbrev pub StationText : Encode → sending.Sending → InputState → Option (List ℕ) → ℕ → Result (Unit {0}) ToolFault → InputState → Option (List ℕ) → ℕ → Type 0
+abbrev pub StationText : Encode → sending.Sending → InputState → Option (List ℕ) → ℕ → Result (Unit {0}) ToolFault
+    → InputState → Option (List ℕ) → ℕ → Type 0
 StationText how s old before writes (Ok done) new after now =
-    ReadsUpTo station_lines old None new (Answered how s before after) × IsAtEnd new.text × UsesAllLines old new × (new.fault ≡ None) × (now ≡ writes)
-StationText how s old before writes (Err (Line number fault)) new after now = AnsweredUpTo how s old (kept.Line number fault) new before after × (now ≡ writes)
-StationText how s old before writes (Err Read) new after now = AnsweredUpTo how s old kept.Read new before after × (now ≡ writes)
-StationText how s old before writes (Err TooMuch) new after now = AnsweredUpTo how s old kept.TooMuch new before after × (now ≡ writes)
+    ReadsUpTo station_lines old None new (Answered how s before after) × IsAtEnd new.text × UsesAllLines old new
+    × (new.fault ≡ None) × (now ≡ writes)
+StationText how s old before writes (Err (Line number fault)) new after now =
+    AnsweredUpTo how s old (kept.Line number fault) new before after × (now ≡ writes)
+StationText how s old before writes (Err Read) new after now =
+    AnsweredUpTo how s old kept.Read new before after × (now ≡ writes)
+StationText how s old before writes (Err TooMuch) new after now =
+    AnsweredUpTo how s old kept.TooMuch new before after × (now ≡ writes)
 StationText how s old before writes (Err Write) new after now =
-    IfSome old.text (λ text. WroteFront how s (items_in station_words old text).said before after) × (new.fault ≡ None) × (new.failures ≡ old.failures) × HasRisen writes now
+    IfSome old.text (λ text. WroteFront how s (items_in station_words old text).said before after) × (new.fault ≡ None)
+    × (new.failures ≡ old.failures) × HasRisen writes now
 StationText how s old before writes (Err (Number number)) new after now = ⊥
 StationText how s old before writes (Err NoMemory) new after now = ⊥
 StationText how s old before writes (Err (Usage usage)) new after now = ⊥

@@ -15,7 +15,8 @@ use Rattle.dcc_io.specs.Written.{AppendsFront}
 abbrev pub TakesAnswer : CvAnswers → Bool → Option (List ℕ) → ℕ → Result Reading Failed → Option (List ℕ) → ℕ → Type 0
 TakesAnswer so_far answer before writes result after now =
     MatchResult result
-    (λ reading. Comes so_far.cv (so_far.answers ++ answer ∷ []) reading × Appends before after (answered_line (question_frame so_far) answer) × (now ≡ writes))
+    (λ reading. Comes so_far.cv (so_far.answers ++ answer ∷ []) reading
+    × Appends before after (answered_line (question_frame so_far) answer) × (now ≡ writes))
     (λ failed. AppendsFront before after (answered_line (question_frame so_far) answer) × HasRisen writes now)
 
 -- this was told and its line is written, or a write failed or took no byte

@@ -1,5 +1,6 @@
 -- What `readcv` reads and writes.
-use Rattle.std.specs.Prelude.{◌≡◌, ℕ, ◌∷◌, ◌++◌, Bool, true, false, List, [], Option, None, Some, Result, MatchResult, decimal, codes, replicate}
+use Rattle.std.specs.Prelude.{◌≡◌, ℕ, ◌∷◌, ◌++◌, Bool, true, false, List, [], Option, None, Some, Result, MatchResult}
+use Rattle.std.specs.Prelude.{decimal, codes, replicate}
 use Rattle.std.specs.Io.KnownBytes.{Appends}
 use Rattle.hex.specs.Hex.{encode_lower}
 use Rattle.dcc_packet.specs.declared.cv.CvNumber.{CvNumber}
@@ -38,7 +39,8 @@ with_answer so_far answer = record { cv = so_far.cv; answers = so_far.answers ++
 -- a line for each answer: its question is the one behind the answers before it
 abbrev pub answered_lines : CvAnswers → List Bool → List ℕ
 answered_lines so_far [] = []
-answered_lines so_far (answer ∷ answers) = answered_line (question_frame so_far) answer ++ answered_lines (with_answer so_far answer) answers
+answered_lines so_far (answer ∷ answers) =
+    answered_line (question_frame so_far) answer ++ answered_lines (with_answer so_far answer) answers
 
 -- a CV of which nothing was asked
 abbrev pub unasked : CvNumber → CvAnswers
@@ -55,10 +57,12 @@ reading_text track cv = answered_lines (unasked cv) (answers_on track cv) ++ val
 
 -- a decoder behind the ninth question about a CV, which it has acknowledged and which is still pending
 abbrev pub after_reading : ServiceState → CvNumber → ServiceState
-after_reading before cv = record { in_service = true; pending = Some (Verify cv (cv_value before.cvs cv)); cvs = before.cvs }
+after_reading before cv =
+    record { in_service = true; pending = Some (Verify cv (cv_value before.cvs cv)); cvs = before.cvs }
 
 -- The value is told and all of the text is written, or a front of it where a write failed or took no byte.
-abbrev pub ReadsCv : Option (List ℕ) → CvNumber → Option (List ℕ) → ℕ → Result (Option ℕ) ToolFault → Option (List ℕ) → ℕ → Type 0
+abbrev pub ReadsCv : Option (List ℕ) → CvNumber → Option (List ℕ) → ℕ → Result (Option ℕ) ToolFault → Option (List ℕ)
+    → ℕ → Type 0
 ReadsCv track cv before writes result after now =
     MatchResult result
     (λ value. (value ≡ value_on track cv) × Appends before after (reading_text track cv) × (now ≡ writes))

@@ -40,15 +40,19 @@ pub fn encode<R: Source, W: Sink>(
     ensures nothing_done { has_begun result ≡ false → (input.new ≡ input.old) × (writer.new ≡ writer.old) }
 
     // A fault that the input keeps is answered again, and nothing is read or written.
-    ensures kept { has_begun result ≡ true → IfSome input.old.fault (λ fault. (result ≡ Err (as_tool_fault fault)) × (input.new ≡ input.old) × (writer.new ≡ writer.old)) }
+    ensures kept { has_begun result ≡ true
+        → IfSome input.old.fault
+        (λ fault. (result ≡ Err (as_tool_fault fault)) × (input.new ≡ input.old) × (writer.new ≡ writer.old)) }
     ensures cause { has_begun result ≡ true → HasCause input.old.fault input.old.failures }
 
     // Else the lines of the packets are written, up to the first fault.
-    ensures encodes { how.station ≡ None → input.old.fault ≡ None → EncodesText how input.old (W.contents writer.old) (W.failures writer.old) result
+    ensures encodes { how.station ≡ None → input.old.fault ≡ None
+        → EncodesText how input.old (W.contents writer.old) (W.failures writer.old) result
         input.new (W.contents writer.new) (W.failures writer.new) }
 
     // With a station its answers are written, up to the first fault.
-    ensures answers { has_begun result ≡ true → input.old.fault ≡ None → IfSome how.station (λ sizes. StationText how (idle_sending sizes.0 sizes.1 sizes.2) input.old
+    ensures answers { has_begun result ≡ true → input.old.fault ≡ None
+        → IfSome how.station (λ sizes. StationText how (idle_sending sizes.0 sizes.1 sizes.2) input.old
         (W.contents writer.old) (W.failures writer.old) result input.new (W.contents writer.new) (W.failures writer.new)) }
 {
     match how.station {
@@ -68,11 +72,13 @@ fn encode_packets<R: Source, W: Sink>(
     how: Encode,
 ) -> Result<(), ToolFault>
     // A fault that the input keeps is answered again, and nothing is read or written.
-    ensures kept { IfSome input.old.fault (λ fault. (result ≡ Err (as_tool_fault fault)) × (input.new ≡ input.old) × (writer.new ≡ writer.old)) }
+    ensures kept { IfSome input.old.fault
+        (λ fault. (result ≡ Err (as_tool_fault fault)) × (input.new ≡ input.old) × (writer.new ≡ writer.old)) }
     ensures cause { HasCause input.old.fault input.old.failures }
 
     // Else the lines of the packets are written, up to the first fault.
-    ensures encodes { input.old.fault ≡ None → EncodesText how input.old (W.contents writer.old) (W.failures writer.old) result
+    ensures encodes { input.old.fault ≡ None
+        → EncodesText how input.old (W.contents writer.old) (W.failures writer.old) result
         input.new (W.contents writer.new) (W.failures writer.new) }
 {
     if let Some(fault) = input.fault() {
@@ -100,7 +106,8 @@ fn next_packet<R: Source, W: Sink>(
     writer: &mut W,
 ) -> Result<Result<Option<Packet>, KeptFault>, Failed>
     requires { input.old.fault ≡ None }
-    ensures { TakesNext AnswersPacket input.old (W.contents writer.old) (W.failures writer.old) held.old result input.new held.new
+    ensures { TakesNext AnswersPacket input.old (W.contents writer.old) (W.failures writer.old) held.old result
+        input.new held.new
         (W.contents writer.new) (W.failures writer.new) }
 {
     match reading::packet_at_hand(input) {

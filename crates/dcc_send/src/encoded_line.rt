@@ -22,7 +22,8 @@ pub(crate) fn hold_frame<W: Sink>(
     how: Encode,
     writer: &mut W,
 ) -> Result<(), Failed>
-    ensures { HoldsOrFails (W.contents writer.old) (W.failures writer.old) (held.old ++ frame_line how frame.now) result held.new
+    ensures { HoldsOrFails (W.contents writer.old) (W.failures writer.old) (held.old ++ frame_line how frame.now) result
+        held.new
         (W.contents writer.new) (W.failures writer.new) }
 {
     let bytes = frame.bytes();
@@ -36,7 +37,8 @@ pub(crate) fn hold_frame<W: Sink>(
 /// Holds the bytes of a frame in hex, and a line feed.
 fn hold_hex<W: Sink>(held: &mut HeldLines, bytes: &[u8], writer: &mut W) -> Result<(), Failed>
     requires { length bytes.now ≤ 6 }
-    ensures { HoldsOrFails (W.contents writer.old) (W.failures writer.old) (held.old ++ (encode_lower bytes.now ++ 10 ∷ [])) result held.new
+    ensures { HoldsOrFails (W.contents writer.old) (W.failures writer.old)
+        (held.old ++ (encode_lower bytes.now ++ 10 ∷ [])) result held.new
         (W.contents writer.new) (W.failures writer.new) }
 {
     let mut line = [0; 13];
@@ -58,7 +60,8 @@ fn hold_halves<W: Sink>(
 ) -> Result<(), Failed>
     requires few { length frame ≤ 6 }
     requires short { timing.preamble ≤ 20 }
-    ensures { HoldsOrFails (W.contents writer.old) (W.failures writer.old) (held.old ++ (spaced (sent frame timing) ++ 10 ∷ [])) result held.new
+    ensures { HoldsOrFails (W.contents writer.old) (W.failures writer.old)
+        (held.old ++ (spaced (sent frame timing) ++ 10 ∷ [])) result held.new
         (W.contents writer.new) (W.failures writer.new) }
 {
     let mut line = EncodedLine::new();

@@ -23,12 +23,15 @@ pub fn readcv<W: Sink>(
     cv: CvNumber,
     writer: &mut W,
 ) -> Result<Option<u8>, ToolFault>
-    ensures reads { ReadsCv (option_map (λ d. d.cvs) (option_copied_mut decoder.entry)) cv (W.contents writer.old) (W.failures writer.old)
+    ensures reads { ReadsCv (option_map (λ d. d.cvs) (option_copied_mut decoder.entry)) cv (W.contents writer.old)
+        (W.failures writer.old)
         result (W.contents writer.new) (W.failures writer.new) }
-    ensures cvs { option_map (λ d. d.cvs) (left_in decoder.exit) ≡ option_map (λ d. d.cvs) (option_copied_mut decoder.entry) }
+    ensures cvs { option_map (λ d. d.cvs) (left_in decoder.exit) ≡ option_map (λ d. d.cvs)
+        (option_copied_mut decoder.entry) }
 
     // Where the answer is Ok, the decoder itself has been asked, the byte last.
-    ensures asked { OnOk result (left_in decoder.exit ≡ option_map (λ d. after_reading d cv) (option_copied_mut decoder.entry)) }
+    ensures asked { OnOk result
+        (left_in decoder.exit ≡ option_map (λ d. after_reading d cv) (option_copied_mut decoder.entry)) }
 {
     match decoder {
         Some(decoder) => read_decoder(decoder, cv, writer),
@@ -42,7 +45,8 @@ fn read_decoder<W: Sink>(
     cv: CvNumber,
     writer: &mut W,
 ) -> Result<Option<u8>, ToolFault>
-    ensures tells { ReadsCv (Some decoder.old.cvs) cv (W.contents writer.old) (W.failures writer.old) result (W.contents writer.new) (W.failures writer.new) }
+    ensures tells { ReadsCv (Some decoder.old.cvs) cv (W.contents writer.old) (W.failures writer.old) result
+        (W.contents writer.new) (W.failures writer.new) }
     ensures cvs { decoder.new.cvs ≡ decoder.old.cvs }
     ensures asked { OnOk result (decoder.new ≡ after_reading decoder.old cv) }
 {
@@ -61,7 +65,8 @@ fn read_decoder<W: Sink>(
 
 /// Puts the questions about a CV to a track where nobody answers.
 fn read_empty_track<W: Sink>(cv: CvNumber, writer: &mut W) -> Result<Option<u8>, ToolFault>
-    ensures { ReadsCv None cv (W.contents writer.old) (W.failures writer.old) result (W.contents writer.new) (W.failures writer.new) }
+    ensures { ReadsCv None cv (W.contents writer.old) (W.failures writer.old) result (W.contents writer.new)
+        (W.failures writer.new) }
 {
     let mut reader = CvReader::new(cv);
     'questions: loop {
@@ -83,7 +88,8 @@ fn take_answer<W: Sink>(
     writer: &mut W,
 ) -> Result<Reading, Failed>
     requires { Asks reader question.now }
-    ensures { TakesAnswer reader yes (W.contents writer.old) (W.failures writer.old) result (W.contents writer.new) (W.failures writer.new) }
+    ensures { TakesAnswer reader yes (W.contents writer.old) (W.failures writer.old) result (W.contents writer.new)
+        (W.failures writer.new) }
 {
     match write_all(writer, answered_line(&question.frame(), yes).as_slice()) {
         Ok(()) => Ok(reader.answer(yes)),
@@ -93,7 +99,8 @@ fn take_answer<W: Sink>(
 
 /// Writes the line of a value or of none, and answers it.
 fn tell<W: Sink>(value: Option<u8>, writer: &mut W) -> Result<Option<u8>, ToolFault>
-    ensures { Tells value (W.contents writer.old) (W.failures writer.old) result (W.contents writer.new) (W.failures writer.new) }
+    ensures { Tells value (W.contents writer.old) (W.failures writer.old) result (W.contents writer.new)
+        (W.failures writer.new) }
 {
     match write_all(writer, value_line(value).as_slice()) {
         Ok(()) => Ok(value),

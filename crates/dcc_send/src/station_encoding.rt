@@ -24,9 +24,11 @@ pub(crate) fn encode_by_station<R: Source, W: Sink>(
     writer: &mut W,
     how: Encode,
 ) -> Result<(), ToolFault>
-    ensures kept { IfSome input.old.fault (λ fault. (result ≡ Err (as_tool_fault fault)) × (input.new ≡ input.old) × (writer.new ≡ writer.old)) }
+    ensures kept { IfSome input.old.fault
+        (λ fault. (result ≡ Err (as_tool_fault fault)) × (input.new ≡ input.old) × (writer.new ≡ writer.old)) }
     ensures cause { HasCause input.old.fault input.old.failures }
-    ensures answers { input.old.fault ≡ None → StationText how station.old input.old (W.contents writer.old) (W.failures writer.old) result
+    ensures answers { input.old.fault ≡ None
+        → StationText how station.old input.old (W.contents writer.old) (W.failures writer.old) result
         input.new (W.contents writer.new) (W.failures writer.new) }
 {
     if let Some(fault) = input.fault() {
@@ -54,7 +56,8 @@ fn next_line<R: Source, W: Sink>(
     writer: &mut W,
 ) -> Result<Result<Option<StationLine>, KeptFault>, Failed>
     requires { input.old.fault ≡ None }
-    ensures { TakesNext (AnswersSaid station_words asked_by) input.old (W.contents writer.old) (W.failures writer.old) held.old result
+    ensures { TakesNext (AnswersSaid station_words asked_by) input.old (W.contents writer.old) (W.failures writer.old)
+        held.old result
         input.new held.new (W.contents writer.new) (W.failures writer.new) }
 {
     match station_line_at_hand(input) {
@@ -75,7 +78,8 @@ fn answer<W: Sink>(
     line: StationLine,
     writer: &mut W,
 ) -> Result<(), Failed>
-    ensures { HoldsAnswersOrFails how station.old (asked_by line) (W.contents writer.old) (W.failures writer.old) held.old result
+    ensures { HoldsAnswersOrFails how station.old (asked_by line) (W.contents writer.old) (W.failures writer.old)
+        held.old result
         station.new held.new (W.contents writer.new) (W.failures writer.new) }
 {
     match line {
@@ -91,7 +95,9 @@ fn take_command<W: Sink>(
     packet: Packet,
     writer: &mut W,
 ) -> Result<(), Failed>
-    ensures { (how : Encode) → HoldsAnswersOrFails how station.old (Command (spelling packet) ∷ []) (W.contents writer.old) (W.failures writer.old) held.old result
+    ensures { (how : Encode)
+        → HoldsAnswersOrFails how station.old (Command (spelling packet) ∷ []) (W.contents writer.old)
+        (W.failures writer.old) held.old result
         station.new held.new (W.contents writer.new) (W.failures writer.new) }
 {
     match station.command(packet) {
@@ -108,7 +114,8 @@ fn send<W: Sink>(
     count: u16,
     writer: &mut W,
 ) -> Result<(), Failed>
-    ensures { HoldsAnswersOrFails how station.old (replicate count Next) (W.contents writer.old) (W.failures writer.old) held.old result
+    ensures { HoldsAnswersOrFails how station.old (replicate count Next) (W.contents writer.old) (W.failures writer.old)
+        held.old result
         station.new held.new (W.contents writer.new) (W.failures writer.new) }
 {
     for _ in 0..count {
@@ -127,7 +134,8 @@ fn send_next<W: Sink>(
     how: Encode,
     writer: &mut W,
 ) -> Result<(), Failed>
-    ensures { HoldsAnswersOrFails how station.old (Next ∷ []) (W.contents writer.old) (W.failures writer.old) held.old result
+    ensures { HoldsAnswersOrFails how station.old (Next ∷ []) (W.contents writer.old) (W.failures writer.old) held.old
+        result
         station.new held.new (W.contents writer.new) (W.failures writer.new) }
 {
     let packet = station.next();

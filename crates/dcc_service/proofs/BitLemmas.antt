@@ -1,5 +1,6 @@
 -- The bits of a byte.
-use Rattle.std.proofs.Common.{◌≡◌, ◌≢◌, ℕ, zero, suc, ◌+◌, ◌-◌, ◌*◌, ◌%◌, ◌^◌, ◌<◌, ◌≤◌, ◌∙◌, ap, sym, Bool, true, false, refl, arith}
+use Rattle.std.proofs.Common.{◌≡◌, ◌≢◌, ℕ, zero, suc, ◌+◌, ◌-◌, ◌*◌, ◌%◌, ◌^◌, ◌<◌, ◌≤◌, ◌∙◌, ap, sym, Bool, true}
+use Rattle.std.proofs.Common.{false, refl, arith}
 use mathlib.Core.Bool.{beq}
 use Rattle.std.specs.Int.{bit_at}
 use Rattle.dcc_packet.specs.Rows.{bit}
@@ -29,13 +30,15 @@ weight_at shift place e h = ap (λ k. 1 * 2 ^ k % 256) e ∙ weight_of place h
 pub room : (byte k : ℕ) → k ≤ 7 → byte < 256 → bit_at byte k ≡ 0 → byte + 2 ^ k < 256
 room byte =
     let P : ℕ → Type 0 = λ k. byte < 256 → bit_at byte k ≡ 0 → byte + 2 ^ k < 256 in
-    by_place P (λ h e. omega arith) (λ h e. omega arith) (λ h e. omega arith) (λ h e. omega arith) (λ h e. omega arith) (λ h e. omega arith) (λ h e. omega arith) (λ h e. omega arith)
+    by_place P (λ h e. omega arith) (λ h e. omega arith) (λ h e. omega arith) (λ h e. omega arith) (λ h e. omega arith)
+    (λ h e. omega arith) (λ h e. omega arith) (λ h e. omega arith)
 
 -- a byte with a one at a place is at least that much
 pub at_least : (byte k : ℕ) → k ≤ 7 → bit_at byte k ≡ 1 → 2 ^ k ≤ byte
 at_least byte =
     let P : ℕ → Type 0 = λ k. bit_at byte k ≡ 1 → 2 ^ k ≤ byte in
-    by_place P (λ e. omega arith) (λ e. omega arith) (λ e. omega arith) (λ e. omega arith) (λ e. omega arith) (λ e. omega arith) (λ e. omega arith) (λ e. omega arith)
+    by_place P (λ e. omega arith) (λ e. omega arith) (λ e. omega arith) (λ e. omega arith) (λ e. omega arith)
+    (λ e. omega arith) (λ e. omega arith) (λ e. omega arith)
 
 put : (byte b w : ℕ) → b ≡ 0 → byte + w ≡ byte - b * w + 1 * w
 put byte b w e = rw e (omega arith)
@@ -67,47 +70,76 @@ pub bit_at-with_bit : (byte k : ℕ) (one : Bool) → k ≤ 7 → bit_at (with_b
 unfolding with_bit
 bit_at-with_bit byte k true =
     let P : ℕ → Type 0 = λ k. bit_at (byte - bit_at byte k * 2 ^ k + 1 * 2 ^ k) k ≡ 1 in
-    by_place P (omega arith) (omega arith) (omega arith) (omega arith) (omega arith) (omega arith) (omega arith) (omega arith) k
+    by_place P (omega arith) (omega arith) (omega arith) (omega arith) (omega arith) (omega arith) (omega arith)
+    (omega arith) k
 bit_at-with_bit byte k false =
     let P : ℕ → Type 0 = λ k. bit_at (byte - bit_at byte k * 2 ^ k + 0 * 2 ^ k) k ≡ 0 in
-    by_place P (omega arith) (omega arith) (omega arith) (omega arith) (omega arith) (omega arith) (omega arith) (omega arith) k
+    by_place P (omega arith) (omega arith) (omega arith) (omega arith) (omega arith) (omega arith) (omega arith)
+    (omega arith) k
 
 -- where the bit at place k is taken out and this one put in, the bit at place j is as it was
 abbrev OtherBit : ℕ → ℕ → ℕ → ℕ → Type 0
 OtherBit byte state k j = j ≢ k → bit_at (byte - bit_at byte k * 2 ^ k + state * 2 ^ k) j ≡ bit_at byte j
 
 other_than_0 : (byte state j : ℕ) → state ≤ 1 → j ≤ 7 → OtherBit byte state 0 j
-other_than_0 byte state j small = by_place (OtherBit byte state 0) (λ ne. omega (arith, small)) (λ ne. omega (arith, small)) (λ ne. omega (arith, small)) (λ ne. omega (arith, small)) (λ ne. omega (arith, small)) (λ ne. omega (arith, small)) (λ ne. omega (arith, small)) (λ ne. omega (arith, small)) j
+other_than_0 byte state j small =
+    by_place (OtherBit byte state 0) (λ ne. omega (arith, small)) (λ ne. omega (arith, small))
+    (λ ne. omega (arith, small)) (λ ne. omega (arith, small)) (λ ne. omega (arith, small)) (λ ne. omega (arith, small))
+    (λ ne. omega (arith, small)) (λ ne. omega (arith, small)) j
 
 other_than_1 : (byte state j : ℕ) → state ≤ 1 → j ≤ 7 → OtherBit byte state 1 j
-other_than_1 byte state j small = by_place (OtherBit byte state 1) (λ ne. omega (arith, small)) (λ ne. omega (arith, small)) (λ ne. omega (arith, small)) (λ ne. omega (arith, small)) (λ ne. omega (arith, small)) (λ ne. omega (arith, small)) (λ ne. omega (arith, small)) (λ ne. omega (arith, small)) j
+other_than_1 byte state j small =
+    by_place (OtherBit byte state 1) (λ ne. omega (arith, small)) (λ ne. omega (arith, small))
+    (λ ne. omega (arith, small)) (λ ne. omega (arith, small)) (λ ne. omega (arith, small)) (λ ne. omega (arith, small))
+    (λ ne. omega (arith, small)) (λ ne. omega (arith, small)) j
 
 other_than_2 : (byte state j : ℕ) → state ≤ 1 → j ≤ 7 → OtherBit byte state 2 j
-other_than_2 byte state j small = by_place (OtherBit byte state 2) (λ ne. omega (arith, small)) (λ ne. omega (arith, small)) (λ ne. omega (arith, small)) (λ ne. omega (arith, small)) (λ ne. omega (arith, small)) (λ ne. omega (arith, small)) (λ ne. omega (arith, small)) (λ ne. omega (arith, small)) j
+other_than_2 byte state j small =
+    by_place (OtherBit byte state 2) (λ ne. omega (arith, small)) (λ ne. omega (arith, small))
+    (λ ne. omega (arith, small)) (λ ne. omega (arith, small)) (λ ne. omega (arith, small)) (λ ne. omega (arith, small))
+    (λ ne. omega (arith, small)) (λ ne. omega (arith, small)) j
 
 other_than_3 : (byte state j : ℕ) → state ≤ 1 → j ≤ 7 → OtherBit byte state 3 j
-other_than_3 byte state j small = by_place (OtherBit byte state 3) (λ ne. omega (arith, small)) (λ ne. omega (arith, small)) (λ ne. omega (arith, small)) (λ ne. omega (arith, small)) (λ ne. omega (arith, small)) (λ ne. omega (arith, small)) (λ ne. omega (arith, small)) (λ ne. omega (arith, small)) j
+other_than_3 byte state j small =
+    by_place (OtherBit byte state 3) (λ ne. omega (arith, small)) (λ ne. omega (arith, small))
+    (λ ne. omega (arith, small)) (λ ne. omega (arith, small)) (λ ne. omega (arith, small)) (λ ne. omega (arith, small))
+    (λ ne. omega (arith, small)) (λ ne. omega (arith, small)) j
 
 other_than_4 : (byte state j : ℕ) → state ≤ 1 → j ≤ 7 → OtherBit byte state 4 j
-other_than_4 byte state j small = by_place (OtherBit byte state 4) (λ ne. omega (arith, small)) (λ ne. omega (arith, small)) (λ ne. omega (arith, small)) (λ ne. omega (arith, small)) (λ ne. omega (arith, small)) (λ ne. omega (arith, small)) (λ ne. omega (arith, small)) (λ ne. omega (arith, small)) j
+other_than_4 byte state j small =
+    by_place (OtherBit byte state 4) (λ ne. omega (arith, small)) (λ ne. omega (arith, small))
+    (λ ne. omega (arith, small)) (λ ne. omega (arith, small)) (λ ne. omega (arith, small)) (λ ne. omega (arith, small))
+    (λ ne. omega (arith, small)) (λ ne. omega (arith, small)) j
 
 other_than_5 : (byte state j : ℕ) → state ≤ 1 → j ≤ 7 → OtherBit byte state 5 j
-other_than_5 byte state j small = by_place (OtherBit byte state 5) (λ ne. omega (arith, small)) (λ ne. omega (arith, small)) (λ ne. omega (arith, small)) (λ ne. omega (arith, small)) (λ ne. omega (arith, small)) (λ ne. omega (arith, small)) (λ ne. omega (arith, small)) (λ ne. omega (arith, small)) j
+other_than_5 byte state j small =
+    by_place (OtherBit byte state 5) (λ ne. omega (arith, small)) (λ ne. omega (arith, small))
+    (λ ne. omega (arith, small)) (λ ne. omega (arith, small)) (λ ne. omega (arith, small)) (λ ne. omega (arith, small))
+    (λ ne. omega (arith, small)) (λ ne. omega (arith, small)) j
 
 other_than_6 : (byte state j : ℕ) → state ≤ 1 → j ≤ 7 → OtherBit byte state 6 j
-other_than_6 byte state j small = by_place (OtherBit byte state 6) (λ ne. omega (arith, small)) (λ ne. omega (arith, small)) (λ ne. omega (arith, small)) (λ ne. omega (arith, small)) (λ ne. omega (arith, small)) (λ ne. omega (arith, small)) (λ ne. omega (arith, small)) (λ ne. omega (arith, small)) j
+other_than_6 byte state j small =
+    by_place (OtherBit byte state 6) (λ ne. omega (arith, small)) (λ ne. omega (arith, small))
+    (λ ne. omega (arith, small)) (λ ne. omega (arith, small)) (λ ne. omega (arith, small)) (λ ne. omega (arith, small))
+    (λ ne. omega (arith, small)) (λ ne. omega (arith, small)) j
 
 other_than_7 : (byte state j : ℕ) → state ≤ 1 → j ≤ 7 → OtherBit byte state 7 j
-other_than_7 byte state j small = by_place (OtherBit byte state 7) (λ ne. omega (arith, small)) (λ ne. omega (arith, small)) (λ ne. omega (arith, small)) (λ ne. omega (arith, small)) (λ ne. omega (arith, small)) (λ ne. omega (arith, small)) (λ ne. omega (arith, small)) (λ ne. omega (arith, small)) j
+other_than_7 byte state j small =
+    by_place (OtherBit byte state 7) (λ ne. omega (arith, small)) (λ ne. omega (arith, small))
+    (λ ne. omega (arith, small)) (λ ne. omega (arith, small)) (λ ne. omega (arith, small)) (λ ne. omega (arith, small))
+    (λ ne. omega (arith, small)) (λ ne. omega (arith, small)) j
 
 other_bit : (byte state j k : ℕ) → state ≤ 1 → j ≤ 7 → k ≤ 7 → OtherBit byte state k j
 other_bit byte state j k small fits =
-    by_place (λ k. OtherBit byte state k j) (other_than_0 byte state j small fits) (other_than_1 byte state j small fits) (other_than_2 byte state j small fits)
-    (other_than_3 byte state j small fits) (other_than_4 byte state j small fits) (other_than_5 byte state j small fits) (other_than_6 byte state j small fits)
+    by_place (λ k. OtherBit byte state k j) (other_than_0 byte state j small fits)
+    (other_than_1 byte state j small fits) (other_than_2 byte state j small fits)
+    (other_than_3 byte state j small fits) (other_than_4 byte state j small fits) (other_than_5 byte state j small fits)
+    (other_than_6 byte state j small fits)
     (other_than_7 byte state j small fits) k
 
 -- the other bits are as they were
-pub bit_at-with_bit-other : (byte k j : ℕ) (one : Bool) → k ≤ 7 → j ≤ 7 → j ≢ k → bit_at (with_bit byte k one) j ≡ bit_at byte j
+pub bit_at-with_bit-other : (byte k j : ℕ) (one : Bool) → k ≤ 7 → j ≤ 7 → j ≢ k
+    → bit_at (with_bit byte k one) j ≡ bit_at byte j
 unfolding with_bit
 bit_at-with_bit-other byte k j one fits_k fits_j = other_bit byte (bit one) j k (bit_below one) fits_j fits_k
 
@@ -121,5 +153,7 @@ compared_same false true e = absurd (cc)
 pub compared_other : (is one state : Bool) → beq is one ≡ false → one ≡ state → bit is ≡ 1 - bit state
 compared_other true one false e same = refl
 compared_other false one true e same = refl
-compared_other true one true e same = let contrary : true ≡ false = sym (ap (λ (b : Bool). beq true b) same) ∙ e in absurd (cc)
-compared_other false one false e same = let contrary : true ≡ false = sym (ap (λ (b : Bool). beq false b) same) ∙ e in absurd (cc)
+compared_other true one true e same =
+    let contrary : true ≡ false = sym (ap (λ (b : Bool). beq true b) same) ∙ e in absurd (cc)
+compared_other false one false e same =
+    let contrary : true ≡ false = sym (ap (λ (b : Bool). beq false b) same) ∙ e in absurd (cc)

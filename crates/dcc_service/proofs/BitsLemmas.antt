@@ -1,5 +1,6 @@
 -- The bits of a number, the lowest first.
-use Rattle.std.proofs.Common.{◌≡◌, ℕ, zero, suc, ◌+◌, ◌*◌, ◌/◌, ◌%◌, ◌^◌, ◌<◌, ◌≤◌, Bool, true, false, [], ◌∷◌, ◌++◌, length, refl, ap, ◌∙◌, arith}
+use Rattle.std.proofs.Common.{◌≡◌, ℕ, zero, suc, ◌+◌, ◌*◌, ◌/◌, ◌%◌, ◌^◌, ◌<◌, ◌≤◌, Bool, true, false, [], ◌∷◌, ◌++◌}
+use Rattle.std.proofs.Common.{length, refl, ap, ◌∙◌, arith}
 use Rattle.std.specs.Prelude.{◌==◌}
 use Rattle.std.proofs.Math.Nat.{pow-suc}
 use Rattle.dcc_packet.specs.Rows.{bit}
@@ -29,7 +30,8 @@ doubled true n = omega (arith, pow-suc 2 n)
 doubled false n = omega arith
 
 -- one bit more, above the others
-pub bits_of-more : (n number : ℕ) (one : Bool) → number < 2 ^ n → bits_of (suc n) (number + bit one * 2 ^ n) ≡ bits_of n number ++ one ∷ []
+pub bits_of-more : (n number : ℕ) (one : Bool) → number < 2 ^ n
+    → bits_of (suc n) (number + bit one * 2 ^ n) ≡ bits_of n number ++ one ∷ []
 unfolding bits_of
 bits_of-more zero number true h =
     let e : number ≡ 0 = omega arith in rw e refl

@@ -1,5 +1,6 @@
 -- What the questions of each kind come to, and the bits of a number.
-use Rattle.std.proofs.Common.{◌≡◌, ◌≢◌, ℕ, zero, suc, ◌+◌, ◌-◌, ◌*◌, ◌/◌, Bool, true, false, List, [], ◌∷◌, get_or, set, cond, Some, refl, ap, ◌∙◌, arith, inl, inr}
+use Rattle.std.proofs.Common.{◌≡◌, ◌≢◌, ℕ, zero, suc, ◌+◌, ◌-◌, ◌*◌, ◌/◌, Bool, true, false, List, [], ◌∷◌, get_or}
+use Rattle.std.proofs.Common.{set, cond, Some, refl, ap, ◌∙◌, arith, inl, inr}
 use Rattle.std.specs.Prelude.{slice_get, ◌==◌, ◌||◌, not}
 use Rattle.std.proofs.lemmas.Bool.Decides.{nat_tests}
 use Rattle.std.specs.Int.{bit_at}
@@ -12,13 +13,15 @@ use Rattle.dcc_service.specs.Bits.{number_of}
 use Rattle.dcc_service.specs.Cvs.{IsCvs, cv_value, is_writable, written, with_bit}
 use Rattle.dcc_service.specs.Machine.{ServiceState}
 use Rattle.dcc_service.specs.Question.{four_no_then}
-use Rattle.dcc_service.specs.QuestionLaws.{QuestionsAreAnswered, VerifiesTell, BitVerifiesTell, WritesAreDone, BitWritesAreDone, KeptCvsStay, IsKept}
+use Rattle.dcc_service.specs.QuestionLaws.{QuestionsAreAnswered, VerifiesTell, BitVerifiesTell, WritesAreDone}
+use Rattle.dcc_service.specs.QuestionLaws.{BitWritesAreDone, KeptCvsStay, IsKept}
 use Rattle.dcc_packet.proofs.Same.{bit_below}
 use Rattle.dcc_service.proofs.BitLemmas.{bit_at-with_bit, bit_at-with_bit-other}
 use Rattle.dcc_service.proofs.QuestionLemmas.{answers_of}
 
 pub questions_answered : QuestionsAreAnswered
-questions_answered question before after answers asked = answers_of question before after answers asked.cvs.count asked.steps
+questions_answered question before after answers asked =
+    answers_of question before after answers asked.cvs.count asked.steps
 
 pub verifies_tell : VerifiesTell
 verifies_tell cv value before after answers asked =
@@ -42,18 +45,22 @@ kept : (cv : CvNumber) → IsKept cv → is_writable cv ≡ false
 kept cv (inl seven) = ap (λ (n : ℕ). not (n == 7 || n == 8)) seven
 kept cv (inr eight) = ap (λ (n : ℕ). not (n == 7 || n == 8)) eight
 
-value-written : (cvs : List ℕ) (cv : CvNumber) (value : ℕ) → IsCvs cvs → is_writable cv ≡ true → cv_value (written cvs cv value) cv ≡ value
+value-written : (cvs : List ℕ) (cv : CvNumber) (value : ℕ) → IsCvs cvs → is_writable cv ≡ true
+    → cv_value (written cvs cv value) cv ≡ value
 value-written cvs cv value ok is_written =
     ap (λ (w : Bool). get_or (cond w (set cvs (cv.number - 1) value) cvs) (cv.number - 1) 0) is_written
     ∙ get_or-set_same cvs (cv.number - 1) value 0 (omega (arith, ok.count, cv.in_range))
 
-other_kept : (w : Bool) (cvs : List ℕ) (i j value : ℕ) → j ≢ i → get_or (cond w (set cvs i value) cvs) j 0 ≡ get_or cvs j 0
+other_kept : (w : Bool) (cvs : List ℕ) (i j value : ℕ) → j ≢ i
+    → get_or (cond w (set cvs i value) cvs) j 0 ≡ get_or cvs j 0
 other_kept true cvs i j value h = get_or-set_other cvs i j value 0 h
 other_kept false cvs i j value h = refl
 
-value-other : (cvs : List ℕ) (cv other : CvNumber) (value : ℕ) → other.number ≢ cv.number → cv_value (written cvs cv value) other ≡ cv_value cvs other
+value-other : (cvs : List ℕ) (cv other : CvNumber) (value : ℕ) → other.number ≢ cv.number
+    → cv_value (written cvs cv value) other ≡ cv_value cvs other
 value-other cvs cv other value h =
-    other_kept (is_writable cv) cvs (cv.number - 1) (other.number - 1) value (λ e. h (omega (arith, cv.in_range, other.in_range)))
+    other_kept (is_writable cv) cvs (cv.number - 1) (other.number - 1) value
+    (λ e. h (omega (arith, cv.in_range, other.in_range)))
 
 unwritten : (cvs : List ℕ) (cv : CvNumber) (value : ℕ) → is_writable cv ≡ false → written cvs cv value ≡ cvs
 unwritten cvs cv value isnt = ap (λ (w : Bool). cond w (set cvs (cv.number - 1) value) cvs) isnt
@@ -74,24 +81,34 @@ bit_writes_done cv bits one before after answers other asked =
     let value : ℕ = with_bit (cv_value before.cvs cv) bits.place one in
     let known = questions_answered (BitWrite cv bits one) before after answers asked in
     let cvs : after.cvs ≡ written before.cvs cv value = ap (λ (s : ServiceState). s.cvs) known.0 in
-    let has : cv_value after.cvs cv ≡ value = ap (λ (xs : List ℕ). cv_value xs cv) cvs ∙ value-written before.cvs cv value asked.cvs is_written in (
+    let has : cv_value after.cvs cv ≡ value =
+    ap (λ (xs : List ℕ). cv_value xs cv) cvs ∙ value-written before.cvs cv value asked.cvs is_written in (
       known.1 ∙ ap four_no_then is_written,
       ap (λ (v : ℕ). bit_at v bits.place) has ∙ bit_at-with_bit (cv_value before.cvs cv) bits.place one bits.in_range,
-      λ another h. ap (λ (v : ℕ). bit_at v another.place) has ∙ bit_at-with_bit-other (cv_value before.cvs cv) bits.place another.place one bits.in_range another.in_range h,
+      λ another h. ap (λ (v : ℕ). bit_at v another.place) has
+          ∙ bit_at-with_bit-other (cv_value before.cvs cv) bits.place another.place one bits.in_range another.in_range
+          h,
       λ another h. ap (λ (xs : List ℕ). cv_value xs another) cvs ∙ value-other before.cvs cv another value h,
     )
 
 pub kept_stay : KeptCvsStay
 kept_stay cv is = (
   λ value before after answers asked.
-      let known = questions_answered (Write cv value) before after answers asked in
-      (known.1 ∙ ap four_no_then (kept cv is), ap (λ (s : ServiceState). s.cvs) known.0 ∙ unwritten before.cvs cv value (kept cv is)),
+      let known = questions_answered (Write cv value) before after answers asked in (
+        known.1 ∙ ap four_no_then (kept cv is),
+        ap (λ (s : ServiceState). s.cvs) known.0
+            ∙ unwritten before.cvs cv value (kept cv is),
+      ),
   λ bits one before after answers asked.
-      let known = questions_answered (BitWrite cv bits one) before after answers asked in
-      (known.1 ∙ ap four_no_then (kept cv is), ap (λ (s : ServiceState). s.cvs) known.0 ∙ unwritten before.cvs cv (with_bit (cv_value before.cvs cv) bits.place one) (kept cv is)),
+      let known = questions_answered (BitWrite cv bits one) before after answers asked in (
+        known.1 ∙ ap four_no_then (kept cv is),
+        ap (λ (s : ServiceState). s.cvs) known.0
+            ∙ unwritten before.cvs cv (with_bit (cv_value before.cvs cv) bits.place one) (kept cv is),
+      ),
 )
 
-pub bit-number_of : (bits : List Bool) (k : ℕ) (one : Bool) → slice_get bits k ≡ Some one → bit_at (number_of bits) k ≡ bit one
+pub bit-number_of : (bits : List Bool) (k : ℕ) (one : Bool) → slice_get bits k ≡ Some one
+    → bit_at (number_of bits) k ≡ bit one
 unfolding number_of
 bit-number_of [] k one e = absurd (cc)
 bit-number_of (b ∷ bits) zero one e =

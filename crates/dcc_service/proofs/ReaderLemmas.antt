@@ -1,5 +1,6 @@
 -- A reading as its fields: how many bits are known, and their number.
-use Rattle.std.proofs.Common.{◌≡◌, ℕ, suc, ◌+◌, ◌*◌, ◌^◌, ◌%◌, ◌<◌, Bool, true, false, [], ◌∷◌, ◌++◌, length, refl, sym, ap, ◌∙◌, add-one, arith}
+use Rattle.std.proofs.Common.{◌≡◌, ℕ, suc, ◌+◌, ◌*◌, ◌^◌, ◌%◌, ◌<◌, Bool, true, false, [], ◌∷◌, ◌++◌, length, refl}
+use Rattle.std.proofs.Common.{sym, ap, ◌∙◌, add-one, arith}
 use mir.Val.{bool_byte}
 use Rattle.dcc_packet.specs.declared.cv.CvNumber.{CvNumber}
 use Rattle.dcc_service.specs.CvAnswers.{CvAnswers}
@@ -11,10 +12,12 @@ use Rattle.dcc_service.proofs.BitsLemmas.{length-bits_of, number_of-bits_of, bit
 abbrev pub view : CvNumber → ℕ → ℕ → CvAnswers
 view cv known value = record { cv = cv; answers = bits_of known value }
 
-pub counted : (cv : CvNumber) (known value : ℕ) (so_far : CvAnswers) → view cv known value ≡ so_far → length so_far.answers ≡ known
+pub counted : (cv : CvNumber) (known value : ℕ) (so_far : CvAnswers) → view cv known value ≡ so_far
+    → length so_far.answers ≡ known
 counted cv known value so_far e = sym (ap (λ (a : CvAnswers). length a.answers) e) ∙ length-bits_of known value
 
-pub valued : (cv : CvNumber) (known value : ℕ) (so_far : CvAnswers) → view cv known value ≡ so_far → value < 2 ^ known → value ≡ number_of so_far.answers
+pub valued : (cv : CvNumber) (known value : ℕ) (so_far : CvAnswers) → view cv known value ≡ so_far → value < 2 ^ known
+    → value ≡ number_of so_far.answers
 valued cv known value so_far e h = sym (number_of-bits_of known value h) ∙ ap (λ (a : CvAnswers). number_of a.answers) e
 
 byte_of : (one : Bool) → bool_byte one ≡ bit one
@@ -22,8 +25,10 @@ byte_of true = refl
 byte_of false = refl
 
 -- one answer more
-pub answered : (cv : CvNumber) (known value byte : ℕ) (reply : Bool) (so_far : CvAnswers) → view cv known value ≡ so_far → value < 2 ^ known → known < 8 → byte ≡ bool_byte reply
-    → view cv (known + 1) (value + byte * 2 ^ known % 256) ≡ record { cv = so_far.cv; answers = so_far.answers ++ reply ∷ [] }
+pub answered : (cv : CvNumber) (known value byte : ℕ) (reply : Bool) (so_far : CvAnswers) → view cv known value ≡ so_far
+    → value < 2 ^ known → known < 8 → byte ≡ bool_byte reply
+    → view cv (known + 1) (value + byte * 2 ^ known % 256) ≡ record
+    { cv = so_far.cv; answers = so_far.answers ++ reply ∷ [] }
 answered cv known value byte reply so_far e h few is =
     let weight : byte * 2 ^ known % 256 ≡ bit reply * 2 ^ known =
     ap (λ (b : ℕ). b * 2 ^ known % 256) (is ∙ byte_of reply) ∙ byte_weight reply known (omega arith) in

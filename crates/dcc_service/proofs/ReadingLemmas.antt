@@ -1,5 +1,6 @@
 -- What the answers to the questions of a reading come to.
-use Rattle.std.proofs.Common.{cond, ◌≡◌, ℕ, zero, suc, ◌+◌, ◌*◌, ◌/◌, ◌%◌, ◌<◌, ◌≤◌, ◌-◌, Bool, true, false, List, [], ◌∷◌, ◌++◌, length, take, replicate, refl, sym, ap, ◌∙◌, arith, length-append, rules}
+use Rattle.std.proofs.Common.{cond, ◌≡◌, ℕ, zero, suc, ◌+◌, ◌*◌, ◌/◌, ◌%◌, ◌<◌, ◌≤◌, ◌-◌, Bool, true, false, List, []}
+use Rattle.std.proofs.Common.{◌∷◌, ◌++◌, length, take, replicate, refl, sym, ap, ◌∙◌, arith, length-append, rules}
 use Rattle.std.specs.Prelude.{◌==◌}
 use Rattle.std.specs.Int.{bit_at}
 use Rattle.std.proofs.lemmas.Nat.Bits.{bit_at-suc, bit_at_lowest}
@@ -33,7 +34,8 @@ take-bits_of : (n m number : ℕ) → n ≤ m → take n (bits_of m number) ≡ 
 unfolding bits_of
 take-bits_of zero m number h = refl
 take-bits_of (suc n) zero number h = absurd (omega arith)
-take-bits_of (suc n) (suc m) number h = ap (λ bits. (number % 2 == 1) ∷ bits) (take-bits_of n m (number / 2) (omega arith))
+take-bits_of (suc n) (suc m) number h =
+    ap (λ bits. (number % 2 == 1) ∷ bits) (take-bits_of n m (number / 2) (omega arith))
 
 -- the first eight true answers are bits of the value
 first_bits : (n value : ℕ) → n ≤ 8 → take n (true_answers value) ≡ bits_of n value
@@ -53,7 +55,8 @@ before_last (a ∷ xs) (b ∷ ys) x y e =
     (cc, rest.1)
 
 -- the questions of a reading change no CV
-pub asks_only : (so_far : CvAnswers) (question : ServicePacket) (cvs : List ℕ) → Asks so_far question → acted_on question cvs ≡ cvs
+pub asks_only : (so_far : CvAnswers) (question : ServicePacket) (cvs : List ℕ) → Asks so_far question
+    → acted_on question cvs ≡ cvs
 asks_only so_far (Verify cv value) cvs asks = refl
 asks_only so_far (BitVerify cv bits one) cvs asks = refl
 asks_only so_far (Write cv value) cvs asks = absurd asks
@@ -63,7 +66,8 @@ itself : (n : ℕ) → (n == n) ≡ true
 itself n = search rules
 
 -- the answer about a bit
-bit_answer : (so_far : CvAnswers) (cv : CvNumber) (place number : ℕ) (one : Bool) (cvs : List ℕ) → cv ≡ so_far.cv → place ≡ number → one ≡ true
+bit_answer : (so_far : CvAnswers) (cv : CvNumber) (place number : ℕ) (one : Bool) (cvs : List ℕ) → cv ≡ so_far.cv
+    → place ≡ number → one ≡ true
     → (bit_at (cv_value cvs cv) place == bit one) ≡ (bit_at (cv_value cvs so_far.cv) number == 1)
 bit_answer so_far cv place number one cvs same_cv same_place is_one =
     ap (λ c. bit_at (cv_value cvs c) place == bit one) same_cv
@@ -71,35 +75,46 @@ bit_answer so_far cv place number one cvs same_cv same_place is_one =
     ∙ ap (λ (b : Bool). bit_at (cv_value cvs so_far.cv) number == bit b) is_one
 
 -- the answer about the byte
-byte_answer : (so_far : CvAnswers) (cv : CvNumber) (value : ℕ) (cvs : List ℕ) → cv ≡ so_far.cv → value ≡ cv_value cvs so_far.cv → (cv_value cvs cv == value) ≡ true
-byte_answer so_far cv value cvs same_cv is = ap (λ c. cv_value cvs c == value) same_cv ∙ ap (λ (v : ℕ). cv_value cvs so_far.cv == v) is ∙ itself (cv_value cvs so_far.cv)
+byte_answer : (so_far : CvAnswers) (cv : CvNumber) (value : ℕ) (cvs : List ℕ) → cv ≡ so_far.cv
+    → value ≡ cv_value cvs so_far.cv → (cv_value cvs cv == value) ≡ true
+byte_answer so_far cv value cvs same_cv is =
+    ap (λ c. cv_value cvs c == value) same_cv ∙ ap (λ (v : ℕ). cv_value cvs so_far.cv == v) is
+    ∙ itself (cv_value cvs so_far.cv)
 
 -- so many true answers and one more
-more_bits : (answers : List Bool) (answer : Bool) (value : ℕ) → length answers < 8 → AreFirstOf answers (true_answers value) → answer ≡ (bit_at value (length answers) == 1)
+more_bits : (answers : List Bool) (answer : Bool) (value : ℕ) → length answers < 8
+    → AreFirstOf answers (true_answers value) → answer ≡ (bit_at value (length answers) == 1)
     → AreFirstOf (answers ++ answer ∷ []) (true_answers value)
 more_bits answers answer value few so_far is =
     let n : ℕ = length answers in
     let longer : length (answers ++ answer ∷ []) ≡ suc n = omega (arith, length-append answers (answer ∷ [])) in
     ap (λ (b : Bool). answers ++ b ∷ []) is
     ∙ ap (λ (xs : List Bool). xs ++ (bit_at value n == 1) ∷ []) (so_far ∙ first_bits n value (omega arith))
-    ∙ sym (bits_of-next n value) ∙ sym (first_bits (suc n) value (omega arith)) ∙ ap (λ (m : ℕ). take m (true_answers value)) (sym longer)
+    ∙ sym (bits_of-next n value) ∙ sym (first_bits (suc n) value (omega arith))
+    ∙ ap (λ (m : ℕ). take m (true_answers value)) (sym longer)
 
-all_answers : (answers : List Bool) (answer : Bool) (value : ℕ) → length answers ≡ 8 → AreFirstOf answers (true_answers value) → answer ≡ true
+all_answers : (answers : List Bool) (answer : Bool) (value : ℕ) → length answers ≡ 8
+    → AreFirstOf answers (true_answers value) → answer ≡ true
     → AreFirstOf (answers ++ answer ∷ []) (true_answers value)
 all_answers answers answer value all so_far is =
-    let bits : answers ≡ bits_of 8 value = so_far ∙ ap (λ (m : ℕ). take m (true_answers value)) all ∙ first_bits 8 value (omega arith) in
+    let bits : answers ≡ bits_of 8 value =
+    so_far ∙ ap (λ (m : ℕ). take m (true_answers value)) all ∙ first_bits 8 value (omega arith) in
     let nine : length (answers ++ answer ∷ []) ≡ 9 = omega (arith, length-append answers (answer ∷ [])) in
-    let many : length (true_answers value) ≡ 9 = omega (arith, length-append (bits_of 8 value) (true ∷ []), length-bits_of 8 value) in
+    let many : length (true_answers value) ≡ 9 =
+    omega (arith, length-append (bits_of 8 value) (true ∷ []), length-bits_of 8 value) in
     ap (λ (b : Bool). answers ++ b ∷ []) is ∙ ap (λ (xs : List Bool). xs ++ true ∷ []) bits
     ∙ sym (take_all 9 (true_answers value) (omega arith)) ∙ ap (λ (m : ℕ). take m (true_answers value)) (sym nine)
 
 -- eight true answers have the value
-eight_bits : (answers : List Bool) (value : ℕ) → length answers ≡ 8 → AreFirstOf answers (true_answers value) → value < 256 → number_of answers ≡ value
+eight_bits : (answers : List Bool) (value : ℕ) → length answers ≡ 8 → AreFirstOf answers (true_answers value)
+    → value < 256 → number_of answers ≡ value
 eight_bits answers value all so_far byte =
-    ap number_of (so_far ∙ ap (λ (m : ℕ). take m (true_answers value)) all ∙ first_bits 8 value (omega arith)) ∙ number_of-bits_of 8 value byte
+    ap number_of (so_far ∙ ap (λ (m : ℕ). take m (true_answers value)) all ∙ first_bits 8 value (omega arith))
+    ∙ number_of-bits_of 8 value byte
 
 -- behind true answers, a decoder's answer is the next one
-pub next_is_true : (so_far : CvAnswers) (question : ServicePacket) (cvs : List ℕ) → IsCvs cvs → Asks so_far question → AreFirstOf so_far.answers (true_answers (cv_value cvs so_far.cv))
+pub next_is_true : (so_far : CvAnswers) (question : ServicePacket) (cvs : List ℕ) → IsCvs cvs → Asks so_far question
+    → AreFirstOf so_far.answers (true_answers (cv_value cvs so_far.cv))
     → AreFirstOf (so_far.answers ++ acknowledged question cvs ∷ []) (true_answers (cv_value cvs so_far.cv))
 next_is_true so_far (Write cv value) cvs ok asks first = absurd asks
 next_is_true so_far (BitWrite cv bits one) cvs ok asks first = absurd asks
@@ -107,11 +122,14 @@ next_is_true so_far (BitVerify cv bits one) cvs ok asks first =
     more_bits so_far.answers _ (cv_value cvs so_far.cv) (omega (arith, asks.1, bits.in_range)) first
     (bit_answer so_far cv bits.place (length so_far.answers) one cvs asks.0 asks.1 asks.2)
 next_is_true so_far (Verify cv value) cvs ok asks first =
-    let is : value ≡ cv_value cvs so_far.cv = asks.2 ∙ eight_bits so_far.answers (cv_value cvs so_far.cv) asks.1 first (ok.bytes (so_far.cv.number - 1)) in
+    let is : value ≡ cv_value cvs so_far.cv =
+    asks.2 ∙ eight_bits so_far.answers (cv_value cvs so_far.cv) asks.1 first (ok.bytes (so_far.cv.number - 1))
+    in
     all_answers so_far.answers _ (cv_value cvs so_far.cv) asks.1 first (byte_answer so_far cv value cvs asks.0 is)
 
 -- the true answers come to the value
-pub truth_is_the_value : (cv : CvNumber) (value : ℕ) (reading : Reading) → value < 256 → Comes cv (true_answers value) reading → reading ≡ Value value
+pub truth_is_the_value : (cv : CvNumber) (value : ℕ) (reading : Reading) → value < 256
+    → Comes cv (true_answers value) reading → reading ≡ Value value
 truth_is_the_value cv value (More reader) byte comes =
     absurd (omega (arith, comes.0, length-append (bits_of 8 value) (true ∷ []), length-bits_of 8 value))
 truth_is_the_value cv value (Value told) byte comes =
@@ -122,7 +140,8 @@ truth_is_the_value cv value NoAnswer byte comes =
     let contrary : true ≡ false = parts.1 in absurd (cc)
 
 -- nine times no comes to no answer
-pub silence_is_no_answer : (cv : CvNumber) (reading : Reading) → Comes cv (replicate 9 false) reading → reading ≡ NoAnswer
+pub silence_is_no_answer : (cv : CvNumber) (reading : Reading) → Comes cv (replicate 9 false) reading
+    → reading ≡ NoAnswer
 silence_is_no_answer cv (More reader) comes = absurd (omega (arith, comes.0))
 silence_is_no_answer cv (Value told) comes =
     let parts = before_last (replicate 8 false) comes.0 false true comes.2 in
@@ -133,7 +152,8 @@ below_eight : (n : ℕ) → n ≤ 7 → (n == 8) ≡ false
 below_eight n h = search rules
 
 -- the frame of the question of a reading
-pub frame_asked : (so_far : CvAnswers) (question : ServicePacket) → Asks so_far question → spelling question ≡ question_frame so_far
+pub frame_asked : (so_far : CvAnswers) (question : ServicePacket) → Asks so_far question
+    → spelling question ≡ question_frame so_far
 frame_asked so_far (Write cv value) asks = absurd asks
 frame_asked so_far (BitWrite cv bits one) asks = absurd asks
 frame_asked so_far (Verify cv value) asks =
@@ -148,4 +168,5 @@ frame_asked so_far (BitVerify cv bits one) asks =
     let last : 0xE0 + 8 * bit one + bits.place ≡ 0xE8 + length so_far.answers = omega (arith, ap bit asks.2, asks.1) in
     ap (λ c. with_error_byte (access_bytes 0x78 c (0xE0 + 8 * bit one + bits.place))) asks.0
     ∙ ap (λ (v : ℕ). with_error_byte (access_bytes 0x78 so_far.cv v)) last
-    ∙ ap (λ (t : Bool). cond t byte place) (sym (below_eight (length so_far.answers) (omega (arith, asks.1, bits.in_range))))
+    ∙ ap (λ (t : Bool). cond t byte place)
+    (sym (below_eight (length so_far.answers) (omega (arith, asks.1, bits.in_range))))

@@ -30,7 +30,8 @@ record Rows : Type 0 where
   bit_write_of_cv1024 : spelling (BitWrite cv1024 place5 true) ≡ 0x7B ∷ 0xFF ∷ 0xFD ∷ 0x79 ∷ []
   bit_verify_of_cv1024 : spelling (BitVerify cv1024 place5 false) ≡ 0x7B ∷ 0xFF ∷ 0xE5 ∷ 0x61 ∷ []
   question_of_bit_0 : question_frame (record { cv = cv1; answers = [] }) ≡ 0x78 ∷ 0x00 ∷ 0xE8 ∷ 0x90 ∷ []
-  question_of_bit_3 : question_frame (record { cv = cv1; answers = false ∷ true ∷ false ∷ [] }) ≡ 0x78 ∷ 0x00 ∷ 0xEB ∷ 0x93 ∷ []
+  question_of_bit_3 : question_frame
+      (record { cv = cv1; answers = false ∷ true ∷ false ∷ [] }) ≡ 0x78 ∷ 0x00 ∷ 0xEB ∷ 0x93 ∷ []
   question_of_the_byte : question_frame (record { cv = cv1; answers = bits_of 8 10 }) ≡ 0x74 ∷ 0x00 ∷ 0x0A ∷ 0x7E ∷ []
   answers_of_10 : true_answers 10 ≡ false ∷ true ∷ false ∷ true ∷ false ∷ false ∷ false ∷ false ∷ true ∷ []
   write_is_done : acted_on (Write cv1 10) (3 ∷ []) ≡ 10 ∷ []

@@ -1,5 +1,6 @@
 -- A frame takes a decoder from a state to one state, with one answer.
-use Rattle.std.proofs.Common.{◌≡◌, ◌≢◌, Bool, true, false, Option, Some, None, List, ℕ, ◌⊎◌, inl, inr, IfSome, refl, sym, ap, ◌∙◌, eqb}
+use Rattle.std.proofs.Common.{◌≡◌, ◌≢◌, Bool, true, false, Option, Some, None, List, ℕ, ◌⊎◌, inl, inr, IfSome, refl}
+use Rattle.std.proofs.Common.{sym, ap, ◌∙◌, eqb}
 use Rattle.std.specs.Bool.{Decides}
 use Rattle.std.proofs.lemmas.Bool.Decides.{Decides-eqb}
 use lib.Pointwise.{pointwise, pointwise_decides}
@@ -12,10 +13,12 @@ use Rattle.dcc_service.proofs.OneSpelling.{one_packet}
 abbrev Same : ServiceState → ServiceState → Bool → Bool → Type 0
 Same after other answer reply = (after ≡ other) × (answer ≡ reply)
 
-both_are : {known after other : ServiceState} {truth answer reply : Bool} → Same after known answer truth → Same other known reply truth → Same after other answer reply
+both_are : {known after other : ServiceState} {truth answer reply : Bool} → Same after known answer truth
+    → Same other known reply truth → Same after other answer reply
 both_are a b = (a.0 ∙ sym b.0, a.1 ∙ sym b.1)
 
-compared : (t : Bool) (q p : ServicePacket) → Decides t (spelling q ≡ spelling p) → (Some q ≡ Some p) ⊎ (Some q ≢ Some p)
+compared : (t : Bool) (q p : ServicePacket) → Decides t (spelling q ≡ spelling p)
+    → (Some q ≡ Some p) ⊎ (Some q ≢ Some p)
 compared true q p decides = inl (ap Some (one_packet q p (decides.0 refl)))
 compared false q p decides = inr (λ same.
     let is : q ≡ p = cc in
@@ -23,27 +26,40 @@ compared false q p decides = inr (λ same.
 
 is_pending : (pending : Option ServicePacket) (p : ServicePacket) → (pending ≡ Some p) ⊎ (pending ≢ Some p)
 is_pending None p = inr (λ e. absurd (cc))
-is_pending (Some q) p = compared (pointwise eqb (spelling q) (spelling p)) q p (pointwise_decides Decides-eqb (spelling q) (spelling p))
+is_pending (Some q) p =
+    compared (pointwise eqb (spelling q) (spelling p)) q p (pointwise_decides Decides-eqb (spelling q) (spelling p))
 
-pub one_reset : (frame : List ℕ) (before after other : ServiceState) (answer reply : Bool) → frame ≡ reset_bytes → Step before frame after answer → Step before frame other reply → Same after other answer reply
+pub one_reset : (frame : List ℕ) (before after other : ServiceState) (answer reply : Bool) → frame ≡ reset_bytes
+    → Step before frame after answer → Step before frame other reply → Same after other answer reply
 one_reset frame before after other answer reply e step again = both_are (step.reset e) (again.reset e)
 
-by_pending : (packet : ServicePacket) (frame : List ℕ) (before after other : ServiceState) (answer reply : Bool) → frame ≡ spelling packet → before.in_service ≡ true
-    → (before.pending ≡ Some packet) ⊎ (before.pending ≢ Some packet) → Step before frame after answer → Step before frame other reply → Same after other answer reply
-by_pending packet frame before after other answer reply e on (inl is) step again = both_are (step.again packet e on is) (again.again packet e on is)
-by_pending packet frame before after other answer reply e on (inr isnt) step again = both_are (step.first packet e on isnt) (again.first packet e on isnt)
+by_pending : (packet : ServicePacket) (frame : List ℕ) (before after other : ServiceState) (answer reply : Bool)
+    → frame ≡ spelling packet → before.in_service ≡ true
+    → (before.pending ≡ Some packet) ⊎ (before.pending ≢ Some packet) → Step before frame after answer
+    → Step before frame other reply → Same after other answer reply
+by_pending packet frame before after other answer reply e on (inl is) step again =
+    both_are (step.again packet e on is) (again.again packet e on is)
+by_pending packet frame before after other answer reply e on (inr isnt) step again =
+    both_are (step.first packet e on isnt) (again.first packet e on isnt)
 
-by_service : (on : Bool) (read : Option ServicePacket) (frame : List ℕ) (before after other : ServiceState) (answer reply : Bool) → before.in_service ≡ on → frame ≢ reset_bytes
-    → IfSome read (λ packet. spelling packet ≡ frame) → ((packet : ServicePacket) → spelling packet ≡ frame → read ≡ Some packet)
+by_service : (on : Bool) (read : Option ServicePacket) (frame : List ℕ) (before after other : ServiceState)
+    (answer reply : Bool) → before.in_service ≡ on → frame ≢ reset_bytes
+    → IfSome read (λ packet. spelling packet ≡ frame)
+    → ((packet : ServicePacket) → spelling packet ≡ frame → read ≡ Some packet)
     → Step before frame after answer → Step before frame other reply → Same after other answer reply
-by_service false read frame before after other answer reply on no_reset spelled only step again = both_are (step.ignored no_reset on) (again.ignored no_reset on)
+by_service false read frame before after other answer reply on no_reset spelled only step again =
+    both_are (step.ignored no_reset on) (again.ignored no_reset on)
 by_service true None frame before after other answer reply on no_reset spelled only step again =
     let none : (packet : ServicePacket) → frame ≢ spelling packet = λ packet e. let bad = only packet (sym e) in absurd (cc) in
     both_are (step.other no_reset none on) (again.other no_reset none on)
 by_service true (Some packet) frame before after other answer reply on no_reset spelled only step again =
-    by_pending packet frame before after other answer reply (sym spelled) on (is_pending before.pending packet) step again
+    by_pending packet frame before after other answer reply (sym spelled) on (is_pending before.pending packet) step
+    again
 
-pub other_step : (read : Option ServicePacket) (frame : List ℕ) (before after other : ServiceState) (answer reply : Bool) → frame ≢ reset_bytes
-    → IfSome read (λ packet. spelling packet ≡ frame) → ((packet : ServicePacket) → spelling packet ≡ frame → read ≡ Some packet)
+pub other_step : (read : Option ServicePacket) (frame : List ℕ) (before after other : ServiceState)
+    (answer reply : Bool) → frame ≢ reset_bytes
+    → IfSome read (λ packet. spelling packet ≡ frame)
+    → ((packet : ServicePacket) → spelling packet ≡ frame → read ≡ Some packet)
     → Step before frame after answer → Step before frame other reply → Same after other answer reply
-other_step read frame before after other answer reply = by_service before.in_service read frame before after other answer reply refl
+other_step read frame before after other answer reply =
+    by_service before.in_service read frame before after other answer reply refl

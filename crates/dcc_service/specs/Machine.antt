@@ -38,11 +38,14 @@ pub record Step (before : ServiceState) (frame : List ℕ) (after : ServiceState
   pub reset : frame ≡ reset_bytes
       → (after ≡ record { in_service = true; pending = None; cvs = before.cvs }) × (answer ≡ false)
   -- in service, a service packet that differs from the pending one becomes pending
-  pub first : (packet : ServicePacket) → frame ≡ spelling packet → before.in_service ≡ true → before.pending ≢ Some packet
+  pub first : (packet : ServicePacket) → frame ≡ spelling packet → before.in_service ≡ true
+      → before.pending ≢ Some packet
       → (after ≡ record { in_service = true; pending = Some packet; cvs = before.cvs }) × (answer ≡ false)
   -- one that equals it is acted on, and stays pending
-  pub again : (packet : ServicePacket) → frame ≡ spelling packet → before.in_service ≡ true → before.pending ≡ Some packet
-      → (after ≡ record { in_service = true; pending = Some packet; cvs = acted_on packet before.cvs }) × (answer ≡ acknowledged packet before.cvs)
+  pub again : (packet : ServicePacket) → frame ≡ spelling packet → before.in_service ≡ true
+      → before.pending ≡ Some packet
+      → (after ≡ record { in_service = true; pending = Some packet; cvs = acted_on packet before.cvs })
+      × (answer ≡ acknowledged packet before.cvs)
   -- any other packet, the idle one too, ends service and clears what is pending
   pub other : frame ≢ reset_bytes → ((packet : ServicePacket) → frame ≢ spelling packet) → before.in_service ≡ true
       → (after ≡ record { in_service = false; pending = None; cvs = before.cvs }) × (answer ≡ false)

@@ -13,7 +13,8 @@ unfoldable pub Steps : ServiceState → List (List ℕ) → ServiceState → Lis
 Steps before [] after [] = after ≡ before
 Steps before [] after (answer ∷ answers) = ⊥
 Steps before (frame ∷ frames) after [] = ⊥
-Steps before (frame ∷ frames) after (answer ∷ answers) = (next : ServiceState) × Step before frame next answer × Steps next frames after answers
+Steps before (frame ∷ frames) after (answer ∷ answers) =
+    (next : ServiceState) × Step before frame next answer × Steps next frames after answers
 
 -- behind a question: in service, and the packet was acted on and is still pending
 abbrev pub after_question : ServiceState → ServicePacket → ServiceState

@@ -17,17 +17,23 @@ pub record IsAsked (question : ServicePacket) (before after : ServiceState) (ans
 
 -- four times no, then four times whether the packet is acknowledged
 abbrev pub QuestionsAreAnswered : Type 0
-QuestionsAreAnswered = (question : ServicePacket) (before after : ServiceState) (answers : List Bool) → IsAsked question before after answers
+QuestionsAreAnswered =
+    (question : ServicePacket) (before after : ServiceState) (answers : List Bool)
+    → IsAsked question before after answers
     → (after ≡ after_question before question) × (answers ≡ four_no_then (acknowledged question before.cvs))
 
 -- a frame takes a decoder from a state to one state, with one answer
 abbrev pub OneStep : List ℕ → Type 0
-OneStep frame = (before after other : ServiceState) (answer reply : Bool) → Step before frame after answer → Step before frame other reply
+OneStep frame =
+    (before after other : ServiceState) (answer reply : Bool) → Step before frame after answer
+    → Step before frame other reply
     → (after ≡ other) × (answer ≡ reply)
 
 -- of a verify: whether the CV has the value, and every CV stays
 abbrev pub VerifiesTell : Type 0
-VerifiesTell = (cv : CvNumber) (value : ℕ) (before after : ServiceState) (answers : List Bool) → IsAsked (Verify cv value) before after answers
+VerifiesTell =
+    (cv : CvNumber) (value : ℕ) (before after : ServiceState) (answers : List Bool)
+    → IsAsked (Verify cv value) before after answers
     → (answers ≡ four_no_then (cv_value before.cvs cv == value)) × (after.cvs ≡ before.cvs)
 
 -- of a verify of a bit: whether the bit of the CV is as asked, and every CV stays
@@ -42,20 +48,25 @@ IsKept cv = (cv.number ≡ 7) ⊎ (cv.number ≡ 8)
 
 -- the other CVs have the values that they had
 abbrev pub OtherCvsStay : CvNumber → List ℕ → List ℕ → Type 0
-OtherCvsStay cv before after = (other : CvNumber) → other.number ≢ cv.number → cv_value after other ≡ cv_value before other
+OtherCvsStay cv before after =
+    (other : CvNumber) → other.number ≢ cv.number → cv_value after other ≡ cv_value before other
 
 -- the other bits of a byte are as they were
 abbrev pub OtherBitsStay : BitPlace → ℕ → ℕ → Type 0
-OtherBitsStay bits before after = (other : BitPlace) → other.place ≢ bits.place → bit_at after other.place ≡ bit_at before other.place
+OtherBitsStay bits before after =
+    (other : BitPlace) → other.place ≢ bits.place → bit_at after other.place ≡ bit_at before other.place
 
 -- of a write to another CV: yes, and the CV has the value
 abbrev pub WritesAreDone : Type 0
-WritesAreDone = (cv : CvNumber) (value : ℕ) (before after : ServiceState) (answers : List Bool) → ¬ (IsKept cv) → IsAsked (Write cv value) before after answers
+WritesAreDone =
+    (cv : CvNumber) (value : ℕ) (before after : ServiceState) (answers : List Bool) → ¬ (IsKept cv)
+    → IsAsked (Write cv value) before after answers
     → (answers ≡ four_no_then true) × (cv_value after.cvs cv ≡ value) × OtherCvsStay cv before.cvs after.cvs
 
 -- of a write to a bit of another CV: yes, and the bit is as written
 abbrev pub BitWritesAreDone : Type 0
-BitWritesAreDone = (cv : CvNumber) (bits : BitPlace) (one : Bool) (before after : ServiceState) (answers : List Bool) → ¬ (IsKept cv)
+BitWritesAreDone =
+    (cv : CvNumber) (bits : BitPlace) (one : Bool) (before after : ServiceState) (answers : List Bool) → ¬ (IsKept cv)
     → IsAsked (BitWrite cv bits one) before after answers
     → (answers ≡ four_no_then true) × (bit_at (cv_value after.cvs cv) bits.place ≡ bit one)
     × OtherBitsStay bits (cv_value before.cvs cv) (cv_value after.cvs cv) × OtherCvsStay cv before.cvs after.cvs
@@ -66,4 +77,6 @@ Refuses question = (before after : ServiceState) (answers : List Bool) → IsAsk
     → (answers ≡ replicate 8 false) × (after.cvs ≡ before.cvs)
 
 abbrev pub KeptCvsStay : Type 0
-KeptCvsStay = (cv : CvNumber) → IsKept cv → ((value : ℕ) → Refuses (Write cv value)) × ((bits : BitPlace) (one : Bool) → Refuses (BitWrite cv bits one))
+KeptCvsStay =
+    (cv : CvNumber) → IsKept cv
+    → ((value : ℕ) → Refuses (Write cv value)) × ((bits : BitPlace) (one : Bool) → Refuses (BitWrite cv bits one))

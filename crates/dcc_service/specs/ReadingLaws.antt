@@ -1,5 +1,6 @@
 -- What a reading of a CV comes to on a programming track.
-use Rattle.std.specs.Prelude.{◌≡◌, ◌<◌, ℕ, Bool, true, false, List, [], ◌∷◌, ◌++◌, Some, length, take, replicate, slice_get}
+use Rattle.std.specs.Prelude.{◌≡◌, ◌<◌, ℕ, Bool, true, false, List, [], ◌∷◌, ◌++◌, Some, length, take, replicate}
+use Rattle.std.specs.Prelude.{slice_get}
 use Rattle.std.specs.Int.{bit_at}
 use Rattle.dcc_packet.specs.Rows.{bit}
 use Rattle.dcc_packet.specs.declared.cv.CvNumber.{CvNumber}
@@ -29,11 +30,14 @@ DecodersTellTheTruth = (so_far : CvAnswers) (question : ServicePacket) (cvs : Li
 
 -- the questions of a reading change no CV
 abbrev pub ReadingLeavesTheCvs : Type 0
-ReadingLeavesTheCvs = (so_far : CvAnswers) (question : ServicePacket) (cvs : List ℕ) → Asks so_far question → acted_on question cvs ≡ cvs
+ReadingLeavesTheCvs =
+    (so_far : CvAnswers) (question : ServicePacket) (cvs : List ℕ) → Asks so_far question → acted_on question cvs ≡ cvs
 
 -- the true answers come to the value
 abbrev pub TruthComesToTheValue : Type 0
-TruthComesToTheValue = (cv : CvNumber) (value : ℕ) (reading : Reading) → value < 256 → Comes cv (true_answers value) reading → reading ≡ Value value
+TruthComesToTheValue =
+    (cv : CvNumber) (value : ℕ) (reading : Reading) → value < 256 → Comes cv (true_answers value) reading
+    → reading ≡ Value value
 
 -- nine times no comes to no value
 abbrev pub SilenceComesToNoAnswer : Type 0
@@ -41,8 +45,10 @@ SilenceComesToNoAnswer = (cv : CvNumber) (reading : Reading) → Comes cv (repli
 
 -- bit k of a number is the one at place k of its bits
 abbrev pub NumbersHaveTheirBits : Type 0
-NumbersHaveTheirBits = (bits : List Bool) (k : ℕ) (one : Bool) → slice_get bits k ≡ Some one → bit_at (number_of bits) k ≡ bit one
+NumbersHaveTheirBits =
+    (bits : List Bool) (k : ℕ) (one : Bool) → slice_get bits k ≡ Some one → bit_at (number_of bits) k ≡ bit one
 
 -- the question of a reading has this frame
 abbrev pub QuestionsHaveTheirFrames : Type 0
-QuestionsHaveTheirFrames = (so_far : CvAnswers) (question : ServicePacket) → Asks so_far question → spelling question ≡ question_frame so_far
+QuestionsHaveTheirFrames =
+    (so_far : CvAnswers) (question : ServicePacket) → Asks so_far question → spelling question ≡ question_frame so_far

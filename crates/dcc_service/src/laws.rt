@@ -3,8 +3,11 @@
 ghost use Rattle.std.specs.Prelude.{◌≡◌, Option, Some};
 ghost use Rattle.dcc_service.specs.declared.packet.ServicePacket.{ServicePacket};
 ghost use Rattle.dcc_service.specs.Table.{spelling};
-ghost use Rattle.dcc_service.specs.QuestionLaws.{QuestionsAreAnswered, OneStep, VerifiesTell, BitVerifiesTell, WritesAreDone, BitWritesAreDone, KeptCvsStay};
-ghost use Rattle.dcc_service.specs.ReadingLaws.{DecodersTellTheTruth, ReadingLeavesTheCvs, TruthComesToTheValue, SilenceComesToNoAnswer, NumbersHaveTheirBits, QuestionsHaveTheirFrames};
+ghost use Rattle.dcc_service.specs.QuestionLaws.{QuestionsAreAnswered, OneStep, VerifiesTell, BitVerifiesTell};
+ghost use Rattle.dcc_service.specs.QuestionLaws.{WritesAreDone, BitWritesAreDone, KeptCvsStay};
+ghost use Rattle.dcc_service.specs.ReadingLaws.{DecodersTellTheTruth, ReadingLeavesTheCvs, TruthComesToTheValue};
+ghost use Rattle.dcc_service.specs.ReadingLaws.{SilenceComesToNoAnswer, NumbersHaveTheirBits};
+ghost use Rattle.dcc_service.specs.ReadingLaws.{QuestionsHaveTheirFrames};
 
 use crate::ServicePacket;
 use crate::decoder::is_reset;

@@ -24,7 +24,8 @@ pub record Core : Type 0 where
 abbrev pub core : State → Core
 core s = record { can_wait = is_some s.pending; bits = s.bits; plain = s.plain }
 
-pub same_core : (c d : Core) → c.can_wait ≡ d.can_wait → ((r : Register) → c.bits r ≡ d.bits r) → ((r : Register) → c.plain r ≡ d.plain r) → c ≡ d
+pub same_core : (c d : Core) → c.can_wait ≡ d.can_wait → ((r : Register) → c.bits r ≡ d.bits r)
+    → ((r : Register) → c.plain r ≡ d.plain r) → c ≡ d
 same_core c d w b q = λ i. record { can_wait = w i; bits = λ r. b r i; plain = λ r. q r i }
 
 -- what a packet does in the end: an own write sets its bits, another packet its plain registers
@@ -59,7 +60,8 @@ step_plain s p other = same_core (core (step s p)) (effect (core s) p) (still_wa
     (λ r. refl)
 
 -- an own write has its effect where it is pending, if a write can be
-pub step_pending : (s : State) (p : Packet) → is_pending s.pending p ≡ is_some s.pending → core (step s p) ≡ effect (core s) p
+pub step_pending : (s : State) (p : Packet) → is_pending s.pending p ≡ is_some s.pending
+    → core (step s p) ≡ effect (core s) p
 step_pending s p again = same_core (core (step s p)) (effect (core s) p) (still_waits s p)
     (λ r. ap (λ t. cond (is_own_write p && t) (overwritten (s.bits r) (sets_bit p r)) (s.bits r)) again)
     (λ r. refl)
@@ -70,20 +72,25 @@ pending_is_some None p e = cc
 pending_is_some (Some v) p e = refl
 
 -- an own write sets no plain register
-pub effect_plain_own : (c : Core) (p : Packet) → is_own_write p ≡ true → (r : Register) → (effect c p).plain r ≡ c.plain r
-effect_plain_own c p own r = ap (overwritten (c.plain r)) (sets-own_write (mode_in c.bits) p r own) ∙ overwritten-none (c.plain r)
+pub effect_plain_own : (c : Core) (p : Packet) → is_own_write p ≡ true → (r : Register)
+    → (effect c p).plain r ≡ c.plain r
+effect_plain_own c p own r =
+    ap (overwritten (c.plain r)) (sets-own_write (mode_in c.bits) p r own) ∙ overwritten-none (c.plain r)
 
 -- a first copy leaves the effect of the next as it was
-pub effect_after_first : (s : State) (p : Packet) → is_own_write p ≡ true → effect (core (step s p)) p ≡ effect (core s) p
+pub effect_after_first : (s : State) (p : Packet) → is_own_write p ≡ true
+    → effect (core (step s p)) p ≡ effect (core s) p
 effect_after_first s p own = same_core (effect (core (step s p)) p) (effect (core s) p) (still_waits s p)
-    (λ r. ap (λ h. cond (is_own_write p && h) (overwritten ((step s p).bits r) (sets_bit p r)) ((step s p).bits r)) (still_waits s p)
+    (λ r. ap (λ h. cond (is_own_write p && h) (overwritten ((step s p).bits r) (sets_bit p r)) ((step s p).bits r))
+    (still_waits s p)
     ∙ by_case r (is_own_write p) (is_pending s.pending p) (is_some s.pending) (pending_is_some s.pending p))
     (λ r. effect_plain_own (core (step s p)) p own r
     ∙ ap (overwritten (s.plain r)) (sets-own_write (mode_in s.bits) p r own) ∙ overwritten-none (s.plain r)
     ∙ sym (effect_plain_own (core s) p own r))
   where
     by_case : (r : Register) (w b h : Bool) → (b ≡ true → h ≡ true) →
-        cond (w && h) (overwritten (cond (w && b) (overwritten (s.bits r) (sets_bit p r)) (s.bits r)) (sets_bit p r)) (cond (w && b) (overwritten (s.bits r) (sets_bit p r)) (s.bits r))
+        cond (w && h) (overwritten (cond (w && b) (overwritten (s.bits r) (sets_bit p r)) (s.bits r)) (sets_bit p r))
+        (cond (w && b) (overwritten (s.bits r) (sets_bit p r)) (s.bits r))
         ≡ cond (w && h) (overwritten (s.bits r) (sets_bit p r)) (s.bits r)
     by_case r false b h there = refl
     by_case r true false h there = refl
@@ -94,7 +101,8 @@ effect_after_first s p own = same_core (effect (core (step s p)) p) (effect (cor
 pub effect_twice : (c : Core) (p : Packet) → effect (effect c p) p ≡ effect c p
 effect_twice c p = by_kind (is_own_write p) refl
   where
-    written : (t : Bool) (v o : Option Value) → cond t (overwritten (cond t (overwritten v o) v) o) (cond t (overwritten v o) v) ≡ cond t (overwritten v o) v
+    written : (t : Bool) (v o : Option Value)
+        → cond t (overwritten (cond t (overwritten v o) v) o) (cond t (overwritten v o) v) ≡ cond t (overwritten v o) v
     written true v o = overwritten-twice v o
     written false v o = refl
 
@@ -104,5 +112,8 @@ effect_twice c p = by_kind (is_own_write p) refl
         (λ r. effect_plain_own (effect c p) p own r)
     by_kind false other = same_core (effect (effect c p) p) (effect c p) refl
         (λ r. written (is_own_write p && c.can_wait) (c.bits r) (sets_bit p r))
-        (λ r. ap (λ mode. overwritten (overwritten (c.plain r) (sets (mode_in c.bits) p r)) (sets mode p r)) (ap (λ w. mode_of (cond (w && c.can_wait) (overwritten (c.bits (CvBit 29 1)) (sets_bit p (CvBit 29 1))) (c.bits (CvBit 29 1)))) other)
+        (λ r. ap (λ mode. overwritten (overwritten (c.plain r) (sets (mode_in c.bits) p r)) (sets mode p r))
+        (ap (λ w. mode_of
+        (cond (w && c.can_wait) (overwritten (c.bits (CvBit 29 1)) (sets_bit p (CvBit 29 1)))
+        (c.bits (CvBit 29 1)))) other)
         ∙ overwritten-twice (c.plain r) (sets (mode_in c.bits) p r))

@@ -5,14 +5,23 @@ use Rattle.dcc_packet.specs.declared.packet.Packet.{Packet}
 use Rattle.dcc_packet.specs.declared.packet.Packet.TheVariants.{Idle}
 use Rattle.dcc_station.specs.Sending.{Sending, HandsOut, Refreshes, EntriesAfter, sent_once_more}
 
-pub hands_out_command : (waiting entries : List Packet) (s : Sending) (p : Packet) (new : Sending) → slice_get waiting 0 ≡ Some p →
-    (after : List Packet) → EntriesAfter s.sent s.slots p entries after → new ≡ sent_once_more s p (drop 1 waiting) after → HandsOut waiting entries s p new
+pub hands_out_command : (waiting entries : List Packet) (s : Sending) (p : Packet) (new : Sending)
+    → slice_get waiting 0 ≡ Some p →
+    (after : List Packet) → EntriesAfter s.sent s.slots p entries after
+    → new ≡ sent_once_more s p (drop 1 waiting) after → HandsOut waiting entries s p new
 hands_out_command [] entries s p new front after changed is = cc
 hands_out_command (q ∷ rest) entries s p new front after changed is =
-    let e : p ≡ q = (let k : Some q ≡ Some p = front in cc) in
-    (e, (after, subst (λ x. EntriesAfter s.sent s.slots x entries after) e changed, subst (λ x. new ≡ sent_once_more s x rest after) e is))
+    let e : p ≡ q = (let k : Some q ≡ Some p = front in cc) in (
+      e,
+      (
+        after,
+        subst (λ x. EntriesAfter s.sent s.slots x entries after) e changed,
+        subst (λ x. new ≡ sent_once_more s x rest after) e is,
+      ),
+    )
 
-pub hands_out_entry : (waiting entries : List Packet) (s : Sending) (e : Packet) (new : Sending) → waiting ≡ [] → slice_get entries 0 ≡ Some e →
+pub hands_out_entry : (waiting entries : List Packet) (s : Sending) (e : Packet) (new : Sending) → waiting ≡ []
+    → slice_get entries 0 ≡ Some e →
     new ≡ record s { entries = drop 1 entries ++ e ∷ [] } → HandsOut waiting entries s e new
 hands_out_entry (p ∷ rest) entries s e new none front is = cc
 hands_out_entry [] [] s e new none front is = cc
@@ -20,7 +29,8 @@ hands_out_entry [] (x ∷ later) s e new none front is =
     let h : e ≡ x = (let k : Some x ≡ Some e = front in cc) in
     (h, subst (λ y. new ≡ record s { entries = later ++ y ∷ [] }) h is)
 
-pub hands_out_idle : (waiting entries : List Packet) (s new : Sending) → waiting ≡ [] → slice_get entries 0 ≡ None → new ≡ s → HandsOut waiting entries s Idle new
+pub hands_out_idle : (waiting entries : List Packet) (s new : Sending) → waiting ≡ [] → slice_get entries 0 ≡ None
+    → new ≡ s → HandsOut waiting entries s Idle new
 hands_out_idle (p ∷ rest) entries s new none front is = cc
 hands_out_idle [] (x ∷ later) s new none front is = cc
 hands_out_idle [] [] s new none front is = (refl, is)
@@ -29,10 +39,12 @@ pub nothing_waits : (l : List Packet) → slice_get l 0 ≡ None → l ≡ []
 nothing_waits [] h = refl
 nothing_waits (x ∷ l) h = cc
 
-pub first_changes : (sent slots : ℕ) (p : Packet) (entries after : List Packet) → sent ≡ 0 → Refreshes slots p entries after → EntriesAfter sent slots p entries after
+pub first_changes : (sent slots : ℕ) (p : Packet) (entries after : List Packet) → sent ≡ 0
+    → Refreshes slots p entries after → EntriesAfter sent slots p entries after
 first_changes zero slots p entries after e refreshed = refreshed
 first_changes (suc sent) slots p entries after e refreshed = absurd (omega arith)
 
-pub later_changes : (sent slots : ℕ) (p : Packet) (entries : List Packet) → sent ≢ 0 → EntriesAfter sent slots p entries entries
+pub later_changes : (sent slots : ℕ) (p : Packet) (entries : List Packet) → sent ≢ 0
+    → EntriesAfter sent slots p entries entries
 later_changes zero slots p entries e = absurd (e refl)
 later_changes (suc sent) slots p entries e = refl

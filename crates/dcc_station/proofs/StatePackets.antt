@@ -11,7 +11,9 @@ use Rattle.dcc_packet.specs.declared.state.StateNumber.{StateNumber}
 use Rattle.dcc_regs.specs.declared.register.SpeedMode.{SpeedMode}
 use Rattle.dcc_regs.specs.declared.register.SpeedMode.TheVariants.{Steps14, Steps28}
 use Rattle.dcc_regs.specs.declared.register.Register.{Register}
-use Rattle.dcc_regs.specs.declared.register.Register.TheVariants.{Speed as SpeedRegister, Direction, Function, State as StateRegister, CvBit, Pending as PendingRegister, Out, Position, Aspect}
+use Rattle.dcc_regs.specs.declared.register.Register.TheVariants.{Speed as SpeedRegister, Direction, Function}
+use Rattle.dcc_regs.specs.declared.register.Register.TheVariants.{State as StateRegister, CvBit}
+use Rattle.dcc_regs.specs.declared.register.Register.TheVariants.{Pending as PendingRegister, Out, Position, Aspect}
 use Rattle.dcc_regs.specs.declared.register.Value.{Value}
 use Rattle.dcc_regs.specs.declared.register.Value.TheVariants.{Speed as SpeedValue, Forward, Flag}
 use Rattle.dcc_regs.specs.Speeds.{speed_set, direction_set}
@@ -28,7 +30,8 @@ no_entries Broadcast number on = refl
 no_entries (Short to) number on = refl
 no_entries (Long to) number on = refl
 
-speed_none : (mode : SpeedMode) (to : Address) (n : StateNumber) (on : Bool) → speed_set mode (Loco to (BinaryState n on)) ≡ None
+speed_none : (mode : SpeedMode) (to : Address) (n : StateNumber) (on : Bool)
+    → speed_set mode (Loco to (BinaryState n on)) ≡ None
 speed_none Steps14 Broadcast n on = refl
 speed_none Steps14 (Short to) n on = refl
 speed_none Steps14 (Long to) n on = refl
@@ -41,7 +44,8 @@ direction_none Broadcast n on = refl
 direction_none (Short to) n on = refl
 direction_none (Long to) n on = refl
 
-function_none : (mode : SpeedMode) (to : Address) (n : StateNumber) (on : Bool) (k : ℕ) → function_set mode (Loco to (BinaryState n on)) k ≡ None
+function_none : (mode : SpeedMode) (to : Address) (n : StateNumber) (on : Bool) (k : ℕ)
+    → function_set mode (Loco to (BinaryState n on)) k ≡ None
 function_none Steps14 Broadcast n on k = refl
 function_none Steps14 (Short to) n on k = refl
 function_none Steps14 (Long to) n on k = refl
@@ -70,12 +74,14 @@ entry_tells_none e h = absurd (cc)
 none_is_some : (o : Option Value) (v : Value) → o ≡ None → o ≡ Some v → ⊥
 none_is_some o v e f = let k : None ≡ Some v = sym e ∙ f in cc
 
-clash : (mode : SpeedMode) (to : Address) (n : StateNumber) (on : Bool) (e : Packet) (r : Register) (v w : Value) → is_refreshed e ≡ true
+clash : (mode : SpeedMode) (to : Address) (n : StateNumber) (on : Bool) (e : Packet) (r : Register) (v w : Value)
+    → is_refreshed e ≡ true
     → sets mode (Loco to (BinaryState n on)) r ≡ Some v → sets mode e r ≡ Some w → ⊥
 clash mode to n on e SpeedRegister v w h f g = none_is_some _ v (ap (option_map SpeedValue) (speed_none mode to n on)) f
 clash mode to n on e Direction v w h f g = none_is_some _ v (ap (option_map Forward) (direction_none to n on)) f
 clash mode to n on e (Function k) v w h f g = none_is_some _ v (ap (option_map Flag) (function_none mode to n on k)) f
-clash mode to n on e (StateRegister k) v w h f g = none_is_some _ w (ap (λ told. option_map Flag (state_by told k)) (entry_tells_none e h)) g
+clash mode to n on e (StateRegister k) v w h f g =
+    none_is_some _ w (ap (λ told. option_map Flag (state_by told k)) (entry_tells_none e h)) g
 clash mode to n on e (CvBit cv place) v w h f g = none_is_some _ v refl f
 clash mode to n on e PendingRegister v w h f g = none_is_some _ v refl f
 clash mode to n on e (Out k) v w h f g = none_is_some _ v (ap (option_map Flag) (out_none to n on k)) f

@@ -4,7 +4,8 @@ use Rattle.std.specs.Prelude.{◌==◌, ◌&&◌, option_map}
 use Rattle.std.proofs.lemmas.Bool.Decides.{nat_tests}
 use Rattle.dcc_packet.specs.declared.address.Address.TheVariants.{Short, Long}
 use Rattle.dcc_packet.specs.declared.instruction.What.{What}
-use Rattle.dcc_packet.specs.declared.instruction.What.TheVariants.{Reset, Speed28, Speed128, Functions, BinaryState, CvWrite, CvVerify, CvBitWrite, CvBitVerify}
+use Rattle.dcc_packet.specs.declared.instruction.What.TheVariants.{Reset, Speed28, Speed128, Functions, BinaryState}
+use Rattle.dcc_packet.specs.declared.instruction.What.TheVariants.{CvWrite, CvVerify, CvBitWrite, CvBitVerify}
 use Rattle.dcc_packet.specs.declared.packet.Packet.{Packet}
 use Rattle.dcc_packet.specs.declared.packet.Packet.TheVariants.{Idle, Loco, Accessory, Signal, Other}
 use Rattle.dcc_regs.specs.declared.register.Who.{Who}
@@ -17,12 +18,17 @@ use Rattle.dcc_regs.proofs.LawLemmas.{one_address}
 use Rattle.dcc_station.specs.Commands.{is_refreshed, sets_speed_or_functions}
 
 -- an entry and an own write that one decoder hears have one address
-pub refreshed_address : (who : Who) (p e : Packet) → is_own_write p ≡ true → hears who p ≡ true → is_refreshed e ≡ true → hears who e ≡ true → address_of e ≡ address_of p
+pub refreshed_address : (who : Who) (p e : Packet) → is_own_write p ≡ true → hears who p ≡ true → is_refreshed e ≡ true
+    → hears who e ≡ true → address_of e ≡ address_of p
 unfolding is_refreshed
-refreshed_address who (Loco (Short n) v) (Loco (Short k) w) own h refreshed g = ap Some (one_address who (Short k) (Short n) w v (λ e. cc) (λ e. cc) g h)
-refreshed_address who (Loco (Short n) v) (Loco (Long k) w) own h refreshed g = ap Some (one_address who (Long k) (Short n) w v (λ e. cc) (λ e. cc) g h)
-refreshed_address who (Loco (Long n) v) (Loco (Short k) w) own h refreshed g = ap Some (one_address who (Short k) (Long n) w v (λ e. cc) (λ e. cc) g h)
-refreshed_address who (Loco (Long n) v) (Loco (Long k) w) own h refreshed g = ap Some (one_address who (Long k) (Long n) w v (λ e. cc) (λ e. cc) g h)
+refreshed_address who (Loco (Short n) v) (Loco (Short k) w) own h refreshed g =
+    ap Some (one_address who (Short k) (Short n) w v (λ e. cc) (λ e. cc) g h)
+refreshed_address who (Loco (Short n) v) (Loco (Long k) w) own h refreshed g =
+    ap Some (one_address who (Long k) (Short n) w v (λ e. cc) (λ e. cc) g h)
+refreshed_address who (Loco (Long n) v) (Loco (Short k) w) own h refreshed g =
+    ap Some (one_address who (Short k) (Long n) w v (λ e. cc) (λ e. cc) g h)
+refreshed_address who (Loco (Long n) v) (Loco (Long k) w) own h refreshed g =
+    ap Some (one_address who (Long k) (Long n) w v (λ e. cc) (λ e. cc) g h)
 refreshed_address who p e own h refreshed g = absurd (cc)
 
 no_write : (what : What) → sets_speed_or_functions what ≡ true → is_cv_write what ≡ false
@@ -42,7 +48,8 @@ other_cv cv t b e =
     let f : (29 == cv) ≡ false = grind (arith, nat_tests) in
     rw f refl
 
-other_bit : (cv place : ℕ) (t one : Bool) → (cv == 29) ≡ false → cond ((29 == cv) && (1 == place) && t) (Some one) None ≡ None
+other_bit : (cv place : ℕ) (t one : Bool) → (cv == 29) ≡ false
+    → cond ((29 == cv) && (1 == place) && t) (Some one) None ≡ None
 other_bit cv place t one e =
     let f : (29 == cv) ≡ false = grind (arith, nat_tests) in
     rw f refl

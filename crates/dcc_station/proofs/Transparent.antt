@@ -1,5 +1,7 @@
 -- Refreshing changes no register but what is pending.
-use Rattle.std.proofs.Common.{◌≡◌, ◌∙◌, refl, sym, ap, subst, Bool, true, false, cond, List, [], ◌∷◌, ◌++◌, append_assoc, append-nil, add-one, Option, Some, None, inl, inr, ℕ, zero, suc, ◌+◌, ◌<◌, ◌≤◌, ◌-◌, arith, length, drop}
+use Rattle.std.proofs.Common.{◌≡◌, ◌∙◌, refl, sym, ap, subst, Bool, true, false, cond, List, [], ◌∷◌, ◌++◌}
+use Rattle.std.proofs.Common.{append_assoc, append-nil, add-one, Option, Some, None, inl, inr, ℕ, zero, suc, ◌+◌, ◌<◌}
+use Rattle.std.proofs.Common.{◌≤◌, ◌-◌, arith, length, drop}
 use Rattle.std.specs.Prelude.{◌&&◌, ◌≢◌, filter, nat_le, is_some}
 use Rattle.std.specs.List.{AllByRecursion}
 use Rattle.std.proofs.lemmas.List.Elements.{filter-append}
@@ -28,10 +30,12 @@ use Rattle.dcc_regs.proofs.Runs.{read, after-run, State, step, run, start, run-a
 use Rattle.dcc_station.specs.Sending.{Sending, copies, Displaces, Leaves, with_entry, Refreshes, HandsOut}
 use Rattle.dcc_station.specs.Commands.{is_refreshed}
 use Rattle.dcc_regs.specs.Writes.{writes_cv29}
-use Rattle.dcc_station.specs.Refresh.{StandsFor, made, accepts, hands_out, intended, RefreshIsTransparent, TransparentWhereNothingWaits, WaitingIsTheEnd}
+use Rattle.dcc_station.specs.Refresh.{StandsFor, made, accepts, hands_out, intended, RefreshIsTransparent}
+use Rattle.dcc_station.specs.Refresh.{TransparentWhereNothingWaits, WaitingIsTheEnd}
 use Rattle.dcc_station.proofs.Tables.{refreshed_address, refreshed_is_no_write, mode_stays}
 use Rattle.dcc_regs.proofs.LawLemmas.{idle_is_unheard}
-use Rattle.dcc_station.proofs.Effects.{Core, core, same_core, effect, effects, effects-append, step_plain, step_pending, effect_after_first, effect_twice, effect_plain_own}
+use Rattle.dcc_station.proofs.Effects.{Core, core, same_core, effect, effects, effects-append, step_plain}
+use Rattle.dcc_station.proofs.Effects.{step_pending, effect_after_first, effect_twice, effect_plain_own}
 
 -- every register that a packet sets in the present mode is at the packet's value
 abbrev pub Holds : Core → Packet → Type 0
@@ -40,7 +44,8 @@ Holds c e = (r : Register) → overwritten (c.plain r) (sets (mode_in c.bits) e 
 pub not_both : {b : Bool} → b ≡ true → b ≡ false → ⊥
 not_both e h = (let k : true ≡ false = sym e ∙ h in cc)
 
-all_append : (P : Packet → Type 0) (a b : List Packet) → AllByRecursion P a → AllByRecursion P b → AllByRecursion P (a ++ b)
+all_append : (P : Packet → Type 0) (a b : List Packet) → AllByRecursion P a → AllByRecursion P b
+    → AllByRecursion P (a ++ b)
 all_append P [] b left right = right
 all_append P (x ∷ a) b left right = (left.0, all_append P a b left.1 right)
 
@@ -63,27 +68,35 @@ module _ (who : Who) where
   then_effect c p = cond (hears who p) (effect c p) c
 
   -- an entry that does not conflict with a packet holds after it
-  holds_after : (c : Core) (p e : Packet) → hears who p ≡ true → hears who e ≡ true → is_refreshed e ≡ true → Holds c e → ¬ Displaces p e → Holds (effect c p) e
+  holds_after : (c : Core) (p e : Packet) → hears who p ≡ true → hears who e ≡ true → is_refreshed e ≡ true → Holds c e
+      → ¬ Displaces p e → Holds (effect c p) e
   holds_after c p e h g refreshed holds stays r = by_kind (is_own_write p) refl
     where
-      by_kind : (w : Bool) → is_own_write p ≡ w → overwritten ((effect c p).plain r) (sets (mode_in (effect c p).bits) e r) ≡ (effect c p).plain r
+      by_kind : (w : Bool) → is_own_write p ≡ w
+          → overwritten ((effect c p).plain r) (sets (mode_in (effect c p).bits) e r) ≡ (effect c p).plain r
       by_kind true own = by_mode (writes_cv29 p) refl
         where
-          by_mode : (w : Bool) → writes_cv29 p ≡ w → overwritten ((effect c p).plain r) (sets (mode_in (effect c p).bits) e r) ≡ (effect c p).plain r
+          by_mode : (w : Bool) → writes_cv29 p ≡ w
+              → overwritten ((effect c p).plain r) (sets (mode_in (effect c p).bits) e r) ≡ (effect c p).plain r
           by_mode true writes = absurd (stays (inr (inr (writes, refreshed_address who p e own h refreshed g))))
           by_mode false writes =
               ap (λ v. overwritten v (sets (mode_in (effect c p).bits) e r)) (effect_plain_own c p own r)
               ∙ ap (λ mode. overwritten (c.plain r) (sets mode e r))
-              (ap (λ o. mode_of (cond (is_own_write p && c.can_wait) (overwritten (c.bits (CvBit 29 1)) o) (c.bits (CvBit 29 1)))) (mode_stays p writes)
+              (ap (λ o. mode_of
+              (cond (is_own_write p && c.can_wait) (overwritten (c.bits (CvBit 29 1)) o)
+              (c.bits (CvBit 29 1)))) (mode_stays p writes)
               ∙ ap mode_of (none_written (is_own_write p && c.can_wait) (c.bits (CvBit 29 1))))
               ∙ holds r
               ∙ sym (effect_plain_own c p own r)
       by_kind false other =
           ap (λ mode. overwritten (overwritten (c.plain r) (sets (mode_in c.bits) p r)) (sets mode e r))
-          (ap (λ w. mode_of (cond (w && c.can_wait) (overwritten (c.bits (CvBit 29 1)) (sets_bit p (CvBit 29 1))) (c.bits (CvBit 29 1)))) other)
+          (ap (λ w. mode_of
+          (cond (w && c.can_wait) (overwritten (c.bits (CvBit 29 1)) (sets_bit p (CvBit 29 1)))
+          (c.bits (CvBit 29 1)))) other)
           ∙ by_values (c.plain r) (sets (mode_in c.bits) p r) (sets (mode_in c.bits) e r) refl refl (holds r)
         where
-          by_values : (v a b : Option Value) → sets (mode_in c.bits) p r ≡ a → sets (mode_in c.bits) e r ≡ b → overwritten v b ≡ v → overwritten (overwritten v a) b ≡ overwritten v a
+          by_values : (v a b : Option Value) → sets (mode_in c.bits) p r ≡ a → sets (mode_in c.bits) e r ≡ b
+              → overwritten v b ≡ v → overwritten (overwritten v a) b ≡ overwritten v a
           by_values None a b x y k = refl
           by_values (Some v) a None x y k = refl
           by_values (Some v) None (Some w) x y k = k
@@ -120,42 +133,56 @@ module _ (who : Who) where
       by_case true h g = λ r. ap (λ (d : Core). d.plain r) (effect_twice c p)
       by_case false h g = absurd (not_both g h)
 
-  entries_left : (c : Core) (p : Packet) (l kept : List Packet) → AllByRecursion (Entry c) l → Leaves p l kept → AllByRecursion (Entry (then_effect c p)) kept
+  entries_left : (c : Core) (p : Packet) (l kept : List Packet) → AllByRecursion (Entry c) l → Leaves p l kept
+      → AllByRecursion (Entry (then_effect c p)) kept
   entries_left c p [] kept all e = subst (λ k. AllByRecursion (Entry (then_effect c p)) k) (sym e) tt
   entries_left c p (e ∷ l) kept all left = elim left [
     | inl gone ↦ entries_left c p l kept all.1 gone.1
-    | inr stays ↦ subst (λ k. AllByRecursion (Entry (then_effect c p)) k) (sym stays.1.1) (entry_after c p e all.0 stays.0, entries_left c p l stays.1.0 all.1 stays.1.2)
+    | inr stays ↦ subst (λ k. AllByRecursion (Entry (then_effect c p)) k) (sym stays.1.1)
+        (entry_after c p e all.0 stays.0, entries_left c p l stays.1.0 all.1 stays.1.2)
   ]
 
-  refreshed_entries : (c : Core) (slots : ℕ) (p : Packet) (l new : List Packet) → AllByRecursion (Entry c) l → Refreshes slots p l new → AllByRecursion (Entry (then_effect c p)) new
-  refreshed_entries c slots p l new all (kept, left, is) = subst (λ k. AllByRecursion (Entry (then_effect c p)) k) (sym is) (by_kind (is_refreshed p) refl)
+  refreshed_entries : (c : Core) (slots : ℕ) (p : Packet) (l new : List Packet) → AllByRecursion (Entry c) l
+      → Refreshes slots p l new → AllByRecursion (Entry (then_effect c p)) new
+  refreshed_entries c slots p l new all (kept, left, is) =
+      subst (λ k. AllByRecursion (Entry (then_effect c p)) k) (sym is) (by_kind (is_refreshed p) refl)
     where
       stay : AllByRecursion (Entry (then_effect c p)) kept
       stay = entries_left c p l kept all left
 
-      by_kind : (t : Bool) → is_refreshed p ≡ t → AllByRecursion (Entry (then_effect c p)) (cond t (with_entry slots kept p) kept)
-      by_kind true e = all_dropped (Entry (then_effect c p)) (length (kept ++ p ∷ []) - slots) (kept ++ p ∷ []) (all_append (Entry (then_effect c p)) kept (p ∷ []) stay (new_entry c p e, tt))
+      by_kind : (t : Bool) → is_refreshed p ≡ t
+          → AllByRecursion (Entry (then_effect c p)) (cond t (with_entry slots kept p) kept)
+      by_kind true e =
+          all_dropped (Entry (then_effect c p)) (length (kept ++ p ∷ []) - slots) (kept ++ p ∷ [])
+          (all_append (Entry (then_effect c p)) kept (p ∷ []) stay (new_entry c p e, tt))
       by_kind false e = stay
 
   -- what a decoder hears where one more packet is sent
-  heard-more : (l : List Packet) (p : Packet) → heard who (l ++ p ∷ []) ≡ cond (hears who p) (heard who l ++ p ∷ []) (heard who l)
+  heard-more : (l : List Packet) (p : Packet)
+      → heard who (l ++ p ∷ []) ≡ cond (hears who p) (heard who l ++ p ∷ []) (heard who l)
   heard-more l p = filter-append (hears who) l (p ∷ []) ∙ by_case (hears who p)
     where
       by_case : (t : Bool) → filter (hears who) l ++ cond t (p ∷ []) [] ≡ cond t (heard who l ++ p ∷ []) (heard who l)
       by_case true = refl
       by_case false = append-nil (filter (hears who) l)
 
-  run-more : (s : State) (l : List Packet) (p : Packet) → run s (heard who (l ++ p ∷ [])) ≡ cond (hears who p) (step (run s (heard who l)) p) (run s (heard who l))
+  run-more : (s : State) (l : List Packet) (p : Packet)
+      → run s (heard who (l ++ p ∷ [])) ≡ cond (hears who p) (step (run s (heard who l)) p) (run s (heard who l))
   run-more s l p = ap (run s) (heard-more l p) ∙ by_case (hears who p)
     where
-      by_case : (t : Bool) → run s (cond t (heard who l ++ p ∷ []) (heard who l)) ≡ cond t (step (run s (heard who l)) p) (run s (heard who l))
+      by_case : (t : Bool)
+          → run s (cond t (heard who l ++ p ∷ []) (heard who l)) ≡ cond t (step (run s (heard who l)) p)
+          (run s (heard who l))
       by_case true = run-append s (heard who l) (p ∷ [])
       by_case false = refl
 
-  effects-more : (c : Core) (l : List Packet) (p : Packet) → effects c (heard who (l ++ p ∷ [])) ≡ then_effect (effects c (heard who l)) p
+  effects-more : (c : Core) (l : List Packet) (p : Packet)
+      → effects c (heard who (l ++ p ∷ [])) ≡ then_effect (effects c (heard who l)) p
   effects-more c l p = ap (effects c) (heard-more l p) ∙ by_case (hears who p)
     where
-      by_case : (t : Bool) → effects c (cond t (heard who l ++ p ∷ []) (heard who l)) ≡ cond t (effect (effects c (heard who l)) p) (effects c (heard who l))
+      by_case : (t : Bool)
+          → effects c (cond t (heard who l ++ p ∷ []) (heard who l)) ≡ cond t (effect (effects c (heard who l)) p)
+          (effects c (heard who l))
       by_case true = effects-append c (heard who l) (p ∷ [])
       by_case false = refl
 
@@ -169,10 +196,13 @@ module _ (who : Who) where
   copied s p = cond (hears who p) (step s p) s
 
   -- an own write is pending behind its first copy, if a write can be
-  pending_behind : (s : State) (p : Packet) → is_own_write p ≡ true → is_pending (step s p).pending p ≡ is_some (step s p).pending
+  pending_behind : (s : State) (p : Packet) → is_own_write p ≡ true
+      → is_pending (step s p).pending p ≡ is_some (step s p).pending
   pending_behind s p own = by_case s.pending
     where
-      by_case : (held : Option Value) → is_pending (overwritten held (Some (PendingValue (left_pending p)))) p ≡ is_some (overwritten held (Some (PendingValue (left_pending p))))
+      by_case : (held : Option Value)
+          → is_pending (overwritten held (Some (PendingValue (left_pending p)))) p ≡ is_some
+          (overwritten held (Some (PendingValue (left_pending p))))
       by_case None = refl
       by_case (Some v) = ap (λ t. is_pending (Some (PendingValue (cond t (Some p) None))) p) own ∙ same-refl p
 
@@ -196,7 +226,8 @@ module _ (who : Who) where
       }
 
   -- the only copy of a packet that is no own write
-  only_copy : (c : Core) (s : State) (p : Packet) → core s ≡ c → is_own_write p ≡ false → core (copied s p) ≡ then_effect c p
+  only_copy : (c : Core) (s : State) (p : Packet) → core s ≡ c → is_own_write p ≡ false
+      → core (copied s p) ≡ then_effect c p
   only_copy c s p is other = by_case (hears who p)
     where
       by_case : (t : Bool) → core (cond t (step s p) s) ≡ cond t (effect c p) c
@@ -220,7 +251,8 @@ module _ (who : Who) where
       by_case : (t : Bool) → hears who p ≡ t → core (cond t (step s p) s) ≡ c → Sent p c (cond t (step s p) s)
       by_case true h is = record {
         unheard = λ g. absurd (not_both h g);
-        effective = λ _. ap (λ d. effect d p) (is ∙ sym (sent.effective h)) ∙ effect_twice (core s) p ∙ sent.effective h;
+        effective =
+            λ _. ap (λ d. effect d p) (is ∙ sym (sent.effective h)) ∙ effect_twice (core s) p ∙ sent.effective h;
         pending = λ _ own. pending_behind s p own;
       }
       by_case false h is = sent
@@ -233,7 +265,9 @@ module _ (who : Who) where
       other = refreshed_is_no_write e entry.0
 
       held : hears who e ≡ true → effect c e ≡ c
-      held h = same_core (effect c e) c refl (λ r. ap (λ w. cond (w && c.can_wait) (overwritten (c.bits r) (sets_bit e r)) (c.bits r)) other) (entry.1 h)
+      held h =
+          same_core (effect c e) c refl
+          (λ r. ap (λ w. cond (w && c.can_wait) (overwritten (c.bits r) (sets_bit e r)) (c.bits r)) other) (entry.1 h)
 
       by_case : (t : Bool) → hears who e ≡ t → core (cond t (step s e) s) ≡ c
       by_case true h = step_plain s e other ∙ ap (λ d. effect d e) is ∙ held h
@@ -250,16 +284,23 @@ module _ (who : Who) where
       twice_sent : is_own_write p ≡ true → core (step (step s p) p) ≡ effect (core s) p
       twice_sent own = step_pending (step s p) p (pending_behind s p own) ∙ effect_after_first s p own
 
-      by_kind : (w : Bool) → is_own_write p ≡ w → (t : Bool) → ((u : State) → core (run u (heard who (intended l))) ≡ effects (core u) (heard who l)) →
+      by_kind : (w : Bool) → is_own_write p ≡ w → (t : Bool)
+          → ((u : State) → core (run u (heard who (intended l))) ≡ effects (core u) (heard who l)) →
           core (run s (heard who (cond w (p ∷ p ∷ intended l) (p ∷ intended l)))) ≡ effects (core s) (heard who (p ∷ l))
       by_kind true own t more = by_case (hears who p)
         where
-          by_case : (t : Bool) → core (run s (cond t (p ∷ cond t (p ∷ heard who (intended l)) (heard who (intended l))) (cond t (p ∷ heard who (intended l)) (heard who (intended l))))) ≡ effects (core s) (cond t (p ∷ heard who l) (heard who l))
+          by_case : (t : Bool)
+              → core (run s
+              (cond t (p ∷ cond t (p ∷ heard who (intended l)) (heard who (intended l)))
+              (cond t (p ∷ heard who (intended l)) (heard who (intended l))))) ≡ effects (core s)
+              (cond t (p ∷ heard who l) (heard who l))
           by_case true = more (step (step s p) p) ∙ ap (λ c. effects c (heard who l)) (twice_sent own)
           by_case false = more s
       by_kind false other t more = by_case (hears who p)
         where
-          by_case : (t : Bool) → core (run s (cond t (p ∷ heard who (intended l)) (heard who (intended l)))) ≡ effects (core s) (cond t (p ∷ heard who l) (heard who l))
+          by_case : (t : Bool)
+              → core (run s (cond t (p ∷ heard who (intended l)) (heard who (intended l)))) ≡ effects (core s)
+              (cond t (p ∷ heard who l) (heard who l))
           by_case true = more (step s p) ∙ ap (λ c. effects c (heard who l)) (step_plain s p other)
           by_case false = more s
 
@@ -287,26 +328,47 @@ module _ (who : Who) where
     after_more : (h : List Packet) (p : Packet) → after_packets (h ++ p ∷ []) ≡ copied (after_packets h) p
     after_more h p = run-more (start m) h p
 
-    only_one : (repeats : ℕ) (p : Packet) → 0 < repeats → (nat_le (copies repeats p) (0 + 1)) ≡ true → is_own_write p ≡ false
+    only_one : (repeats : ℕ) (p : Packet) → 0 < repeats → (nat_le (copies repeats p) (0 + 1)) ≡ true
+        → is_own_write p ≡ false
     only_one repeats p some e = by_kind (is_own_write p) refl
       where
         by_kind : (w : Bool) → is_own_write p ≡ w → w ≡ false
         by_kind false own = refl
         by_kind true own =
-            let k : repeats + 1 ≤ 1 = leb-true (repeats + 1) 1 (sym (ap (λ w. nat_le (cond w (repeats + 1) repeats) 1) own) ∙ e) in
+            let k : repeats + 1 ≤ 1 =
+            leb-true (repeats + 1) 1 (sym (ap (λ w. nat_le (cond w (repeats + 1) repeats) 1) own) ∙ e) in
             absurd (omega arith)
 
-    more_waits : (sent : ℕ) (waiting done : List Packet) (c : Core) (s : State) (p : Packet) → Progress sent waiting done c s → Progress sent (waiting ++ p ∷ []) done c s
+    more_waits : (sent : ℕ) (waiting done : List Packet) (c : Core) (s : State) (p : Packet)
+        → Progress sent waiting done c s → Progress sent (waiting ++ p ∷ []) done c s
     more_waits zero waiting done c s p progress = progress
     more_waits (suc sent) [] done c s p progress = absurd progress
     more_waits (suc sent) (q ∷ rest) done c s p progress = progress
 
-    effects_of : (done : List Packet) (p : Packet) (c : Core) → effects at_start (heard who done) ≡ c → effects at_start (heard who (done ++ p ∷ [])) ≡ then_effect c p
+    effects_of : (done : List Packet) (p : Packet) (c : Core) → effects at_start (heard who done) ≡ c
+        → effects at_start (heard who (done ++ p ∷ [])) ≡ then_effect c p
     effects_of done p c e = effects-more at_start done p ∙ ap (λ d. then_effect d p) e
 
-    next_keeps : (waiting : List Packet) (sent : ℕ) (entries : List Packet) (queue slots repeats : ℕ) (commands packets : List Packet) (out : Packet) (new : Sending) →
-        Invariant (record { waiting = waiting; sent = sent; entries = entries; queue = queue; slots = slots; repeats = repeats }) commands packets →
-        HandsOut waiting entries (record { waiting = waiting; sent = sent; entries = entries; queue = queue; slots = slots; repeats = repeats }) out new →
+    next_keeps : (waiting : List Packet) (sent : ℕ) (entries : List Packet) (queue slots repeats : ℕ)
+        (commands packets : List Packet) (out : Packet) (new : Sending) →
+        Invariant
+        (record {
+          waiting = waiting;
+          sent = sent;
+          entries = entries;
+          queue = queue;
+          slots = slots;
+          repeats = repeats;
+        }) commands packets →
+        HandsOut waiting entries
+        (record {
+          waiting = waiting;
+          sent = sent;
+          entries = entries;
+          queue = queue;
+          slots = slots;
+          repeats = repeats;
+        }) out new →
         Invariant new commands (packets ++ out ∷ [])
     next_keeps [] (suc j) entries queue slots repeats commands packets out new inv next = absurd inv.progress
     next_keeps [] zero [] queue slots repeats commands packets out new inv (is, as_said) =
@@ -314,7 +376,12 @@ module _ (who : Who) where
           done = inv.done;
           target = inv.target;
           split = inv.split;
-          progress = (ap (λ p. core (after_packets (packets ++ p ∷ []))) is ∙ ap core (after_more packets Idle) ∙ ap (λ t. core (cond t (step (after_packets packets) Idle) (after_packets packets))) (idle_is_unheard who) ∙ inv.progress.0, inv.progress.1);
+          progress = (
+            ap (λ p. core (after_packets (packets ++ p ∷ []))) is ∙ ap core (after_more packets Idle)
+                ∙ ap (λ t. core (cond t (step (after_packets packets) Idle) (after_packets packets)))
+                (idle_is_unheard who) ∙ inv.progress.0,
+            inv.progress.1,
+          );
           entries = tt;
           some = inv.some;
         })
@@ -323,12 +390,18 @@ module _ (who : Who) where
           done = inv.done;
           target = inv.target;
           split = inv.split;
-          progress = (ap (λ p. core (after_packets (packets ++ p ∷ []))) is ∙ ap core (after_more packets e) ∙ entry_copy inv.target (after_packets packets) e inv.progress.0 inv.entries.0, inv.progress.1);
+          progress = (
+            ap (λ p. core (after_packets (packets ++ p ∷ []))) is ∙ ap core (after_more packets e)
+                ∙ entry_copy inv.target (after_packets packets) e inv.progress.0 inv.entries.0,
+            inv.progress.1,
+          );
           entries = all_append (Entry inv.target) later (e ∷ []) inv.entries.1 (inv.entries.0, tt);
           some = inv.some;
         })
-    next_keeps (p ∷ rest) zero entries queue slots repeats commands packets out new inv (is, (after, refreshed, as_said)) =
-        subst (λ s. Invariant s commands (packets ++ out ∷ [])) (sym as_said) (by_case (nat_le (copies repeats p) (0 + 1)) refl)
+    next_keeps (p ∷ rest) zero entries queue slots repeats commands packets out new inv
+        (is, (after, refreshed, as_said)) =
+        subst (λ s. Invariant s commands (packets ++ out ∷ [])) (sym as_said)
+        (by_case (nat_le (copies repeats p) (0 + 1)) refl)
       where
         target : Core
         target = then_effect inv.target p
@@ -338,12 +411,23 @@ module _ (who : Who) where
 
         by_case : (t : Bool) → (nat_le (copies repeats p) (0 + 1)) ≡ t → Invariant (cond t
             (record { waiting = rest; sent = 0; entries = after; queue = queue; slots = slots; repeats = repeats })
-            (record { waiting = p ∷ rest; sent = 0 + 1; entries = after; queue = queue; slots = slots; repeats = repeats })) commands (packets ++ out ∷ [])
+            (record {
+              waiting = p ∷ rest;
+              sent = 0 + 1;
+              entries = after;
+              queue = queue;
+              slots = slots;
+              repeats = repeats;
+            })) commands (packets ++ out ∷ [])
         by_case true last = record {
           done = inv.done ++ p ∷ [];
           target = then_effect inv.target p;
           split = inv.split ∙ sym (append_assoc inv.done (p ∷ []) rest);
-          progress = (ap core now ∙ only_copy inv.target (after_packets packets) p inv.progress.0 (only_one repeats p inv.some last), effects_of inv.done p inv.target inv.progress.1);
+          progress = (
+            ap core now
+                ∙ only_copy inv.target (after_packets packets) p inv.progress.0 (only_one repeats p inv.some last),
+            effects_of inv.done p inv.target inv.progress.1,
+          );
           entries = refreshed_entries inv.target slots p entries after inv.entries refreshed;
           some = inv.some;
         }
@@ -351,12 +435,18 @@ module _ (who : Who) where
           done = inv.done;
           target = then_effect inv.target p;
           split = inv.split;
-          progress = (subst (Sent p (then_effect inv.target p)) (sym now) (first_copy inv.target (after_packets packets) p inv.progress.0), effects_of inv.done p inv.target inv.progress.1);
+          progress = (
+            subst (Sent p (then_effect inv.target p)) (sym now)
+                (first_copy inv.target (after_packets packets) p inv.progress.0),
+            effects_of inv.done p inv.target inv.progress.1,
+          );
           entries = refreshed_entries inv.target slots p entries after inv.entries refreshed;
           some = inv.some;
         }
-    next_keeps (p ∷ rest) (suc j) entries queue slots repeats commands packets out new inv (is, (after, refreshed, as_said)) =
-        subst (λ s. Invariant s commands (packets ++ out ∷ [])) (sym as_said) (by_case (nat_le (copies repeats p) (suc j + 1)) refl)
+    next_keeps (p ∷ rest) (suc j) entries queue slots repeats commands packets out new inv
+        (is, (after, refreshed, as_said)) =
+        subst (λ s. Invariant s commands (packets ++ out ∷ [])) (sym as_said)
+        (by_case (nat_le (copies repeats p) (suc j + 1)) refl)
       where
         now : after_packets (packets ++ out ∷ []) ≡ copied (after_packets packets) p
         now = ap (λ x. after_packets (packets ++ x ∷ [])) is ∙ after_more packets p
@@ -366,7 +456,14 @@ module _ (who : Who) where
 
         by_case : (t : Bool) → (nat_le (copies repeats p) (suc j + 1)) ≡ t → Invariant (cond t
             (record { waiting = rest; sent = 0; entries = after; queue = queue; slots = slots; repeats = repeats })
-            (record { waiting = p ∷ rest; sent = suc j + 1; entries = after; queue = queue; slots = slots; repeats = repeats })) commands (packets ++ out ∷ [])
+            (record {
+              waiting = p ∷ rest;
+              sent = suc j + 1;
+              entries = after;
+              queue = queue;
+              slots = slots;
+              repeats = repeats;
+            })) commands (packets ++ out ∷ [])
         by_case true last = record {
           done = inv.done ++ p ∷ [];
           target = inv.target;
@@ -379,14 +476,20 @@ module _ (who : Who) where
           done = inv.done;
           target = inv.target;
           split = inv.split;
-          progress = subst (λ n. Progress n (p ∷ rest) inv.done inv.target (after_packets (packets ++ out ∷ []))) (sym (add-one (suc j)))
-              (subst (Sent p inv.target) (sym now) (still_sent inv.target (after_packets packets) p inv.progress.0), inv.progress.1);
+          progress =
+              subst (λ n. Progress n (p ∷ rest) inv.done inv.target (after_packets (packets ++ out ∷ [])))
+              (sym (add-one (suc j))) (
+                subst (Sent p inv.target) (sym now) (still_sent inv.target (after_packets packets) p inv.progress.0),
+                inv.progress.1,
+              );
           entries = kept;
           some = inv.some;
         }
 
-    stands : (s : Sending) (commands packets : List Packet) → StandsFor s commands packets → Invariant s commands packets
-    stands _ _ _ (made queue slots repeats some) = record { done = []; target = at_start; split = refl; progress = (refl, refl); entries = tt; some = some }
+    stands : (s : Sending) (commands packets : List Packet) → StandsFor s commands packets
+        → Invariant s commands packets
+    stands _ _ _ (made queue slots repeats some) =
+        record { done = []; target = at_start; split = refl; progress = (refl, refl); entries = tt; some = some }
     stands _ _ _ (accepts old before packets p from sendable room) =
         let inv = stands old before packets from in
         record {
@@ -398,9 +501,11 @@ module _ (who : Who) where
           some = inv.some;
         }
     stands _ _ _ (hands_out old new commands before p from next) =
-        next_keeps old.waiting old.sent old.entries old.queue old.slots old.repeats commands before p new (stands old commands before from) next
+        next_keeps old.waiting old.sent old.entries old.queue old.slots old.repeats commands before p new
+        (stands old commands before from) next
 
-    when_whole : (sent : ℕ) (waiting done : List Packet) (c : Core) (s : State) → sent ≡ 0 → Progress sent waiting done c s → core s ≡ effects at_start (heard who done)
+    when_whole : (sent : ℕ) (waiting done : List Packet) (c : Core) (s : State) → sent ≡ 0
+        → Progress sent waiting done c s → core s ≡ effects at_start (heard who done)
     when_whole zero waiting done c s e progress = progress.0 ∙ sym progress.1
     when_whole (suc sent) waiting done c s e progress = absurd (omega arith)
 
@@ -429,12 +534,15 @@ refresh s done packets from whole who m r other =
 
 pub refresh_all : TransparentWhereNothingWaits
 refresh_all s commands packets from none who m r other =
-    refresh s commands packets (subst (λ l. StandsFor s l packets) (sym (ap (λ w. commands ++ w) none ∙ append-nil commands)) from) (none_sent s.sent s.waiting none inv.progress) who m r other
+    refresh s commands packets
+    (subst (λ l. StandsFor s l packets) (sym (ap (λ w. commands ++ w) none ∙ append-nil commands)) from)
+    (none_sent s.sent s.waiting none inv.progress) who m r other
   where
     inv : Invariant who m s commands packets
     inv = stands who m s commands packets from
 
-    none_sent : (sent : ℕ) (waiting : List Packet) → waiting ≡ [] → Progress who m sent waiting inv.done inv.target (after_packets who m packets) → sent ≡ 0
+    none_sent : (sent : ℕ) (waiting : List Packet) → waiting ≡ []
+        → Progress who m sent waiting inv.done inv.target (after_packets who m packets) → sent ≡ 0
     none_sent zero waiting e progress = refl
     none_sent (suc sent) [] e progress = absurd progress
     none_sent (suc sent) (p ∷ rest) e progress = cc

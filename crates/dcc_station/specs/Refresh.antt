@@ -12,9 +12,11 @@ use Rattle.dcc_station.specs.Sending.{Sending, idle_sending, accepted, Next, Nex
 -- a station that was new, accepted these commands and handed out these packets
 pub data StandsFor : Sending → List Packet → List Packet → Type 0 where
   made : (queue slots repeats : ℕ) → 0 < repeats → StandsFor (idle_sending queue slots repeats) [] []
-  accepts : (s : Sending) (commands packets : List Packet) (p : Packet) → StandsFor s commands packets → is_sendable p ≡ true → length s.waiting < s.queue →
+  accepts : (s : Sending) (commands packets : List Packet) (p : Packet) → StandsFor s commands packets
+      → is_sendable p ≡ true → length s.waiting < s.queue →
       StandsFor (accepted s p) (commands ++ p ∷ []) packets
-  hands_out : (s new : Sending) (commands packets : List Packet) (p : Packet) → StandsFor s commands packets → Next s p new → StandsFor new commands (packets ++ p ∷ [])
+  hands_out : (s new : Sending) (commands packets : List Packet) (p : Packet) → StandsFor s commands packets
+      → Next s p new → StandsFor new commands (packets ++ p ∷ [])
 
 -- the packets that commands ask for: each once, each CV write twice
 abbrev pub intended : List Packet → List Packet
@@ -23,22 +25,31 @@ intended (p ∷ later) = if is_own_write p then p ∷ p ∷ intended later else 
 
 -- whatever the registers are at the start, two lists of packets leave the same in each but Pending
 abbrev pub LeaveTheSameButPending : Who → List Packet → List Packet → Type 0
-LeaveTheSameButPending who left right = (start : RegisterMap) (register : Register) → register ≢ registers.Pending → result who start left register ≡ result who start right register
+LeaveTheSameButPending who left right =
+    (start : RegisterMap) (register : Register) → register ≢ registers.Pending
+    → result who start left register ≡ result who start right register
 
 -- whenever no command is partly sent, what was handed out leaves what the commands that no longer wait ask for
 abbrev pub RefreshIsTransparent : Type 0
-RefreshIsTransparent = (s : Sending) (done packets : List Packet) → StandsFor s (done ++ s.waiting) packets → s.sent ≡ 0 →
+RefreshIsTransparent =
+    (s : Sending) (done packets : List Packet) → StandsFor s (done ++ s.waiting) packets → s.sent ≡ 0 →
     (who : Who) → LeaveTheSameButPending who packets (intended done)
 
 -- where nothing waits, these are all the accepted commands
 abbrev pub TransparentWhereNothingWaits : Type 0
-TransparentWhereNothingWaits = (s : Sending) (commands packets : List Packet) → StandsFor s commands packets → s.waiting ≡ [] →
+TransparentWhereNothingWaits =
+    (s : Sending) (commands packets : List Packet) → StandsFor s commands packets → s.waiting ≡ [] →
     (who : Who) → LeaveTheSameButPending who packets (intended commands)
 
--- where nothing waits, as many packets as there are entries are the entries in order, each once, and the station is as before
+-- where nothing waits, as many packets as there are entries are the entries in order, each once, and the station is as
+-- before
 abbrev pub EntriesAreHandedOutInTurn : Type 0
-EntriesAreHandedOutInTurn = (s new : Sending) (packets : List Packet) → s.waiting ≡ [] → length packets ≡ length s.entries → NextAll s packets new → (packets ≡ s.entries) × (new ≡ s)
+EntriesAreHandedOutInTurn =
+    (s new : Sending) (packets : List Packet) → s.waiting ≡ [] → length packets ≡ length s.entries
+    → NextAll s packets new → (packets ≡ s.entries) × (new ≡ s)
 
 -- the commands that wait are the last of those that were accepted
 abbrev pub WaitingIsTheEnd : Type 0
-WaitingIsTheEnd = (s : Sending) (commands packets : List Packet) → StandsFor s commands packets → (done : List Packet) × (commands ≡ done ++ s.waiting)
+WaitingIsTheEnd =
+    (s : Sending) (commands packets : List Packet) → StandsFor s commands packets
+    → (done : List Packet) × (commands ≡ done ++ s.waiting)

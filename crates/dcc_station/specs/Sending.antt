@@ -9,7 +9,8 @@ use Rattle.dcc_regs.specs.Writes.{is_own_write, writes_cv29}
 use Rattle.circular_buffer.specs.Buffer.{keep_last}
 use Rattle.dcc_station.specs.Commands.{is_refreshed}
 
--- what a station has: the commands that wait, how often the first of them was sent, the entries to refresh, and its sizes
+-- what a station has: the commands that wait, how often the first of them was sent, the entries to refresh, and its
+-- sizes
 pub record Sending : Type 0 where
   pub waiting : List Packet
   pub sent : ℕ
@@ -20,13 +21,15 @@ pub record Sending : Type 0 where
 
 -- a station that has no command yet
 abbrev pub idle_sending : ℕ → ℕ → ℕ → Sending
-idle_sending queue slots repeats = record { waiting = []; sent = 0; entries = []; queue = queue; slots = slots; repeats = repeats }
+idle_sending queue slots repeats =
+    record { waiting = []; sent = 0; entries = []; queue = queue; slots = slots; repeats = repeats }
 
 -- how often a command is sent in a row: a CV write once more, since it acts at the second of two copies
 abbrev pub copies : ℕ → Packet → ℕ
 copies repeats p = if is_own_write p then repeats + 1 else repeats
 
--- an entry that a command puts an end to: the same packet, one that conflicts with it or, where it writes CV29, one to its address
+-- an entry that a command puts an end to: the same packet, one that conflicts with it or, where it writes CV29, one to
+-- its address
 abbrev pub Displaces : Packet → Packet → Type 0
 Displaces p entry = (entry ≡ p) ⊎ (Conflict p entry ⊎ ((writes_cv29 p ≡ true) × (address_of entry ≡ address_of p)))
 
@@ -43,7 +46,8 @@ with_entry slots entries p = keep_last slots (entries ++ p ∷ [])
 
 -- the entries after the first copy of a command
 abbrev pub Refreshes : ℕ → Packet → List Packet → List Packet → Type 0
-Refreshes slots p entries new = (kept : List Packet) × Leaves p entries kept × (new ≡ (if is_refreshed p then with_entry slots kept p else kept))
+Refreshes slots p entries new =
+    (kept : List Packet) × Leaves p entries kept × (new ≡ (if is_refreshed p then with_entry slots kept p else kept))
 
 -- a command is accepted
 abbrev pub accepted : Sending → Packet → Sending
@@ -63,11 +67,15 @@ EntriesAfter (suc sent) slots p entries after = after ≡ entries
 
 -- a copy of a command changes the entries and nothing else
 abbrev pub ChangesEntries : Sending → Packet → Sending → Type 0
-ChangesEntries s p new = (after : List Packet) × EntriesAfter s.sent s.slots p s.entries after × (new ≡ record s { entries = after })
+ChangesEntries s p new =
+    (after : List Packet) × EntriesAfter s.sent s.slots p s.entries after × (new ≡ record s { entries = after })
 
--- a station hands out a packet: a copy of the first command that waits, else the front entry, which goes to the end, else Idle
+-- a station hands out a packet: a copy of the first command that waits, else the front entry, which goes to the end,
+-- else Idle
 abbrev pub HandsOut : List Packet → List Packet → Sending → Packet → Sending → Type 0
-HandsOut (p ∷ rest) entries s out new = (out ≡ p) × ((after : List Packet) × EntriesAfter s.sent s.slots p entries after × (new ≡ sent_once_more s p rest after))
+HandsOut (p ∷ rest) entries s out new =
+    (out ≡ p)
+    × ((after : List Packet) × EntriesAfter s.sent s.slots p entries after × (new ≡ sent_once_more s p rest after))
 HandsOut [] (entry ∷ later) s out new = (out ≡ entry) × (new ≡ record s { entries = later ++ entry ∷ [] })
 HandsOut [] [] s out new = (out ≡ Idle) × (new ≡ s)
 

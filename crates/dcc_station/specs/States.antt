@@ -10,8 +10,11 @@ use Rattle.dcc_station.specs.Commands.{is_refreshed}
 
 -- a binary state is never an entry
 abbrev pub StatesAreNoEntries : Type 0
-StatesAreNoEntries = (to : Address) (number : StateNumber) (on : Bool) → is_refreshed (Loco to (BinaryState number on)) ≡ false
+StatesAreNoEntries =
+    (to : Address) (number : StateNumber) (on : Bool) → is_refreshed (Loco to (BinaryState number on)) ≡ false
 
 -- a binary state conflicts with no packet that is refreshed
 abbrev pub StatesConflictWithNoEntry : Type 0
-StatesConflictWithNoEntry = (to : Address) (number : StateNumber) (on : Bool) (entry : Packet) → is_refreshed entry ≡ true → ¬ Conflict (Loco to (BinaryState number on)) entry
+StatesConflictWithNoEntry =
+    (to : Address) (number : StateNumber) (on : Bool) (entry : Packet) → is_refreshed entry ≡ true
+    → ¬ Conflict (Loco to (BinaryState number on)) entry

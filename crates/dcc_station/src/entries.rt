@@ -13,7 +13,8 @@ use dcc_regs::{address_of, conflict};
 /// The front entry, which goes to the end. Nothing changes where there is none.
 pub fn rotated(entries: &mut HeapCircularBuffer<Packet>) -> Option<Packet>
     ensures front { result ≡ slice_get entries.old.items 0 }
-    ensures entries { IfSome result (λ entry. entries.new ≡ buffer (drop 1 entries.old.items ++ entry ∷ []) entries.old.capacity) }
+    ensures entries { IfSome result
+        (λ entry. entries.new ≡ buffer (drop 1 entries.old.items ++ entry ∷ []) entries.old.capacity) }
     ensures none { IfNone result (entries.new ≡ entries.old) }
 {
     let front = match entries.front() {

@@ -1,6 +1,7 @@
 //! Laws of refreshing.
 
-ghost use Rattle.dcc_station.specs.Refresh.{EntriesAreHandedOutInTurn, RefreshIsTransparent, TransparentWhereNothingWaits, WaitingIsTheEnd};
+ghost use Rattle.dcc_station.specs.Refresh.{EntriesAreHandedOutInTurn, RefreshIsTransparent};
+ghost use Rattle.dcc_station.specs.Refresh.{TransparentWhereNothingWaits, WaitingIsTheEnd};
 ghost use Rattle.dcc_station.specs.States.{StatesAreNoEntries, StatesConflictWithNoEntry};
 
 /// Whenever no command is partly sent, a decoder that heard every packet holds, in each register but its pending

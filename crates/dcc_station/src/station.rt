@@ -1,6 +1,7 @@
 //! A command station.
 
-ghost use Rattle.std.specs.Prelude.{◌≡◌, ◌≤◌, ◌<◌, true, false, List, [], ◌∷◌, ◌++◌, length, drop, slice_get, IfOk, OnOk, OnErr, IfErr, IsTrue, ◌↔◌};
+ghost use Rattle.std.specs.Prelude.{◌≡◌, ◌≤◌, ◌<◌, true, false, List, [], ◌∷◌, ◌++◌, length, drop, slice_get, IfOk};
+ghost use Rattle.std.specs.Prelude.{OnOk, OnErr, IfErr, IsTrue, ◌↔◌};
 ghost use Rattle.dcc_packet.specs.declared.packet.Packet.{Packet};
 ghost use Rattle.dcc_station.specs.Commands as commands;
 ghost use Rattle.dcc_station.specs.Limits.{is_within_limits};
@@ -91,9 +92,12 @@ impl Station {
         ensures ok { OnOk result (self.new ≡ accepted self.old packet) }
         ensures err { OnErr result (self.new ≡ self.old) }
         ensures not_sendable { (result ≡ Err (Refused.NotSendable, packet)) ↔ (commands.is_sendable packet ≡ false) }
-        ensures full { (result ≡ Err (Refused.QueueFull, packet)) ↔ ((commands.is_sendable packet ≡ true) × (length self.old.waiting ≡ self.old.queue)) }
+        ensures full { (result ≡ Err (Refused.QueueFull, packet)) ↔
+            ((commands.is_sendable packet ≡ true) × (length self.old.waiting ≡ self.old.queue)) }
         ensures comes_back { IfErr result (λ refused. refused.1 ≡ packet) }
-        ensures stands { OnOk result ((commands packets : List Packet) → StandsFor self.old commands packets → StandsFor self.new (commands ++ packet ∷ []) packets) }
+        ensures stands { OnOk result
+            ((commands packets : List Packet) → StandsFor self.old commands packets
+            → StandsFor self.new (commands ++ packet ∷ []) packets) }
     {
         if !is_sendable(&packet) {
             return Err((Refused::NotSendable, packet));
@@ -141,7 +145,8 @@ impl Station {
     /// entries are full, the front one goes first.
     pub fn next(&mut self) -> Packet
         ensures next { Next self.old result self.new }
-        ensures stands { (commands packets : List Packet) → StandsFor self.old commands packets → StandsFor self.new commands (packets ++ result ∷ []) }
+        ensures stands { (commands packets : List Packet) → StandsFor self.old commands packets
+            → StandsFor self.new commands (packets ++ result ∷ []) }
     {
         match self.first_command() {
             Some(command) => self.send(command),

@@ -1,5 +1,7 @@
 -- What a call of the program does.
-use Rattle.std.proofs.Common.{◌≡◌, ◌⊎◌, inl, inr, ℕ, ◌+◌, ◌<◌, ◌≤◌, zero, suc, arith, add-one, length, take, get_or, List, [], ◌∷◌, ◌++◌, map, Option, None, Some, Result, Ok, Err, All, true, false, ◌↔◌, refl, sym, ap, ◌∙◌, subst, IfSome}
+use Rattle.std.proofs.Common.{◌≡◌, ◌⊎◌, inl, inr, ℕ, ◌+◌, ◌<◌, ◌≤◌, zero, suc, arith, add-one, length, take, get_or}
+use Rattle.std.proofs.Common.{List, [], ◌∷◌, ◌++◌, map, Option, None, Some, Result, Ok, Err, All, true, false, ◌↔◌}
+use Rattle.std.proofs.Common.{refl, sym, ap, ◌∙◌, subst, IfSome}
 use Rattle.std.proofs.Math.Seq.{take-suc}
 use Rattle.std.proofs.lemmas.List.{map-append}
 use Rattle.dcc_regs.specs.declared.register.Who.{Who}
@@ -23,12 +25,16 @@ use Rattle.dcc_listen.specs.FleetRun.{Members, Runs}
 use Rattle.dcc_tool.specs.Performs.{Streams, EncodesLines, SavesThese, RunsText, RunsDecoders, member_of}
 
 -- where an answer came, no fault was kept
-none_kept : {A : Type 0} (x : A) (fault : Option KeptFault) (P : Type 0) → IfSome fault (λ kept. (◌≡◌ {A = Result A ToolFault} (Ok x) (Err (as_tool_fault kept))) × P) → fault ≡ None
+none_kept : {A : Type 0} (x : A) (fault : Option KeptFault) (P : Type 0)
+    → IfSome fault (λ kept. (◌≡◌ {A = Result A ToolFault} (Ok x) (Err (as_tool_fault kept))) × P) → fault ≡ None
 none_kept x None P kept = refl
 none_kept x (Some fault) P kept = let e = kept.0 in absurd (cc)
 
-module _ {A : Type 0} (x : A) (old left : InputState) (decoders : List Saved) (kept : IfSome old.fault (λ fault. (◌≡◌ {A = Result A ToolFault} (Ok x) (Err (as_tool_fault fault))) × (left ≡ old)))
-    (reads : old.fault ≡ None → Answers decoder_text old (Ok decoders) left) (lines : UsedWholeLines old left) (possible : All (λ decoder. is_possible decoder ≡ true) decoders)
+module _ {A : Type 0} (x : A) (old left : InputState) (decoders : List Saved)
+    (kept : IfSome old.fault
+    (λ fault. (◌≡◌ {A = Result A ToolFault} (Ok x) (Err (as_tool_fault fault))) × (left ≡ old)))
+    (reads : old.fault ≡ None → Answers decoder_text old (Ok decoders) left) (lines : UsedWholeLines old left)
+    (possible : All (λ decoder. is_possible decoder ≡ true) decoders)
     (written : Option (List ℕ)) (failures : ℕ) where
   abbrev before : Streams
   before = record { input = old; written = written; failures = failures }
@@ -44,23 +50,40 @@ module _ {A : Type 0} (x : A) (old left : InputState) (decoders : List Saved) (k
   no_memory = inr (decoders, left, saves, inl (refl, refl, refl, refl))
 
   -- these decoders hear the capture that is left
-  pub hear_rest : (starts ends : Members) (answer : Result (Unit {0}) ToolFault) (new : InputState) (after : Option (List ℕ)) (now : ℕ) → starts ≡ map member_of decoders
-      → (left.fault ≡ None → Runs starts left written failures answer ends new after now) → RunsText before answer (record { input = new; written = after; failures = now })
+  pub hear_rest : (starts ends : Members) (answer : Result (Unit {0}) ToolFault) (new : InputState)
+      (after : Option (List ℕ)) (now : ℕ) → starts ≡ map member_of decoders
+      → (left.fault ≡ None → Runs starts left written failures answer ends new after now)
+      → RunsText before answer (record { input = new; written = after; failures = now })
   hear_rest starts ends answer new after now are runs =
-      inr (decoders, left, saves, inr (ends, subst (λ (members : Members). Runs members left written failures answer ends new after now) are (runs (reads none).fault)))
+      inr (
+        decoders,
+        left,
+        saves,
+        inr (
+          ends,
+          subst (λ (members : Members). Runs members left written failures answer ends new after now) are
+              (runs (reads none).fault),
+        ),
+      )
 
 -- one decoder more is boxed
-pub one_more_boxed : {B : Type 0} (view : B → Who × RegisterMap) (fleet grown : List B) (boxed : B) (decoders : List Saved) (one : Saved) (i : ℕ) → i < length decoders → one ≡ get_or decoders i one
-    → map view fleet ≡ map member_of (take i decoders) → grown ≡ fleet ++ boxed ∷ [] → view boxed ≡ member_of one → map view grown ≡ map member_of (take (i + 1) decoders)
+pub one_more_boxed : {B : Type 0} (view : B → Who × RegisterMap) (fleet grown : List B) (boxed : B)
+    (decoders : List Saved) (one : Saved) (i : ℕ) → i < length decoders → one ≡ get_or decoders i one
+    → map view fleet ≡ map member_of (take i decoders) → grown ≡ fleet ++ boxed ∷ [] → view boxed ≡ member_of one
+    → map view grown ≡ map member_of (take (i + 1) decoders)
 one_more_boxed view fleet grown boxed decoders one i within is so_far grows same =
-    ap (map view) grows ∙ map-append view fleet (boxed ∷ []) ∙ ap (λ (members : Members). members ++ view boxed ∷ []) so_far ∙ ap (λ (member : Who × RegisterMap). map member_of (take i decoders) ++ member ∷ []) same
-    ∙ sym (map-append member_of (take i decoders) (one ∷ [])) ∙ ap (λ (saved : List Saved). map member_of saved) (sym next)
+    ap (map view) grows ∙ map-append view fleet (boxed ∷ [])
+    ∙ ap (λ (members : Members). members ++ view boxed ∷ []) so_far
+    ∙ ap (λ (member : Who × RegisterMap). map member_of (take i decoders) ++ member ∷ []) same
+    ∙ sym (map-append member_of (take i decoders) (one ∷ []))
+    ∙ ap (λ (saved : List Saved). map member_of saved) (sym next)
   where
     next : take (i + 1) decoders ≡ take i decoders ++ one ∷ []
     next = rw add-one (take-suc decoders i one within ∙ ap (λ (saved : Saved). take i decoders ++ saved ∷ []) (sym is))
 
 -- each decoder is boxed
-pub all_boxed : {B : Type 0} (view : B → Who × RegisterMap) (fleet slice : List B) (decoders saved : List Saved) (i : ℕ) → slice ≡ fleet → decoders ≡ saved → length decoders ≤ i
+pub all_boxed : {B : Type 0} (view : B → Who × RegisterMap) (fleet slice : List B) (decoders saved : List Saved) (i : ℕ)
+    → slice ≡ fleet → decoders ≡ saved → length decoders ≤ i
     → map view fleet ≡ map member_of (take i decoders) → map view slice ≡ map member_of saved
 all_boxed view fleet slice decoders saved i same_fleet same past so_far =
     ap (map view) same_fleet ∙ so_far ∙ ap (λ (some : List Saved). map member_of some) (take_all decoders i past ∙ same)
@@ -71,10 +94,14 @@ all_boxed view fleet slice decoders saved i same_fleet same past so_far =
     take_all (x ∷ xs) zero past = absurd (omega (arith, past))
     take_all (x ∷ xs) (suc i) past = ap (λ (ys : List Saved). x ∷ ys) (take_all xs i (omega (arith, past)))
 
-pub same_member : (one other : Who) (registers registers' : RegisterMap) → one ≡ other → registers ≡ registers' → ◌≡◌ {A = Who × RegisterMap} (one, registers) (other, registers')
-same_member one other registers registers' named holds = ap (λ (w : Who). let m : Who × RegisterMap = (w, registers) in m) named ∙ ap (λ (r : RegisterMap). let m : Who × RegisterMap = (other, r) in m) holds
+pub same_member : (one other : Who) (registers registers' : RegisterMap) → one ≡ other → registers ≡ registers'
+    → ◌≡◌ {A = Who × RegisterMap} (one, registers) (other, registers')
+same_member one other registers registers' named holds =
+    ap (λ (w : Who). let m : Who × RegisterMap = (w, registers) in m) named
+    ∙ ap (λ (r : RegisterMap). let m : Who × RegisterMap = (other, r) in m) holds
 
-module _ {S : Type 0} (contents : S → Option (List ℕ)) (failures : S → ℕ) (how : Encode) (old new : InputState) (writer writer' : S) (answer : Result (Unit {0}) ToolFault) where
+module _ {S : Type 0} (contents : S → Option (List ℕ)) (failures : S → ℕ) (how : Encode) (old new : InputState)
+    (writer writer' : S) (answer : Result (Unit {0}) ToolFault) where
   abbrev at_first : Streams
   at_first = record { input = old; written = contents writer; failures = failures writer }
 
@@ -85,11 +112,19 @@ module _ {S : Type 0} (contents : S → Option (List ℕ)) (failures : S → ℕ
   unchanged same same' = cc
 
   -- what is said of `encode` is said of a call that asks for it
-  pub encodes_lines : (answer ≡ Err (told.Usage usages.BadStation)) ↔ (is_past_limits how.station ≡ true) → (how.station ≡ None → has_begun answer ≡ true)
-      → (has_begun answer ≡ false → (new ≡ old) × (writer' ≡ writer)) → (has_begun answer ≡ true → IfSome old.fault (λ fault. (answer ≡ Err (as_tool_fault fault)) × (new ≡ old) × (writer' ≡ writer)))
+  pub encodes_lines : (answer ≡ Err (told.Usage usages.BadStation)) ↔ (is_past_limits how.station ≡ true)
+      → (how.station ≡ None → has_begun answer ≡ true)
+      → (has_begun answer ≡ false → (new ≡ old) × (writer' ≡ writer))
+      → (has_begun answer ≡ true
+      → IfSome old.fault (λ fault. (answer ≡ Err (as_tool_fault fault)) × (new ≡ old) × (writer' ≡ writer)))
       → (has_begun answer ≡ true → HasCause old.fault old.failures)
-      → (how.station ≡ None → old.fault ≡ None → EncodesText how old (contents writer) (failures writer) answer new (contents writer') (failures writer'))
-      → (has_begun answer ≡ true → old.fault ≡ None → IfSome how.station (λ sizes. StationText how (idle_sending sizes.0 sizes.1 sizes.2) old (contents writer) (failures writer) answer new (contents writer') (failures writer')))
+      → (how.station ≡ None → old.fault ≡ None
+      → EncodesText how old (contents writer) (failures writer) answer new (contents writer')
+      (failures writer'))
+      → (has_begun answer ≡ true → old.fault ≡ None
+      → IfSome how.station
+      (λ sizes. StationText how (idle_sending sizes.0 sizes.1 sizes.2) old (contents writer) (failures writer)
+      answer new (contents writer') (failures writer')))
       → EncodesLines how at_first answer at_last
   encodes_lines past begins nothing kept cause packets station = record {
     past_limits = past;
@@ -102,7 +137,8 @@ module _ {S : Type 0} (contents : S → Option (List ℕ)) (failures : S → ℕ
     };
   }
     where
-      keeps : (fault : Option KeptFault) → IfSome fault (λ fault. (answer ≡ Err (as_tool_fault fault)) × (new ≡ old) × (writer' ≡ writer))
+      keeps : (fault : Option KeptFault)
+          → IfSome fault (λ fault. (answer ≡ Err (as_tool_fault fault)) × (new ≡ old) × (writer' ≡ writer))
           → IfSome fault (λ fault. (answer ≡ Err (as_tool_fault fault)) × (at_last ≡ at_first))
       keeps None kept = tt
       keeps (Some fault) kept = (kept.0, unchanged kept.1 kept.2)

@@ -1,5 +1,6 @@
 -- What a call of the program does.
-use Rattle.std.specs.Prelude.{◌≡◌, ◌⊎◌, ◌↔◌, ℕ, List, Bool, true, false, Option, None, Some, Result, Ok, Err, IfSome, All, map}
+use Rattle.std.specs.Prelude.{◌≡◌, ◌⊎◌, ◌↔◌, ℕ, List, Bool, true, false, Option, None, Some, Result, Ok, Err, IfSome}
+use Rattle.std.specs.Prelude.{All, map}
 use Rattle.dcc_packet.specs.declared.cv.CvNumber.{CvNumber}
 use Rattle.dcc_packet.specs.declared.fault.PacketFault.TheVariants as faults
 use Rattle.dcc_regs.specs.declared.register.Who.{Who}
@@ -67,10 +68,11 @@ Valued (Ok (ending.Value value)) holds = holds (Ok value)
 Valued (Err fault) holds = holds (Err fault)
 
 -- a fault that the input keeps is answered again, and nothing is read or written; where it keeps none, this holds
-pub record KeptOr {A : Type 0} (old : Streams) (answer : Result A ToolFault) (new : Streams) (fact : Type 0) : Type 0 where
-  pub kept : IfSome old.input.fault (λ fault. (answer ≡ Err (as_tool_fault fault)) × (new ≡ old))
-  pub cause : HasCause old.input.fault old.input.failures
-  pub reads : old.input.fault ≡ None → fact
+pub record KeptOr {A : Type 0} (old : Streams) (answer : Result A ToolFault) (new : Streams) (fact : Type 0) : Type 0
+  where
+    pub kept : IfSome old.input.fault (λ fault. (answer ≡ Err (as_tool_fault fault)) × (new ≡ old))
+    pub cause : HasCause old.input.fault old.input.failures
+    pub reads : old.input.fault ≡ None → fact
 
 -- the listing of the capture is written
 abbrev pub ShowsCapture : Bool → Streams → Result (Unit {0}) ToolFault → Streams → Type 0
@@ -78,16 +80,21 @@ ShowsCapture words old answer new =
     KeptOr old answer new (Shows words old.input old.written old.failures answer new.input new.written new.failures)
 
 -- the lines of packets are written: of those that the lines say, or that the station hands out
-pub record WritesPackets (how : Encode) (old : Streams) (answer : Result (Unit {0}) ToolFault) (new : Streams) : Type 0 where
-  pub packets : how.station ≡ None → EncodesText how old.input old.written old.failures answer new.input new.written new.failures
-  pub station : IfSome how.station (λ sizes. StationText how (idle_sending sizes.0 sizes.1 sizes.2) old.input old.written old.failures answer new.input new.written new.failures)
+pub record WritesPackets (how : Encode) (old : Streams) (answer : Result (Unit {0}) ToolFault) (new : Streams) : Type 0
+  where
+    pub packets : how.station ≡ None
+        → EncodesText how old.input old.written old.failures answer new.input new.written new.failures
+    pub station : IfSome how.station
+        (λ sizes. StationText how (idle_sending sizes.0 sizes.1 sizes.2) old.input old.written old.failures answer
+        new.input new.written new.failures)
 
 -- the station is made first, where one is asked for; before that nothing is read or written
-pub record EncodesLines (how : Encode) (old : Streams) (answer : Result (Unit {0}) ToolFault) (new : Streams) : Type 0 where
-  pub past_limits : (answer ≡ Err (told.Usage usages.BadStation)) ↔ (is_past_limits how.station ≡ true)
-  pub begins : how.station ≡ None → has_begun answer ≡ true
-  pub nothing_done : has_begun answer ≡ false → new ≡ old
-  pub encodes : has_begun answer ≡ true → KeptOr old answer new (WritesPackets how old answer new)
+pub record EncodesLines (how : Encode) (old : Streams) (answer : Result (Unit {0}) ToolFault) (new : Streams) : Type 0
+  where
+    pub past_limits : (answer ≡ Err (told.Usage usages.BadStation)) ↔ (is_past_limits how.station ≡ true)
+    pub begins : how.station ≡ None → has_begun answer ≡ true
+    pub nothing_done : has_begun answer ≡ false → new ≡ old
+    pub encodes : has_begun answer ≡ true → KeptOr old answer new (WritesPackets how old answer new)
 
 -- the decoder text at the front of the input saves these decoders, and what stands behind it is left
 pub record SavesThese (old : InputState) (decoders : List Saved) (new : InputState) : Type 0 where
@@ -109,32 +116,40 @@ abbrev pub member_of : Saved → Who × RegisterMap
 member_of (saved.Loco state) = (who.Loco state.address, loco_registers (loco_content state))
 member_of (saved.Board state) = (who.Board state.board, board_registers (board_content state))
 
--- these decoders have heard the capture that is left, and their text is written; or there is no memory for them, and nothing is written
+-- these decoders have heard the capture that is left, and their text is written; or there is no memory for them, and
+-- nothing is written
 abbrev pub RunsDecoders : List Saved → InputState → Streams → Result (Unit {0}) ToolFault → Streams → Type 0
 RunsDecoders decoders left old answer new =
     ((answer ≡ Err told.NoMemory) × (new.input ≡ left) × (new.written ≡ old.written) × (new.failures ≡ old.failures))
-    ⊎ ((ends : Members) × Runs (map member_of decoders) left old.written old.failures answer ends new.input new.written new.failures)
+    ⊎ ((ends : Members)
+    × Runs (map member_of decoders) left old.written old.failures answer ends new.input new.written
+    new.failures)
 
 -- the decoder text has a fault, or the decoders that it saves hear the capture behind it
 abbrev pub RunsText : Streams → Result (Unit {0}) ToolFault → Streams → Type 0
 RunsText old answer new =
     ((fault : ToolFault) × (answer ≡ Err fault) × TextFails old fault new)
-    ⊎ ((decoders : List Saved) × (left : InputState) × SavesThese old.input decoders left × RunsDecoders decoders left old answer new)
+    ⊎ ((decoders : List Saved) × (left : InputState) × SavesThese old.input decoders left
+    × RunsDecoders decoders left old answer new)
 
 -- a CV of the decoder with these CVs is read; where there is none, the fault is told on the last line that was read
 abbrev pub ReadsOnTrack : Option (List ℕ) → CvNumber → Streams → Result (Option ℕ) ToolFault → Streams → Type 0
-ReadsOnTrack None cv old answer new = (answer ≡ Err (told.Line new.input.lines faults.Word)) × (new.written ≡ old.written) × (new.failures ≡ old.failures)
-ReadsOnTrack (Some cvs) cv old answer new = ReadsCv (Some cvs) cv old.written old.failures answer new.written new.failures
+ReadsOnTrack None cv old answer new =
+    (answer ≡ Err (told.Line new.input.lines faults.Word)) × (new.written ≡ old.written) × (new.failures ≡ old.failures)
+ReadsOnTrack (Some cvs) cv old answer new =
+    ReadsCv (Some cvs) cv old.written old.failures answer new.written new.failures
 
 -- the decoder text has a fault, or its first locomotive is on the programming track
 abbrev pub ReadsFromText : CvNumber → Streams → Result (Option ℕ) ToolFault → Streams → Type 0
 ReadsFromText cv old answer new =
     ((fault : ToolFault) × (answer ≡ Err fault) × TextFails old fault new)
-    ⊎ ((decoders : List Saved) × SavesThese old.input decoders new.input × ReadsOnTrack (first_cvs decoders) cv old answer new)
+    ⊎ ((decoders : List Saved) × SavesThese old.input decoders new.input
+    × ReadsOnTrack (first_cvs decoders) cv old answer new)
 
 -- nobody is on the programming track, and nothing is read of the input
 abbrev pub ReadsEmptyTrack : CvNumber → Streams → Result (Option ℕ) ToolFault → Streams → Type 0
-ReadsEmptyTrack cv old answer new = (new.input ≡ old.input) × ReadsCv None cv old.written old.failures answer new.written new.failures
+ReadsEmptyTrack cv old answer new =
+    (new.input ≡ old.input) × ReadsCv None cv old.written old.failures answer new.written new.failures
 
 -- the CV is read on the track that was asked for
 abbrev pub ReadsTrack : Bool → CvNumber → Streams → Result (Option ℕ) ToolFault → Streams → Type 0
@@ -147,5 +162,6 @@ Performs (request.Show words) old result new = Done result (λ answer. ShowsCapt
 Performs (request.Encode how) old result new = Done result (λ answer. EncodesLines how old answer new)
 Performs request.Run old result new = Done result (λ answer. RunsText old answer new)
 Performs (request.Same who) old result new =
-    Judged result (λ answer. ComparesBoth who old.input old.written old.failures answer new.input new.written new.failures)
+    Judged result
+    (λ answer. ComparesBoth who old.input old.written old.failures answer new.input new.written new.failures)
 Performs (request.ReadCv cv empty) old result new = Valued result (λ answer. ReadsTrack empty cv old answer new)

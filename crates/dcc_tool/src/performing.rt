@@ -41,7 +41,8 @@ pub fn perform<R: Source, W: Sink>(
     input: &mut Input<R>,
     writer: &mut W,
 ) -> Result<Ending, ToolFault>
-    ensures { Performs request (record { input = input.old; written = W.contents writer.old; failures = W.failures writer.old }) result
+    ensures { Performs request
+        (record { input = input.old; written = W.contents writer.old; failures = W.failures writer.old }) result
         (record { input = input.new; written = W.contents writer.new; failures = W.failures writer.new }) }
 {
     match request {
@@ -76,7 +77,8 @@ fn read_on_track<R: Source, W: Sink>(
     cv: CvNumber,
     empty: bool,
 ) -> Result<Option<u8>, ToolFault>
-    ensures { ReadsTrack empty cv (record { input = input.old; written = W.contents writer.old; failures = W.failures writer.old }) result
+    ensures { ReadsTrack empty cv
+        (record { input = input.old; written = W.contents writer.old; failures = W.failures writer.old }) result
         (record { input = input.new; written = W.contents writer.new; failures = W.failures writer.new }) }
 {
     if empty {
@@ -122,7 +124,8 @@ fn run_saved<R: Source, W: Sink>(
     input: &mut Input<R>,
     writer: &mut W,
 ) -> Result<(), ToolFault>
-    ensures { RunsText (record { input = input.old; written = W.contents writer.old; failures = W.failures writer.old }) result
+    ensures { RunsText (record { input = input.old; written = W.contents writer.old; failures = W.failures writer.old })
+        result
         (record { input = input.new; written = W.contents writer.new; failures = W.failures writer.new }) }
 {
     let saved = match read_decoders(alloc, input) {

@@ -1,5 +1,7 @@
 -- Bits and bytes of a body.
-use Rattle.std.proofs.Common.{◌≡◌, ℕ, suc, zero, ◌+◌, ◌*◌, ◌%◌, ◌<◌, ◌≤◌, inl, inr, Bool, true, false, cond, List, [], ◌∷◌, ◌++◌, length, take, drop, Option, Some, None, ltb, refl, sym, ap, ◌∙◌, arith, length-append, length-drop}
+use Rattle.std.proofs.Common.{◌≡◌, ℕ, suc, zero, ◌+◌, ◌*◌, ◌%◌, ◌<◌, ◌≤◌, inl, inr, Bool, true, false, cond, List, []}
+use Rattle.std.proofs.Common.{◌∷◌, ◌++◌, length, take, drop, Option, Some, None, ltb, refl, sym, ap, ◌∙◌, arith}
+use Rattle.std.proofs.Common.{length-append, length-drop}
 use Rattle.std.proofs.lemmas.List.{take-append-le, drop-append-le}
 use Rattle.std.proofs.lemmas.Bool.Decides.{nat_tests}
 use Rattle.std.proofs.lemmas.Bool.{cases_lt}
@@ -56,11 +58,18 @@ option_map-none f None e = refl
 option_map-none f (Some x) e = cc
 
 -- the case of a zero: eight bits and what follows them
-pub zero_some : (n : ℕ) (bits : List Bool) (p : List ℕ × Bool) → bytes_in (suc n) (false ∷ bits) ≡ Some p → 8 ≤ length bits
+pub zero_some : (n : ℕ) (bits : List Bool) (p : List ℕ × Bool) → bytes_in (suc n) (false ∷ bits) ≡ Some p
+    → 8 ≤ length bits
 unfolding bytes_in
-zero_some n bits p e = elim (ltb (length bits) 8) as (λ b. ltb (length bits) 8 ≡ b → cond b None (option_map (λ q. (number_of (take 8 bits) ∷ q.0, q.1)) (bytes_in n (drop 8 bits))) ≡ Some p → 8 ≤ length bits) [ true ↦ λ t h. absurd (cc) | false ↦ λ t h. grind (arith, nat_tests) ] refl e
+zero_some n bits p e =
+    elim (ltb (length bits) 8) as
+    (λ b. ltb (length bits) 8 ≡ b
+    → cond b None (option_map (λ q. (number_of (take 8 bits) ∷ q.0, q.1)) (bytes_in n (drop 8 bits))) ≡ Some p
+    → 8 ≤ length bits) [ true ↦ λ t h. absurd (cc) | false ↦ λ t h. grind (arith, nat_tests) ] refl e
 
-pub zero_long : (n : ℕ) (bits : List Bool) → 8 ≤ length bits → bytes_in (suc n) (false ∷ bits) ≡ option_map (λ q. (number_of (take 8 bits) ∷ q.0, q.1)) (bytes_in n (drop 8 bits))
+pub zero_long : (n : ℕ) (bits : List Bool) → 8 ≤ length bits
+    → bytes_in (suc n) (false ∷ bits) ≡ option_map (λ q. (number_of (take 8 bits) ∷ q.0, q.1))
+    (bytes_in n (drop 8 bits))
 unfolding bytes_in
 zero_long n bits h = let e : ltb (length bits) 8 ≡ false = grind (arith, nat_tests) in rw e
 
@@ -68,7 +77,8 @@ pub zero_short : (n : ℕ) (bits : List Bool) → length bits < 8 → bytes_in (
 unfolding bytes_in
 zero_short n bits h = let e : ltb (length bits) 8 ≡ true = grind (arith, nat_tests) in rw e
 
-pub option_map_some : {A B : Type 0} (f : A → B) (o : Option A) (y : B) → option_map f o ≡ Some y → (x : A) × (o ≡ Some x) × (f x ≡ y)
+pub option_map_some : {A B : Type 0} (f : A → B) (o : Option A) (y : B) → option_map f o ≡ Some y
+    → (x : A) × (o ≡ Some x) × (f x ≡ y)
 option_map_some f None y e = cc
 option_map_some f (Some x) y e = (x, refl, cc)
 
@@ -76,33 +86,41 @@ pub some_same : {A : Type 0} {x y : A} → Some x ≡ Some y → x ≡ y
 some_same e = cc
 
 -- what has come to a closing bit stays so
-pub bytes_in-more : (n : ℕ) (bits more : List Bool) (p : List ℕ × Bool) → bytes_in n bits ≡ Some p → bytes_in n (bits ++ more) ≡ Some p
+pub bytes_in-more : (n : ℕ) (bits more : List Bool) (p : List ℕ × Bool) → bytes_in n bits ≡ Some p
+    → bytes_in n (bits ++ more) ≡ Some p
 unfolding bytes_in
 bytes_in-more n [] more p e = cc
 bytes_in-more n (true ∷ bits) more p e = e
 bytes_in-more zero (false ∷ bits) more p e = e
 bytes_in-more (suc n) (false ∷ bits) more p e =
     let long : 8 ≤ length bits = zero_some n bits p e in
-    let w = option_map_some (λ q. (number_of (take 8 bits) ∷ q.0, q.1)) (bytes_in n (drop 8 bits)) p (sym (zero_long n bits long) ∙ e) in
+    let w = option_map_some (λ q. (number_of (take 8 bits) ∷ q.0, q.1)) (bytes_in n (drop 8 bits)) p
+    (sym (zero_long n bits long) ∙ e) in
     zero_long n (bits ++ more) (omega (arith, length-append bits more))
-    ∙ rw (take-append-le 8 bits more long, drop-append-le 8 bits more long, bytes_in-more n (drop 8 bits) more w.0 w.1) (ap Some w.2)
+    ∙ rw (take-append-le 8 bits more long, drop-append-le 8 bits more long, bytes_in-more n (drop 8 bits) more w.0 w.1)
+    (ap Some w.2)
 
 -- the bits before the closing one are those of the bytes
-pub bytes_in-long : (n : ℕ) (bits : List Bool) (bytes : List ℕ) (closing : Bool) → bytes_in n bits ≡ Some (bytes, closing) → (9 * length bytes + 1 ≤ length bits) × (length bytes ≤ n)
+pub bytes_in-long : (n : ℕ) (bits : List Bool) (bytes : List ℕ) (closing : Bool)
+    → bytes_in n bits ≡ Some (bytes, closing) → (9 * length bytes + 1 ≤ length bits) × (length bytes ≤ n)
 unfolding bytes_in
 bytes_in-long n [] bytes closing e = cc
-bytes_in-long n (true ∷ bits) bytes closing e = let none = ap (λ q. length q.0) (some_same e) in (omega (arith, none), omega (arith, none))
-bytes_in-long zero (false ∷ bits) bytes closing e = let none = ap (λ q. length q.0) (some_same e) in (omega (arith, none), omega (arith, none))
+bytes_in-long n (true ∷ bits) bytes closing e =
+    let none = ap (λ q. length q.0) (some_same e) in (omega (arith, none), omega (arith, none))
+bytes_in-long zero (false ∷ bits) bytes closing e =
+    let none = ap (λ q. length q.0) (some_same e) in (omega (arith, none), omega (arith, none))
 bytes_in-long (suc n) (false ∷ bits) bytes closing e =
     let long : 8 ≤ length bits = zero_some n bits (bytes, closing) e in
-    let w = option_map_some (λ q. (number_of (take 8 bits) ∷ q.0, q.1)) (bytes_in n (drop 8 bits)) (bytes, closing) (sym (zero_long n bits long) ∙ e) in
+    let w = option_map_some (λ q. (number_of (take 8 bits) ∷ q.0, q.1)) (bytes_in n (drop 8 bits)) (bytes, closing)
+    (sym (zero_long n bits long) ∙ e) in
     let ih = bytes_in-long n (drop 8 bits) w.0.0 w.0.1 w.1 in
     let same : number_of (take 8 bits) ∷ w.0.0 ≡ bytes = ap (λ q. q.0) w.2 in
     let len = ap length same in
     (omega (arith, length-drop 8 bits, ih.0, len), omega (arith, ih.1, len))
 
 -- within a byte the next bit closes nothing
-pub bytes_in-inside : (n : ℕ) (bits : List Bool) (bit : Bool) → bytes_in n bits ≡ None → 0 < length bits % 9 → bytes_in n (bits ++ bit ∷ []) ≡ None
+pub bytes_in-inside : (n : ℕ) (bits : List Bool) (bit : Bool) → bytes_in n bits ≡ None → 0 < length bits % 9
+    → bytes_in n (bits ++ bit ∷ []) ≡ None
 unfolding bytes_in
 bytes_in-inside n [] bit e inside = absurd (omega (arith, inside))
 bytes_in-inside n (true ∷ bits) bit e inside = cc
@@ -113,10 +131,15 @@ bytes_in-inside (suc n) (false ∷ bits) bit e inside = elim (cases_lt (length b
     | inl seven ↦ zero_long n (bits ++ bit ∷ []) (omega (arith, length-append bits (bit ∷ [])))
         ∙ rw (drop_of_length-le (bits ++ bit ∷ []) {i = 8} (omega (arith, length-append bits (bit ∷ [])))) refl
     | inr eight ↦
-        let before : bytes_in n (drop 8 bits) ≡ None = option_map-none (λ q. (number_of (take 8 bits) ∷ q.0, q.1)) (bytes_in n (drop 8 bits)) (sym (zero_long n bits eight) ∙ e) in
+        let before : bytes_in n (drop 8 bits) ≡ None =
+        option_map-none (λ q. (number_of (take 8 bits) ∷ q.0, q.1)) (bytes_in n (drop 8 bits))
+        (sym (zero_long n bits eight) ∙ e) in
         let len = length-drop 8 bits in
         zero_long n (bits ++ bit ∷ []) (omega (arith, length-append bits (bit ∷ [])))
-        ∙ rw (drop-append-le 8 bits (bit ∷ []) eight, bytes_in-inside n (drop 8 bits) bit before (omega (arith, inside, len))) refl
+        ∙ rw (
+          drop-append-le 8 bits (bit ∷ []) eight,
+          bytes_in-inside n (drop 8 bits) bit before (omega (arith, inside, len)),
+        ) refl
   ]
 ]
 
@@ -131,18 +154,37 @@ pub record Edge (n : ℕ) (bits : List Bool) : Type 0 where
 
 pub bytes_in-edge : (n : ℕ) (bits : List Bool) → bytes_in n bits ≡ None → length bits % 9 ≡ 0 → Edge n bits
 unfolding bytes_in
-bytes_in-edge zero [] e edge = record { bytes = []; whole = refl; few = omega arith; one = refl; full = λ _. refl; room = λ h. absurd (omega (arith, h)) }
-bytes_in-edge (suc n) [] e edge = record { bytes = []; whole = refl; few = omega arith; one = refl; full = λ h. absurd (omega (arith, h)); room = λ _. refl }
+bytes_in-edge zero [] e edge =
+    record {
+      bytes = [];
+      whole = refl;
+      few = omega arith;
+      one = refl;
+      full = λ _. refl;
+      room = λ h. absurd (omega (arith, h));
+    }
+bytes_in-edge (suc n) [] e edge =
+    record {
+      bytes = [];
+      whole = refl;
+      few = omega arith;
+      one = refl;
+      full = λ h. absurd (omega (arith, h));
+      room = λ _. refl;
+    }
 bytes_in-edge n (true ∷ bits) e edge = cc
 bytes_in-edge zero (false ∷ bits) e edge = cc
 bytes_in-edge (suc n) (false ∷ bits) e edge = elim (cases_lt (length bits) 8) [
   | inl short ↦ absurd (omega (arith, edge, short))
   | inr long ↦
-      let before : bytes_in n (drop 8 bits) ≡ None = option_map-none (λ q. (number_of (take 8 bits) ∷ q.0, q.1)) (bytes_in n (drop 8 bits)) (sym (zero_long n bits long) ∙ e) in
+      let before : bytes_in n (drop 8 bits) ≡ None =
+      option_map-none (λ q. (number_of (take 8 bits) ∷ q.0, q.1)) (bytes_in n (drop 8 bits))
+      (sym (zero_long n bits long) ∙ e) in
       let len = length-drop 8 bits in
       let ih = bytes_in-edge n (drop 8 bits) before (omega (arith, edge, len)) in
       let step : (bit : Bool) → bytes_in (suc n) (false ∷ bits ++ bit ∷ []) ≡ option_map (λ q. (number_of (take 8 bits) ∷ q.0, q.1)) (bytes_in n (drop 8 bits ++ bit ∷ [])) =
-      λ bit. zero_long n (bits ++ bit ∷ []) (omega (arith, length-append bits (bit ∷ []))) ∙ rw (take-append-le 8 bits (bit ∷ []) long, drop-append-le 8 bits (bit ∷ []) long) refl in
+      λ bit. zero_long n (bits ++ bit ∷ []) (omega (arith, length-append bits (bit ∷ [])))
+      ∙ rw (take-append-le 8 bits (bit ∷ []) long, drop-append-le 8 bits (bit ∷ []) long) refl in
       record {
         bytes = number_of (take 8 bits) ∷ ih.bytes;
         whole = omega (arith, ih.whole, len);

@@ -1,5 +1,7 @@
 -- The bits of bytes, without an end bit.
-use Rattle.std.proofs.Common.{◌≡◌, ℕ, suc, zero, ◌+◌, ◌-◌, ◌*◌, ◌/◌, ◌%◌, ◌^◌, ◌<◌, ◌≤◌, inl, inr, Bool, true, false, cond, eqb, List, [], ◌∷◌, ◌++◌, length, take, drop, replicate, Some, None, refl, sym, ap, subst, ◌∙◌, arith, append_assoc, length-append, length-take}
+use Rattle.std.proofs.Common.{◌≡◌, ℕ, suc, zero, ◌+◌, ◌-◌, ◌*◌, ◌/◌, ◌%◌, ◌^◌, ◌<◌, ◌≤◌, inl, inr, Bool, true, false}
+use Rattle.std.proofs.Common.{cond, eqb, List, [], ◌∷◌, ◌++◌, length, take, drop, replicate, Some, None, refl, sym}
+use Rattle.std.proofs.Common.{ap, subst, ◌∙◌, arith, append_assoc, length-append, length-take}
 use Rattle.std.proofs.lemmas.List.{take-append-drop}
 use Rattle.std.proofs.lemmas.Bool.{cases_lt}
 use Rattle.std.proofs.Math.ListN.{length-replicate}
@@ -23,7 +25,8 @@ with_bits-div : (number : ℕ) (bits : List Bool) → with_bits number bits / 2 
 with_bits-div number [] = omega arith
 with_bits-div number (bit ∷ bits) =
     let before : ℕ = 2 * number + cond bit 1 0 in
-    let half : before / 2 ≡ number = elim bit as (λ b. (2 * number + cond b 1 0) / 2 ≡ number) [ true ↦ omega arith | false ↦ omega arith ] in
+    let half : before / 2 ≡ number =
+    elim bit as (λ b. (2 * number + cond b 1 0) / 2 ≡ number) [ true ↦ omega arith | false ↦ omega arith ] in
     ap (λ k. with_bits before bits / k) (pow-suc 2 (length bits))
     ∙ sym (div-div-eq-div-mul (with_bits before bits) (2 ^ length bits) 2)
     ∙ ap (λ k. k / 2) (with_bits-div before bits) ∙ half
@@ -39,7 +42,8 @@ unfolding bits_of
 bits_of-with_bits number [] = refl
 bits_of-with_bits number (bit ∷ bits) =
     let before : ℕ = 2 * number + cond bit 1 0 in
-    let first : eqb (before % 2) 1 ≡ bit = elim bit as (λ b. eqb ((2 * number + cond b 1 0) % 2) 1 ≡ b) [ true ↦ odd number | false ↦ even number ] in
+    let first : eqb (before % 2) 1 ≡ bit =
+    elim bit as (λ b. eqb ((2 * number + cond b 1 0) % 2) 1 ≡ b) [ true ↦ odd number | false ↦ even number ] in
     rw (with_bits-div before bits, first, bits_of-with_bits before bits) refl
 
 pub bits_of-number_of : (bits : List Bool) → length bits ≡ 8 → bits_of 8 (number_of bits) ≡ bits
@@ -57,12 +61,15 @@ number_of-small bits eight =
 pub body_bits-end : (bytes : List ℕ) → body_bits bytes ≡ byte_bits bytes ++ true ∷ []
 unfolding body_bits byte_bits
 body_bits-end [] = refl
-body_bits-end (byte ∷ bytes) = ap (λ l. false ∷ bits_of 8 byte ++ l) (body_bits-end bytes) ∙ ap (λ l. false ∷ l) (sym (append_assoc (bits_of 8 byte) (byte_bits bytes) (true ∷ [])))
+body_bits-end (byte ∷ bytes) =
+    ap (λ l. false ∷ bits_of 8 byte ++ l) (body_bits-end bytes)
+    ∙ ap (λ l. false ∷ l) (sym (append_assoc (bits_of 8 byte) (byte_bits bytes) (true ∷ [])))
 
 pub length-byte_bits : (bytes : List ℕ) → length (byte_bits bytes) ≡ 9 * length bytes
 unfolding byte_bits
 length-byte_bits [] = refl
-length-byte_bits (byte ∷ bytes) = omega (arith, length-append (bits_of 8 byte) (byte_bits bytes), length-bits_of 8 byte, length-byte_bits bytes)
+length-byte_bits (byte ∷ bytes) =
+    omega (arith, length-append (bits_of 8 byte) (byte_bits bytes), length-bits_of 8 byte, length-byte_bits bytes)
 
 -- Bits that bytes were read from begin with those bytes and the bit that closes them
 
@@ -73,7 +80,8 @@ pub record Reads (n : ℕ) (bits : List Bool) (bytes : List ℕ) (last : Bool) :
   pub more : List Bool
   pub is : bits ≡ byte_bits bytes ++ last ∷ more
 
-reads_more : (n : ℕ) (bits : List Bool) (bytes : List ℕ) (last : Bool) → 8 ≤ length bits → Reads n (drop 8 bits) bytes last → Reads (suc n) (false ∷ bits) (number_of (take 8 bits) ∷ bytes) last
+reads_more : (n : ℕ) (bits : List Bool) (bytes : List ℕ) (last : Bool) → 8 ≤ length bits
+    → Reads n (drop 8 bits) bytes last → Reads (suc n) (false ∷ bits) (number_of (take 8 bits) ∷ bytes) last
 unfolding AllBytes byte_bits
 reads_more n bits bytes last long r =
     let byte : List Bool = take 8 bits in
@@ -83,19 +91,26 @@ reads_more n bits bytes last long r =
       few = omega (arith, r.few);
       full = λ e. ap suc (r.full e);
       more = r.more;
-      is = ap (λ l. false ∷ l) (sym (take-append-drop 8 bits) ∙ ap (λ l. byte ++ l) r.is ∙ ap (λ l. l ++ (byte_bits bytes ++ last ∷ r.more)) (sym (bits_of-number_of byte eight)) ∙ sym (append_assoc (bits_of 8 (number_of byte)) (byte_bits bytes) (last ∷ r.more)));
+      is = ap (λ l. false ∷ l)
+          (sym (take-append-drop 8 bits) ∙ ap (λ l. byte ++ l) r.is
+          ∙ ap (λ l. l ++ (byte_bits bytes ++ last ∷ r.more)) (sym (bits_of-number_of byte eight))
+          ∙ sym (append_assoc (bits_of 8 (number_of byte)) (byte_bits bytes) (last ∷ r.more)));
     }
 
-pub bytes_in-reads : (n : ℕ) (bits : List Bool) (bytes : List ℕ) (last : Bool) → bytes_in n bits ≡ Some (bytes, last) → Reads n bits bytes last
+pub bytes_in-reads : (n : ℕ) (bits : List Bool) (bytes : List ℕ) (last : Bool) → bytes_in n bits ≡ Some (bytes, last)
+    → Reads n bits bytes last
 unfolding bytes_in AllBytes byte_bits
 bytes_in-reads n [] bytes last e = cc
 bytes_in-reads n (true ∷ bits) bytes last e =
-    subst (λ (p : List ℕ × Bool). Reads n (true ∷ bits) p.0 p.1) (some_same e) (record { each = tt; few = omega arith; full = λ q. cc; more = bits; is = refl })
+    subst (λ (p : List ℕ × Bool). Reads n (true ∷ bits) p.0 p.1) (some_same e)
+    (record { each = tt; few = omega arith; full = λ q. cc; more = bits; is = refl })
 bytes_in-reads zero (false ∷ bits) bytes last e =
-    subst (λ (p : List ℕ × Bool). Reads zero (false ∷ bits) p.0 p.1) (some_same e) (record { each = tt; few = omega arith; full = λ q. refl; more = bits; is = refl })
+    subst (λ (p : List ℕ × Bool). Reads zero (false ∷ bits) p.0 p.1) (some_same e)
+    (record { each = tt; few = omega arith; full = λ q. refl; more = bits; is = refl })
 bytes_in-reads (suc n) (false ∷ bits) bytes last e =
     let long : 8 ≤ length bits = zero_some n bits (bytes, last) e in
-    let w = option_map_some (λ q. (number_of (take 8 bits) ∷ q.0, q.1)) (bytes_in n (drop 8 bits)) (bytes, last) (sym (zero_long n bits long) ∙ e) in
+    let w = option_map_some (λ q. (number_of (take 8 bits) ∷ q.0, q.1)) (bytes_in n (drop 8 bits)) (bytes, last)
+    (sym (zero_long n bits long) ∙ e) in
     let inner = bytes_in-reads n (drop 8 bits) w.0.0 w.0.1 w.1 in
     subst (λ (p : List ℕ × Bool). Reads (suc n) (false ∷ bits) p.0 p.1) w.2 (reads_more n bits w.0.0 w.0.1 long inner)
 
@@ -124,7 +139,8 @@ begins_short n bits short =
       each = (number_of-small byte eight, zeros n);
       all = omega (arith, length-replicate {A = ℕ} n 0);
       more = rest ++ byte_bits (replicate n 0);
-      is = ap (λ l. false ∷ l ++ byte_bits (replicate n 0)) (bits_of-number_of byte eight) ∙ ap (λ l. false ∷ l) (append_assoc bits rest (byte_bits (replicate n 0)));
+      is = ap (λ l. false ∷ l ++ byte_bits (replicate n 0)) (bits_of-number_of byte eight)
+          ∙ ap (λ l. false ∷ l) (append_assoc bits rest (byte_bits (replicate n 0)));
     }
 
 begins_more : (n : ℕ) (bits : List Bool) → 8 ≤ length bits → Begins n (drop 8 bits) → Begins (suc n) (false ∷ bits)
@@ -137,15 +153,27 @@ begins_more n bits long b =
       each = (number_of-small byte eight, b.each);
       all = ap suc b.all;
       more = b.more;
-      is = ap (λ l. false ∷ l) (ap (λ l. l ++ byte_bits b.bytes) (bits_of-number_of byte eight) ∙ ap (λ l. byte ++ l) b.is ∙ sym (append_assoc byte (drop 8 bits) b.more) ∙ ap (λ l. l ++ b.more) (take-append-drop 8 bits));
+      is = ap (λ l. false ∷ l)
+          (ap (λ l. l ++ byte_bits b.bytes) (bits_of-number_of byte eight) ∙ ap (λ l. byte ++ l) b.is
+          ∙ sym (append_assoc byte (drop 8 bits) b.more) ∙ ap (λ l. l ++ b.more) (take-append-drop 8 bits));
     }
 
 pub bytes_in-begins : (n : ℕ) (bits : List Bool) → bytes_in n bits ≡ None → Begins n bits
 unfolding bytes_in byte_bits
-bytes_in-begins n [] e = record { bytes = replicate n 0; each = zeros n; all = length-replicate {A = ℕ} n 0; more = byte_bits (replicate n 0); is = refl }
+bytes_in-begins n [] e =
+    record {
+      bytes = replicate n 0;
+      each = zeros n;
+      all = length-replicate {A = ℕ} n 0;
+      more = byte_bits (replicate n 0);
+      is = refl;
+    }
 bytes_in-begins n (true ∷ bits) e = cc
 bytes_in-begins zero (false ∷ bits) e = cc
 bytes_in-begins (suc n) (false ∷ bits) e = elim (cases_lt (length bits) 8) [
   | inl short ↦ begins_short n bits short
-  | inr long ↦ begins_more n bits long (bytes_in-begins n (drop 8 bits) (option_map-none (λ q. (number_of (take 8 bits) ∷ q.0, q.1)) (bytes_in n (drop 8 bits)) (sym (zero_long n bits long) ∙ e)))
+  | inr long ↦ begins_more n bits long
+      (bytes_in-begins n (drop 8 bits)
+      (option_map-none (λ q. (number_of (take 8 bits) ∷ q.0, q.1)) (bytes_in n (drop 8 bits))
+      (sym (zero_long n bits long) ∙ e)))
 ]

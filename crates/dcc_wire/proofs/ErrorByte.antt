@@ -18,5 +18,7 @@ equal_from_xor a e h =
     sym one ∙ two
 
 -- where the exclusive or is 0, the last byte is the error byte
-pub last_is_error_byte : (bytes : List ℕ) (e : ℕ) → xor_of (bytes ++ e ∷ []) ≡ 0 → bytes ++ e ∷ [] ≡ with_error_byte bytes
-last_is_error_byte bytes e h = ap (λ (x : ℕ). bytes ++ x ∷ []) (equal_from_xor (xor_of bytes) e (sym (xor_of-append bytes e) ∙ h))
+pub last_is_error_byte : (bytes : List ℕ) (e : ℕ) → xor_of (bytes ++ e ∷ []) ≡ 0
+    → bytes ++ e ∷ [] ≡ with_error_byte bytes
+last_is_error_byte bytes e h =
+    ap (λ (x : ℕ). bytes ++ x ∷ []) (equal_from_xor (xor_of bytes) e (sym (xor_of-append bytes e) ∙ h))

@@ -1,5 +1,7 @@
 -- The halves of a packet by place.
-use Rattle.std.proofs.Common.{◌≡◌, ℕ, suc, zero, ◌+◌, ◌-◌, ◌*◌, ◌/◌, ◌%◌, ◌<◌, ◌≤◌, inl, inr, Bool, true, false, cond, eqb, List, [], ◌∷◌, ◌++◌, length, length-append, drop, get_or, replicate, slice_get, Some, None, refl, sym, ap, ◌∙◌, arith}
+use Rattle.std.proofs.Common.{◌≡◌, ℕ, suc, zero, ◌+◌, ◌-◌, ◌*◌, ◌/◌, ◌%◌, ◌<◌, ◌≤◌, inl, inr, Bool, true, false, cond}
+use Rattle.std.proofs.Common.{eqb, List, [], ◌∷◌, ◌++◌, length, length-append, drop, get_or, replicate, slice_get}
+use Rattle.std.proofs.Common.{Some, None, refl, sym, ap, ◌∙◌, arith}
 use Rattle.std.proofs.lemmas.Bool.{cases_lt}
 use Rattle.std.proofs.lemmas.Bool.Decides.{nat_tests}
 use Rattle.std.proofs.Math.ListN.{drop_of_length-le, length-replicate}
@@ -11,16 +13,19 @@ use Rattle.dcc_wire.proofs.BitLemmas.{some_same}
 use Rattle.dcc_wire.proofs.SendingLemmas.{length-durations, length-body_bits, classes}
 
 -- a bit of a number, with more behind the bits
-bits_of-at : (n number i : ℕ) (more : List Bool) → i < n → slice_get (bits_of n number ++ more) i ≡ Some (eqb (bit_at number (n - 1 - i)) 1)
+bits_of-at : (n number i : ℕ) (more : List Bool) → i < n
+    → slice_get (bits_of n number ++ more) i ≡ Some (eqb (bit_at number (n - 1 - i)) 1)
 unfolding bits_of
 bits_of-at zero number i more h = absurd (omega (arith, h))
 bits_of-at (suc n) number zero more h = let e : suc n - 1 - 0 ≡ n = omega arith in rw e refl
-bits_of-at (suc n) number (suc i) more h = let e : suc n - 1 - suc i ≡ n - 1 - i = omega arith in rw e (bits_of-at n number i more (omega (arith, h)))
+bits_of-at (suc n) number (suc i) more h =
+    let e : suc n - 1 - suc i ≡ n - 1 - i = omega arith in rw e (bits_of-at n number i more (omega (arith, h)))
 
 bits_of-past : (n number i : ℕ) (more : List Bool) → slice_get (bits_of n number ++ more) (n + i) ≡ slice_get more i
 unfolding bits_of
 bits_of-past zero number i more = let e : 0 + i ≡ i = omega arith in rw e refl
-bits_of-past (suc n) number i more = let e : suc n + i ≡ suc (n + i) = omega arith in rw e (bits_of-past n number i more)
+bits_of-past (suc n) number i more =
+    let e : suc n + i ≡ suc (n + i) = omega arith in rw e (bits_of-past n number i more)
 
 pub body_bits-zero : (bytes : List ℕ) (q : ℕ) → q < length bytes → slice_get (body_bits bytes) (9 * q) ≡ Some false
 unfolding body_bits
@@ -30,7 +35,8 @@ body_bits-zero (byte ∷ bytes) (suc q) h =
     let e : 9 * suc q ≡ suc (8 + 9 * q) = omega arith in
     rw e (bits_of-past 8 byte (9 * q) (body_bits bytes) ∙ body_bits-zero bytes q (omega (arith, h)))
 
-pub body_bits-bit : (bytes : List ℕ) (q j : ℕ) → q < length bytes → j < 8 → slice_get (body_bits bytes) (9 * q + suc j) ≡ Some (eqb (bit_at (get_or bytes q 0) (8 - suc j)) 1)
+pub body_bits-bit : (bytes : List ℕ) (q j : ℕ) → q < length bytes → j < 8
+    → slice_get (body_bits bytes) (9 * q + suc j) ≡ Some (eqb (bit_at (get_or bytes q 0) (8 - suc j)) 1)
 unfolding body_bits
 body_bits-bit [] q j h small = absurd (omega (arith, h))
 body_bits-bit (byte ∷ bytes) zero j h small =
@@ -42,38 +48,45 @@ body_bits-bit (byte ∷ bytes) (suc q) j h small =
     rw e (bits_of-past 8 byte (9 * q + suc j) (body_bits bytes) ∙ body_bits-bit bytes q j (omega (arith, h)) small)
 
 -- at a place with quotient q and rest j
-pub body_bits-at : (bytes : List ℕ) (place j : ℕ) → place / 9 < length bytes → place % 9 ≡ j → 0 < j → slice_get (body_bits bytes) place ≡ Some (eqb (bit_at (get_or bytes (place / 9) 0) (8 - j)) 1)
+pub body_bits-at : (bytes : List ℕ) (place j : ℕ) → place / 9 < length bytes → place % 9 ≡ j → 0 < j
+    → slice_get (body_bits bytes) place ≡ Some (eqb (bit_at (get_or bytes (place / 9) 0) (8 - j)) 1)
 body_bits-at bytes place zero h e some = absurd (omega (arith, some))
 body_bits-at bytes place (suc j) h e some =
     let whole : place ≡ 9 * (place / 9) + suc j = omega (arith, e) in
     ap (slice_get (body_bits bytes)) whole ∙ body_bits-bit bytes (place / 9) j h (omega (arith, e))
 
-pub body_bits-start : (bytes : List ℕ) (place : ℕ) → place / 9 < length bytes → place % 9 ≡ 0 → slice_get (body_bits bytes) place ≡ Some false
+pub body_bits-start : (bytes : List ℕ) (place : ℕ) → place / 9 < length bytes → place % 9 ≡ 0
+    → slice_get (body_bits bytes) place ≡ Some false
 body_bits-start bytes place h e =
     let whole : place ≡ 9 * (place / 9) = omega (arith, e) in
     ap (slice_get (body_bits bytes)) whole ∙ body_bits-zero bytes (place / 9) h
 
-pub body_bits-past : (bytes : List ℕ) (k : ℕ) → 9 * length bytes ≤ k → slice_get (body_bits bytes) k ≡ cond (eqb k (9 * length bytes)) (Some true) None
+pub body_bits-past : (bytes : List ℕ) (k : ℕ) → 9 * length bytes ≤ k
+    → slice_get (body_bits bytes) k ≡ cond (eqb k (9 * length bytes)) (Some true) None
 unfolding body_bits
 body_bits-past [] zero h = refl
-body_bits-past [] (suc k) h = let e : eqb (suc k) (9 * length {A = ℕ} []) ≡ false = grind (arith, nat_tests) in rw e refl
+body_bits-past [] (suc k) h =
+    let e : eqb (suc k) (9 * length {A = ℕ} []) ≡ false = grind (arith, nat_tests) in rw e refl
 body_bits-past (byte ∷ bytes) k h =
     let e : k ≡ suc (8 + (k - 9)) = omega (arith, h) in
     let f : eqb k (9 * length (byte ∷ bytes)) ≡ eqb (k - 9) (9 * length bytes) = grind (arith, nat_tests) in
     ap (slice_get (false ∷ bits_of 8 byte ++ body_bits bytes)) e ∙ bits_of-past 8 byte (k - 9) (body_bits bytes)
     ∙ body_bits-past bytes (k - 9) (omega (arith, h)) ∙ ap (λ b. cond b (Some true) None) (sym f)
 
-pub sent_bits-preamble : (bytes : List ℕ) (preamble place : ℕ) → place < preamble → slice_get (sent_bits bytes preamble) place ≡ Some true
+pub sent_bits-preamble : (bytes : List ℕ) (preamble place : ℕ) → place < preamble
+    → slice_get (sent_bits bytes preamble) place ≡ Some true
 unfolding sent_bits
 sent_bits-preamble bytes zero place h = absurd (omega (arith, h))
 sent_bits-preamble bytes (suc n) zero h = refl
 sent_bits-preamble bytes (suc n) (suc place) h = sent_bits-preamble bytes n place (omega (arith, h))
 
-pub sent_bits-body : (bytes : List ℕ) (preamble place : ℕ) → preamble ≤ place → slice_get (sent_bits bytes preamble) place ≡ slice_get (body_bits bytes) (place - preamble)
+pub sent_bits-body : (bytes : List ℕ) (preamble place : ℕ) → preamble ≤ place
+    → slice_get (sent_bits bytes preamble) place ≡ slice_get (body_bits bytes) (place - preamble)
 unfolding sent_bits
 sent_bits-body bytes zero place h = let e : place - 0 ≡ place = omega arith in rw e refl
 sent_bits-body bytes (suc n) zero h = absurd (omega (arith, h))
-sent_bits-body bytes (suc n) (suc place) h = let e : suc place - suc n ≡ place - n = omega arith in rw e (sent_bits-body bytes n place (omega (arith, h)))
+sent_bits-body bytes (suc n) (suc place) h =
+    let e : suc place - suc n ≡ place - n = omega arith in rw e (sent_bits-body bytes n place (omega (arith, h)))
 
 -- the halves of a bit
 pub first_of : Timing → Bool → ℕ
@@ -84,52 +97,77 @@ pub second_of : Timing → Bool → ℕ
 second_of timing true = timing.one
 second_of timing false = timing.zero_second
 
-pub drop-durations : (timing : Timing) (bits : List Bool) (i : ℕ) (bit : Bool) → slice_get bits i ≡ Some bit → drop (2 * i) (durations_of timing bits) ≡ first_of timing bit ∷ drop (2 * i + 1) (durations_of timing bits)
+pub drop-durations : (timing : Timing) (bits : List Bool) (i : ℕ) (bit : Bool) → slice_get bits i ≡ Some bit
+    → drop (2 * i) (durations_of timing bits) ≡ first_of timing bit ∷ drop (2 * i + 1) (durations_of timing bits)
 unfolding durations_of first_of
 drop-durations timing [] i bit e = cc
 drop-durations timing (true ∷ bits) zero bit e = let same : true ≡ bit = some_same e in rw (← same) refl
 drop-durations timing (false ∷ bits) zero bit e = let same : false ≡ bit = some_same e in rw (← same) refl
-drop-durations timing (true ∷ bits) (suc i) bit e = let d : 2 * suc i ≡ suc (suc (2 * i)) = omega arith in let f : 2 * suc i + 1 ≡ suc (suc (2 * i + 1)) = omega arith in rw (f, d) (drop-durations timing bits i bit e)
-drop-durations timing (false ∷ bits) (suc i) bit e = let d : 2 * suc i ≡ suc (suc (2 * i)) = omega arith in let f : 2 * suc i + 1 ≡ suc (suc (2 * i + 1)) = omega arith in rw (f, d) (drop-durations timing bits i bit e)
+drop-durations timing (true ∷ bits) (suc i) bit e =
+    let d : 2 * suc i ≡ suc (suc (2 * i)) = omega arith in
+    let f : 2 * suc i + 1 ≡ suc (suc (2 * i + 1)) = omega arith in rw (f, d) (drop-durations timing bits i bit e)
+drop-durations timing (false ∷ bits) (suc i) bit e =
+    let d : 2 * suc i ≡ suc (suc (2 * i)) = omega arith in
+    let f : 2 * suc i + 1 ≡ suc (suc (2 * i + 1)) = omega arith in rw (f, d) (drop-durations timing bits i bit e)
 
-pub drop-durations_second : (timing : Timing) (bits : List Bool) (i : ℕ) (bit : Bool) → slice_get bits i ≡ Some bit → drop (2 * i + 1) (durations_of timing bits) ≡ second_of timing bit ∷ drop (2 * i + 2) (durations_of timing bits)
+pub drop-durations_second : (timing : Timing) (bits : List Bool) (i : ℕ) (bit : Bool) → slice_get bits i ≡ Some bit
+    → drop (2 * i + 1) (durations_of timing bits) ≡ second_of timing bit ∷ drop (2 * i + 2) (durations_of timing bits)
 unfolding durations_of second_of
 drop-durations_second timing [] i bit e = cc
 drop-durations_second timing (true ∷ bits) zero bit e = let same : true ≡ bit = some_same e in rw (← same) refl
 drop-durations_second timing (false ∷ bits) zero bit e = let same : false ≡ bit = some_same e in rw (← same) refl
-drop-durations_second timing (true ∷ bits) (suc i) bit e = let d : 2 * suc i + 1 ≡ suc (suc (2 * i + 1)) = omega arith in let f : 2 * suc i + 2 ≡ suc (suc (2 * i + 2)) = omega arith in rw (f, d) (drop-durations_second timing bits i bit e)
-drop-durations_second timing (false ∷ bits) (suc i) bit e = let d : 2 * suc i + 1 ≡ suc (suc (2 * i + 1)) = omega arith in let f : 2 * suc i + 2 ≡ suc (suc (2 * i + 2)) = omega arith in rw (f, d) (drop-durations_second timing bits i bit e)
+drop-durations_second timing (true ∷ bits) (suc i) bit e =
+    let d : 2 * suc i + 1 ≡ suc (suc (2 * i + 1)) = omega arith in
+    let f : 2 * suc i + 2 ≡ suc (suc (2 * i + 2)) = omega arith in rw (f, d) (drop-durations_second timing bits i bit e)
+drop-durations_second timing (false ∷ bits) (suc i) bit e =
+    let d : 2 * suc i + 1 ≡ suc (suc (2 * i + 1)) = omega arith in
+    let f : 2 * suc i + 2 ≡ suc (suc (2 * i + 2)) = omega arith in rw (f, d) (drop-durations_second timing bits i bit e)
 
 past_bits : (bits : List Bool) (i : ℕ) → slice_get bits i ≡ None → length bits ≤ i
 past_bits [] i e = omega arith
 past_bits (bit ∷ bits) zero e = cc
 past_bits (bit ∷ bits) (suc i) e = omega (arith, past_bits bits i e)
 
-pub drop-durations_past : (timing : Timing) (bits : List Bool) (place : ℕ) → slice_get bits (place / 2) ≡ None → drop place (durations_of timing bits) ≡ []
+pub drop-durations_past : (timing : Timing) (bits : List Bool) (place : ℕ) → slice_get bits (place / 2) ≡ None
+    → drop place (durations_of timing bits) ≡ []
 drop-durations_past timing bits place e =
-    drop_of_length-le (durations_of timing bits) {i = place} (omega (arith, length-durations timing bits, past_bits bits (place / 2) e))
+    drop_of_length-le (durations_of timing bits) {i = place}
+    (omega (arith, length-durations timing bits, past_bits bits (place / 2) e))
 
 within_bits : (bits : List Bool) (i : ℕ) (bit : Bool) → slice_get bits i ≡ Some bit → i < length bits
 within_bits [] i bit e = cc
 within_bits (b ∷ bits) zero bit e = omega arith
 within_bits (b ∷ bits) (suc i) bit e = omega (arith, within_bits bits i bit e)
 
-pub place_small : (bytes : List ℕ) (preamble place : ℕ) (bit : Bool) → slice_get (sent_bits bytes preamble) (place / 2) ≡ Some bit → length bytes ≤ 6 → place < 2 * (preamble + 55)
+pub place_small : (bytes : List ℕ) (preamble place : ℕ) (bit : Bool)
+    → slice_get (sent_bits bytes preamble) (place / 2) ≡ Some bit → length bytes ≤ 6 → place < 2 * (preamble + 55)
 unfolding sent_bits
 place_small bytes preamble place bit e few =
-    omega (arith, within_bits (replicate preamble true ++ body_bits bytes) (place / 2) bit e, length-append (replicate preamble true) (body_bits bytes), length-replicate preamble true, length-body_bits bytes)
+    omega (
+      arith,
+      within_bits (replicate preamble true ++ body_bits bytes) (place / 2) bit e,
+      length-append (replicate preamble true) (body_bits bytes),
+      length-replicate preamble true,
+      length-body_bits bytes,
+    )
 
 -- the half at an even and at an odd place
-pub next_first : (timing : Timing) (bits : List Bool) (place : ℕ) (bit : Bool) → slice_get bits (place / 2) ≡ Some bit → place % 2 ≡ 0 → drop place (durations_of timing bits) ≡ first_of timing bit ∷ drop (place + 1) (durations_of timing bits)
+pub next_first : (timing : Timing) (bits : List Bool) (place : ℕ) (bit : Bool) → slice_get bits (place / 2) ≡ Some bit
+    → place % 2 ≡ 0
+    → drop place (durations_of timing bits) ≡ first_of timing bit ∷ drop (place + 1) (durations_of timing bits)
 next_first timing bits place bit e even =
     let whole : place ≡ 2 * (place / 2) = omega (arith, even) in
-    ap (λ k. drop k (durations_of timing bits)) whole ∙ drop-durations timing bits (place / 2) bit e ∙ ap (λ k. first_of timing bit ∷ drop (k + 1) (durations_of timing bits)) (sym whole)
+    ap (λ k. drop k (durations_of timing bits)) whole ∙ drop-durations timing bits (place / 2) bit e
+    ∙ ap (λ k. first_of timing bit ∷ drop (k + 1) (durations_of timing bits)) (sym whole)
 
-pub next_second : (timing : Timing) (bits : List Bool) (place : ℕ) (bit : Bool) → slice_get bits (place / 2) ≡ Some bit → 0 < place % 2 → drop place (durations_of timing bits) ≡ second_of timing bit ∷ drop (place + 1) (durations_of timing bits)
+pub next_second : (timing : Timing) (bits : List Bool) (place : ℕ) (bit : Bool) → slice_get bits (place / 2) ≡ Some bit
+    → 0 < place % 2
+    → drop place (durations_of timing bits) ≡ second_of timing bit ∷ drop (place + 1) (durations_of timing bits)
 next_second timing bits place bit e odd =
     let whole : place ≡ 2 * (place / 2) + 1 = omega (arith, odd) in
     let next : 2 * (place / 2) + 2 ≡ place + 1 = omega (arith, odd) in
-    ap (λ k. drop k (durations_of timing bits)) whole ∙ drop-durations_second timing bits (place / 2) bit e ∙ ap (λ k. second_of timing bit ∷ drop k (durations_of timing bits)) next
+    ap (λ k. drop k (durations_of timing bits)) whole ∙ drop-durations_second timing bits (place / 2) bit e
+    ∙ ap (λ k. second_of timing bit ∷ drop k (durations_of timing bits)) next
 
 -- what the bit at a place says of the half there
 
@@ -138,20 +176,25 @@ module _ (bytes : List ℕ) (timing : Timing) (place : ℕ) where
   unfolding sent
   no_half e = drop-durations_past timing (sent_bits bytes timing.preamble) place e
 
-  pub half_of_one : slice_get (sent_bits bytes timing.preamble) (place / 2) ≡ Some true → drop place (sent bytes timing) ≡ timing.one ∷ drop (place + 1) (sent bytes timing)
+  pub half_of_one : slice_get (sent_bits bytes timing.preamble) (place / 2) ≡ Some true
+      → drop place (sent bytes timing) ≡ timing.one ∷ drop (place + 1) (sent bytes timing)
   unfolding sent first_of second_of
   half_of_one e = elim (cases_lt 0 (place % 2)) [
     | inl odd ↦ next_second timing (sent_bits bytes timing.preamble) place true e odd
     | inr even ↦ next_first timing (sent_bits bytes timing.preamble) place true e (omega (arith, even))
   ]
 
-  pub first_of_zero : slice_get (sent_bits bytes timing.preamble) (place / 2) ≡ Some false → place % 2 ≡ 0 → drop place (sent bytes timing) ≡ timing.zero_first ∷ drop (place + 1) (sent bytes timing)
+  pub first_of_zero : slice_get (sent_bits bytes timing.preamble) (place / 2) ≡ Some false → place % 2 ≡ 0
+      → drop place (sent bytes timing) ≡ timing.zero_first ∷ drop (place + 1) (sent bytes timing)
   unfolding sent first_of
   first_of_zero e even = next_first timing (sent_bits bytes timing.preamble) place false e even
 
-  pub second_of_zero : slice_get (sent_bits bytes timing.preamble) (place / 2) ≡ Some false → 0 < place % 2 → drop place (sent bytes timing) ≡ timing.zero_second ∷ drop (place + 1) (sent bytes timing)
+  pub second_of_zero : slice_get (sent_bits bytes timing.preamble) (place / 2) ≡ Some false → 0 < place % 2
+      → drop place (sent bytes timing) ≡ timing.zero_second ∷ drop (place + 1) (sent bytes timing)
   unfolding sent second_of
   second_of_zero e odd = next_second timing (sent_bits bytes timing.preamble) place false e odd
 
-  pub short_place : (bit : Bool) → slice_get (sent_bits bytes timing.preamble) (place / 2) ≡ Some bit → length bytes ≤ 6 → place < 1000
-  short_place bit e few = let c = classes timing in omega (arith, place_small bytes timing.preamble place bit e few, c.most)
+  pub short_place : (bit : Bool) → slice_get (sent_bits bytes timing.preamble) (place / 2) ≡ Some bit → length bytes ≤ 6
+      → place < 1000
+  short_place bit e few =
+      let c = classes timing in omega (arith, place_small bytes timing.preamble place bit e few, c.most)

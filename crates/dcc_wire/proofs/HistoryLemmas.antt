@@ -6,7 +6,8 @@ use Rattle.dcc_wire.specs.declared.fault.Seen.{Seen}
 use Rattle.dcc_wire.specs.declared.fault.Seen.TheVariants.{Nothing}
 use Rattle.dcc_wire.specs.Half.{class_of}
 use Rattle.dcc_wire.specs.Outcomes.{ones_left}
-use Rattle.dcc_wire.specs.Framing.{Rest, Hunting, StandsFor, rest, rest_at, hunting, starts_below, used_up, ones_at_end, ones_before}
+use Rattle.dcc_wire.specs.Framing.{Rest, Hunting, StandsFor, rest, rest_at, hunting, starts_below, used_up}
+use Rattle.dcc_wire.specs.Framing.{ones_at_end, ones_before}
 use Rattle.dcc_wire.specs.Steps.{rest_after, left_of, answer_of}
 use Rattle.dcc_wire.proofs.FramingLemmas.{rest-push}
 
@@ -39,7 +40,8 @@ history_more before half history = (
 )
 
 -- a body that has come to an outcome leaves the ones of its end bit
-pub left_of-outcome : (halves : List Half) (outcome : Option (ℕ × Seen)) (seen : Seen) → seen ≡ answer_of outcome → seen ≢ Nothing → left_of halves outcome ≡ Hunting (ones_left seen)
+pub left_of-outcome : (halves : List Half) (outcome : Option (ℕ × Seen)) (seen : Seen) → seen ≡ answer_of outcome
+    → seen ≢ Nothing → left_of halves outcome ≡ Hunting (ones_left seen)
 unfolding left_of answer_of
 left_of-outcome halves None seen e something = absurd (something e)
 left_of-outcome halves (Some p) seen e something = ap (λ s. Hunting (ones_left s)) (sym e)

@@ -1,5 +1,6 @@
 -- One half more on an unfinished body that is kept as bits and a first half.
-use Rattle.std.proofs.Common.{◌≡◌, ◌≢◌, Bool, true, false, List, [], ◌∷◌, ◌++◌, Option, Some, None, refl, sym, ap, ◌∙◌, append_assoc}
+use Rattle.std.proofs.Common.{◌≡◌, ◌≢◌, Bool, true, false, List, [], ◌∷◌, ◌++◌, Option, Some, None, refl, sym, ap}
+use Rattle.std.proofs.Common.{◌∙◌, append_assoc}
 use mathlib.Core.Bool.{beq}
 use Rattle.std.specs.Option.{option_map}
 use Rattle.dcc_wire.specs.declared.half.Half.{Half}
@@ -11,7 +12,8 @@ use Rattle.dcc_wire.specs.Bodies.{halves_of, first_half}
 use Rattle.dcc_wire.specs.Outcomes.{bytes_in, by_bits, outcome_of}
 use Rattle.dcc_wire.specs.Steps.{answer_of}
 use Rattle.dcc_wire.proofs.BitLemmas.{halves_of-append}
-use Rattle.dcc_wire.proofs.OutcomeLemmas.{outcome_bad_first, outcome_one_first, outcome_zero_first, outcome_one_bad, outcome_zero_bad, outcome_one_zero, outcome_zero_one, outcome_of-bits}
+use Rattle.dcc_wire.proofs.OutcomeLemmas.{outcome_bad_first, outcome_one_first, outcome_zero_first, outcome_one_bad}
+use Rattle.dcc_wire.proofs.OutcomeLemmas.{outcome_zero_bad, outcome_one_zero, outcome_zero_one, outcome_of-bits}
 
 -- the half that a bit begins with
 unfoldable pub half_of : Bool → Half
@@ -32,45 +34,67 @@ bad_half Zero e = cc
 bad_half Bad e = refl
 
 module _ (bits : List Bool) where
-  joined : (first : Option Bool) (half : Half) → (halves_of bits ++ first_half first) ++ half ∷ [] ≡ halves_of bits ++ (first_half first ++ half ∷ [])
+  joined : (first : Option Bool) (half : Half)
+      → (halves_of bits ++ first_half first) ++ half ∷ [] ≡ halves_of bits ++ (first_half first ++ half ∷ [])
   joined first half = append_assoc (halves_of bits) (first_half first) (half ∷ [])
 
-  pub first_more : (bit : Bool) → halves_of bits ++ first_half (Some bit) ≡ (halves_of bits ++ first_half None) ++ half_of bit ∷ []
+  pub first_more : (bit : Bool)
+      → halves_of bits ++ first_half (Some bit) ≡ (halves_of bits ++ first_half None) ++ half_of bit ∷ []
   unfolding half_of first_half
   first_more true = sym (joined None One)
   first_more false = sym (joined None Zero)
 
-  pub bit_more : (bit : Bool) → halves_of (bits ++ bit ∷ []) ≡ (halves_of bits ++ first_half (Some bit)) ++ half_of bit ∷ []
+  pub bit_more : (bit : Bool)
+      → halves_of (bits ++ bit ∷ []) ≡ (halves_of bits ++ first_half (Some bit)) ++ half_of bit ∷ []
   unfolding half_of first_half halves_of
   bit_more true = halves_of-append bits (true ∷ []) ∙ sym (joined (Some true) One)
   bit_more false = halves_of-append bits (false ∷ []) ∙ sym (joined (Some false) Zero)
 
-  pub answer-bit : (bit : Bool) → answer_of (outcome_of ((halves_of bits ++ first_half (Some bit)) ++ half_of bit ∷ [])) ≡ answer_of (option_map by_bits (bytes_in 6 (bits ++ bit ∷ [])))
-  answer-bit bit = ap (λ l. answer_of (outcome_of l)) (sym (bit_more bit)) ∙ ap answer_of (outcome_of-bits (bits ++ bit ∷ []))
+  pub answer-bit : (bit : Bool)
+      → answer_of (outcome_of ((halves_of bits ++ first_half (Some bit)) ++ half_of bit ∷ [])) ≡ answer_of
+      (option_map by_bits (bytes_in 6 (bits ++ bit ∷ [])))
+  answer-bit bit =
+      ap (λ l. answer_of (outcome_of l)) (sym (bit_more bit)) ∙ ap answer_of (outcome_of-bits (bits ++ bit ∷ []))
 
 module _ (bits : List Bool) (unfinished : bytes_in 6 bits ≡ None) where
-  pub answer-bad : (first : Option Bool) → answer_of (outcome_of ((halves_of bits ++ first_half first) ++ Bad ∷ [])) ≡ Refused BadHalf
+  pub answer-bad : (first : Option Bool)
+      → answer_of (outcome_of ((halves_of bits ++ first_half first) ++ Bad ∷ [])) ≡ Refused BadHalf
   unfolding first_half answer_of
-  answer-bad None = ap (λ l. answer_of (outcome_of l)) (joined bits None Bad) ∙ ap answer_of (outcome_bad_first bits unfinished)
-  answer-bad (Some true) = ap (λ l. answer_of (outcome_of l)) (joined bits (Some true) Bad) ∙ ap answer_of (outcome_one_bad bits unfinished)
-  answer-bad (Some false) = ap (λ l. answer_of (outcome_of l)) (joined bits (Some false) Bad) ∙ ap answer_of (outcome_zero_bad bits unfinished)
+  answer-bad None =
+      ap (λ l. answer_of (outcome_of l)) (joined bits None Bad) ∙ ap answer_of (outcome_bad_first bits unfinished)
+  answer-bad (Some true) =
+      ap (λ l. answer_of (outcome_of l)) (joined bits (Some true) Bad) ∙ ap answer_of (outcome_one_bad bits unfinished)
+  answer-bad (Some false) =
+      ap (λ l. answer_of (outcome_of l)) (joined bits (Some false) Bad)
+      ∙ ap answer_of (outcome_zero_bad bits unfinished)
 
-  pub answer-first : (bit : Bool) → answer_of (outcome_of ((halves_of bits ++ first_half None) ++ half_of bit ∷ [])) ≡ Nothing
+  pub answer-first : (bit : Bool)
+      → answer_of (outcome_of ((halves_of bits ++ first_half None) ++ half_of bit ∷ [])) ≡ Nothing
   unfolding first_half half_of answer_of
-  answer-first true = ap (λ l. answer_of (outcome_of l)) (joined bits None One) ∙ ap answer_of (outcome_one_first bits unfinished)
-  answer-first false = ap (λ l. answer_of (outcome_of l)) (joined bits None Zero) ∙ ap answer_of (outcome_zero_first bits unfinished)
+  answer-first true =
+      ap (λ l. answer_of (outcome_of l)) (joined bits None One) ∙ ap answer_of (outcome_one_first bits unfinished)
+  answer-first false =
+      ap (λ l. answer_of (outcome_of l)) (joined bits None Zero) ∙ ap answer_of (outcome_zero_first bits unfinished)
 
-  pub answer-split : (first bit : Bool) → first ≢ bit → answer_of (outcome_of ((halves_of bits ++ first_half (Some first)) ++ half_of bit ∷ [])) ≡ Refused SplitBit
+  pub answer-split : (first bit : Bool) → first ≢ bit
+      → answer_of (outcome_of ((halves_of bits ++ first_half (Some first)) ++ half_of bit ∷ [])) ≡ Refused SplitBit
   unfolding first_half half_of answer_of
   answer-split true true apart = absurd (apart refl)
   answer-split false false apart = absurd (apart refl)
-  answer-split true false apart = ap (λ l. answer_of (outcome_of l)) (joined bits (Some true) Zero) ∙ ap answer_of (outcome_one_zero bits unfinished)
-  answer-split false true apart = ap (λ l. answer_of (outcome_of l)) (joined bits (Some false) One) ∙ ap answer_of (outcome_zero_one bits unfinished)
+  answer-split true false apart =
+      ap (λ l. answer_of (outcome_of l)) (joined bits (Some true) Zero)
+      ∙ ap answer_of (outcome_one_zero bits unfinished)
+  answer-split false true apart =
+      ap (λ l. answer_of (outcome_of l)) (joined bits (Some false) One)
+      ∙ ap answer_of (outcome_zero_one bits unfinished)
 
 -- the halves with one more, where the first half so far and the bit of the new one are known
-pub with_half : (bits : List Bool) (kept first : Option Bool) (halves : List Half) (half : Half) (bit : Bool) → halves_of bits ++ first_half kept ≡ halves → kept ≡ first → bit_of half ≡ Some bit → halves ++ half ∷ [] ≡ (halves_of bits ++ first_half first) ++ half_of bit ∷ []
+pub with_half : (bits : List Bool) (kept first : Option Bool) (halves : List Half) (half : Half) (bit : Bool)
+    → halves_of bits ++ first_half kept ≡ halves → kept ≡ first → bit_of half ≡ Some bit
+    → halves ++ half ∷ [] ≡ (halves_of bits ++ first_half first) ++ half_of bit ∷ []
 with_half bits kept first halves half bit view e b =
-    ap (λ l. l ++ half ∷ []) (sym view ∙ ap (λ f. halves_of bits ++ first_half f) e) ∙ ap (λ h. (halves_of bits ++ first_half first) ++ h ∷ []) (half_of-bit half bit b)
+    ap (λ l. l ++ half ∷ []) (sym view ∙ ap (λ f. halves_of bits ++ first_half f) e)
+    ∙ ap (λ h. (halves_of bits ++ first_half first) ++ h ∷ []) (half_of-bit half bit b)
 
 -- what `==` on two bits says
 pub bits_same : (a b : Bool) → beq a b ≡ true → a ≡ b

@@ -1,5 +1,6 @@
 -- Open lists are the halves of bits that no bytes are read from.
-use Rattle.std.proofs.Common.{◌≡◌, ℕ, ◌%◌, ◌<◌, Bool, true, false, List, [], ◌∷◌, ◌++◌, length, Option, Some, None, refl, sym, ap, ◌∙◌, arith, append_assoc, length-append}
+use Rattle.std.proofs.Common.{◌≡◌, ℕ, ◌%◌, ◌<◌, Bool, true, false, List, [], ◌∷◌, ◌++◌, length, Option, Some, None}
+use Rattle.std.proofs.Common.{refl, sym, ap, ◌∙◌, arith, append_assoc, length-append}
 use Rattle.dcc_wire.specs.declared.half.Half.{Half}
 use Rattle.dcc_wire.specs.declared.half.Half.TheVariants.{One, Zero}
 use Rattle.dcc_wire.specs.Bodies.{halves_of, body_bits, body}
@@ -17,15 +18,18 @@ record Whole (bits : List Bool) (front : List Half) : Type 0 where
   is : bits ≡ kept ++ more
   same : front ≡ halves_of kept
 
-whole_more : (bit : Bool) (half : Half) (bits : List Bool) (front : List Half) → halves_of (bit ∷ []) ≡ half ∷ half ∷ [] → Whole bits front → Whole (bit ∷ bits) (half ∷ half ∷ front)
+whole_more : (bit : Bool) (half : Half) (bits : List Bool) (front : List Half) → halves_of (bit ∷ []) ≡ half ∷ half ∷ []
+    → Whole bits front → Whole (bit ∷ bits) (half ∷ half ∷ front)
 whole_more bit half bits front e w = record {
   kept = bit ∷ w.kept;
   more = w.more;
   is = ap (λ l. bit ∷ l) w.is;
-  same = ap (λ l. half ∷ half ∷ l) w.same ∙ ap (λ l. l ++ halves_of w.kept) (sym e) ∙ sym (halves_of-append (bit ∷ []) w.kept);
+  same = ap (λ l. half ∷ half ∷ l) w.same ∙ ap (λ l. l ++ halves_of w.kept) (sym e)
+      ∙ sym (halves_of-append (bit ∷ []) w.kept);
 }
 
-even_front : (bits : List Bool) (front more : List Half) → halves_of bits ≡ front ++ more → length front % 2 ≡ 0 → Whole bits front
+even_front : (bits : List Bool) (front more : List Half) → halves_of bits ≡ front ++ more → length front % 2 ≡ 0
+    → Whole bits front
 unfolding halves_of
 even_front bits [] more e even = record { kept = []; more = bits; is = refl; same = refl }
 even_front bits (half ∷ []) more e even = absurd (omega (arith, even))
@@ -34,15 +38,18 @@ even_front (true ∷ bits) (half ∷ other ∷ front) more e even =
     let inner : halves_of bits ≡ front ++ more = cc in
     let first : One ≡ half = cc in
     let second : One ≡ other = cc in
-    rw (← first, ← second) (whole_more true One bits front refl (even_front bits front more inner (omega (arith, even))))
+    rw (← first, ← second)
+    (whole_more true One bits front refl (even_front bits front more inner (omega (arith, even))))
 even_front (false ∷ bits) (half ∷ other ∷ front) more e even =
     let inner : halves_of bits ≡ front ++ more = cc in
     let first : Zero ≡ half = cc in
     let second : Zero ≡ other = cc in
-    rw (← first, ← second) (whole_more false Zero bits front refl (even_front bits front more inner (omega (arith, even))))
+    rw (← first, ← second)
+    (whole_more false Zero bits front refl (even_front bits front more inner (omega (arith, even))))
 
 -- fewer bits than those of a body do not close it
-pub short_by : (bytes : List ℕ) (bits more : List Bool) (o : Option (List ℕ × Bool)) → length bytes ≡ 6 → bytes_in 6 (bits ++ more) ≡ Some (bytes, true) → length bits < 55 → bytes_in 6 bits ≡ o → bytes_in 6 bits ≡ None
+pub short_by : (bytes : List ℕ) (bits more : List Bool) (o : Option (List ℕ × Bool)) → length bytes ≡ 6
+    → bytes_in 6 (bits ++ more) ≡ Some (bytes, true) → length bits < 55 → bytes_in 6 bits ≡ o → bytes_in 6 bits ≡ None
 short_by bytes bits more None six e short q = q
 short_by bytes bits more (Some p) six e short q =
     let same : p ≡ (bytes, true) = some_same (sym (bytes_in-more 6 bits more p q) ∙ e) in
@@ -60,9 +67,23 @@ pub open-bits : (halves : List Half) → IsOpen halves → OpenBits halves
 unfolding body
 open-bits halves h =
     let w = even_front (body_bits h.bytes) halves h.begun.0 h.begun.1 h.even in
-    let read : bytes_in 6 (w.kept ++ w.more) ≡ Some (h.bytes, true) = ap (bytes_in 6) (sym w.is) ∙ bytes_in-body 6 h.bytes h.each (omega (arith, h.six)) in
-    let short : length w.kept < 55 = omega (arith, h.shorter, ap length w.same, length-halves_of w.kept, length-halves_of (body_bits h.bytes), length-body_bits h.bytes, h.six) in
-    record { bits = w.kept; same = w.same; none = short_by h.bytes w.kept w.more (bytes_in 6 w.kept) h.six read short refl }
+    let read : bytes_in 6 (w.kept ++ w.more) ≡ Some (h.bytes, true) =
+    ap (bytes_in 6) (sym w.is) ∙ bytes_in-body 6 h.bytes h.each (omega (arith, h.six)) in
+    let short : length w.kept < 55 =
+    omega (
+      arith,
+      h.shorter,
+      ap length w.same,
+      length-halves_of w.kept,
+      length-halves_of (body_bits h.bytes),
+      length-body_bits h.bytes,
+      h.six,
+    ) in
+    record {
+      bits = w.kept;
+      same = w.same;
+      none = short_by h.bytes w.kept w.more (bytes_in 6 w.kept) h.six read short refl;
+    }
 
 -- and the other way round
 pub bits-open : (bits : List Bool) → bytes_in 6 bits ≡ None → IsOpen (halves_of bits)
@@ -70,7 +91,8 @@ unfolding body
 bits-open bits e =
     let b = bytes_in-begins 6 bits e in
     let more : List Bool = b.more ++ true ∷ [] in
-    let whole : body_bits b.bytes ≡ bits ++ more = body_bits-end b.bytes ∙ ap (λ l. l ++ true ∷ []) b.is ∙ append_assoc bits b.more (true ∷ []) in
+    let whole : body_bits b.bytes ≡ bits ++ more =
+    body_bits-end b.bytes ∙ ap (λ l. l ++ true ∷ []) b.is ∙ append_assoc bits b.more (true ∷ []) in
     let len = ap length whole in
     record {
       bytes = b.bytes;
@@ -78,5 +100,13 @@ bits-open bits e =
       six = b.all;
       begun = (halves_of more, ap halves_of whole ∙ halves_of-append bits more);
       even = omega (arith, length-halves_of bits);
-      shorter = omega (arith, length-halves_of bits, length-halves_of (body_bits b.bytes), len, length-append bits more, length-append b.more (true ∷ []));
+      shorter =
+          omega (
+            arith,
+            length-halves_of bits,
+            length-halves_of (body_bits b.bytes),
+            len,
+            length-append bits more,
+            length-append b.more (true ∷ []),
+          );
     }

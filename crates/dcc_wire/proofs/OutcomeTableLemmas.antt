@@ -1,5 +1,7 @@
 -- Each row of the table is an outcome.
-use Rattle.std.proofs.Common.{◌≡◌, ◌≢◌, ℕ, ◌+◌, ◌*◌, ◌<◌, ◌≤◌, inl, inr, Bool, true, false, eqb, ltb, List, [], ◌∷◌, ◌++◌, length, Option, Some, None, refl, sym, ap, ◌∙◌, arith, append_assoc, length-append}
+use Rattle.std.proofs.Common.{◌≡◌, ◌≢◌, ℕ, ◌+◌, ◌*◌, ◌<◌, ◌≤◌, inl, inr, Bool, true, false, eqb, ltb, List, [], ◌∷◌}
+use Rattle.std.proofs.Common.{◌++◌, length, Option, Some, None, refl, sym, ap, ◌∙◌, arith, append_assoc}
+use Rattle.std.proofs.Common.{length-append}
 use Rattle.std.proofs.lemmas.Bool.Decides.{nat_tests}
 use Rattle.std.proofs.lemmas.List.{append-nil, append_cancel_right}
 use Rattle.std.specs.Option.{option_map}
@@ -14,17 +16,22 @@ use Rattle.dcc_wire.specs.Outcomes.{bytes_in, closed, by_bits, outcome_of}
 use Rattle.dcc_wire.specs.Packed.{byte_bits}
 use Rattle.dcc_wire.specs.OutcomeTable.{IsUnpaired, IsRow, Comes, IsUnfinished}
 use Rattle.dcc_wire.proofs.BitLemmas.{halves_of-append, length-halves_of, bytes_in-edge}
-use Rattle.dcc_wire.proofs.OutcomeLemmas.{outcome_of-more, outcome_of-bits, outcome_bits, outcome_bad_first, outcome_one_first, outcome_zero_first, outcome_one_bad, outcome_zero_bad, outcome_one_zero, outcome_zero_one}
+use Rattle.dcc_wire.proofs.OutcomeLemmas.{outcome_of-more, outcome_of-bits, outcome_bits, outcome_bad_first}
+use Rattle.dcc_wire.proofs.OutcomeLemmas.{outcome_one_first, outcome_zero_first, outcome_one_bad, outcome_zero_bad}
+use Rattle.dcc_wire.proofs.OutcomeLemmas.{outcome_one_zero, outcome_zero_one}
 use Rattle.dcc_wire.proofs.SendingLemmas.{outcome_of-body, bytes_in-body, length-body_bits}
 use Rattle.dcc_wire.proofs.ByteBits.{body_bits-end, length-byte_bits}
 use Rattle.dcc_wire.proofs.OpenLists.{OpenBits, short_by, open-bits}
 
 -- the body of some bytes is what they are with an end bit
-body_closed : (bytes : List ℕ) → AllBytes bytes → length bytes ≤ 6 → outcome_of (body bytes) ≡ Some (length (body bytes), closed bytes)
+body_closed : (bytes : List ℕ) → AllBytes bytes → length bytes ≤ 6
+    → outcome_of (body bytes) ≡ Some (length (body bytes), closed bytes)
 unfolding body by_bits
 body_closed bytes each few =
-    let count : 18 * length bytes + 2 ≡ length (halves_of (body_bits bytes)) = omega (arith, length-halves_of (body_bits bytes), length-body_bits bytes) in
-    outcome_of-bits (body_bits bytes) ∙ ap (option_map by_bits) (bytes_in-body 6 bytes each few) ∙ ap (λ k. Some (k, closed bytes)) count
+    let count : 18 * length bytes + 2 ≡ length (halves_of (body_bits bytes)) =
+    omega (arith, length-halves_of (body_bits bytes), length-body_bits bytes) in
+    outcome_of-bits (body_bits bytes) ∙ ap (option_map by_bits) (bytes_in-body 6 bytes each few)
+    ∙ ap (λ k. Some (k, closed bytes)) count
 
 pub closed-short : (bytes : List ℕ) → length bytes < 3 → closed bytes ≡ Refused TooShort
 unfolding closed
@@ -38,59 +45,93 @@ closed-wrong bytes long wrong =
     rw (test, sum) refl
 
 -- a zero in place of the end bit
-zero_closes : (bytes : List ℕ) → AllBytes bytes → length bytes ≡ 6 → outcome_of (halves_of (byte_bits bytes) ++ Zero ∷ Zero ∷ []) ≡ Some (length (halves_of (byte_bits bytes) ++ Zero ∷ Zero ∷ []), Refused TooLong)
+zero_closes : (bytes : List ℕ) → AllBytes bytes → length bytes ≡ 6
+    → outcome_of (halves_of (byte_bits bytes) ++ Zero ∷ Zero ∷ []) ≡ Some
+    (length (halves_of (byte_bits bytes) ++ Zero ∷ Zero ∷ []), Refused TooLong)
 unfolding by_bits halves_of
 zero_closes bytes each six =
     let bits : List Bool = byte_bits bytes in
     let long = length-byte_bits bytes in
-    let closes : bytes_in 6 (bits ++ true ∷ []) ≡ Some (bytes, true) = ap (bytes_in 6) (sym (body_bits-end bytes)) ∙ bytes_in-body 6 bytes each (omega (arith, six)) in
-    let none : bytes_in 6 bits ≡ None = short_by bytes bits (true ∷ []) (bytes_in 6 bits) six closes (omega (arith, long, six)) refl in
+    let closes : bytes_in 6 (bits ++ true ∷ []) ≡ Some (bytes, true) =
+    ap (bytes_in 6) (sym (body_bits-end bytes)) ∙ bytes_in-body 6 bytes each (omega (arith, six)) in
+    let none : bytes_in 6 bits ≡ None =
+    short_by bytes bits (true ∷ []) (bytes_in 6 bits) six closes (omega (arith, long, six)) refl in
     let edge = bytes_in-edge 6 bits none (omega (arith, long)) in
     let whole : length edge.bytes ≡ 6 = omega (arith, edge.whole, long, six) in
-    let count : 18 * length edge.bytes + 2 ≡ length (halves_of bits ++ Zero ∷ Zero ∷ []) = omega (arith, length-append (halves_of bits) (Zero ∷ Zero ∷ []), length-halves_of bits, edge.whole) in
+    let count : 18 * length edge.bytes + 2 ≡ length (halves_of bits ++ Zero ∷ Zero ∷ []) =
+    omega (arith, length-append (halves_of bits) (Zero ∷ Zero ∷ []), length-halves_of bits, edge.whole) in
     ap outcome_of (sym (halves_of-append bits (false ∷ []))) ∙ outcome_of-bits (bits ++ false ∷ [])
     ∙ ap (option_map by_bits) (edge.full whole) ∙ ap (λ k. Some (k, Refused TooLong)) count
 
-without_end : (bytes : List ℕ) (front : List Half) → body bytes ≡ front ++ One ∷ One ∷ [] → front ≡ halves_of (byte_bits bytes)
+without_end : (bytes : List ℕ) (front : List Half) → body bytes ≡ front ++ One ∷ One ∷ []
+    → front ≡ halves_of (byte_bits bytes)
 unfolding body halves_of
-without_end bytes front e = append_cancel_right front (halves_of (byte_bits bytes)) (One ∷ One ∷ []) (sym e ∙ ap halves_of (body_bits-end bytes) ∙ halves_of-append (byte_bits bytes) (true ∷ []))
+without_end bytes front e =
+    append_cancel_right front (halves_of (byte_bits bytes)) (One ∷ One ∷ [])
+    (sym e ∙ ap halves_of (body_bits-end bytes) ∙ halves_of-append (byte_bits bytes) (true ∷ []))
 
 -- what comes behind an open list
-behind_open : (front tail : List Half) (b : OpenBits front) (o : Option (ℕ × Seen)) → outcome_of (halves_of b.bits ++ tail) ≡ o → outcome_of (front ++ tail) ≡ o
+behind_open : (front tail : List Half) (b : OpenBits front) (o : Option (ℕ × Seen))
+    → outcome_of (halves_of b.bits ++ tail) ≡ o → outcome_of (front ++ tail) ≡ o
 behind_open front tail b o h = ap (λ l. outcome_of (l ++ tail)) b.same ∙ h
 
-refused_behind : (front tail : List Half) (b : OpenBits front) (o : Seen) → outcome_of (halves_of b.bits ++ tail) ≡ Some (2 * length b.bits + length tail, o) → outcome_of (front ++ tail) ≡ Some (length (front ++ tail), o)
+refused_behind : (front tail : List Half) (b : OpenBits front) (o : Seen)
+    → outcome_of (halves_of b.bits ++ tail) ≡ Some (2 * length b.bits + length tail, o)
+    → outcome_of (front ++ tail) ≡ Some (length (front ++ tail), o)
 refused_behind front tail b o h =
-    let count : 2 * length b.bits + length tail ≡ length (front ++ tail) = omega (arith, length-append front tail, ap length b.same, length-halves_of b.bits) in
+    let count : 2 * length b.bits + length tail ≡ length (front ++ tail) =
+    omega (arith, length-append front tail, ap length b.same, length-halves_of b.bits) in
     behind_open front tail b (Some (length (front ++ tail), o)) (h ∙ ap (λ k. Some (k, o)) count)
 
-bad_behind : (front half : List Half) → OpenBits front → IsUnpaired half → outcome_of (front ++ half ++ Bad ∷ []) ≡ Some (length (front ++ half ++ Bad ∷ []), Refused BadHalf)
-bad_behind front [] b unpaired = rw (append_assoc front [] (Bad ∷ [])) (refused_behind front (Bad ∷ []) b (Refused BadHalf) (outcome_bad_first b.bits b.none))
-bad_behind front (One ∷ []) b unpaired = rw (append_assoc front (One ∷ []) (Bad ∷ [])) (refused_behind front (One ∷ Bad ∷ []) b (Refused BadHalf) (outcome_one_bad b.bits b.none))
-bad_behind front (Zero ∷ []) b unpaired = rw (append_assoc front (Zero ∷ []) (Bad ∷ [])) (refused_behind front (Zero ∷ Bad ∷ []) b (Refused BadHalf) (outcome_zero_bad b.bits b.none))
+bad_behind : (front half : List Half) → OpenBits front → IsUnpaired half
+    → outcome_of (front ++ half ++ Bad ∷ []) ≡ Some (length (front ++ half ++ Bad ∷ []), Refused BadHalf)
+bad_behind front [] b unpaired =
+    rw (append_assoc front [] (Bad ∷ []))
+    (refused_behind front (Bad ∷ []) b (Refused BadHalf) (outcome_bad_first b.bits b.none))
+bad_behind front (One ∷ []) b unpaired =
+    rw (append_assoc front (One ∷ []) (Bad ∷ []))
+    (refused_behind front (One ∷ Bad ∷ []) b (Refused BadHalf) (outcome_one_bad b.bits b.none))
+bad_behind front (Zero ∷ []) b unpaired =
+    rw (append_assoc front (Zero ∷ []) (Bad ∷ []))
+    (refused_behind front (Zero ∷ Bad ∷ []) b (Refused BadHalf) (outcome_zero_bad b.bits b.none))
 bad_behind front (Bad ∷ []) b unpaired = absurd (unpaired refl)
 bad_behind front (half ∷ other ∷ more) b unpaired = absurd unpaired
 
 none_behind : (front half : List Half) → OpenBits front → IsUnpaired half → outcome_of (front ++ half) ≡ None
-none_behind front [] b unpaired = behind_open front [] b None (rw (append-nil (halves_of b.bits)) (outcome_bits b.bits b.none))
+none_behind front [] b unpaired =
+    behind_open front [] b None (rw (append-nil (halves_of b.bits)) (outcome_bits b.bits b.none))
 none_behind front (One ∷ []) b unpaired = behind_open front (One ∷ []) b None (outcome_one_first b.bits b.none)
 none_behind front (Zero ∷ []) b unpaired = behind_open front (Zero ∷ []) b None (outcome_zero_first b.bits b.none)
 none_behind front (Bad ∷ []) b unpaired = absurd (unpaired refl)
 none_behind front (half ∷ other ∷ more) b unpaired = absurd unpaired
 
-row-outcome : (halves : List Half) (outcome : Seen) → IsRow halves outcome → outcome_of halves ≡ Some (length halves, outcome)
+row-outcome : (halves : List Half) (outcome : Seen) → IsRow halves outcome
+    → outcome_of halves ≡ Some (length halves, outcome)
 row-outcome halves (Packet bytes) (packet, same) = rw same (outcome_of-body bytes packet)
-row-outcome halves (Refused (ErrorByte bytes)) (each, long, few, wrong, same) = rw same (body_closed bytes each few ∙ ap (λ (o : Seen). Some (length (body bytes), o)) (closed-wrong bytes long wrong))
-row-outcome halves (Refused TooShort) (bytes, each, some, few, same) = rw same (body_closed bytes each (omega arith) ∙ ap (λ (o : Seen). Some (length (body bytes), o)) (closed-short bytes (omega arith)))
-row-outcome halves (Refused TooLong) (bytes, front, each, six, whole, same) = rw (same, without_end bytes front whole) (zero_closes bytes each six)
-row-outcome halves (Refused SplitBit) (front, is_open, inl same) = let b = open-bits front is_open in rw same (refused_behind front (Zero ∷ One ∷ []) b (Refused SplitBit) (outcome_zero_one b.bits b.none))
-row-outcome halves (Refused SplitBit) (front, is_open, inr same) = let b = open-bits front is_open in rw same (refused_behind front (One ∷ Zero ∷ []) b (Refused SplitBit) (outcome_one_zero b.bits b.none))
-row-outcome halves (Refused BadHalf) (front, half, is_open, unpaired, same) = rw same (bad_behind front half (open-bits front is_open) unpaired)
+row-outcome halves (Refused (ErrorByte bytes)) (each, long, few, wrong, same) =
+    rw same (body_closed bytes each few
+    ∙ ap (λ (o : Seen). Some (length (body bytes), o)) (closed-wrong bytes long wrong))
+row-outcome halves (Refused TooShort) (bytes, each, some, few, same) =
+    rw same (body_closed bytes each (omega arith)
+    ∙ ap (λ (o : Seen). Some (length (body bytes), o)) (closed-short bytes (omega arith)))
+row-outcome halves (Refused TooLong) (bytes, front, each, six, whole, same) =
+    rw (same, without_end bytes front whole) (zero_closes bytes each six)
+row-outcome halves (Refused SplitBit) (front, is_open, inl same) =
+    let b = open-bits front is_open in rw same
+    (refused_behind front (Zero ∷ One ∷ []) b (Refused SplitBit) (outcome_zero_one b.bits b.none))
+row-outcome halves (Refused SplitBit) (front, is_open, inr same) =
+    let b = open-bits front is_open in rw same
+    (refused_behind front (One ∷ Zero ∷ []) b (Refused SplitBit) (outcome_one_zero b.bits b.none))
+row-outcome halves (Refused BadHalf) (front, half, is_open, unpaired, same) =
+    rw same (bad_behind front half (open-bits front is_open) unpaired)
 row-outcome halves Nothing h = absurd h
 
-pub comes-outcome : (halves : List Half) (n : ℕ) (outcome : Seen) → Comes halves n outcome → outcome_of halves ≡ Some (n, outcome)
+pub comes-outcome : (halves : List Half) (n : ℕ) (outcome : Seen) → Comes halves n outcome
+    → outcome_of halves ≡ Some (n, outcome)
 comes-outcome halves n outcome (front, row, count, (more, same)) =
-    ap outcome_of same ∙ outcome_of-more front more (length front, outcome) (row-outcome front outcome row) ∙ ap (λ k. Some (k, outcome)) (sym count)
+    ap outcome_of same ∙ outcome_of-more front more (length front, outcome) (row-outcome front outcome row)
+    ∙ ap (λ k. Some (k, outcome)) (sym count)
 
 pub unfinished-outcome : (halves : List Half) → IsUnfinished halves → outcome_of halves ≡ None
-unfinished-outcome halves (front, half, is_open, unpaired, same) = rw same (none_behind front half (open-bits front is_open) unpaired)
+unfinished-outcome halves (front, half, is_open, unpaired, same) =
+    rw same (none_behind front half (open-bits front is_open) unpaired)

@@ -1,5 +1,7 @@
 -- Bits that are kept as whole bytes and the bits behind them.
-use Rattle.std.proofs.Common.{◌≡◌, ℕ, suc, zero, ◌+◌, ◌-◌, ◌*◌, ◌/◌, ◌%◌, ◌^◌, ◌<◌, ◌≤◌, Bool, true, false, cond, eqb, List, [], ◌∷◌, ◌++◌, length, take, drop, bit_xor, Option, Some, None, refl, sym, ap, ◌∙◌, arith, add-one, append_assoc, length-append}
+use Rattle.std.proofs.Common.{◌≡◌, ℕ, suc, zero, ◌+◌, ◌-◌, ◌*◌, ◌/◌, ◌%◌, ◌^◌, ◌<◌, ◌≤◌, Bool, true, false, cond, eqb}
+use Rattle.std.proofs.Common.{List, [], ◌∷◌, ◌++◌, length, take, drop, bit_xor, Option, Some, None, refl, sym, ap}
+use Rattle.std.proofs.Common.{◌∙◌, arith, add-one, append_assoc, length-append}
 use Rattle.std.proofs.lemmas.List.{append-nil}
 use Rattle.std.proofs.lemmas.Nat.{shr-shr}
 use Rattle.std.proofs.Math.Nat.{div-eq_of_lt, pow-suc, pow-le-pow_right}
@@ -23,7 +25,9 @@ halved s b small = omega (arith, small)
 bit_up : (s b c : ℕ) → b < 2 → bit_at (2 * s + b) (suc c) ≡ bit_at s c
 bit_up s b c small =
     let one_more : 1 + c ≡ suc c = omega arith in
-    ap (λ k. k % 2) (ap (λ k. (2 * s + b) / 2 ^ k) (sym one_more) ∙ sym (shr-shr (2 * s + b) 1 c) ∙ ap (λ k. k / 2 ^ c) (halved s b small))
+    ap (λ k. k % 2)
+    (ap (λ k. (2 * s + b) / 2 ^ k) (sym one_more) ∙ sym (shr-shr (2 * s + b) 1 c)
+    ∙ ap (λ k. k / 2 ^ c) (halved s b small))
 
 bit_zero : (s b : ℕ) → b < 2 → bit_at (2 * s + b) 0 ≡ b
 bit_zero s b small = omega (arith, small)
@@ -39,10 +43,12 @@ bits_of-bit : (c s : ℕ) (bit : Bool) → bits_of (suc c) (2 * s + cond bit 1 0
 bits_of-bit c s true = bits_of-shifted c s 1 (omega arith)
 bits_of-bit c s false = bits_of-shifted c s 0 (omega arith)
 
-pub packed_bits-more : (bytes : List ℕ) (count shift : ℕ) (bit : Bool) → packed_bits bytes (suc count) (2 * shift + cond bit 1 0) ≡ packed_bits bytes count shift ++ bit ∷ []
+pub packed_bits-more : (bytes : List ℕ) (count shift : ℕ) (bit : Bool)
+    → packed_bits bytes (suc count) (2 * shift + cond bit 1 0) ≡ packed_bits bytes count shift ++ bit ∷ []
 unfolding packed_bits
 packed_bits-more bytes count shift bit =
-    ap (λ l. byte_bits bytes ++ l) (bits_of-bit count shift bit) ∙ sym (append_assoc (byte_bits bytes) (bits_of count shift) (bit ∷ []))
+    ap (λ l. byte_bits bytes ++ l) (bits_of-bit count shift bit)
+    ∙ sym (append_assoc (byte_bits bytes) (bits_of count shift) (bit ∷ []))
 
 -- a number below a power of two begins with a zero
 
@@ -57,17 +63,20 @@ half_small c s h = omega (arith, pow-suc 2 c, h)
 
 -- a whole byte behind its zero
 
-byte_bits-more : (bytes : List ℕ) (byte : ℕ) → byte_bits (bytes ++ byte ∷ []) ≡ byte_bits bytes ++ false ∷ bits_of 8 byte
+byte_bits-more : (bytes : List ℕ) (byte : ℕ)
+    → byte_bits (bytes ++ byte ∷ []) ≡ byte_bits bytes ++ false ∷ bits_of 8 byte
 unfolding byte_bits
 byte_bits-more [] byte = ap (λ l. false ∷ l) (append-nil (bits_of 8 byte))
 byte_bits-more (first ∷ bytes) byte =
     ap (λ l. false ∷ bits_of 8 first ++ l) (byte_bits-more bytes byte)
     ∙ ap (λ l. false ∷ l) (sym (append_assoc (bits_of 8 first) (byte_bits bytes) (false ∷ bits_of 8 byte)))
 
-pub packed_bits-whole : (bytes : List ℕ) (byte : ℕ) → byte < 256 → packed_bits (bytes ++ byte ∷ []) 0 0 ≡ packed_bits bytes 9 byte
+pub packed_bits-whole : (bytes : List ℕ) (byte : ℕ) → byte < 256
+    → packed_bits (bytes ++ byte ∷ []) 0 0 ≡ packed_bits bytes 9 byte
 unfolding packed_bits bits_of
 packed_bits-whole bytes byte small =
-    append-nil (byte_bits (bytes ++ byte ∷ [])) ∙ byte_bits-more bytes byte ∙ ap (λ l. byte_bits bytes ++ l) (sym (small_first 8 byte small))
+    append-nil (byte_bits (bytes ++ byte ∷ [])) ∙ byte_bits-more bytes byte
+    ∙ ap (λ l. byte_bits bytes ++ l) (sym (small_first 8 byte small))
 
 AllBytes-more : (bytes : List ℕ) (byte : ℕ) → AllBytes bytes → byte < 256 → AllBytes (bytes ++ byte ∷ [])
 unfolding AllBytes
@@ -76,7 +85,10 @@ AllBytes-more (first ∷ bytes) byte all small = (all.0, AllBytes-more bytes byt
 
 -- whole bytes in front of other bits
 
-option_map_one : (byte : ℕ) (bytes : List ℕ) (o : Option (List ℕ × Bool)) → option_map {U = List ℕ × Bool} (λ q. (byte ∷ q.0, q.1)) (option_map {U = List ℕ × Bool} (λ q. (bytes ++ q.0, q.1)) o) ≡ option_map {U = List ℕ × Bool} (λ q. (byte ∷ bytes ++ q.0, q.1)) o
+option_map_one : (byte : ℕ) (bytes : List ℕ) (o : Option (List ℕ × Bool))
+    → option_map {U = List ℕ × Bool} (λ q. (byte ∷ q.0, q.1))
+    (option_map {U = List ℕ × Bool} (λ q. (bytes ++ q.0, q.1)) o) ≡ option_map {U = List ℕ × Bool}
+    (λ q. (byte ∷ bytes ++ q.0, q.1)) o
 option_map_one byte bytes None = refl
 option_map_one byte bytes (Some q) = refl
 
@@ -84,16 +96,21 @@ option_map_zero : (o : Option (List ℕ × Bool)) → o ≡ option_map {U = List
 option_map_zero None = refl
 option_map_zero (Some q) = refl
 
-bytes_in-bytes : (n : ℕ) (bytes : List ℕ) (more : List Bool) → AllBytes bytes → length bytes ≤ n → bytes_in n (byte_bits bytes ++ more) ≡ option_map {U = List ℕ × Bool} (λ q. (bytes ++ q.0, q.1)) (bytes_in (n - length bytes) more)
+bytes_in-bytes : (n : ℕ) (bytes : List ℕ) (more : List Bool) → AllBytes bytes → length bytes ≤ n
+    → bytes_in n (byte_bits bytes ++ more) ≡ option_map {U = List ℕ × Bool} (λ q. (bytes ++ q.0, q.1))
+    (bytes_in (n - length bytes) more)
 unfolding byte_bits AllBytes
 bytes_in-bytes n [] more small few = let e : n - 0 ≡ n = omega arith in rw e (option_map_zero (bytes_in n more))
 bytes_in-bytes zero (byte ∷ bytes) more small few = absurd (omega (arith, few))
 bytes_in-bytes (suc n) (byte ∷ bytes) more small few =
     let rest : List Bool = byte_bits bytes ++ more in
     let eight : length (bits_of 8 byte) ≡ 8 = length-bits_of 8 byte in
-    let split : (bits_of 8 byte ++ byte_bits bytes) ++ more ≡ bits_of 8 byte ++ rest = append_assoc (bits_of 8 byte) (byte_bits bytes) more in
-    let front : take 8 (bits_of 8 byte ++ rest) ≡ bits_of 8 byte = ap (λ k. take k (bits_of 8 byte ++ rest)) (sym eight) ∙ take-append_seam (bits_of 8 byte) rest in
-    let back : drop 8 (bits_of 8 byte ++ rest) ≡ rest = ap (λ k. drop k (bits_of 8 byte ++ rest)) (sym eight) ∙ drop-append_seam (bits_of 8 byte) rest in
+    let split : (bits_of 8 byte ++ byte_bits bytes) ++ more ≡ bits_of 8 byte ++ rest =
+    append_assoc (bits_of 8 byte) (byte_bits bytes) more in
+    let front : take 8 (bits_of 8 byte ++ rest) ≡ bits_of 8 byte =
+    ap (λ k. take k (bits_of 8 byte ++ rest)) (sym eight) ∙ take-append_seam (bits_of 8 byte) rest in
+    let back : drop 8 (bits_of 8 byte ++ rest) ≡ rest =
+    ap (λ k. drop k (bits_of 8 byte ++ rest)) (sym eight) ∙ drop-append_seam (bits_of 8 byte) rest in
     let less : suc n - length (byte ∷ bytes) ≡ n - length bytes = omega arith in
     ap (λ l. bytes_in (suc n) (false ∷ l)) split
     ∙ zero_long n (bits_of 8 byte ++ rest) (omega (arith, length-append (bits_of 8 byte) rest, eight))
@@ -102,7 +119,8 @@ bytes_in-bytes (suc n) (byte ∷ bytes) more small few =
 
 -- what a bit comes to where the bytes are whole
 
-pub closed_by_one : (bytes : List ℕ) (xor count shift : ℕ) → IsPacked bytes xor count shift → count ≡ 0 → bytes_in 6 (packed_bits bytes count shift ++ true ∷ []) ≡ Some (bytes, true)
+pub closed_by_one : (bytes : List ℕ) (xor count shift : ℕ) → IsPacked bytes xor count shift → count ≡ 0
+    → bytes_in 6 (packed_bits bytes count shift ++ true ∷ []) ≡ Some (bytes, true)
 unfolding packed_bits bits_of bytes_in
 closed_by_one bytes xor count shift packed none =
     ap (λ c. bytes_in 6 ((byte_bits bytes ++ bits_of c shift) ++ true ∷ [])) none
@@ -110,13 +128,17 @@ closed_by_one bytes xor count shift packed none =
     ∙ bytes_in-bytes 6 bytes (true ∷ []) packed.each packed.few
     ∙ ap (λ l. Some (l, true)) (append-nil bytes)
 
-pub length-packed_bits : (bytes : List ℕ) (count shift : ℕ) → length (packed_bits bytes count shift) ≡ 9 * length bytes + count
+pub length-packed_bits : (bytes : List ℕ) (count shift : ℕ)
+    → length (packed_bits bytes count shift) ≡ 9 * length bytes + count
 unfolding packed_bits
-length-packed_bits bytes count shift = length-append (byte_bits bytes) (bits_of count shift) ∙ omega (arith, length-byte_bits bytes, length-bits_of count shift)
+length-packed_bits bytes count shift =
+    length-append (byte_bits bytes) (bits_of count shift)
+    ∙ omega (arith, length-byte_bits bytes, length-bits_of count shift)
 
 -- packed bits close no bytes
 
-part_open : (n count shift : ℕ) → count ≤ 8 → 2 * shift < 2 ^ count → (0 < count → 0 < n) → bytes_in n (bits_of count shift) ≡ None
+part_open : (n count shift : ℕ) → count ≤ 8 → 2 * shift < 2 ^ count → (0 < count → 0 < n)
+    → bytes_in n (bits_of count shift) ≡ None
 unfolding bits_of bytes_in
 part_open n zero shift part zero_first room = refl
 part_open zero (suc count) shift part zero_first room = absurd (omega (arith, room (omega arith)))
@@ -124,7 +146,8 @@ part_open (suc n) (suc count) shift part zero_first room =
     ap (λ l. bytes_in (suc n) l) (small_first count shift (half_small count shift zero_first))
     ∙ zero_short n (bits_of count shift) (omega (arith, length-bits_of count shift, part))
 
-pub packed_open : (bytes : List ℕ) (xor count shift : ℕ) → IsPacked bytes xor count shift → bytes_in 6 (packed_bits bytes count shift) ≡ None
+pub packed_open : (bytes : List ℕ) (xor count shift : ℕ) → IsPacked bytes xor count shift
+    → bytes_in 6 (packed_bits bytes count shift) ≡ None
 unfolding packed_bits
 packed_open bytes xor count shift packed =
     bytes_in-bytes 6 bytes (bits_of count shift) packed.each packed.few
@@ -149,17 +172,20 @@ one_bit true = omega arith
 one_bit false = omega arith
 
 -- where a zero comes first
-shift_small : (count shift : ℕ) (bit : Bool) → 2 * shift < 2 ^ count → (count ≡ 0 → bit ≡ false) → 2 * shift + cond bit 1 0 < 2 ^ count
+shift_small : (count shift : ℕ) (bit : Bool) → 2 * shift < 2 ^ count → (count ≡ 0 → bit ≡ false)
+    → 2 * shift + cond bit 1 0 < 2 ^ count
 shift_small zero shift bit zero_first zero_bit = rw (zero_bit refl) (omega (arith, zero_first))
 shift_small (suc count) shift bit zero_first zero_bit = omega (arith, pow-suc 2 count, zero_first, one_bit bit)
 
-pub shift_fits : (count shift : ℕ) (bit : Bool) → count ≤ 8 → 2 * shift < 2 ^ count → (count ≡ 0 → bit ≡ false) → 2 * shift + cond bit 1 0 < 256
+pub shift_fits : (count shift : ℕ) (bit : Bool) → count ≤ 8 → 2 * shift < 2 ^ count → (count ≡ 0 → bit ≡ false)
+    → 2 * shift + cond bit 1 0 < 256
 shift_fits count shift bit part zero_first zero_bit =
     let small = shift_small count shift bit zero_first zero_bit in
     let most : 2 ^ count ≤ 2 ^ 8 = pow-le-pow_right (omega arith) part in
     omega (arith, small, most)
 
-module _ (bytes : List ℕ) (xor count shift : ℕ) (bit : Bool) (packed : IsPacked bytes xor count shift) (zero_bit : count ≡ 0 → bit ≡ false) (room : length bytes < 6) where
+module _ (bytes : List ℕ) (xor count shift : ℕ) (bit : Bool) (packed : IsPacked bytes xor count shift)
+    (zero_bit : count ≡ 0 → bit ≡ false) (room : length bytes < 6) where
   pub packed_more : count < 8 → IsPacked bytes xor (count + 1) (2 * shift + cond bit 1 0)
   packed_more less = record {
     few = packed.few;
@@ -172,11 +198,15 @@ module _ (bytes : List ℕ) (xor count shift : ℕ) (bit : Bool) (packed : IsPac
     room = λ some. room;
   }
 
-  pub packed_whole : count ≡ 8 → IsPacked (bytes ++ (2 * shift + cond bit 1 0) ∷ []) (bit_xor xor (2 * shift + cond bit 1 0)) 0 0
+  pub packed_whole : count ≡ 8
+      → IsPacked (bytes ++ (2 * shift + cond bit 1 0) ∷ []) (bit_xor xor (2 * shift + cond bit 1 0)) 0 0
   packed_whole eight = record {
     few = omega (arith, length-append bytes ((2 * shift + cond bit 1 0) ∷ []), room);
-    each = AllBytes-more bytes (2 * shift + cond bit 1 0) packed.each (shift_fits count shift bit packed.part packed.zero_first zero_bit);
-    exclusive_or = ap (λ x. bit_xor x (2 * shift + cond bit 1 0)) packed.exclusive_or ∙ sym (xor_of-append bytes (2 * shift + cond bit 1 0));
+    each = AllBytes-more bytes (2 * shift + cond bit 1 0) packed.each
+        (shift_fits count shift bit packed.part packed.zero_first zero_bit);
+    exclusive_or =
+        ap (λ x. bit_xor x (2 * shift + cond bit 1 0)) packed.exclusive_or
+        ∙ sym (xor_of-append bytes (2 * shift + cond bit 1 0));
     part = omega arith;
     zero_first = omega arith;
     room = λ some. absurd (omega (arith, some));

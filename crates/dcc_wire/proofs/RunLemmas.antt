@@ -1,5 +1,6 @@
 -- Many halves of one duration.
-use Rattle.std.proofs.Common.{◌≡◌, ℕ, suc, zero, ◌+◌, ◌-◌, ◌<◌, ◌≤◌, min, false, leb, List, [], ◌∷◌, ◌++◌, length, replicate, refl, sym, ap, ◌∙◌, arith, add-one, subst, append_assoc, length-append}
+use Rattle.std.proofs.Common.{◌≡◌, ℕ, suc, zero, ◌+◌, ◌-◌, ◌<◌, ◌≤◌, min, false, leb, List, [], ◌∷◌, ◌++◌, length}
+use Rattle.std.proofs.Common.{replicate, refl, sym, ap, ◌∙◌, arith, add-one, subst, append_assoc, length-append}
 use Rattle.std.proofs.lemmas.List.{append-nil}
 use Rattle.std.proofs.lemmas.Bool.Decides.{nat_tests}
 use Rattle.std.proofs.Math.ListN.{length-replicate, replicate-append-replicate}
@@ -50,33 +51,43 @@ stays : (half : Half) (ones n : ℕ) → IsQuiet ones half → Stays ones half n
 unfolding rest_after ones_after
 stays One ones zero quiet = record { next = min 20 (ones + 1); goes_on = refl; quiet = tt; rest_same = refl }
 stays One ones (suc n) quiet = record { next = min 20 (ones + 1); goes_on = refl; quiet = tt; rest_same = omega arith }
-stays Zero ones zero quiet = let no : leb 20 ones ≡ false = grind (arith, nat_tests) in record { next = 0; goes_on = rw no refl; quiet = omega arith; rest_same = refl }
-stays Zero ones (suc n) quiet = let no : leb 20 ones ≡ false = grind (arith, nat_tests) in record { next = 0; goes_on = rw no refl; quiet = omega arith; rest_same = refl }
+stays Zero ones zero quiet =
+    let no : leb 20 ones ≡ false = grind (arith, nat_tests) in record
+    { next = 0; goes_on = rw no refl; quiet = omega arith; rest_same = refl }
+stays Zero ones (suc n) quiet =
+    let no : leb 20 ones ≡ false = grind (arith, nat_tests) in record
+    { next = 0; goes_on = rw no refl; quiet = omega arith; rest_same = refl }
 stays Bad ones zero quiet = record { next = 0; goes_on = refl; quiet = tt; rest_same = refl }
 stays Bad ones (suc n) quiet = record { next = 0; goes_on = refl; quiet = tt; rest_same = refl }
 
-replicate_more : (n us : ℕ) (durations : List ℕ) → durations ++ replicate (suc n) us ≡ (durations ++ us ∷ []) ++ replicate n us
+replicate_more : (n us : ℕ) (durations : List ℕ)
+    → durations ++ replicate (suc n) us ≡ (durations ++ us ∷ []) ++ replicate n us
 replicate_more n us durations = sym (append_assoc durations (us ∷ []) (replicate n us))
 
 record Skips (durations : List ℕ) (us n ones : ℕ) : Type 0 where
   open_part : rest (durations ++ replicate n us) ≡ Hunting (ones_after ones (class_of us) n)
   outcomes : seen (durations ++ replicate n us) ≡ seen durations
 
-skips : (n us : ℕ) (durations : List ℕ) (ones : ℕ) → IsQuiet ones (class_of us) → rest durations ≡ Hunting ones → Skips durations us n ones
+skips : (n us : ℕ) (durations : List ℕ) (ones : ℕ) → IsQuiet ones (class_of us) → rest durations ≡ Hunting ones
+    → Skips durations us n ones
 unfolding ones_after answer_to reported
-skips zero us durations ones quiet hunts = record { open_part = ap rest (append-nil durations) ∙ hunts; outcomes = ap seen (append-nil durations) }
+skips zero us durations ones quiet hunts =
+    record { open_part = ap rest (append-nil durations) ∙ hunts; outcomes = ap seen (append-nil durations) }
 skips (suc n) us durations ones quiet hunts =
     let w = stays (class_of us) ones n quiet in
-    let next : rest (durations ++ us ∷ []) ≡ Hunting w.next = rest-push durations us ∙ ap (λ r. rest_after r (class_of us)) hunts ∙ w.goes_on in
+    let next : rest (durations ++ us ∷ []) ≡ Hunting w.next =
+    rest-push durations us ∙ ap (λ r. rest_after r (class_of us)) hunts ∙ w.goes_on in
     let ih = skips n us (durations ++ us ∷ []) w.next w.quiet next in
     record {
       open_part = ap rest (replicate_more n us durations) ∙ ih.open_part ∙ ap Hunting w.rest_same;
       outcomes = ap seen (replicate_more n us durations) ∙ ih.outcomes ∙ seen-push durations us
-          ∙ ap (λ r. seen durations ++ reported (length durations) (answer_to r (class_of us))) hunts ∙ append-nil (seen durations);
+          ∙ ap (λ r. seen durations ++ reported (length durations) (answer_to r (class_of us))) hunts
+          ∙ append-nil (seen durations);
     }
 
 -- halves that show nothing are told by their count alone
-pub skip_history : (ones : ℕ) (half : Half) (n : ℕ) → IsQuiet ones half → HasHistory (Hunting ones) → HasHistory (Hunting (ones_after ones half n))
+pub skip_history : (ones : ℕ) (half : Half) (n : ℕ) → IsQuiet ones half → HasHistory (Hunting ones)
+    → HasHistory (Hunting (ones_after ones half n))
 unfolding StandsFor
 skip_history ones half n quiet history =
     let us = microseconds half in
@@ -94,24 +105,34 @@ replicate_end : (n us : ℕ) → replicate (suc n) us ≡ replicate n us ++ us �
 replicate_end zero us = refl
 replicate_end (suc n) us = ap (λ l. us ∷ l) (replicate_end n us)
 
-one_longer : (durations : List ℕ) (us i : ℕ) → durations ++ replicate (i + 1) us ≡ (durations ++ replicate i us) ++ us ∷ []
-one_longer durations us i = ap (λ k. durations ++ replicate k us) (add-one i) ∙ ap (λ l. durations ++ l) (replicate_end i us) ∙ sym (append_assoc durations (replicate i us) (us ∷ []))
+one_longer : (durations : List ℕ) (us i : ℕ)
+    → durations ++ replicate (i + 1) us ≡ (durations ++ replicate i us) ++ us ∷ []
+one_longer durations us i =
+    ap (λ k. durations ++ replicate k us) (add-one i) ∙ ap (λ l. durations ++ l) (replicate_end i us)
+    ∙ sym (append_assoc durations (replicate i us) (us ∷ []))
 
 length-run : (durations : List ℕ) (us i : ℕ) → length (durations ++ replicate i us) ≡ length durations + i
-length-run durations us i = length-append durations (replicate i us) ∙ ap (λ k. length durations + k) (length-replicate i us)
+length-run durations us i =
+    length-append durations (replicate i us) ∙ ap (λ k. length durations + k) (length-replicate i us)
 
 -- what a push says
 abbrev pub Stands : Rest → Rest → ℕ → Type 0
 Stands mid new us = (durations : List ℕ) → StandsFor mid durations → StandsFor new (durations ++ us ∷ [])
 
 abbrev pub Sees : Rest → ℕ → Seen → Type 0
-Sees mid us shown = (durations : List ℕ) → StandsFor mid durations → seen (durations ++ us ∷ []) ≡ seen durations ++ reported (length durations) shown
+Sees mid us shown =
+    (durations : List ℕ) → StandsFor mid durations
+    → seen (durations ++ us ∷ []) ≡ seen durations ++ reported (length durations) shown
 
-module _ (old mid new : Rest) (us i : ℕ) (shown : Seen) (run : RunsTo old mid us i) (stands : Stands mid new us) (sees : Sees mid us shown) where
+module _ (old mid new : Rest) (us i : ℕ) (shown : Seen) (run : RunsTo old mid us i) (stands : Stands mid new us)
+    (sees : Sees mid us shown) where
   pub run_stands : (durations : List ℕ) → StandsFor old durations → StandsFor new (durations ++ replicate (i + 1) us)
-  run_stands durations h = subst (λ l. StandsFor new l) (sym (one_longer durations us i)) (stands (durations ++ replicate i us) (run.stands durations h))
+  run_stands durations h =
+      subst (λ l. StandsFor new l) (sym (one_longer durations us i))
+      (stands (durations ++ replicate i us) (run.stands durations h))
 
-  pub run_sees : (durations : List ℕ) → StandsFor old durations → seen (durations ++ replicate (i + 1) us) ≡ seen durations ++ reported (length durations + i) shown
+  pub run_sees : (durations : List ℕ) → StandsFor old durations
+      → seen (durations ++ replicate (i + 1) us) ≡ seen durations ++ reported (length durations + i) shown
   run_sees durations h =
       ap seen (one_longer durations us i) ∙ sees (durations ++ replicate i us) (run.stands durations h)
       ∙ rw (run.quiet durations h, length-run durations us i) refl
@@ -120,32 +141,42 @@ module _ (old mid new : Rest) (us i : ℕ) (shown : Seen) (run : RunsTo old mid 
   unfolding reported
   run_more nothing = record {
     stands = run_stands;
-    quiet = λ durations h. run_sees durations h ∙ ap (λ o. seen durations ++ reported (length durations + i) o) nothing ∙ append-nil (seen durations);
+    quiet = λ durations h. run_sees durations h ∙ ap (λ o. seen durations ++ reported (length durations + i) o) nothing
+        ∙ append-nil (seen durations);
   }
 
 -- the rest of a run is skipped
 
-skip_from : (mid new : Rest) (us m : ℕ) (durations : List ℕ) → IsQuietFor mid (class_of us) → new ≡ rest_after_run mid (class_of us) m → mid ≡ rest durations → (new ≡ rest (durations ++ replicate m us)) × (seen (durations ++ replicate m us) ≡ seen durations)
+skip_from : (mid new : Rest) (us m : ℕ) (durations : List ℕ) → IsQuietFor mid (class_of us)
+    → new ≡ rest_after_run mid (class_of us) m → mid ≡ rest durations
+    → (new ≡ rest (durations ++ replicate m us)) × (seen (durations ++ replicate m us) ≡ seen durations)
 unfolding rest_after_run
-skip_from (Hunting ones) new us m durations quiet e h = let w = skips m us durations ones quiet (sym h) in (e ∙ sym w.open_part, w.outcomes)
+skip_from (Hunting ones) new us m durations quiet e h =
+    let w = skips m us durations ones quiet (sym h) in (e ∙ sym w.open_part, w.outcomes)
 skip_from (InBody halves) new us m durations quiet e h = absurd quiet
 
-run_on : (durations : List ℕ) (us i n : ℕ) → i ≤ n → (durations ++ replicate i us) ++ replicate (n - i) us ≡ durations ++ replicate n us
+run_on : (durations : List ℕ) (us i n : ℕ) → i ≤ n
+    → (durations ++ replicate i us) ++ replicate (n - i) us ≡ durations ++ replicate n us
 run_on durations us i n h =
     let all : i + (n - i) ≡ n = omega (arith, h) in
-    append_assoc durations (replicate i us) (replicate (n - i) us) ∙ ap (λ l. durations ++ l) (replicate-append-replicate i (n - i) us ∙ ap (λ k. replicate k us) all)
+    append_assoc durations (replicate i us) (replicate (n - i) us)
+    ∙ ap (λ l. durations ++ l) (replicate-append-replicate i (n - i) us ∙ ap (λ k. replicate k us) all)
 
-module _ (old mid new : Rest) (us i n : ℕ) (within : i ≤ n) (quiet : IsQuietFor mid (class_of us)) (e : new ≡ rest_after_run mid (class_of us) (n - i))
+module _ (old mid new : Rest) (us i n : ℕ) (within : i ≤ n) (quiet : IsQuietFor mid (class_of us))
+    (e : new ≡ rest_after_run mid (class_of us) (n - i))
     (stands : (durations : List ℕ) → StandsFor old durations → StandsFor mid (durations ++ replicate i us)) where
   pub skip_stands : (durations : List ℕ) → StandsFor old durations → StandsFor new (durations ++ replicate n us)
   unfolding StandsFor
   skip_stands durations h =
-      (skip_from mid new us (n - i) (durations ++ replicate i us) quiet e (stands durations h)).0 ∙ ap rest (run_on durations us i n within)
+      (skip_from mid new us (n - i) (durations ++ replicate i us) quiet e (stands durations h)).0
+      ∙ ap rest (run_on durations us i n within)
 
-  pub skip_sees : (durations : List ℕ) → StandsFor old durations → seen (durations ++ replicate n us) ≡ seen (durations ++ replicate i us)
+  pub skip_sees : (durations : List ℕ) → StandsFor old durations
+      → seen (durations ++ replicate n us) ≡ seen (durations ++ replicate i us)
   unfolding StandsFor
   skip_sees durations h =
-      ap seen (sym (run_on durations us i n within)) ∙ (skip_from mid new us (n - i) (durations ++ replicate i us) quiet e (stands durations h)).1
+      ap seen (sym (run_on durations us i n within))
+      ∙ (skip_from mid new us (n - i) (durations ++ replicate i us) quiet e (stands durations h)).1
 
 -- a run that shows nothing shows nothing before its end
 
@@ -157,12 +188,14 @@ front_nothing : (a b : List (ℕ × Seen)) → a ++ b ≡ [] → a ≡ []
 front_nothing [] b e = refl
 front_nothing (x ∷ a) b e = absurd (cc)
 
-pub quiet_before : (durations : List ℕ) (us i n : ℕ) → i ≤ n → seen (durations ++ replicate n us) ≡ seen durations → seen (durations ++ replicate i us) ≡ seen durations
+pub quiet_before : (durations : List ℕ) (us i n : ℕ) → i ≤ n → seen (durations ++ replicate n us) ≡ seen durations
+    → seen (durations ++ replicate i us) ≡ seen durations
 quiet_before durations us i n within e =
     let front = seen-grows durations (replicate i us) in
     let all = seen-grows (durations ++ replicate i us) (replicate (n - i) us) in
     let whole : seen durations ≡ seen durations ++ (front.0 ++ all.0) =
-    sym e ∙ ap seen (sym (run_on durations us i n within)) ∙ all.1 ∙ ap (λ l. l ++ all.0) front.1 ∙ append_assoc (seen durations) front.0 all.0 in
+    sym e ∙ ap seen (sym (run_on durations us i n within)) ∙ all.1 ∙ ap (λ l. l ++ all.0) front.1
+    ∙ append_assoc (seen durations) front.0 all.0 in
     let none : front.0 ≡ [] = front_nothing front.0 all.0 (nothing_added (seen durations) (front.0 ++ all.0) whole) in
     front.1 ∙ ap (λ l. seen durations ++ l) none ∙ append-nil (seen durations)
 
@@ -173,6 +206,7 @@ quiet_after left shown Zero e = rw e (omega (arith, ones_left_le shown))
 quiet_after left shown Bad e = rw e tt
 
 -- the answer of a run that shows nothing
-pub nothing_seen : (durations longer : List ℕ) (place : ℕ) → seen longer ≡ seen durations → seen longer ≡ seen durations ++ reported place Nothing
+pub nothing_seen : (durations longer : List ℕ) (place : ℕ) → seen longer ≡ seen durations
+    → seen longer ≡ seen durations ++ reported place Nothing
 unfolding reported
 nothing_seen durations longer place e = e ∙ sym (append-nil (seen durations))

@@ -22,7 +22,8 @@ pub record Kept : Type 0 where
 
 -- the halves of an unfinished body
 abbrev pub kept_halves : Kept → List Half
-kept_halves k = halves_of (packed_bits k.bytes k.count k.shift) ++ first_half (if k.has_first then Some k.first else None)
+kept_halves k =
+    halves_of (packed_bits k.bytes k.count k.shift) ++ first_half (if k.has_first then Some k.first else None)
 
 -- what the framer leaves open
 abbrev pub kept_rest : Kept → Rest

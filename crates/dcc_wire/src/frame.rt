@@ -61,7 +61,8 @@ impl Frame {
     /// then the error byte (L2).
     pub fn of(bytes: &[u8]) -> Result<Frame, FrameFault>
         ensures exact { result ≡ frame_of bytes.now }
-        ensures valid { MatchResult result (λ frame. (IsFrame bytes.now) × (frame ≡ bytes.now)) (λ fault. frame_fault bytes.now fault) }
+        ensures valid { MatchResult result (λ frame. (IsFrame bytes.now) × (frame ≡ bytes.now))
+            (λ fault. frame_fault bytes.now fault) }
     {
         if bytes.len() < 3 || bytes.len() > 6 {
             return Err(FrameFault::Length);

@@ -63,7 +63,8 @@ impl Framer {
         // For every list of halves that the framer stands for, of which there is at least one,
         ensures history { (durations : List ℕ) × StandsFor self.old durations }
         // it then stands for the list with this half behind it,
-        ensures stands { (durations : List ℕ) → StandsFor self.old durations → StandsFor self.new (durations ++ us ∷ []) }
+        ensures stands { (durations : List ℕ) → StandsFor self.old durations
+            → StandsFor self.new (durations ++ us ∷ []) }
         // and the answer is what that longer list shows at its last place.
         ensures sees { (durations : List ℕ) → StandsFor self.old durations →
             seen (durations ++ us ∷ []) ≡ seen durations ++ reported (length durations) result }

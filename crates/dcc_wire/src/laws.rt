@@ -3,7 +3,8 @@
 ghost use Rattle.std.specs.Prelude.{◌≡◌, ℕ, List};
 ghost use Rattle.dcc_wire.specs.Framing.{seen};
 ghost use Rattle.dcc_wire.specs.SeenLaws.{SeenOnlyGrows};
-ghost use Rattle.dcc_wire.specs.OutcomeLaws.{OutcomesAreRows, NoOutcomeIsUnfinished, SomeRowFits, OneRowFits, NoRowIsUnfinished};
+ghost use Rattle.dcc_wire.specs.OutcomeLaws.{OutcomesAreRows, NoOutcomeIsUnfinished, SomeRowFits, OneRowFits};
+ghost use Rattle.dcc_wire.specs.OutcomeLaws.{NoRowIsUnfinished};
 ghost use Rattle.dcc_wire.specs.Sending.{Sent, sent_all, at_last_halves, AllFrames};
 
 /// In the halves of packets that are sent one after the other, each packet is seen at its last

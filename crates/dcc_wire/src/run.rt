@@ -28,18 +28,21 @@ impl Framer {
         // For every list of halves that the framer stands for, of which there is at least one,
         ensures history { (durations : List ℕ) × StandsFor self.old durations }
         // it then stands for the list with these halves behind it,
-        ensures stands { (durations : List ℕ) → StandsFor self.old durations → StandsFor self.new (durations ++ replicate n us) }
+        ensures stands { (durations : List ℕ) → StandsFor self.old durations
+            → StandsFor self.new (durations ++ replicate n us) }
         // the longer list shows the answer at its number, and nothing else behind the list,
         ensures sees { (durations : List ℕ) → StandsFor self.old durations →
             seen (durations ++ replicate n us) ≡ seen durations ++ reported (length durations + result.at - 1) result.seen }
         // and the halves before that number show nothing.
-        ensures before { (durations : List ℕ) → StandsFor self.old durations → seen (durations ++ replicate (result.at - 1) us) ≡ seen durations }
+        ensures before { (durations : List ℕ) → StandsFor self.old durations
+            → seen (durations ++ replicate (result.at - 1) us) ≡ seen durations }
 
         ensures nothing { result.seen ≡ Seen.Nothing → result.at ≡ n }
         ensures something { result.seen ≢ Seen.Nothing → (1 ≤ result.at) × (result.at ≤ n) }
 
         // After an outcome the framer hunts, and takes the halves behind it.
-        ensures hunts { result.seen ≢ Seen.Nothing → self.new ≡ rest_after_run (Hunting (ones_left result.seen)) (class_of us) (n - result.at) }
+        ensures hunts { result.seen ≢ Seen.Nothing
+            → self.new ≡ rest_after_run (Hunting (ones_left result.seen)) (class_of us) (n - result.at) }
     {
         // (the prover knows a type's invariant where one of its fields is named)
         let _ = &self.state;

@@ -5,7 +5,8 @@ use Rattle.dcc.specs.CommandLine.{encode_app, run_app, same_app, show_app, top_a
 use Rattle.dcc.proofs.command_line.command.Goals as goal
 
 -- a subcommand more
-more : {old new added joined : App} → old ≡ new → added ≡ joined → with_subcommand old added.top ≡ with_subcommand new joined.top
+more : {old new added joined : App} → old ≡ new → added ≡ joined
+    → with_subcommand old added.top ≡ with_subcommand new joined.top
 more same alike = ap₂ with_subcommand same (ap (λ (a : App). a.top) alike)
 
 pub returns : goal.returns
@@ -17,6 +18,10 @@ returns c =
     let third : app_of c.in_ok-subcommand-3.field-0 ≡ with_subcommand (with_subcommand (with_subcommand top_app show_app.top) encode_app.top) run_app.top =
     c.in_ok-subcommand-3.ensures.shape c.run.ensures.local ∙ more second c.run.ensures.app in
     let fourth : app_of c.in_ok-subcommand-4.field-0
-    ≡ with_subcommand (with_subcommand (with_subcommand (with_subcommand top_app show_app.top) encode_app.top) run_app.top) same_app.top =
+    ≡ with_subcommand
+    (with_subcommand (with_subcommand (with_subcommand top_app show_app.top) encode_app.top) run_app.top)
+    same_app.top =
     c.in_ok-subcommand-4.ensures.shape c.in_ok-same.ensures.local ∙ more third c.in_ok-same.ensures.app in
-    IfOk-weaker c.subcommand-5.result _ _ (λ r adds. adds.shape c.in_ok-readcv.ensures.local ∙ more fourth c.in_ok-readcv.ensures.app) c.subcommand-5.ensures
+    IfOk-weaker c.subcommand-5.result _ _
+    (λ r adds. adds.shape c.in_ok-readcv.ensures.local ∙ more fourth c.in_ok-readcv.ensures.app)
+    c.subcommand-5.ensures

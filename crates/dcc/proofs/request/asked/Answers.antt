@@ -12,4 +12,5 @@ is_free = refl
 pub returns-clause-takes : goal.returns-clause-takes
 returns-clause-takes g c =
     let is : app_of c.in_ok-command.field-0 ≡ dcc_app = c.in_ok-command.ensures in
-    ap (λ (a : App). fault_of a (map g.S.AsStr.text c.args.words.now)) (sym is) ∙ c.in_ok-matches.ensures.kinds (ap is_simple_and_free is ∙ is_free)
+    ap (λ (a : App). fault_of a (map g.S.AsStr.text c.args.words.now)) (sym is)
+    ∙ c.in_ok-matches.ensures.kinds (ap is_simple_and_free is ∙ is_free)

@@ -8,6 +8,7 @@ returns-in-Ok-clause-applies c possible =
       c.state.result,
       refl,
       c.state.ensures.possible,
-      applied c.args.packet.now _ _ _ _ _ _ _ _ c.in-Ok.ensures.who c.state.ensures.who c.in-Ok.ensures.registers c.state.ensures.registers
+      applied c.args.packet.now _ _ _ _ _ _ _ _ c.in-Ok.ensures.who c.state.ensures.who c.in-Ok.ensures.registers
+          c.state.ensures.registers
           (record { same_who = a.same_who; step = a.step; unheard = a.unheard; kept = a.kept }),
     )

@@ -9,4 +9,5 @@ use Rattle.dcc_examples.proofs.station_sends.send_next.Given as goal
 
 abbrev pub invariant-loop-us : goal.invariant-loop-us
 invariant-loop-us l =
-    (track : List ℕ) → StandsFor l.fn.rails track → Sending track (sent (spelling l.packet) main_timing) (halves_left l.us-iterator) l.rails l.heard
+    (track : List ℕ) → StandsFor l.fn.rails track
+    → Sending track (sent (spelling l.packet) main_timing) (halves_left l.us-iterator) l.rails l.heard

@@ -8,15 +8,20 @@ loop-byte-init c = λ line. LooksAt-start c.args.bytes.now line
 
 pub returns-then-in_word : goal.returns-then-in_word
 returns-then-in_word c = λ line found.
-    found_behind c.args.bytes.now c.loop-byte.byte-index line c.loop-byte.in_word c.loop-byte-test.true c.loop-byte.invariant
+    found_behind c.args.bytes.now c.loop-byte.byte-index line c.loop-byte.in_word c.loop-byte-test.true
+    c.loop-byte.invariant
     (sym c.ends_word.ensures ∙ c.if-not-ends_word.false) c.if-in_word.true
 
 pub loop-byte-preserved : goal.loop-byte-preserved
 loop-byte-preserved c = elim c.if-not-ends_word.branch [
   | then-not-ends_word w ↦
-      rw w.in_word-is (word_behind c.args.bytes.now c.loop-byte.byte-index c.loop-byte.in_word c.loop-byte-test.true c.loop-byte.invariant
+      rw w.in_word-is
+      (word_behind c.args.bytes.now c.loop-byte.byte-index c.loop-byte.in_word c.loop-byte-test.true
+      c.loop-byte.invariant
       (sym c.ends_word.ensures ∙ w.if-not-ends_word.true))
   | else-not-ends_word+else-in_word+else-byte-eq35 w ↦
-      rw w.in_word-is (gap_behind c.args.bytes.now c.loop-byte.byte-index c.loop-byte.in_word c.loop-byte-test.true c.loop-byte.invariant
+      rw w.in_word-is
+      (gap_behind c.args.bytes.now c.loop-byte.byte-index c.loop-byte.in_word c.loop-byte-test.true
+      c.loop-byte.invariant
       (sym c.ends_word.ensures ∙ w.if-not-ends_word.false) w.if-in_word.false w.if-byte-eq35.false)
 ]

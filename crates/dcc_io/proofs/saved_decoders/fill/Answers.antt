@@ -1,17 +1,23 @@
 use Rattle.std.proofs.Common.{◌≡◌, ◌<◌, true, arith, length, vec_len, vec_capacity}
 use Rattle.dcc_io.specs.SoundLines.{is_possible}
-use Rattle.dcc_io.proofs.DecoderTextLemmas.{no_version, no_head, ReadsDecoders-start, ReadsDecoders-end, ReadsDecoders-full, ReadsDecoders-one, ReadsDecoders-fault, pushed, one_more_possible, through_end}
+use Rattle.dcc_io.proofs.DecoderTextLemmas.{no_version, no_head, ReadsDecoders-start, ReadsDecoders-end}
+use Rattle.dcc_io.proofs.DecoderTextLemmas.{ReadsDecoders-full, ReadsDecoders-one, ReadsDecoders-fault, pushed}
+use Rattle.dcc_io.proofs.DecoderTextLemmas.{one_more_possible, through_end}
 use Rattle.dcc_io.proofs.saved_decoders.fill.Goals as goal
 
 pub returns-in-Err-clause-reads : goal.returns-in-Err-clause-reads
-returns-in-Err-clause-reads g c = no_version c.args.input.now c.version.new.self c.in-Err.fault c.requires.fault c.in-Err.ensures
+returns-in-Err-clause-reads g c =
+    no_version c.args.input.now c.version.new.self c.in-Err.fault c.requires.fault c.in-Err.ensures
 
 pub returns-in-Err-head-clause-reads : goal.returns-in-Err-head-clause-reads
-returns-in-Err-head-clause-reads g c = no_head c.in-Ok.version c.args.input.now c.version.new.self c.head.new.self c.in-Err-head.fault c.requires.fault c.in-Ok.ensures c.in-Err-head.ensures.reads
+returns-in-Err-head-clause-reads g c =
+    no_head c.in-Ok.version c.args.input.now c.version.new.self c.head.new.self c.in-Err-head.fault c.requires.fault
+    c.in-Ok.ensures c.in-Err-head.ensures.reads
 
 pub decoders-init : goal.decoders-init
 decoders-init g c = (
-  ReadsDecoders-start c.in-Ok.version c.args.input.now c.version.new.self c.head.new.self c.in-Ok-head.head c.args.decoders.items c.requires.empty c.requires.fault c.in-Ok.ensures c.in-Ok-head.ensures.reads,
+  ReadsDecoders-start c.in-Ok.version c.args.input.now c.version.new.self c.head.new.self c.in-Ok-head.head
+      c.args.decoders.items c.requires.empty c.requires.fault c.in-Ok.ensures c.in-Ok-head.ensures.reads,
   c.in-Ok-head.ensures.possible,
   c.requires.room,
   rw c.requires.empty (λ k d h. absurd (omega (arith, h))),
@@ -20,31 +26,48 @@ decoders-init g c = (
 pub returns-then-len-eq-MOST-clause-reads : goal.returns-then-len-eq-MOST-clause-reads
 returns-then-len-eq-MOST-clause-reads g c =
     let before = rw c.in-Decoder.is at c.decoders.invariant.0 in
-    let full : length c.decoders.decoders.items ≡ 64 = omega (arith, c.decoders.decoders.ok, c.len.ensures, c.if-len-eq-MOST.true) in
-    rw c.refuse.ensures.answer (ReadsDecoders-full c.in-Ok.version c.args.input.now c.decoders.input c.refuse.new.self c.decoders.decoders.items c.in-Decoder.who before full c.refuse.ensures.kept)
+    let full : length c.decoders.decoders.items ≡ 64 =
+    omega (arith, c.decoders.decoders.ok, c.len.ensures, c.if-len-eq-MOST.true) in
+    rw c.refuse.ensures.answer
+    (ReadsDecoders-full c.in-Ok.version c.args.input.now c.decoders.input c.refuse.new.self
+    c.decoders.decoders.items c.in-Decoder.who before full c.refuse.ensures.kept)
 
 pub decoders-preserved : goal.decoders-preserved
 decoders-preserved g c =
     let before = rw c.in-Decoder.is at c.decoders.invariant.0 in
-    let some : length c.decoders.decoders.items ≡ 64 → ⊥ = λ full. c.if-len-eq-MOST.false (omega (arith, c.decoders.decoders.ok, c.len.ensures, full)) in
+    let some : length c.decoders.decoders.items ≡ 64 → ⊥ =
+    λ full. c.if-len-eq-MOST.false (omega (arith, c.decoders.decoders.ok, c.len.ensures, full)) in
     let count = before.count in
-    let room : vec_len c.decoders.decoders < vec_capacity c.decoders.decoders = omega (arith, c.decoders.decoders.ok, c.len.ensures, some, count, c.decoders.invariant.2) in
-    let items = pushed c.decoders.decoders.items c.push.new.self.items c.in-Ok-decoder.decoder c.push.result c.push.ensures.items (c.push.ensures.succeeds room) in (
-      rw items (ReadsDecoders-one c.in-Ok.version c.args.input.now c.decoders.input c.decoder.new.self c.decoders.decoders.items c.in-Decoder.who (c.in-Ok-decoder.decoder, c.in-Ok-decoder.behind) before some c.in-Ok-decoder.ensures.reads),
+    let room : vec_len c.decoders.decoders < vec_capacity c.decoders.decoders =
+    omega (arith, c.decoders.decoders.ok, c.len.ensures, some, count, c.decoders.invariant.2) in
+    let items = pushed c.decoders.decoders.items c.push.new.self.items c.in-Ok-decoder.decoder c.push.result
+    c.push.ensures.items (c.push.ensures.succeeds room) in (
+      rw items
+          (ReadsDecoders-one c.in-Ok.version c.args.input.now c.decoders.input c.decoder.new.self
+          c.decoders.decoders.items c.in-Decoder.who (c.in-Ok-decoder.decoder, c.in-Ok-decoder.behind) before some
+          c.in-Ok-decoder.ensures.reads),
       c.in-Ok-decoder.ensures.possible.1,
       omega (arith, c.push.ensures.capacity, c.decoders.invariant.2),
-      rw items (one_more_possible (λ decoder. is_possible decoder ≡ true) c.decoders.decoders.items c.in-Ok-decoder.decoder c.decoders.invariant.3 c.in-Ok-decoder.ensures.possible.0),
+      rw items
+          (one_more_possible (λ decoder. is_possible decoder ≡ true) c.decoders.decoders.items c.in-Ok-decoder.decoder
+          c.decoders.invariant.3 c.in-Ok-decoder.ensures.possible.0),
     )
 
 pub returns-in-Err-decoder-clause-reads : goal.returns-in-Err-decoder-clause-reads
 returns-in-Err-decoder-clause-reads g c =
     let before = rw c.in-Decoder.is at c.decoders.invariant.0 in
-    let some : length c.decoders.decoders.items ≡ 64 → ⊥ = λ full. c.if-len-eq-MOST.false (omega (arith, c.decoders.decoders.ok, c.len.ensures, full)) in
-    ReadsDecoders-fault c.in-Ok.version c.args.input.now c.decoders.input c.decoder.new.self c.decoders.decoders.items c.in-Decoder.who c.in-Err-decoder.fault before some c.in-Err-decoder.ensures.reads
+    let some : length c.decoders.decoders.items ≡ 64 → ⊥ =
+    λ full. c.if-len-eq-MOST.false (omega (arith, c.decoders.decoders.ok, c.len.ensures, full)) in
+    ReadsDecoders-fault c.in-Ok.version c.args.input.now c.decoders.input c.decoder.new.self c.decoders.decoders.items
+    c.in-Decoder.who c.in-Err-decoder.fault before some c.in-Err-decoder.ensures.reads
 
 pub returns-in-End-clause-reads : goal.returns-in-End-clause-reads
-returns-in-End-clause-reads g c = ReadsDecoders-end c.in-Ok.version c.args.input.now c.decoders.input c.decoders.decoders.items (rw c.in-End.is at c.decoders.invariant.0)
+returns-in-End-clause-reads g c =
+    ReadsDecoders-end c.in-Ok.version c.args.input.now c.decoders.input c.decoders.decoders.items
+    (rw c.in-End.is at c.decoders.invariant.0)
 
 pub returns-in-End-clause-lines : goal.returns-in-End-clause-lines
 returns-in-End-clause-lines g c =
-    through_end c.args.input.now c.decoders.input c.decoders.decoders.items (ReadsDecoders-end c.in-Ok.version c.args.input.now c.decoders.input c.decoders.decoders.items (rw c.in-End.is at c.decoders.invariant.0))
+    through_end c.args.input.now c.decoders.input c.decoders.decoders.items
+    (ReadsDecoders-end c.in-Ok.version c.args.input.now c.decoders.input c.decoders.decoders.items
+    (rw c.in-End.is at c.decoders.invariant.0))

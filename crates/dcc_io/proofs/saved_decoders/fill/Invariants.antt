@@ -4,7 +4,9 @@ use Rattle.dcc_io.proofs.DecoderTextLemmas.{ReadsDecoders}
 use Rattle.dcc_io.proofs.saved_decoders.fill.Given as goal
 
 abbrev pub invariant-decoders : goal.invariant-decoders
-invariant-decoders g l = ReadsDecoders l.version l.fn.input l.decoders.items l.head l.input × IsPossibleHead l.head × (64 ≤ vec_capacity l.decoders)
+invariant-decoders g l =
+    ReadsDecoders l.version l.fn.input l.decoders.items l.head l.input × IsPossibleHead l.head
+    × (64 ≤ vec_capacity l.decoders)
     × All (λ decoder. is_possible decoder ≡ true) l.decoders.items
 
 abbrev pub decreases-decoders : goal.decreases-decoders

@@ -1,4 +1,5 @@
-use Rattle.std.proofs.Common.{◌+◌, ◌/◌, ◌%◌, ◌∷◌, [], length, decimal, ap, ◌∙◌, arith, append_assoc, length-append, rules}
+use Rattle.std.proofs.Common.{◌+◌, ◌/◌, ◌%◌, ◌∷◌, [], length, decimal, ap, ◌∙◌, arith, append_assoc, length-append}
+use Rattle.std.proofs.Common.{rules}
 use Rattle.std.proofs.lemmas.Fmt.{decimal_digit, decimal_step}
 use Rattle.dcc_io.proofs.text.+put_digits.Goals as goal
 
@@ -22,7 +23,8 @@ push-requires-2 t c =
 pub returns-clause-items : goal.returns-clause-items
 returns-clause-items t c =
     let step = decimal_step c.args.number c.if-number-lt10.false (omega arith) in
-    rw (step, c.push-2.ensures.items, c.put_digits.ensures.items) (append_assoc c.args.digits.now.items (decimal (c.args.number / 10)) ((48 + c.args.number % 10) ∷ []))
+    rw (step, c.push-2.ensures.items, c.put_digits.ensures.items)
+    (append_assoc c.args.digits.now.items (decimal (c.args.number / 10)) ((48 + c.args.number % 10) ∷ []))
 
 pub returns-clause-len : goal.returns-clause-len
 returns-clause-len t c =
@@ -34,4 +36,6 @@ pub returns-then-number-lt10-clause-items : goal.returns-then-number-lt10-clause
 returns-then-number-lt10-clause-items t c = rw (decimal_digit c.args.number c.if-number-lt10.true) c.push.ensures.items
 
 pub returns-then-number-lt10-clause-len : goal.returns-then-number-lt10-clause-len
-returns-then-number-lt10-clause-len t c = let digit = ap length (decimal_digit c.args.number c.if-number-lt10.true) in omega (arith, digit, c.push.ensures.len)
+returns-then-number-lt10-clause-len t c =
+    let digit = ap length (decimal_digit c.args.number c.if-number-lt10.true) in omega
+    (arith, digit, c.push.ensures.len)

@@ -18,11 +18,13 @@ loop-n-preserved g c =
     let told : on c.loop-n.n ≡ c.is_on.result = sym (c.is_on.ensures ∙ ap holds_one c.get.ensures) in
     elim c.if-is_on.branch [
       | then-is_on w ↦ rw w.rows-is (
-        row_on on c.args.rows.now.items (codes "states") c.loop-n.rows.items w.append_number.new.rows.items c.loop-n.n c.loop-n.invariant.0 (rw w.from.ensures at w.append_number.ensures.items) (told ∙ w.if-is_on.true),
+        row_on on c.args.rows.now.items (codes "states") c.loop-n.rows.items w.append_number.new.rows.items c.loop-n.n
+            c.loop-n.invariant.0 (rw w.from.ensures at w.append_number.ensures.items) (told ∙ w.if-is_on.true),
         omega (arith, c.loop-n.invariant.1, w.append_number.ensures.len),
       )
       | else-is_on w ↦ rw w.rows-is (
-        row_off on c.args.rows.now.items (codes "states") c.loop-n.rows.items c.loop-n.n c.loop-n.invariant.0 (told ∙ w.if-is_on.false),
+        row_off on c.args.rows.now.items (codes "states") c.loop-n.rows.items c.loop-n.n c.loop-n.invariant.0
+            (told ∙ w.if-is_on.false),
         omega (arith, c.loop-n.invariant.1),
       )
     ]

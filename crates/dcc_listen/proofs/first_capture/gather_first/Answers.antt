@@ -4,24 +4,32 @@ use Rattle.dcc_listen.proofs.first_capture.gather_first.Goals as goal
 
 pub runs-init : goal.runs-init
 runs-init g c =
-    rw c.new-packets.ensures.items (GatheringFirst-start c.args.input.now c.new-framer.result (sym c.fault.ensures.fault ∙ c.in_default.is) c.new-framer.ensures)
+    rw c.new-packets.ensures.items
+    (GatheringFirst-start c.args.input.now c.new-framer.result (sym c.fault.ensures.fault ∙ c.in_default.is)
+    c.new-framer.ensures)
 
 pub runs-preserved : goal.runs-preserved
 runs-preserved g c =
     let answer = rw c.in-Ok-Some.field-0-is at (c.in-Ok-Some.ensures.reads c.runs.invariant.leads.fault) in
     let so_far = c.runs.invariant in
     let held = c.in-Ok.ensures in
-    GatheringFirst-run c.args.input.now c.runs.input c.next_of_first.new.input c.runs.before c.in-Ok-Some.line c.in-Ok-Some.run' c.runs.framer c.push_run-shown.new.self
-    c.runs.packets.items c.hold_seen.new.packets.items c.push_run-shown.result so_far held.0 answer (c.push_run-shown.ensures.stands so_far.halves so_far.stands)
+    GatheringFirst-run c.args.input.now c.runs.input c.next_of_first.new.input c.runs.before c.in-Ok-Some.line
+    c.in-Ok-Some.run' c.runs.framer c.push_run-shown.new.self
+    c.runs.packets.items c.hold_seen.new.packets.items c.push_run-shown.result so_far held.0 answer
+    (c.push_run-shown.ensures.stands so_far.halves so_far.stands)
     (c.push_run-shown.ensures.sees so_far.halves so_far.stands) held.1 held.2 held.3
 
 pub returns-in-Ok-None-clause-gathers : goal.returns-in-Ok-None-clause-gathers
 returns-in-Ok-None-clause-gathers g c =
     let answer = rw c.in-Ok-None.field-0-is at (c.in-Ok-None.ensures.reads c.runs.invariant.leads.fault) in
-    gathers_first c.args.input.now c.runs.input c.next_of_first.new.input c.runs.before c.runs.framer c.runs.packets.items (sym c.fault.ensures.fault ∙ c.in_default.is)
+    gathers_first c.args.input.now c.runs.input c.next_of_first.new.input c.runs.before c.runs.framer
+    c.runs.packets.items (sym c.fault.ensures.fault ∙ c.in_default.is)
     c.runs.invariant answer
 
 pub returns-in-Err-clause-fails : goal.returns-in-Err-clause-fails
 returns-in-Err-clause-fails g c =
-    rw c.told-in-Err.ensures (first_stops c.args.input.now c.runs.input c.next_of_first.new.input c.runs.before c.runs.framer c.runs.packets.items c.in-Err.fault
-    (sym c.fault.ensures.fault ∙ c.in_default.is) c.runs.invariant (c.in-Err.ensures.reads c.runs.invariant.leads.fault))
+    rw c.told-in-Err.ensures
+    (first_stops c.args.input.now c.runs.input c.next_of_first.new.input c.runs.before c.runs.framer
+    c.runs.packets.items c.in-Err.fault
+    (sym c.fault.ensures.fault ∙ c.in_default.is) c.runs.invariant
+    (c.in-Err.ensures.reads c.runs.invariant.leads.fault))

@@ -7,5 +7,6 @@ use Rattle.dcc_listen.proofs.fleet_text.write_cvs.Given as goal
 abbrev pub invariant-loop-n : goal.invariant-loop-n
 invariant-loop-n g l =
     let is = goal.Decoder-dyn g l.decoder.now in
-    Appends (g.W.Sink.contents l.fn.writer) (g.W.Sink.contents l.writer) (cvs_text (cv_of (is.registers l.decoder.now.1)) l.n)
+    Appends (g.W.Sink.contents l.fn.writer) (g.W.Sink.contents l.writer)
+    (cvs_text (cv_of (is.registers l.decoder.now.1)) l.n)
     × (g.W.Sink.failures l.writer ≡ g.W.Sink.failures l.fn.writer)

@@ -7,5 +7,8 @@ use Rattle.dcc_listen.proofs.fleet_text.write_fleet.Given as goal
 abbrev pub invariant-loop-decoder : goal.invariant-loop-decoder
 invariant-loop-decoder g l =
     Appends (g.W.Sink.contents l.fn.writer) (g.W.Sink.contents l.writer)
-    (codes "dcc-decoders 2\n" ++ flat_map member_text (map (λ decoder. let is = goal.Decoder-dyn g (decoder.vtable, decoder.value) in (is.who decoder.value, is.registers decoder.value)) (take l.decoder-index l.decoders)))
+    (codes "dcc-decoders 2\n"
+    ++ flat_map member_text
+    (map (λ decoder. let is = goal.Decoder-dyn g (decoder.vtable, decoder.value) in
+    (is.who decoder.value, is.registers decoder.value)) (take l.decoder-index l.decoders)))
     × (g.W.Sink.failures l.writer ≡ g.W.Sink.failures l.fn.writer)

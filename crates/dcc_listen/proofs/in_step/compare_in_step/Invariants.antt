@@ -6,7 +6,8 @@ abbrev pub invariant-packets : goal.invariant-packets
 invariant-packets g l = record {
   left_fault : l.left.fault ≡ None;
   right_fault : l.right.fault ≡ None;
-  in_step : ReadInStep l.fn.who l.initial.left l.initial.right l.left l.right l.left_framer l.right_framer l.left_ended l.right_ended l.comparer;
+  in_step : ReadInStep l.fn.who l.initial.left l.initial.right l.left l.right l.left_framer l.right_framer l.left_ended
+      l.right_ended l.comparer;
 }
 
 abbrev pub decreases-packets : goal.decreases-packets

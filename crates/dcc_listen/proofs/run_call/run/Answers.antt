@@ -16,19 +16,31 @@ runs-init g c = record {
   halves = [];
   gave = Gave-none captures c.args.input.now (sym c.fault.ensures.fault ∙ c.in_default.is);
   stands = c.new-framer.ensures;
-  members = AllZip-start (λ (start : Who × RegisterMap) now. let is = goal.Decoder-dyn g (now.vtable, now.value) in HasHeardHalves [] start.0 start.1 (is.who now.value) (is.registers now.value))
-      (λ decoder. let is = goal.Decoder-dyn g (decoder.vtable, decoder.value) in (is.who decoder.value, is.registers decoder.value)) c.args.decoders.now (λ now. let is = goal.Decoder-dyn g (now.vtable, now.value) in no_halves_heard (is.who now.value) (is.registers now.value));
+  members =
+      AllZip-start
+      (λ (start : Who × RegisterMap) now. let is = goal.Decoder-dyn g (now.vtable, now.value) in HasHeardHalves []
+      start.0 start.1 (is.who now.value) (is.registers now.value))
+      (λ decoder. let is = goal.Decoder-dyn g (decoder.vtable, decoder.value) in
+      (is.who decoder.value, is.registers decoder.value)) c.args.decoders.now
+      (λ now. let is = goal.Decoder-dyn g (now.vtable, now.value) in no_halves_heard (is.who now.value)
+      (is.registers now.value));
 }
 
 pub runs-preserved : goal.runs-preserved
 runs-preserved g c =
-    let took = rw (c.in-Ok-Some.field-0-is, c.in-None.ensures.none) at (c.in-Ok-Some.ensures.reads (ap (λ (state : InputState). state.fault) c.in-None.ensures.none ∙ c.runs.invariant.gave.fault)) in
+    let took = rw (c.in-Ok-Some.field-0-is, c.in-None.ensures.none) at
+    (c.in-Ok-Some.ensures.reads
+    (ap (λ (state : InputState). state.fault) c.in-None.ensures.none ∙ c.runs.invariant.gave.fault)) in
     let before = c.runs.invariant in
     record {
       halves = before.halves ++ replicate c.in-Ok-Some.run'.n c.in-Ok-Some.run'.us;
-      gave = Gave-append captures c.args.input.now c.runs.input c.read_run.new.input before.halves (replicate c.in-Ok-Some.run'.n c.in-Ok-Some.run'.us) before.gave took.0.items;
+      gave = Gave-append captures c.args.input.now c.runs.input c.read_run.new.input before.halves
+          (replicate c.in-Ok-Some.run'.n c.in-Ok-Some.run'.us) before.gave took.0.items;
       stands = c.hear_half_run.ensures.stands before.halves before.stands;
-      members = c.hear_half_run.ensures.since before.halves before.stands (map (λ decoder. let is = goal.Decoder-dyn g (decoder.vtable, decoder.value) in (is.who decoder.value, is.registers decoder.value)) c.args.decoders.now) before.members;
+      members =
+          c.hear_half_run.ensures.since before.halves before.stands
+          (map (λ decoder. let is = goal.Decoder-dyn g (decoder.vtable, decoder.value) in
+          (is.who decoder.value, is.registers decoder.value)) c.args.decoders.now) before.members;
     }
 
 pub runs-preserved-in-Some-half_at_hand : goal.runs-preserved-in-Some-half_at_hand
@@ -36,35 +48,91 @@ runs-preserved-in-Some-half_at_hand g c =
     let before = c.runs.invariant in
     record {
       halves = before.halves ++ c.in-Some-half_at_hand.us ∷ [];
-      gave = Gave-append captures c.args.input.now c.runs.input c.half_at_hand.new.input before.halves (c.in-Some-half_at_hand.us ∷ []) before.gave c.in-Some-half_at_hand.ensures.some.0.items;
+      gave = Gave-append captures c.args.input.now c.runs.input c.half_at_hand.new.input before.halves
+          (c.in-Some-half_at_hand.us ∷ []) before.gave c.in-Some-half_at_hand.ensures.some.0.items;
       stands = c.hear_half.ensures.stands before.halves before.stands;
-      members = c.hear_half.ensures.since before.halves before.stands (map (λ decoder. let is = goal.Decoder-dyn g (decoder.vtable, decoder.value) in (is.who decoder.value, is.registers decoder.value)) c.args.decoders.now) before.members;
+      members =
+          c.hear_half.ensures.since before.halves before.stands
+          (map (λ decoder. let is = goal.Decoder-dyn g (decoder.vtable, decoder.value) in
+          (is.who decoder.value, is.registers decoder.value)) c.args.decoders.now) before.members;
     }
 
 pub returns-in-Err-clause-runs : goal.returns-in-Err-clause-runs
 returns-in-Err-clause-runs g c none =
     let before = c.runs.invariant in
     let halves : List ℕ = before.halves in
-    let gave = subst (λ (now : InputState). Gave captures c.args.input.now halves now) (sym c.in-None.ensures.none) before.gave in
-    rw c.told-in-Err.ensures (hears_up_to (map (λ decoder. let is = goal.Decoder-dyn g (decoder.vtable, decoder.value) in (is.who decoder.value, is.registers decoder.value)) c.args.decoders.now) (map (λ decoder. let is = goal.Decoder-dyn g (decoder.vtable, decoder.value) in (is.who decoder.value, is.registers decoder.value)) c.runs.decoders) c.args.input.now c.half_at_hand.new.input c.read_run.new.input (g.W.Sink.contents c.args.writer.now) (g.W.Sink.failures c.args.writer.now)
-    before.halves c.in-Err.fault gave (AllZip-views (λ start end. HasHeardHalves halves start.0 start.1 end.0 end.1) (λ decoder. let is = goal.Decoder-dyn g (decoder.vtable, decoder.value) in (is.who decoder.value, is.registers decoder.value)) (map (λ decoder. let is = goal.Decoder-dyn g (decoder.vtable, decoder.value) in (is.who decoder.value, is.registers decoder.value)) c.args.decoders.now) c.runs.decoders before.members) (c.in-Err.ensures.reads (ap (λ (state : InputState). state.fault) c.in-None.ensures.none ∙ c.runs.invariant.gave.fault)))
+    let gave = subst (λ (now : InputState). Gave captures c.args.input.now halves now) (sym c.in-None.ensures.none)
+    before.gave in
+    rw c.told-in-Err.ensures
+    (hears_up_to
+    (map (λ decoder. let is = goal.Decoder-dyn g (decoder.vtable, decoder.value) in
+    (is.who decoder.value, is.registers decoder.value)) c.args.decoders.now)
+    (map (λ decoder. let is = goal.Decoder-dyn g (decoder.vtable, decoder.value) in
+    (is.who decoder.value, is.registers decoder.value)) c.runs.decoders) c.args.input.now
+    c.half_at_hand.new.input c.read_run.new.input (g.W.Sink.contents c.args.writer.now)
+    (g.W.Sink.failures c.args.writer.now)
+    before.halves c.in-Err.fault gave
+    (AllZip-views (λ start end. HasHeardHalves halves start.0 start.1 end.0 end.1)
+    (λ decoder. let is = goal.Decoder-dyn g (decoder.vtable, decoder.value) in
+    (is.who decoder.value, is.registers decoder.value))
+    (map (λ decoder. let is = goal.Decoder-dyn g (decoder.vtable, decoder.value) in
+    (is.who decoder.value, is.registers decoder.value)) c.args.decoders.now) c.runs.decoders
+    before.members)
+    (c.in-Err.ensures.reads
+    (ap (λ (state : InputState). state.fault) c.in-None.ensures.none ∙ c.runs.invariant.gave.fault)))
 
 pub returns-in-Ok-clause-runs : goal.returns-in-Ok-clause-runs
 returns-in-Ok-clause-runs g c none =
-    let took = rw (c.in-Ok-None.field-0-is, c.in-None.ensures.none) at (c.in-Ok-None.ensures.reads (ap (λ (state : InputState). state.fault) c.in-None.ensures.none ∙ c.runs.invariant.gave.fault)) in
+    let took = rw (c.in-Ok-None.field-0-is, c.in-None.ensures.none) at
+    (c.in-Ok-None.ensures.reads
+    (ap (λ (state : InputState). state.fault) c.in-None.ensures.none ∙ c.runs.invariant.gave.fault)) in
     let before = c.runs.invariant in
     let halves : List ℕ = before.halves in
-    ran (map (λ decoder. let is = goal.Decoder-dyn g (decoder.vtable, decoder.value) in (is.who decoder.value, is.registers decoder.value)) c.args.decoders.now) (map (λ decoder. let is = goal.Decoder-dyn g (decoder.vtable, decoder.value) in (is.who decoder.value, is.registers decoder.value)) c.runs.decoders) c.args.input.now c.read_run.new.input (g.W.Sink.contents c.args.writer.now) (g.W.Sink.contents c.write_fleet.new.writer)
+    ran (map
+    (λ decoder. let is = goal.Decoder-dyn g (decoder.vtable, decoder.value) in
+    (is.who decoder.value, is.registers decoder.value)) c.args.decoders.now)
+    (map (λ decoder. let is = goal.Decoder-dyn g (decoder.vtable, decoder.value) in
+    (is.who decoder.value, is.registers decoder.value)) c.runs.decoders) c.args.input.now
+    c.read_run.new.input (g.W.Sink.contents c.args.writer.now) (g.W.Sink.contents c.write_fleet.new.writer)
     (g.W.Sink.failures c.args.writer.now) (g.W.Sink.failures c.write_fleet.new.writer)
-    (hears_all (map (λ decoder. let is = goal.Decoder-dyn g (decoder.vtable, decoder.value) in (is.who decoder.value, is.registers decoder.value)) c.args.decoders.now) (map (λ decoder. let is = goal.Decoder-dyn g (decoder.vtable, decoder.value) in (is.who decoder.value, is.registers decoder.value)) c.runs.decoders) c.args.input.now c.runs.input c.read_run.new.input before.halves before.gave (AllZip-views (λ start end. HasHeardHalves halves start.0 start.1 end.0 end.1) (λ decoder. let is = goal.Decoder-dyn g (decoder.vtable, decoder.value) in (is.who decoder.value, is.registers decoder.value)) (map (λ decoder. let is = goal.Decoder-dyn g (decoder.vtable, decoder.value) in (is.who decoder.value, is.registers decoder.value)) c.args.decoders.now) c.runs.decoders before.members) took)
+    (hears_all
+    (map (λ decoder. let is = goal.Decoder-dyn g (decoder.vtable, decoder.value) in
+    (is.who decoder.value, is.registers decoder.value)) c.args.decoders.now)
+    (map (λ decoder. let is = goal.Decoder-dyn g (decoder.vtable, decoder.value) in
+    (is.who decoder.value, is.registers decoder.value)) c.runs.decoders) c.args.input.now c.runs.input
+    c.read_run.new.input before.halves before.gave
+    (AllZip-views (λ start end. HasHeardHalves halves start.0 start.1 end.0 end.1)
+    (λ decoder. let is = goal.Decoder-dyn g (decoder.vtable, decoder.value) in
+    (is.who decoder.value, is.registers decoder.value))
+    (map (λ decoder. let is = goal.Decoder-dyn g (decoder.vtable, decoder.value) in
+    (is.who decoder.value, is.registers decoder.value)) c.args.decoders.now) c.runs.decoders
+    before.members) took)
     c.in-Ok.ensures
 
 pub returns-in-Err-write_fleet-clause-runs : goal.returns-in-Err-write_fleet-clause-runs
 returns-in-Err-write_fleet-clause-runs g c none =
-    let took = rw (c.in-Ok-None.field-0-is, c.in-None.ensures.none) at (c.in-Ok-None.ensures.reads (ap (λ (state : InputState). state.fault) c.in-None.ensures.none ∙ c.runs.invariant.gave.fault)) in
+    let took = rw (c.in-Ok-None.field-0-is, c.in-None.ensures.none) at
+    (c.in-Ok-None.ensures.reads
+    (ap (λ (state : InputState). state.fault) c.in-None.ensures.none ∙ c.runs.invariant.gave.fault)) in
     let before = c.runs.invariant in
     let halves : List ℕ = before.halves in
-    stopped (map (λ decoder. let is = goal.Decoder-dyn g (decoder.vtable, decoder.value) in (is.who decoder.value, is.registers decoder.value)) c.args.decoders.now) (map (λ decoder. let is = goal.Decoder-dyn g (decoder.vtable, decoder.value) in (is.who decoder.value, is.registers decoder.value)) c.runs.decoders) c.args.input.now c.read_run.new.input (g.W.Sink.contents c.args.writer.now) (g.W.Sink.contents c.write_fleet.new.writer)
+    stopped (map
+    (λ decoder. let is = goal.Decoder-dyn g (decoder.vtable, decoder.value) in
+    (is.who decoder.value, is.registers decoder.value)) c.args.decoders.now)
+    (map (λ decoder. let is = goal.Decoder-dyn g (decoder.vtable, decoder.value) in
+    (is.who decoder.value, is.registers decoder.value)) c.runs.decoders) c.args.input.now
+    c.read_run.new.input (g.W.Sink.contents c.args.writer.now) (g.W.Sink.contents c.write_fleet.new.writer)
     (g.W.Sink.failures c.args.writer.now) (g.W.Sink.failures c.write_fleet.new.writer) c.in-Err-write_fleet.field-0
-    (hears_all (map (λ decoder. let is = goal.Decoder-dyn g (decoder.vtable, decoder.value) in (is.who decoder.value, is.registers decoder.value)) c.args.decoders.now) (map (λ decoder. let is = goal.Decoder-dyn g (decoder.vtable, decoder.value) in (is.who decoder.value, is.registers decoder.value)) c.runs.decoders) c.args.input.now c.runs.input c.read_run.new.input before.halves before.gave (AllZip-views (λ start end. HasHeardHalves halves start.0 start.1 end.0 end.1) (λ decoder. let is = goal.Decoder-dyn g (decoder.vtable, decoder.value) in (is.who decoder.value, is.registers decoder.value)) (map (λ decoder. let is = goal.Decoder-dyn g (decoder.vtable, decoder.value) in (is.who decoder.value, is.registers decoder.value)) c.args.decoders.now) c.runs.decoders before.members) took)
+    (hears_all
+    (map (λ decoder. let is = goal.Decoder-dyn g (decoder.vtable, decoder.value) in
+    (is.who decoder.value, is.registers decoder.value)) c.args.decoders.now)
+    (map (λ decoder. let is = goal.Decoder-dyn g (decoder.vtable, decoder.value) in
+    (is.who decoder.value, is.registers decoder.value)) c.runs.decoders) c.args.input.now c.runs.input
+    c.read_run.new.input before.halves before.gave
+    (AllZip-views (λ start end. HasHeardHalves halves start.0 start.1 end.0 end.1)
+    (λ decoder. let is = goal.Decoder-dyn g (decoder.vtable, decoder.value) in
+    (is.who decoder.value, is.registers decoder.value))
+    (map (λ decoder. let is = goal.Decoder-dyn g (decoder.vtable, decoder.value) in
+    (is.who decoder.value, is.registers decoder.value)) c.args.decoders.now) c.runs.decoders
+    before.members) took)
     c.in-Err-write_fleet.ensures

@@ -8,10 +8,12 @@ returns-in-Ok-compare_beside-clause-compared g c =
     let (others, gathered, is) = c.in-Ok-compare_beside.ensures.compared in (
       c.in-Ok.packets.items,
       others,
-      gathers_both c.args.input.now c.gather_first.new.input c.in-Ok.packets.items c.in-Ok.ensures.gathers c.compare_beside.new.input others gathered,
+      gathers_both c.args.input.now c.gather_first.new.input c.in-Ok.packets.items c.in-Ok.ensures.gathers
+          c.compare_beside.new.input others gathered,
       subst (λ l. IsVerdict c.args.who l others c.in-Ok-compare_beside.verdict) c.as_slice.ensures.value is,
     )
 
 pub returns-clause-fails : goal.returns-clause-fails
 returns-clause-fails g c =
-    second_fails c.args.input.now c.gather_first.new.input c.in-Ok.packets.items c.in-Ok.ensures.gathers c.compare_beside.new.input c.in-Err-compare_beside.fault c.in-Err-compare_beside.ensures.fails
+    second_fails c.args.input.now c.gather_first.new.input c.in-Ok.packets.items c.in-Ok.ensures.gathers
+    c.compare_beside.new.input c.in-Err-compare_beside.fault c.in-Err-compare_beside.ensures.fails

@@ -7,8 +7,10 @@ pub returns-in-Some-clause-takes : goal.returns-in-Some-clause-takes
 returns-in-Some-clause-takes g c = λ start packets none so.
     let so_far = c.runs.invariant.gathers start packets none so in
     let answer = rw c.in-Ok-Some.field-0-is at (c.in-Ok-Some.ensures.reads c.runs.invariant.fault) in
-    Gathering-shown start c.runs.input c.next_run.new.input c.runs.framer c.push_run-shown.new.self packets c.in-Ok-Some.run' c.push_run-shown.result so_far (c.in-Some.packet ∷ []) answer.0 answer.1
-    (c.push_run-shown.ensures.stands so_far.halves so_far.stands) (c.push_run-shown.ensures.sees so_far.halves so_far.stands) c.in-Some.ensures (omega arith)
+    Gathering-shown start c.runs.input c.next_run.new.input c.runs.framer c.push_run-shown.new.self packets
+    c.in-Ok-Some.run' c.push_run-shown.result so_far (c.in-Some.packet ∷ []) answer.0 answer.1
+    (c.push_run-shown.ensures.stands so_far.halves so_far.stands)
+    (c.push_run-shown.ensures.sees so_far.halves so_far.stands) c.in-Some.ensures (omega arith)
 
 pub runs-preserved : goal.runs-preserved
 runs-preserved g c =
@@ -21,15 +23,19 @@ runs-preserved g c =
       gathers = λ start packets none so.
           let so_far = c.runs.invariant.gathers start packets none so in
           subst (Gathering start c.next_run.new.input c.push_run-shown.new.self) (append-nil packets)
-          (Gathering-shown start c.runs.input c.next_run.new.input c.runs.framer c.push_run-shown.new.self packets c.in-Ok-Some.run' c.push_run-shown.result so_far [] answer.0 answer.1
-          (c.push_run-shown.ensures.stands so_far.halves so_far.stands) (c.push_run-shown.ensures.sees so_far.halves so_far.stands) c.in-None.ensures (omega arith));
+          (Gathering-shown start c.runs.input c.next_run.new.input c.runs.framer c.push_run-shown.new.self packets
+          c.in-Ok-Some.run' c.push_run-shown.result so_far [] answer.0 answer.1
+          (c.push_run-shown.ensures.stands so_far.halves so_far.stands)
+          (c.push_run-shown.ensures.sees so_far.halves so_far.stands) c.in-None.ensures (omega arith));
     }
 
 pub returns-in-Ok-None-clause-takes : goal.returns-in-Ok-None-clause-takes
 returns-in-Ok-None-clause-takes g c = λ start packets none so.
     let answer = rw c.in-Ok-None.field-0-is at (c.in-Ok-None.ensures.reads c.runs.invariant.fault) in
-    gathers_all start c.runs.input c.next_run.new.input c.runs.framer packets none (c.runs.invariant.gathers start packets none so) answer
+    gathers_all start c.runs.input c.next_run.new.input c.runs.framer packets none
+    (c.runs.invariant.gathers start packets none so) answer
 
 pub returns-in-Err-clause-takes : goal.returns-in-Err-clause-takes
 returns-in-Err-clause-takes g c = λ start packets none so.
-    gather_stops start c.runs.input c.next_run.new.input c.runs.framer packets c.in-Err.fault none (c.runs.invariant.gathers start packets none so) (c.in-Err.ensures.reads c.runs.invariant.fault)
+    gather_stops start c.runs.input c.next_run.new.input c.runs.framer packets c.in-Err.fault none
+    (c.runs.invariant.gathers start packets none so) (c.in-Err.ensures.reads c.runs.invariant.fault)

@@ -8,7 +8,8 @@ abbrev pub invariant-runs : goal.invariant-runs
 invariant-runs g l = record {
   fault : l.input.fault ≡ None;
   bytes : l.input.bytes ≤ l.initial.input.bytes;
-  gathers : (start : InputState) (packets : List Packet) → start.fault ≡ None → Gathering start l.initial.input l.initial.framer packets → Gathering start l.input l.framer packets;
+  gathers : (start : InputState) (packets : List Packet) → start.fault ≡ None
+      → Gathering start l.initial.input l.initial.framer packets → Gathering start l.input l.framer packets;
 }
 
 abbrev pub decreases-runs : goal.decreases-runs

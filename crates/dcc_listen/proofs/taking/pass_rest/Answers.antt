@@ -9,7 +9,9 @@ packets-preserved g c = record {
       let before = c.packets.invariant.gathers start packets none so in
       let takes = rw c.in-Ok-Some.field-0-is at c.in-Ok-Some.ensures.takes in (
         before.0 ++ c.in-Ok-Some.field-0-0 ∷ [],
-        subst (Gathering start c.next_packet.new.input c.next_packet.new.framer) (append_assoc packets before.0 (c.in-Ok-Some.field-0-0 ∷ [])) (takes start (packets ++ before.0) none before.1),
+        subst (Gathering start c.next_packet.new.input c.next_packet.new.framer)
+            (append_assoc packets before.0 (c.in-Ok-Some.field-0-0 ∷ []))
+            (takes start (packets ++ before.0) none before.1),
       );
 }
 

@@ -7,7 +7,8 @@ use Rattle.dcc_listen.proofs.taking.pass_rest.Given as goal
 abbrev pub invariant-packets : goal.invariant-packets
 invariant-packets g l = record {
   fault : l.input.fault ≡ None;
-  gathers : (start : InputState) (packets : List Packet) → start.fault ≡ None → Gathering start l.initial.input l.initial.framer packets →
+  gathers : (start : InputState) (packets : List Packet) → start.fault ≡ None
+      → Gathering start l.initial.input l.initial.framer packets →
       (more : List Packet) × Gathering start l.input l.framer (packets ++ more);
 }
 

@@ -8,7 +8,8 @@ use Rattle.dcc_order.proofs.comparing.compare.Goals as goal
 pub returns-in-Done-clause-alike_is : goal.returns-in-Done-clause-alike_is
 returns-in-Done-clause-alike_is c =
     alike_is c.args.who c.args.left.now c.args.right.now c.in-Done.verdict
-    (verdict_of_both c.args.who c.args.left.now c.args.right.now c.items.left_rest.now c.items.right_rest.now c.items.left_ended c.items.right_ended c.items.comparer c.in-Done.verdict c.items.invariant
+    (verdict_of_both c.args.who c.args.left.now c.args.right.now c.items.left_rest.now c.items.right_rest.now
+    c.items.left_ended c.items.right_ended c.items.comparer c.in-Done.verdict c.items.invariant
     (c.in-Done.ensures.done c.in-Done.verdict refl c.items.invariant.lists c.items.invariant.stands))
 
 pub returns-in-Done-clause-alike : goal.returns-in-Done-clause-alike

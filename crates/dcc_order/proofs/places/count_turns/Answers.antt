@@ -10,7 +10,9 @@ take_turn-requires c = λ rival d inside.
     let within : rival < length turns = subst (λ l. rival < length l) c.as_mut_slice.ensures.value inside in
     let passed = take c.loop-number.number-index c.args.numbers.now in
     let low : (turns_of c.args.own rival passed).count ≤ length passed = turns_fit c.args.own rival passed in
-    let few : length (take c.loop-number.number-index c.args.numbers.now) < 18446744073709551615 = simp length-take (omega arith) in
+    let few : length (take c.loop-number.number-index c.args.numbers.now) < 18446744073709551615 =
+    simp length-take (omega arith) in
     let as_many : length passed ≡ length (take c.loop-number.number-index c.args.numbers.now) = refl in
     let Low : Turns → Type 0 = λ taken. taken.count < 18446744073709551615 in
-    subst (λ l. Low (get_or l rival d)) (sym c.as_mut_slice.ensures.value) (subst Low (sym (c.loop-number.invariant.counted.told rival d within)) (omega arith))
+    subst (λ l. Low (get_or l rival d)) (sym c.as_mut_slice.ensures.value)
+    (subst Low (sym (c.loop-number.invariant.counted.told rival d within)) (omega arith))

@@ -7,4 +7,5 @@ use Rattle.dcc_order.proofs.places.same_turns_at.Given as goal
 
 abbrev pub invariant-loop-rival : goal.invariant-loop-rival
 invariant-loop-rival l = (rival : ℕ) (d e : Place) (t : Turns) → rival < l.rival →
-    Conflict (slice_index_or l.places l.own d).member (slice_index_or l.places rival e).member → slice_index_or l.left rival t ≡ slice_index_or l.right rival t
+    Conflict (slice_index_or l.places l.own d).member (slice_index_or l.places rival e).member
+    → slice_index_or l.left rival t ≡ slice_index_or l.right rival t

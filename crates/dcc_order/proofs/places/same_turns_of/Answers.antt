@@ -10,8 +10,11 @@ use Rattle.dcc_order.proofs.Clash.{nothing_set}
 use Rattle.dcc_order.proofs.places.same_turns_of.Goals as goal
 
 -- what the counted turns of one member with each before it tell
-tells : (places : List Place) (others : List ℕ) (own : ℕ) (left right : List Turns) → Counted left own own (numbers_at places) → Counted right own own others →
-    ((rival : ℕ) (d e : Place) (t : Turns) → rival < length left → Conflict (slice_index_or places own d).member (slice_index_or places rival e).member → slice_index_or left rival t ≡ slice_index_or right rival t)
+tells : (places : List Place) (others : List ℕ) (own : ℕ) (left right : List Turns)
+    → Counted left own own (numbers_at places) → Counted right own own others →
+    ((rival : ℕ) (d e : Place) (t : Turns) → rival < length left
+    → Conflict (slice_index_or places own d).member (slice_index_or places rival e).member
+    → slice_index_or left rival t ≡ slice_index_or right rival t)
     ↔ NumberedAlike places others own
 tells places others own left right mine its = (
   λ same rival d e inside clash.
@@ -27,7 +30,8 @@ tells places others own left right mine its = (
 pub returns-then-sets_nothing-clause-same : goal.returns-then-sets_nothing-clause-same
 returns-then-sets_nothing-clause-same c = (
   λ t rival d e before clash. absurd (nothing_set _ _ (c.sets_nothing.ensures.0 c.if-sets_nothing.true)
-      (subst (λ (place : Place). Conflict place.member (slice_index_or c.args.places.now rival e).member) (get_or_default c.args.places.now c.args.own d c.index-places-own.result c.requires.within) clash)),
+      (subst (λ (place : Place). Conflict place.member (slice_index_or c.args.places.now rival e).member)
+      (get_or_default c.args.places.now c.args.own d c.index-places-own.result c.requires.within) clash)),
   λ all. refl,
 )
 
@@ -35,6 +39,7 @@ pub returns-clause-same : goal.returns-clause-same
 returns-clause-same c =
     let own = c.args.own in
     let told = tells c.args.places.now c.args.others.now own c.as_slice.result.now c.as_slice-2.result.now
-    (subst (λ l. Counted l own own (numbers_at c.args.places.now)) (sym c.as_slice.ensures.value) c.count_turns_at.ensures.counted)
+    (subst (λ l. Counted l own own (numbers_at c.args.places.now)) (sym c.as_slice.ensures.value)
+    c.count_turns_at.ensures.counted)
     (subst (λ l. Counted l own own c.args.others.now) (sym c.as_slice-2.ensures.value) c.count_turns.ensures.counted) in
     (λ t. told.0 (c.same_turns_at.ensures.0 t), λ alike. c.same_turns_at.ensures.1 (told.1 alike))

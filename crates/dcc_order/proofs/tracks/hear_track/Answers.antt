@@ -7,7 +7,8 @@ use Rattle.dcc_order.proofs.tracks.hear_track.Goals as goal
 pub loop-piece-init : goal.loop-piece-init
 loop-piece-init g c = record {
   stands = c.new-framer.ensures;
-  since = AllZip-start _ _ c.args.decoders.now (λ decoder. no_halves_heard (g.D.Decoder.who decoder) (g.D.Decoder.registers decoder));
+  since = AllZip-start _ _ c.args.decoders.now
+      (λ decoder. no_halves_heard (g.D.Decoder.who decoder) (g.D.Decoder.registers decoder));
 }
 
 pub loop-piece-preserved : goal.loop-piece-preserved
@@ -21,4 +22,6 @@ loop-piece-preserved g c =
     }
 
 pub returns : goal.returns
-returns g c = rw (sym (pieces_all c.args.pieces.now c.loop-piece.piece-index c.loop-piece-test.false)) (AllZip-viewed _ _ c.args.decoders.now c.loop-piece.decoders c.loop-piece.invariant.since)
+returns g c =
+    rw (sym (pieces_all c.args.pieces.now c.loop-piece.piece-index c.loop-piece-test.false))
+    (AllZip-viewed _ _ c.args.decoders.now c.loop-piece.decoders c.loop-piece.invariant.since)

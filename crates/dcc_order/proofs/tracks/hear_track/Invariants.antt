@@ -10,6 +10,8 @@ use Rattle.dcc_order.proofs.tracks.hear_track.Given as goal
 abbrev pub invariant-loop-piece : goal.invariant-loop-piece
 invariant-loop-piece g l = record {
   stands : StandsFor l.framer (joined (take l.piece-index l.pieces));
-  since : AllZip (λ (start : Who × RegisterMap) now. HasHeardHalves (joined (take l.piece-index l.pieces)) start.0 start.1 (g.D.Decoder.who now) (g.D.Decoder.registers now))
+  since : AllZip
+      (λ (start : Who × RegisterMap) now. HasHeardHalves (joined (take l.piece-index l.pieces)) start.0 start.1
+      (g.D.Decoder.who now) (g.D.Decoder.registers now))
       (map (λ decoder. (g.D.Decoder.who decoder, g.D.Decoder.registers decoder)) l.fn.decoders) l.decoders;
 }

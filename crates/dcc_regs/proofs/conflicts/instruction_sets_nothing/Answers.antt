@@ -2,22 +2,29 @@ use Rattle.std.proofs.Common.{ap, sym, subst, ◌∙◌, inl, inr, arith}
 use Rattle.dcc_packet.specs.declared.address.Address.TheVariants.{Broadcast, Short, Long}
 use Rattle.dcc_packet.specs.declared.packet.Packet.TheVariants.{Loco}
 use Rattle.dcc_regs.specs.Sets.{SetsNothing}
-use Rattle.dcc_regs.proofs.NothingSet.{broadcast_step, broadcast_stop, short_speed, long_speed, reset, speed_128, functions, binary_state}
+use Rattle.dcc_regs.proofs.NothingSet.{broadcast_step, broadcast_stop, short_speed, long_speed, reset, speed_128}
+use Rattle.dcc_regs.proofs.NothingSet.{functions, binary_state}
 use Rattle.dcc_regs.proofs.conflicts.instruction_sets_nothing.Goals as goal
 
 pub returns-in-Broadcast : goal.returns-in-Broadcast
 returns-in-Broadcast c =
     let is = ap (λ to. Loco to c.args.what.now) c.in-Broadcast.is ∙ ap (Loco Broadcast) c.in-Speed28.is in (
-      λ t. subst SetsNothing (sym is) (broadcast_step c.in-Speed28.forward c.in-Speed28.bits (grind (arith, t, c.bits.ensures.value))),
-      λ none. let high = broadcast_stop c.in-Speed28.forward c.in-Speed28.bits (subst SetsNothing is none) in grind (arith, high, c.bits.ensures.value),
+      λ t. subst SetsNothing (sym is)
+          (broadcast_step c.in-Speed28.forward c.in-Speed28.bits (grind (arith, t, c.bits.ensures.value))),
+      λ none. let high = broadcast_stop c.in-Speed28.forward c.in-Speed28.bits (subst SetsNothing is none) in grind
+          (arith, high, c.bits.ensures.value),
     )
 
 pub returns-in-Short : goal.returns-in-Short
 returns-in-Short c = (
   λ t. absurd (cc),
   λ none. elim c.in-Short.is [
-    | inl s ↦ absurd (short_speed s.0 c.in-Speed28.forward c.in-Speed28.bits (subst SetsNothing (ap (λ to. Loco to c.args.what.now) s.1 ∙ ap (Loco (Short s.0)) c.in-Speed28.is) none))
-    | inr s ↦ absurd (long_speed s.0 c.in-Speed28.forward c.in-Speed28.bits (subst SetsNothing (ap (λ to. Loco to c.args.what.now) s.1 ∙ ap (Loco (Long s.0)) c.in-Speed28.is) none))
+    | inl s ↦ absurd
+        (short_speed s.0 c.in-Speed28.forward c.in-Speed28.bits
+        (subst SetsNothing (ap (λ to. Loco to c.args.what.now) s.1 ∙ ap (Loco (Short s.0)) c.in-Speed28.is) none))
+    | inr s ↦ absurd
+        (long_speed s.0 c.in-Speed28.forward c.in-Speed28.bits
+        (subst SetsNothing (ap (λ to. Loco to c.args.what.now) s.1 ∙ ap (Loco (Long s.0)) c.in-Speed28.is) none))
   ],
 )
 
@@ -25,8 +32,12 @@ pub returns-in-Short-2 : goal.returns-in-Short-2
 returns-in-Short-2 c = (
   λ t. absurd (cc),
   λ none. elim c.in-Short.is [
-    | inl s ↦ absurd (short_speed s.0 c.in-Speed28.forward c.in-Speed28.bits (subst SetsNothing (ap (λ to. Loco to c.args.what.now) s.1 ∙ ap (Loco (Short s.0)) c.in-Speed28.is) none))
-    | inr s ↦ absurd (long_speed s.0 c.in-Speed28.forward c.in-Speed28.bits (subst SetsNothing (ap (λ to. Loco to c.args.what.now) s.1 ∙ ap (Loco (Long s.0)) c.in-Speed28.is) none))
+    | inl s ↦ absurd
+        (short_speed s.0 c.in-Speed28.forward c.in-Speed28.bits
+        (subst SetsNothing (ap (λ to. Loco to c.args.what.now) s.1 ∙ ap (Loco (Short s.0)) c.in-Speed28.is) none))
+    | inr s ↦ absurd
+        (long_speed s.0 c.in-Speed28.forward c.in-Speed28.bits
+        (subst SetsNothing (ap (λ to. Loco to c.args.what.now) s.1 ∙ ap (Loco (Long s.0)) c.in-Speed28.is) none))
   ],
 )
 
@@ -70,5 +81,6 @@ pub returns-in-BinaryState : goal.returns-in-BinaryState
 returns-in-BinaryState c = (
   λ t. absurd (cc),
   λ none.
-      absurd (binary_state c.args.to.now c.in-BinaryState.number c.in-BinaryState.on (subst SetsNothing (ap (Loco c.args.to.now) c.in-BinaryState.is) none)),
+      absurd (binary_state c.args.to.now c.in-BinaryState.number c.in-BinaryState.on
+      (subst SetsNothing (ap (Loco c.args.to.now) c.in-BinaryState.is) none)),
 )

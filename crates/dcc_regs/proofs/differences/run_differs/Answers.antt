@@ -3,4 +3,5 @@ use Rattle.dcc_regs.proofs.differences.run_differs.Goals as goal
 
 pub loop-n-preserved : goal.loop-n-preserved
 loop-n-preserved c =
-    below_more _ _ c.loop-n.invariant (λ low d. let t : true ≡ false = sym (c.differ_at.ensures.1 d) ∙ c.if-differ_at.false in absurd (cc))
+    below_more _ _ c.loop-n.invariant
+    (λ low d. let t : true ≡ false = sym (c.differ_at.ensures.1 d) ∙ c.if-differ_at.false in absurd (cc))

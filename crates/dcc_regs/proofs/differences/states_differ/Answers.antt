@@ -13,6 +13,7 @@ returns c =
     let q = c.args.q.now in (
       λ t. (c.looked.result, c.differ_at.ensures.0 t),
       λ d. c.differ_at.ensures.1
-          (subst (λ (n : ℕ). Differ (sets mode p (StateRegister n)) (sets mode q (StateRegister n))) (sym c.looked.ensures)
+          (subst (λ (n : ℕ). Differ (sets mode p (StateRegister n)) (sets mode q (StateRegister n)))
+          (sym c.looked.ensures)
           (differ_at_looked (states_told p) (states_told q) d.0 d.1)),
     )

@@ -9,5 +9,6 @@ returns-then-some_loco_hears c =
 pub returns-else-some_loco_hears : goal.returns-else-some_loco_hears
 returns-else-some_loco_hears c = (
   λ t. together_board _ _ (sym c.some_board_hears.ensures ∙ t),
-  λ h. c.some_board_hears.ensures ∙ or_else _ _ (by_together _ _ h) (sym c.some_loco_hears.ensures ∙ c.if-some_loco_hears.false),
+  λ h. c.some_board_hears.ensures
+      ∙ or_else _ _ (by_together _ _ h) (sym c.some_loco_hears.ensures ∙ c.if-some_loco_hears.false),
 )

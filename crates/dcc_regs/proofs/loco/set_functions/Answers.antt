@@ -5,9 +5,11 @@ use Rattle.dcc_regs.proofs.loco.set_functions.Goals as goal
 
 pub loop-n-preserved : goal.loop-n-preserved
 loop-n-preserved c =
-    let own : slice_index_or c.loop-n.functions c.loop-n.n false ≡ slice_index_or c.args.functions.now c.loop-n.n false = c.loop-n.invariant.left c.loop-n.n (omega arith) in
+    let own : slice_index_or c.loop-n.functions c.loop-n.n false ≡ slice_index_or c.args.functions.now c.loop-n.n false =
+    c.loop-n.invariant.left c.loop-n.n (omega arith) in
     record {
       long = rw length-set c.loop-n.invariant.long;
-      done = written_more c.loop-n.functions c.loop-n.n c.unwrap_or.result false _ (omega arith) c.loop-n.invariant.done (cc);
+      done = written_more c.loop-n.functions c.loop-n.n c.unwrap_or.result false _ (omega arith) c.loop-n.invariant.done
+          (cc);
       left = left_more c.loop-n.functions c.loop-n.n c.unwrap_or.result false _ c.loop-n.invariant.left;
     }

@@ -12,6 +12,7 @@ loop-n-preserved c =
     let own : c.unwrap_or-one.result ≡ unwrap_or (position_set c.args.packet.now c.loop-n.n) (is_one c.args.positions c.loop-n.n) =
     rw (shr_and_one c.args.positions c.loop-n.n, c.position_set.ensures) at c.unwrap_or-one.ensures in
     record {
-      done = packed_more c.loop-n.after c.loop-n.n _ c.unwrap_or-one.result _ fits c.loop-n.invariant.done (c.loop-n.invariant.left c.loop-n.n (omega arith)) own;
+      done = packed_more c.loop-n.after c.loop-n.n _ c.unwrap_or-one.result _ fits c.loop-n.invariant.done
+          (c.loop-n.invariant.left c.loop-n.n (omega arith)) own;
       left = zero_above c.loop-n.after c.loop-n.n _ c.unwrap_or-one.result fits c.loop-n.invariant.left;
     }

@@ -4,4 +4,6 @@ use Rattle.dcc_regs.proofs.same.same_states.Given as goal
 
 abbrev pub invariant-loop-n : goal.invariant-loop-n
 invariant-loop-n g l =
-    (k : ℕ) → 1 ≤ k → k < l.n → (goal.Decoder-dyn g l.a.now).registers l.a.now.1 (StateRegister k) ≡ (goal.Decoder-dyn g l.b.now).registers l.b.now.1 (StateRegister k)
+    (k : ℕ) → 1 ≤ k → k < l.n
+    → (goal.Decoder-dyn g l.a.now).registers l.a.now.1 (StateRegister k) ≡ (goal.Decoder-dyn g l.b.now).registers
+    l.b.now.1 (StateRegister k)

@@ -2,7 +2,9 @@ use Rattle.dcc_send.proofs.StationLemmas.{Answering}
 use Rattle.dcc_send.proofs.station_encoding.encode_by_station.Given as goal
 
 abbrev pub invariant-lines : goal.invariant-lines
-invariant-lines g l = Answering l.how l.initial.station l.station l.initial.input l.input l.held (g.W.Sink.contents l.initial.writer) (g.W.Sink.contents l.writer) (g.W.Sink.failures l.initial.writer) (g.W.Sink.failures l.writer)
+invariant-lines g l =
+    Answering l.how l.initial.station l.station l.initial.input l.input l.held (g.W.Sink.contents l.initial.writer)
+    (g.W.Sink.contents l.writer) (g.W.Sink.failures l.initial.writer) (g.W.Sink.failures l.writer)
 
 abbrev pub decreases-lines : goal.decreases-lines
 decreases-lines g l = l.input.bytes

@@ -4,5 +4,7 @@ use Rattle.dcc_send.specs.Held.{HoldsAnswers}
 use Rattle.dcc_send.proofs.station_encoding.send.Given as goal
 
 abbrev pub invariant-loop : goal.invariant-loop
-invariant-loop g l = HoldsAnswers l.how l.initial.station (replicate l.counter Next) l.station (g.W.Sink.contents l.initial.writer) (g.W.Sink.contents l.writer) l.initial.held l.held
+invariant-loop g l =
+    HoldsAnswers l.how l.initial.station (replicate l.counter Next) l.station (g.W.Sink.contents l.initial.writer)
+    (g.W.Sink.contents l.writer) l.initial.held l.held
     × (g.W.Sink.failures l.writer ≡ g.W.Sink.failures l.initial.writer)

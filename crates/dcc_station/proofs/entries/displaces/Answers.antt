@@ -16,13 +16,15 @@ displaces_none p e other apart stays gone = elim gone [
 ]
 
 pub returns-then-is : goal.returns-then-is
-returns-then-is c = (λ t. inl ((Decides-same c.args.entry.now c.args.command.now).0 (sym c.is.ensures.value ∙ c.if-is.true)), λ d. refl)
+returns-then-is c =
+    (λ t. inl ((Decides-same c.args.entry.now c.args.command.now).0 (sym c.is.ensures.value ∙ c.if-is.true)), λ d. refl)
 
 pub returns-then-not-writes_cv29 : goal.returns-then-not-writes_cv29
 returns-then-not-writes_cv29 c = (
   λ t. absurd (not_both refl (sym t)),
   λ d. absurd (displaces_none c.args.command.now c.args.entry.now
-      (λ is. not_both ((Decides-same c.args.entry.now c.args.command.now).1 is) (sym c.is.ensures.value ∙ c.if-is.false))
+      (λ is. not_both ((Decides-same c.args.entry.now c.args.command.now).1 is)
+      (sym c.is.ensures.value ∙ c.if-is.false))
       (λ clash. not_both (c.conflict.ensures.1 clash) c.if-conflict.false)
       (sym c.writes_cv29.ensures ∙ c.if-not-writes_cv29.true) d),
 )

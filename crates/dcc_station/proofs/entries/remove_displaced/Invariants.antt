@@ -3,4 +3,6 @@ use Rattle.dcc_station.proofs.Left.{Passed}
 use Rattle.dcc_station.proofs.entries.remove_displaced.Given as goal
 
 abbrev pub invariant-loop : goal.invariant-loop
-invariant-loop l = Passed l.command l.counter l.fn.entries.items l.entries.items l.fn.entries.capacity × (l.entries.capacity ≡ l.fn.entries.capacity)
+invariant-loop l =
+    Passed l.command l.counter l.fn.entries.items l.entries.items l.fn.entries.capacity
+    × (l.entries.capacity ≡ l.fn.entries.capacity)

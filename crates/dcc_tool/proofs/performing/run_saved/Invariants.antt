@@ -5,5 +5,7 @@ use Rattle.dcc_tool.proofs.performing.run_saved.Given as goal
 
 abbrev pub invariant-decoders : goal.invariant-decoders
 invariant-decoders g l =
-    map (λ decoder. ((own-1.entry decoder.vtable).1.who decoder.value, (own-1.entry decoder.vtable).1.registers decoder.value)) l.fleet.items
+    map (λ decoder.
+    ((own-1.entry decoder.vtable).1.who decoder.value, (own-1.entry decoder.vtable).1.registers decoder.value))
+    l.fleet.items
     ≡ map member_of (take l.decoder-index l.decoder-items)

@@ -7,7 +7,9 @@ returns-then-n-eq0 c = rw c.if-n-eq0.true (sym (ones_after_none c.args.ones c.ar
 
 pub returns-in-One : goal.returns-in-One
 returns-in-One c =
-    rw c.in-One.is (omega (arith, c.min.ensures, c.saturating_add.ensures, c.from.ensures) ∙ sym (ones_after_one c.args.ones c.args.n (omega (arith, c.if-n-eq0.false))))
+    rw c.in-One.is
+    (omega (arith, c.min.ensures, c.saturating_add.ensures, c.from.ensures)
+    ∙ sym (ones_after_one c.args.ones c.args.n (omega (arith, c.if-n-eq0.false))))
 
 pub returns-in-Zero : goal.returns-in-Zero
 returns-in-Zero c =

@@ -1,4 +1,5 @@
-use Rattle.std.proofs.Common.{◌≡◌, ◌-◌, ◌*◌, ◌/◌, ◌%◌, ◌^◌, ◌<◌, Bool, true, false, cond, None, eqb, get_or, length, Some, refl, sym, ap, ◌∙◌, arith}
+use Rattle.std.proofs.Common.{◌≡◌, ◌-◌, ◌*◌, ◌/◌, ◌%◌, ◌^◌, ◌<◌, Bool, true, false, cond, None, eqb, get_or, length}
+use Rattle.std.proofs.Common.{Some, refl, sym, ap, ◌∙◌, arith}
 use Rattle.std.specs.Bool.{then_some}
 use Rattle.std.proofs.lemmas.Nat.{and_mask}
 use Rattle.dcc_wire.proofs.HalvesLemmas.{body_bits-at, body_bits-start, body_bits-past}
@@ -13,7 +14,8 @@ returns-then-bit-ne0 c =
     ∙ sym (body_bits-at bytes place (place % 9) c.if-byte-bytes.true refl some)
 
 pub returns-else-bit-ne0 : goal.returns-else-bit-ne0
-returns-else-bit-ne0 c = rw c.if-bit-ne0.false (sym (body_bits-start c.args.bytes.now c.args.place c.if-byte-bytes.true c.if-bit-ne0.false))
+returns-else-bit-ne0 c =
+    rw c.if-bit-ne0.false (sym (body_bits-start c.args.bytes.now c.args.place c.if-byte-bytes.true c.if-bit-ne0.false))
 
 then_some_is : (b : Bool) → then_some b true ≡ cond b (Some true) None
 then_some_is true = refl
@@ -23,4 +25,5 @@ pub returns : goal.returns
 returns c =
     let bytes = c.args.bytes.now in
     let place = c.args.place in
-    c.then_some.ensures ∙ then_some_is (eqb place (9 * length bytes)) ∙ sym (body_bits-past bytes place (omega (arith, c.if-byte-bytes.false)))
+    c.then_some.ensures ∙ then_some_is (eqb place (9 * length bytes))
+    ∙ sym (body_bits-past bytes place (omega (arith, c.if-byte-bytes.false)))

@@ -5,31 +5,43 @@ use Rattle.dcc_wire.proofs.halves.half_at.Goals as goal
 use Rattle.dcc_wire.proofs.halves.half_at.Goals.{In_ok-bit}
 
 -- the bit at the place
-bit_is : (c : In_ok-bit) → slice_get (sent_bits c.args.frame.now c.args.timing.now.preamble) (c.args.place / 2) ≡ Some c.in_ok-bit.bit
-bit_is c = ap (λ l. slice_get (sent_bits l c.args.timing.now.preamble) (c.args.place / 2)) (sym c.bytes.ensures.value) ∙ sym c.sent_bit.ensures ∙ c.in_ok-bit.was
+bit_is : (c : In_ok-bit)
+    → slice_get (sent_bits c.args.frame.now c.args.timing.now.preamble) (c.args.place / 2) ≡ Some c.in_ok-bit.bit
+bit_is c =
+    ap (λ l. slice_get (sent_bits l c.args.timing.now.preamble) (c.args.place / 2)) (sym c.bytes.ensures.value)
+    ∙ sym c.sent_bit.ensures ∙ c.in_ok-bit.was
 
 pub returns-in_err-bit-clause-half : goal.returns-in_err-bit-clause-half
 returns-in_err-bit-clause-half c =
     rw c.from_residual.ensures (no_half c.args.frame.now c.args.timing.now c.args.place
-    (ap (λ l. slice_get (sent_bits l c.args.timing.now.preamble) (c.args.place / 2)) (sym c.bytes.ensures.value) ∙ sym c.sent_bit.ensures ∙ c.in_err-bit.was))
+    (ap (λ l. slice_get (sent_bits l c.args.timing.now.preamble) (c.args.place / 2)) (sym c.bytes.ensures.value)
+    ∙ sym c.sent_bit.ensures ∙ c.in_err-bit.was))
 
 short : (c : In_ok-bit) → c.args.place < 1000
-short c = short_place c.args.frame.now c.args.timing.now c.args.place c.in_ok-bit.bit (bit_is c) c.bytes.ensures.valid.most
+short c =
+    short_place c.args.frame.now c.args.timing.now c.args.place c.in_ok-bit.bit (bit_is c) c.bytes.ensures.valid.most
 
 pub returns-in-true-default-clause-half : goal.returns-in-true-default-clause-half
-returns-in-true-default-clause-half c = half_of_one c.args.frame.now c.args.timing.now c.args.place (bit_is (goal.at.returns-in-true-default-clause-half c).In_ok-bit ∙ ap Some c.in-true-default.is-0)
+returns-in-true-default-clause-half c =
+    half_of_one c.args.frame.now c.args.timing.now c.args.place
+    (bit_is (goal.at.returns-in-true-default-clause-half c).In_ok-bit ∙ ap Some c.in-true-default.is-0)
 
 pub returns-in-true-default-clause-short : goal.returns-in-true-default-clause-short
 returns-in-true-default-clause-short c = λ _. short (goal.at.returns-in-true-default-clause-short c).In_ok-bit
 
 pub returns-in-false-eq0-clause-half : goal.returns-in-false-eq0-clause-half
-returns-in-false-eq0-clause-half c = first_of_zero c.args.frame.now c.args.timing.now c.args.place (bit_is (goal.at.returns-in-false-eq0-clause-half c).In_ok-bit ∙ ap Some c.in-false-eq0.is-0) c.in-false-eq0.is-1
+returns-in-false-eq0-clause-half c =
+    first_of_zero c.args.frame.now c.args.timing.now c.args.place
+    (bit_is (goal.at.returns-in-false-eq0-clause-half c).In_ok-bit ∙ ap Some c.in-false-eq0.is-0) c.in-false-eq0.is-1
 
 pub returns-in-false-eq0-clause-short : goal.returns-in-false-eq0-clause-short
 returns-in-false-eq0-clause-short c = λ _. short (goal.at.returns-in-false-eq0-clause-short c).In_ok-bit
 
 pub returns-in-false-default-clause-half : goal.returns-in-false-default-clause-half
-returns-in-false-default-clause-half c = second_of_zero c.args.frame.now c.args.timing.now c.args.place (bit_is (goal.at.returns-in-false-default-clause-half c).In_ok-bit ∙ ap Some c.in-false-default.is-0) (omega (arith, c.in-false-default.is-1))
+returns-in-false-default-clause-half c =
+    second_of_zero c.args.frame.now c.args.timing.now c.args.place
+    (bit_is (goal.at.returns-in-false-default-clause-half c).In_ok-bit ∙ ap Some c.in-false-default.is-0)
+    (omega (arith, c.in-false-default.is-1))
 
 pub returns-in-false-default-clause-short : goal.returns-in-false-default-clause-short
 returns-in-false-default-clause-short c = λ _. short (goal.at.returns-in-false-default-clause-short c).In_ok-bit

@@ -6,4 +6,6 @@ pub returns-then-place-preamble : goal.returns-then-place-preamble
 returns-then-place-preamble c = sym (sent_bits-preamble c.args.bytes.now c.args.preamble c.args.place (omega arith))
 
 pub returns : goal.returns
-returns c = rw c.from-preamble.ensures at c.body_bit.ensures ∙ sym (sent_bits-body c.args.bytes.now c.args.preamble c.args.place (omega arith))
+returns c =
+    rw c.from-preamble.ensures at c.body_bit.ensures
+    ∙ sym (sent_bits-body c.args.bytes.now c.args.preamble c.args.place (omega arith))

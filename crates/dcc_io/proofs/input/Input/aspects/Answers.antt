@@ -7,8 +7,10 @@ use Rattle.dcc_io.proofs.input.Input.aspects.Goals as goal
 
 pub returns-in-Ok : goal.returns-in-Ok
 returns-in-Ok g c =
-    let read = c.aspects_line.ensures ∙ ap (λ bytes. aspects_line (words bytes)) (c.as_bytes.ensures.value ∙ c.deref.ensures.0) in
-    line-judged aspects_line blank_aspects c.args.self.now c.line_in_place.new.self c.judge.new.self c.in-Ok.line.number c.in-Ok.line.text.bytes c.judge.result c.in-Ok.ensures (rw read at c.judge.ensures)
+    let read = c.aspects_line.ensures
+    ∙ ap (λ bytes. aspects_line (words bytes)) (c.as_bytes.ensures.value ∙ c.deref.ensures.0) in
+    line-judged aspects_line blank_aspects c.args.self.now c.line_in_place.new.self c.judge.new.self c.in-Ok.line.number
+    c.in-Ok.line.text.bytes c.judge.result c.in-Ok.ensures (rw read at c.judge.ensures)
 
 pub returns-in-Err : goal.returns-in-Err
 returns-in-Err g c = line-missed aspects_line c.args.self.now c.line_in_place.new.self c.in-Err.fault c.in-Err.ensures

@@ -8,13 +8,16 @@ pub cvs-preserved : goal.cvs-preserved
 cvs-preserved g c =
     let ends = rw c.in-Ok-Cv.field-0-is at c.in-Ok-Cv.ensures in
     rw (c.number-least.ensures.value, c.number.ensures.value)
-    (ReadsCvs-cv c.args.self.now c.cvs.self c.loco_line.new.self c.cvs.least c.cvs.cvs c.in-Ok-Cv.cv c.in-Ok-Cv.value c.cvs.invariant ends.reads ends.sound)
+    (ReadsCvs-cv c.args.self.now c.cvs.self c.loco_line.new.self c.cvs.least c.cvs.cvs c.in-Ok-Cv.cv c.in-Ok-Cv.value
+    c.cvs.invariant ends.reads ends.sound)
 
 pub returns-in-Ok-Head-clause-reads : goal.returns-in-Ok-Head-clause-reads
 returns-in-Ok-Head-clause-reads g c =
     let ends = rw c.in-Ok-Head.field-0-is at c.in-Ok-Head.ensures in
-    ReadsCvs-head c.args.self.now c.cvs.self c.loco_line.new.self c.cvs.least c.cvs.cvs c.in-Ok-Head.head c.cvs.invariant ends.reads
+    ReadsCvs-head c.args.self.now c.cvs.self c.loco_line.new.self c.cvs.least c.cvs.cvs c.in-Ok-Head.head
+    c.cvs.invariant ends.reads
 
 pub returns-in-Err-clause-reads : goal.returns-in-Err-clause-reads
 returns-in-Err-clause-reads g c =
-    ReadsCvs-fault c.args.self.now c.cvs.self c.loco_line.new.self c.cvs.least c.cvs.cvs c.in-Err.fault c.cvs.invariant c.in-Err.ensures.reads
+    ReadsCvs-fault c.args.self.now c.cvs.self c.loco_line.new.self c.cvs.least c.cvs.cvs c.in-Err.fault c.cvs.invariant
+    c.in-Err.ensures.reads

@@ -7,12 +7,16 @@ use Rattle.dcc_io.proofs.input.Input.functions.Goals as goal
 
 pub returns-in-Ok-clause-reads : goal.returns-in-Ok-clause-reads
 returns-in-Ok-clause-reads g c =
-    let read = c.functions_line.ensures.is ∙ ap (λ bytes. functions_line (words bytes)) (c.as_bytes.ensures.value ∙ c.deref.ensures.0) in
-    line-judged functions_line blank_functions c.args.self.now c.line_in_place.new.self c.judge.new.self c.in-Ok.line.number c.in-Ok.line.text.bytes c.judge.result c.in-Ok.ensures (rw read at c.judge.ensures)
+    let read = c.functions_line.ensures.is
+    ∙ ap (λ bytes. functions_line (words bytes)) (c.as_bytes.ensures.value ∙ c.deref.ensures.0) in
+    line-judged functions_line blank_functions c.args.self.now c.line_in_place.new.self c.judge.new.self
+    c.in-Ok.line.number c.in-Ok.line.text.bytes c.judge.result c.in-Ok.ensures (rw read at c.judge.ensures)
 
 pub returns-in-Err-clause-reads : goal.returns-in-Err-clause-reads
-returns-in-Err-clause-reads g c = line-missed functions_line c.args.self.now c.line_in_place.new.self c.in-Err.fault c.in-Err.ensures
+returns-in-Err-clause-reads g c =
+    line-missed functions_line c.args.self.now c.line_in_place.new.self c.in-Err.fault c.in-Err.ensures
 
 pub returns-in-Ok-clause-fits : goal.returns-in-Ok-clause-fits
 returns-in-Ok-clause-fits g c =
-    judged-sound (λ functions. functions < 2 ^ 69) c.line_in_place.new.self c.judge.new.self c.in-Ok.line.number c.functions_line.result c.judge.result c.judge.ensures c.functions_line.ensures.fits
+    judged-sound (λ functions. functions < 2 ^ 69) c.line_in_place.new.self c.judge.new.self c.in-Ok.line.number
+    c.functions_line.result c.judge.result c.judge.ensures c.functions_line.ensures.fits

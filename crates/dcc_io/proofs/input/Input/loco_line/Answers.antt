@@ -8,12 +8,17 @@ use Rattle.dcc_io.proofs.input.Input.loco_line.Goals as goal
 
 pub returns-in-Ok-clause-reads : goal.returns-in-Ok-clause-reads
 returns-in-Ok-clause-reads g c =
-    let read = c.loco_line.ensures.is ∙ ap (λ bytes. loco_line c.args.least (words bytes)) (c.as_bytes.ensures.value ∙ c.deref.ensures.0) in
-    line-judged (loco_line c.args.least) (blank_loco c.args.least) c.args.self.now c.line_in_place.new.self c.judge.new.self c.in-Ok.line.number c.in-Ok.line.text.bytes c.judge.result c.in-Ok.ensures (rw read at c.judge.ensures)
+    let read = c.loco_line.ensures.is
+    ∙ ap (λ bytes. loco_line c.args.least (words bytes)) (c.as_bytes.ensures.value ∙ c.deref.ensures.0) in
+    line-judged (loco_line c.args.least) (blank_loco c.args.least) c.args.self.now c.line_in_place.new.self
+    c.judge.new.self c.in-Ok.line.number c.in-Ok.line.text.bytes c.judge.result c.in-Ok.ensures
+    (rw read at c.judge.ensures)
 
 pub returns-in-Err-clause-reads : goal.returns-in-Err-clause-reads
-returns-in-Err-clause-reads g c = line-missed (loco_line c.args.least) c.args.self.now c.line_in_place.new.self c.in-Err.fault c.in-Err.ensures
+returns-in-Err-clause-reads g c =
+    line-missed (loco_line c.args.least) c.args.self.now c.line_in_place.new.self c.in-Err.fault c.in-Err.ensures
 
 pub returns-in-Ok-clause-sound : goal.returns-in-Ok-clause-sound
 returns-in-Ok-clause-sound g c =
-    judged-sound (IsSoundLine c.args.least) c.line_in_place.new.self c.judge.new.self c.in-Ok.line.number c.loco_line.result c.judge.result c.judge.ensures c.loco_line.ensures.sound
+    judged-sound (IsSoundLine c.args.least) c.line_in_place.new.self c.judge.new.self c.in-Ok.line.number
+    c.loco_line.result c.judge.result c.judge.ensures c.loco_line.ensures.sound

@@ -7,8 +7,10 @@ use Rattle.dcc_io.proofs.input.Input.outs.Goals as goal
 
 pub returns-in-Ok : goal.returns-in-Ok
 returns-in-Ok g c =
-    let read = c.outs_line.ensures ∙ ap (λ bytes. outs_line (words bytes)) (c.as_bytes.ensures.value ∙ c.deref.ensures.0) in
-    line-judged outs_line blank_outs c.args.self.now c.line_in_place.new.self c.judge.new.self c.in-Ok.line.number c.in-Ok.line.text.bytes c.judge.result c.in-Ok.ensures (rw read at c.judge.ensures)
+    let read = c.outs_line.ensures
+    ∙ ap (λ bytes. outs_line (words bytes)) (c.as_bytes.ensures.value ∙ c.deref.ensures.0) in
+    line-judged outs_line blank_outs c.args.self.now c.line_in_place.new.self c.judge.new.self c.in-Ok.line.number
+    c.in-Ok.line.text.bytes c.judge.result c.in-Ok.ensures (rw read at c.judge.ensures)
 
 pub returns-in-Err : goal.returns-in-Err
 returns-in-Err g c = line-missed outs_line c.args.self.now c.line_in_place.new.self c.in-Err.fault c.in-Err.ensures

@@ -8,12 +8,16 @@ use Rattle.dcc_io.proofs.input.Input.speed.Goals as goal
 
 pub returns-in-Ok-clause-reads : goal.returns-in-Ok-clause-reads
 returns-in-Ok-clause-reads g c =
-    let read = c.speed_line.ensures.is ∙ ap (λ bytes. speed_line (words bytes)) (c.as_bytes.ensures.value ∙ c.deref.ensures.0) in
-    line-judged speed_line blank_speed c.args.self.now c.line_in_place.new.self c.judge.new.self c.in-Ok.line.number c.in-Ok.line.text.bytes c.judge.result c.in-Ok.ensures (rw read at c.judge.ensures)
+    let read = c.speed_line.ensures.is
+    ∙ ap (λ bytes. speed_line (words bytes)) (c.as_bytes.ensures.value ∙ c.deref.ensures.0) in
+    line-judged speed_line blank_speed c.args.self.now c.line_in_place.new.self c.judge.new.self c.in-Ok.line.number
+    c.in-Ok.line.text.bytes c.judge.result c.in-Ok.ensures (rw read at c.judge.ensures)
 
 pub returns-in-Err-clause-reads : goal.returns-in-Err-clause-reads
-returns-in-Err-clause-reads g c = line-missed speed_line c.args.self.now c.line_in_place.new.self c.in-Err.fault c.in-Err.ensures
+returns-in-Err-clause-reads g c =
+    line-missed speed_line c.args.self.now c.line_in_place.new.self c.in-Err.fault c.in-Err.ensures
 
 pub returns-in-Ok-clause-possible : goal.returns-in-Ok-clause-possible
 returns-in-Ok-clause-possible g c =
-    judged-sound (λ read. is_speed read.0 ≡ true) c.line_in_place.new.self c.judge.new.self c.in-Ok.line.number c.speed_line.result c.judge.result c.judge.ensures c.speed_line.ensures.possible
+    judged-sound (λ read. is_speed read.0 ≡ true) c.line_in_place.new.self c.judge.new.self c.in-Ok.line.number
+    c.speed_line.result c.judge.result c.judge.ensures c.speed_line.ensures.possible

@@ -7,12 +7,16 @@ use Rattle.dcc_io.proofs.input.Input.states_line.Goals as goal
 
 pub returns-in-Ok-clause-reads : goal.returns-in-Ok-clause-reads
 returns-in-Ok-clause-reads g c =
-    let read = c.states_line.ensures.is ∙ ap (λ bytes. states_line (words bytes)) (c.as_bytes.ensures.value ∙ c.deref.ensures.0) in
-    line-judged states_line blank_states c.args.self.now c.line_in_place.new.self c.judge.new.self c.in-Ok.line.number c.in-Ok.line.text.bytes c.judge.result c.in-Ok.ensures (rw read at c.judge.ensures)
+    let read = c.states_line.ensures.is
+    ∙ ap (λ bytes. states_line (words bytes)) (c.as_bytes.ensures.value ∙ c.deref.ensures.0) in
+    line-judged states_line blank_states c.args.self.now c.line_in_place.new.self c.judge.new.self c.in-Ok.line.number
+    c.in-Ok.line.text.bytes c.judge.result c.in-Ok.ensures (rw read at c.judge.ensures)
 
 pub returns-in-Err-clause-reads : goal.returns-in-Err-clause-reads
-returns-in-Err-clause-reads g c = line-missed states_line c.args.self.now c.line_in_place.new.self c.in-Err.fault c.in-Err.ensures
+returns-in-Err-clause-reads g c =
+    line-missed states_line c.args.self.now c.line_in_place.new.self c.in-Err.fault c.in-Err.ensures
 
 pub returns-in-Ok-clause-even : goal.returns-in-Ok-clause-even
 returns-in-Ok-clause-even g c =
-    judged-sound (λ states. states % 2 ≡ 0) c.line_in_place.new.self c.judge.new.self c.in-Ok.line.number c.states_line.result c.judge.result c.judge.ensures c.states_line.ensures.even
+    judged-sound (λ states. states % 2 ≡ 0) c.line_in_place.new.self c.judge.new.self c.in-Ok.line.number
+    c.states_line.result c.judge.result c.judge.ensures c.states_line.ensures.even

@@ -7,12 +7,16 @@ use Rattle.dcc_order.proofs.comparison.Comparison.difference.Goals as goal
 pub returns-then-not-has_same_order-clause-found : goal.returns-then-not-has_same_order-clause-found
 returns-then-not-has_same_order-clause-found c = inr (
   c.has_same_members.ensures.same.0 c.if-not-has_same_members.false,
-  (λ order. true_is_not_false (sym (c.has_same_order.ensures.same.1 (subst (λ (h : Held). SameOrder h.first h.second) (sym c.has_same_members.ensures.unchanged) order)) ∙ c.if-not-has_same_order.true)),
+  (λ order. true_is_not_false
+      (sym (c.has_same_order.ensures.same.1
+      (subst (λ (h : Held). SameOrder h.first h.second) (sym c.has_same_members.ensures.unchanged) order))
+      ∙ c.if-not-has_same_order.true)),
   refl,
 )
 
 pub returns-clause-found : goal.returns-clause-found
 returns-clause-found c = record {
   members = c.has_same_members.ensures.same.0 c.if-not-has_same_members.false;
-  order = subst (λ (h : Held). SameOrder h.first h.second) c.has_same_members.ensures.unchanged (c.has_same_order.ensures.same.0 c.if-not-has_same_order.false);
+  order = subst (λ (h : Held). SameOrder h.first h.second) c.has_same_members.ensures.unchanged
+      (c.has_same_order.ensures.same.0 c.if-not-has_same_order.false);
 }

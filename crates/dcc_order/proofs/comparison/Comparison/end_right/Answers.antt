@@ -8,5 +8,6 @@ use Rattle.dcc_order.proofs.comparison.Comparison.end_right.Goals as goal
 
 pub returns-in-Some-clause-stands : goal.returns-in-Some-clause-stands
 returns-in-Some-clause-stands c = λ lists s.
-    subst (λ (n : Comparison). StandsFor (record n { wants = Done c.in-Some.verdict }) (let l : Lists = record lists { right_ended = true } in l)) (sym c.verdict_at.ensures.unchanged)
+    subst (λ (n : Comparison). StandsFor (record n { wants = Done c.in-Some.verdict })
+    (let l : Lists = record lists { right_ended = true } in l)) (sym c.verdict_at.ensures.unchanged)
     (right_ends c.args.self.now lists c.in-Some.verdict c.requires c.in-Some.ensures.some s)

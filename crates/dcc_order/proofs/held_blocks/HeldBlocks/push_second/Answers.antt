@@ -20,12 +20,17 @@ returns-then-number-self-clause-foreign c = λ is.
     let x = c.args.packet.now in
     let held = c.self.invariant.0 in
     let frame_is : IsFrame (spelling x) = subst IsFrame c.frame.ensures c.frame_number-frame.ensures.valid in
-    let key : c.frame_number-frame.result ≡ frame_number (spelling x) = c.frame_number-frame.ensures.number ∙ ap frame_number c.frame.ensures in
+    let key : c.frame_number-frame.result ≡ frame_number (spelling x) =
+    c.frame_number-frame.ensures.number ∙ ap frame_number c.frame.ensures in
     let found : c.number_at-number.result ≡ number_of (members_at places b.count) x =
     c.number_at-number.ensures
     ∙ ap (λ k. unwrap_or (get nat_cmp b.index k) b.count) key
-    ∙ number_found (get nat_cmp b.index) (members_at places b.count) x b.count c.self.invariant.1 frame_is (count_of places b.count held.within) in
-    (λ h. is_foreign places b.count b.others.items held x (sym found ∙ c.if-number-self.true) (subst (λ (v : Held). Contains v.first x) (sym c.self.view_is) h), refl)
+    ∙ number_found (get nat_cmp b.index) (members_at places b.count) x b.count c.self.invariant.1 frame_is
+    (count_of places b.count held.within) in (
+      λ h. is_foreign places b.count b.others.items held x (sym found ∙ c.if-number-self.true)
+          (subst (λ (v : Held). Contains v.first x) (sym c.self.view_is) h),
+      refl,
+    )
 
 pub invariant_of-self-2 : goal.invariant_of-self-2
 invariant_of-self-2 c =
@@ -34,13 +39,16 @@ invariant_of-self-2 c =
     let x = c.args.packet.now in
     let held = c.self.invariant.0 in
     let frame_is : IsFrame (spelling x) = subst IsFrame c.frame.ensures c.frame_number-frame.ensures.valid in
-    let key : c.frame_number-frame.result ≡ frame_number (spelling x) = c.frame_number-frame.ensures.number ∙ ap frame_number c.frame.ensures in
+    let key : c.frame_number-frame.result ≡ frame_number (spelling x) =
+    c.frame_number-frame.ensures.number ∙ ap frame_number c.frame.ensures in
     let found : c.number_at-number.result ≡ number_of (members_at places b.count) x =
     c.number_at-number.ensures
     ∙ ap (λ k. unwrap_or (get nat_cmp b.index k) b.count) key
-    ∙ number_found (get nat_cmp b.index) (members_at places b.count) x b.count c.self.invariant.1 frame_is (count_of places b.count held.within) in (
+    ∙ number_found (get nat_cmp b.index) (members_at places b.count) x b.count c.self.invariant.1 frame_is
+    (count_of places b.count held.within) in (
       subst (AreHeld places b.count) (sym (c.in_ok-push.ensures.items ∙ ap (λ n. b.others.items ++ n ∷ []) found))
-          (second_held places b.count b.others.items held x (is_known places b.count b.others.items held x (λ e. c.if-number-self.false (found ∙ e)))),
+          (second_held places b.count b.others.items held x
+          (is_known places b.count b.others.items held x (λ e. c.if-number-self.false (found ∙ e)))),
       c.self.invariant.1,
       c.self.invariant.2,
       c.self.invariant.3,
@@ -53,11 +61,14 @@ returns-clause-known c = λ is.
     let x = c.args.packet.now in
     let held = c.self.invariant.0 in
     let frame_is : IsFrame (spelling x) = subst IsFrame c.frame.ensures c.frame_number-frame.ensures.valid in
-    let key : c.frame_number-frame.result ≡ frame_number (spelling x) = c.frame_number-frame.ensures.number ∙ ap frame_number c.frame.ensures in
+    let key : c.frame_number-frame.result ≡ frame_number (spelling x) =
+    c.frame_number-frame.ensures.number ∙ ap frame_number c.frame.ensures in
     let found : c.number_at-number.result ≡ number_of (members_at places b.count) x =
     c.number_at-number.ensures
     ∙ ap (λ k. unwrap_or (get nat_cmp b.index k) b.count) key
-    ∙ number_found (get nat_cmp b.index) (members_at places b.count) x b.count c.self.invariant.1 frame_is (count_of places b.count held.within) in
+    ∙ number_found (get nat_cmp b.index) (members_at places b.count) x b.count c.self.invariant.1 frame_is
+    (count_of places b.count held.within) in
     ap (held_at places b.count) (c.in_ok-push.ensures.items ∙ ap (λ n. b.others.items ++ n ∷ []) found)
-    ∙ second_view places b.count b.others.items held x (is_known places b.count b.others.items held x (λ e. c.if-number-self.false (found ∙ e)))
+    ∙ second_view places b.count b.others.items held x
+    (is_known places b.count b.others.items held x (λ e. c.if-number-self.false (found ∙ e)))
     ∙ ap (λ (h : Held). let v : Held = record h { second = h.second ++ x ∷ [] } in v) c.self.view_is

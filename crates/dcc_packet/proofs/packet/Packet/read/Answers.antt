@@ -13,13 +13,15 @@ returns-in-Some-clause-spelled c =
 pub returns-in-Some-clause-only : goal.returns-in-Some-clause-only
 returns-in-Some-clause-only c =
     let parts = frame_parts c.args.frame.now c.bytes-bytes.ensures.valid in
-    let spelled : spelling c.in-Some.packet ≡ c.args.frame.now = c.in-Some.ensures.found ∙ rw (c.split_at.ensures.front, c.bytes-bytes.ensures.value) (sym parts) in
+    let spelled : spelling c.in-Some.packet ≡ c.args.frame.now =
+    c.in-Some.ensures.found ∙ rw (c.split_at.ensures.front, c.bytes-bytes.ensures.value) (sym parts) in
     λ packet e. one_packet packet c.in-Some.packet (e ∙ sym spelled)
 
 pub invariant_of-result : goal.invariant_of-result
 invariant_of-result c =
     let valid = c.bytes-bytes.ensures.valid in
-    let front : c.split_at.result.0.now ≡ take (length c.args.frame.now - 1) c.args.frame.now = rw (c.split_at.ensures.front, c.bytes-bytes.ensures.value) refl in
+    let front : c.split_at.result.0.now ≡ take (length c.args.frame.now - 1) c.args.frame.now =
+    rw (c.split_at.ensures.front, c.bytes-bytes.ensures.value) refl in
     let none : ¬ (IsRow (take (length c.args.frame.now - 1) c.args.frame.now)) = rw front at c.in-None.ensures.none in
     record { valid = valid; no_row = in_no_row c.args.frame.now valid none }
 

@@ -7,6 +7,7 @@ use Rattle.dcc_regs.proofs.board.BoardDecoderDecoder.apply.Goals as goal
 
 pub returns-then-hears-clause-step : goal.returns-then-hears-clause-step
 returns-then-hears-clause-step c =
-    let heard : hears (BoardWho c.args.self.now.board) c.args.packet.now ≡ true = rw (← c.who.ensures.who) (sym c.hears.ensures ∙ c.if-hears.true) in
+    let heard : hears (BoardWho c.args.self.now.board) c.args.packet.now ≡ true =
+    rw (← c.who.ensures.who) (sym c.hears.ensures ∙ c.if-hears.true) in
     step-heard (BoardWho c.args.self.now.board) c.args.packet.now (content c.args.self.now) _ heard
     (record { outs = c.set_outs.ensures; positions = c.set_positions.ensures; aspects = c.set_aspects.ensures })

@@ -12,7 +12,9 @@ use Rattle.dcc_regs.proofs.loco.LocoDecoderDecoder.apply.Goals as goal
 
 pub returns-then-hears-clause-step : goal.returns-then-hears-clause-step
 returns-then-hears-clause-step c =
-    let heard : hears (LocoWho c.args.self.now.address) c.args.packet.now ≡ true = ap (λ (who : Who). hears who c.args.packet.now) (sym c.who.ensures.who) ∙ (sym c.hears.ensures ∙ c.if-hears.true) in
+    let heard : hears (LocoWho c.args.self.now.address) c.args.packet.now ≡ true =
+    ap (λ (who : Who). hears who c.args.packet.now) (sym c.who.ensures.who)
+    ∙ (sym c.hears.ensures ∙ c.if-hears.true) in
     let is : LocoContent = record {
       speed = c.obey.new.self.speed;
       forward = c.obey.new.self.forward;
@@ -34,12 +36,16 @@ returns-then-hears-clause-step c =
 
 pub invariant_of-self-then-hears-clause-is_pending : goal.invariant_of-self-then-hears-clause-is_pending
 invariant_of-self-then-hears-clause-is_pending c =
-    let heard : hears (LocoWho c.args.self.now.address) c.args.packet.now ≡ true = ap (λ (who : Who). hears who c.args.packet.now) (sym c.who.ensures.who) ∙ (sym c.hears.ensures ∙ c.if-hears.true) in
+    let heard : hears (LocoWho c.args.self.now.address) c.args.packet.now ≡ true =
+    ap (λ (who : Who). hears who c.args.packet.now) (sym c.who.ensures.who)
+    ∙ (sym c.hears.ensures ∙ c.if-hears.true) in
     subst
     (λ (active : Option Address). is_pending_for active c.leave_pending.new.pending ≡ true)
     (sym c.obey.ensures.address)
-    (pending-heard c.args.self.now.address c.args.packet.now c.leave_pending.new.pending heard c.leave_pending.ensures.byte c.leave_pending.ensures.pending)
+    (pending-heard c.args.self.now.address c.args.packet.now c.leave_pending.new.pending heard
+    c.leave_pending.ensures.byte c.leave_pending.ensures.pending)
 
 pub returns-then-hears-clause-kept : goal.returns-then-hears-clause-kept
 returns-then-hears-clause-kept c =
-    kept-after (LocoWho c.args.self.now.address) (loco_registers (content c.args.self.now)) _ c.args.packet.now (returns-then-hears-clause-step c)
+    kept-after (LocoWho c.args.self.now.address) (loco_registers (content c.args.self.now)) _ c.args.packet.now
+    (returns-then-hears-clause-step c)

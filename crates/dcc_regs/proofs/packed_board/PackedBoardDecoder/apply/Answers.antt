@@ -7,6 +7,11 @@ use Rattle.dcc_regs.proofs.packed_board.PackedBoardDecoder.apply.Goals as goal
 
 pub returns-then-hears-clause-step : goal.returns-then-hears-clause-step
 returns-then-hears-clause-step c =
-    let heard : hears (BoardWho c.args.self.now.board) c.args.packet.now ≡ true = rw (← c.who.ensures.who) (sym c.hears.ensures ∙ c.if-hears.true) in
+    let heard : hears (BoardWho c.args.self.now.board) c.args.packet.now ≡ true =
+    rw (← c.who.ensures.who) (sym c.hears.ensures ∙ c.if-hears.true) in
     step-heard (BoardWho c.args.self.now.board) c.args.packet.now (content c.args.self.now) _ heard
-    (record { outs = c.outs_after-self.ensures; positions = c.positions_after-self.ensures; aspects = c.set_aspects.ensures })
+    (record {
+      outs = c.outs_after-self.ensures;
+      positions = c.positions_after-self.ensures;
+      aspects = c.set_aspects.ensures;
+    })

@@ -6,4 +6,7 @@ use Rattle.dcc_regs.proofs.packed_loco.PackedLoco.power_up.Goals as goal
 
 pub returns-clause-who : goal.returns-clause-who
 returns-clause-who c =
-    c.new.ensures.who ∙ ap LocoWho (active_address-loco (content c.args.self.now) (c.new.ensures.bytes 1) (c.new.ensures.bytes 17) (c.new.ensures.bytes 18) (c.new.ensures.bytes 29))
+    c.new.ensures.who
+    ∙ ap LocoWho
+    (active_address-loco (content c.args.self.now) (c.new.ensures.bytes 1) (c.new.ensures.bytes 17)
+    (c.new.ensures.bytes 18) (c.new.ensures.bytes 29))

@@ -11,7 +11,9 @@ use Rattle.dcc_regs.proofs.packed_loco.PackedLocoDecoder.apply.Goals as goal
 
 pub returns-then-hears-clause-step : goal.returns-then-hears-clause-step
 returns-then-hears-clause-step c =
-    let heard : hears (LocoWho c.args.self.now.address) c.args.packet.now ≡ true = ap (λ (who : Who). hears who c.args.packet.now) (sym c.who.ensures.who) ∙ (sym c.hears.ensures ∙ c.if-hears.true) in
+    let heard : hears (LocoWho c.args.self.now.address) c.args.packet.now ≡ true =
+    ap (λ (who : Who). hears who c.args.packet.now) (sym c.who.ensures.who)
+    ∙ (sym c.hears.ensures ∙ c.if-hears.true) in
     let is : LocoContent = record {
       speed = c.unwrap_or-self.result;
       forward = c.unwrap_or-self-then-hears.result;
@@ -33,9 +35,13 @@ returns-then-hears-clause-step c =
 
 pub returns-then-hears-clause-kept : goal.returns-then-hears-clause-kept
 returns-then-hears-clause-kept c =
-    kept-after (LocoWho c.args.self.now.address) (loco_registers (content c.args.self.now)) _ c.args.packet.now (returns-then-hears-clause-step c)
+    kept-after (LocoWho c.args.self.now.address) (loco_registers (content c.args.self.now)) _ c.args.packet.now
+    (returns-then-hears-clause-step c)
 
 pub invariant_of-self-clause-is_pending : goal.invariant_of-self-clause-is_pending
 invariant_of-self-clause-is_pending c =
-    let heard : hears (LocoWho c.args.self.now.address) c.args.packet.now ≡ true = ap (λ (who : Who). hears who c.args.packet.now) (sym c.who.ensures.who) ∙ (sym c.hears.ensures ∙ c.if-hears.true) in
-    pending-heard c.args.self.now.address c.args.packet.now c.leave_pending.new.pending heard c.leave_pending.ensures.byte c.leave_pending.ensures.pending
+    let heard : hears (LocoWho c.args.self.now.address) c.args.packet.now ≡ true =
+    ap (λ (who : Who). hears who c.args.packet.now) (sym c.who.ensures.who)
+    ∙ (sym c.hears.ensures ∙ c.if-hears.true) in
+    pending-heard c.args.self.now.address c.args.packet.now c.leave_pending.new.pending heard
+    c.leave_pending.ensures.byte c.leave_pending.ensures.pending

@@ -9,6 +9,8 @@ use Rattle.dcc_wire.proofs.framer.Framer.skip.Goals as goal
 pub invariant_of-self : goal.invariant_of-self
 invariant_of-self c =
     let held : c.args.self.now ≡ Hunting c.in-Hunting.ones = sym c.self.view_is ∙ ap rest_of c.in-Hunting.is in
-    let before : HasHistory (Hunting c.in-Hunting.ones) = subst HasHistory (ap rest_of c.in-Hunting.is) c.self.invariant in
+    let before : HasHistory (Hunting c.in-Hunting.ones) =
+    subst HasHistory (ap rest_of c.in-Hunting.is) c.self.invariant in
     subst (λ ones. HasHistory (Hunting ones)) (sym c.count_on.ensures)
-    (skip_history c.in-Hunting.ones c.args.half c.args.n (subst (λ (r : Rest). IsQuietFor r c.args.half) held c.requires) before)
+    (skip_history c.in-Hunting.ones c.args.half c.args.n
+    (subst (λ (r : Rest). IsQuietFor r c.args.half) held c.requires) before)

@@ -10,12 +10,15 @@ use Rattle.dcc_wire.proofs.framer.Framer.take_half.Goals as goal
 
 pub invariant_of-self : goal.invariant_of-self
 invariant_of-self c =
-    let before : HasHistory (Hunting c.in-Hunting.ones) = subst HasHistory (ap rest_of c.in-Hunting.is) c.self.invariant in
-    subst HasHistory (c.begins_body.ensures.yes c.if-begins_body.true ∙ ap InBody (sym c.new.ensures)) (history_more (Hunting c.in-Hunting.ones) c.args.half before)
+    let before : HasHistory (Hunting c.in-Hunting.ones) =
+    subst HasHistory (ap rest_of c.in-Hunting.is) c.self.invariant in
+    subst HasHistory (c.begins_body.ensures.yes c.if-begins_body.true ∙ ap InBody (sym c.new.ensures))
+    (history_more (Hunting c.in-Hunting.ones) c.args.half before)
 
 pub invariant_of-self-else-begins_body : goal.invariant_of-self-else-begins_body
 invariant_of-self-else-begins_body c =
-    let before : HasHistory (Hunting c.in-Hunting.ones) = subst HasHistory (ap rest_of c.in-Hunting.is) c.self.invariant in
+    let before : HasHistory (Hunting c.in-Hunting.ones) =
+    subst HasHistory (ap rest_of c.in-Hunting.is) c.self.invariant in
     subst HasHistory (sym c.counted.ensures) (history_more (Hunting c.in-Hunting.ones) c.args.half before)
 
 pub invariant_of-self-then-not-is_nothing : goal.invariant_of-self-then-not-is_nothing
@@ -25,7 +28,8 @@ invariant_of-self-then-not-is_nothing c =
     let longer = c.in-InBody.body ++ c.args.half ∷ [] in
     let something : c.push-seen.result ≢ Nothing = search rules in
     let left = left_of-outcome longer (outcome_of longer) c.push-seen.result c.push-seen.ensures.answer something in
-    subst HasHistory (left ∙ ap Hunting (sym c.ones_left.ensures)) (history_more (InBody c.in-InBody.body) c.args.half before)
+    subst HasHistory (left ∙ ap Hunting (sym c.ones_left.ensures))
+    (history_more (InBody c.in-InBody.body) c.args.half before)
 
 pub invariant_of-self-else-not-is_nothing : goal.invariant_of-self-else-not-is_nothing
 unfolding rest_after left_of
