@@ -10,7 +10,7 @@ use Rattle.dcc_regs.specs.declared.register.Register.TheVariants as registers
 use Rattle.dcc_regs.specs.declared.register.Value.{Value}
 use Rattle.dcc_regs.specs.declared.register.Value.TheVariants as values
 use Rattle.dcc_regs.specs.declared.register.Who.TheVariants as who
-use Rattle.dcc_regs.specs.Bits.{is_one}
+use Rattle.dcc_packet.specs.Bits.{is_one}
 use Rattle.dcc_regs.specs.Board.{board_registers}
 use Rattle.dcc_regs.specs.BoardState.{content as board_content}
 use Rattle.dcc_regs.specs.Loco.{holds_one}

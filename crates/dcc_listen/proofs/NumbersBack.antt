@@ -12,7 +12,7 @@ use Rattle.std.proofs.lemmas.List.{append-nil}
 use Rattle.dcc_packet.specs.Written.{spaced}
 use Rattle.dcc_packet.proofs.Decimal.{short}
 use Rattle.dcc_packet.proofs.WordsBack.{small_number-decimal, output_back}
-use Rattle.dcc_regs.specs.Bits.{is_one}
+use Rattle.dcc_packet.specs.Bits.{is_one}
 use Rattle.dcc_io.specs.DecoderLines.{functions_from, states_from, outs_from}
 use Rattle.dcc_listen.specs.FleetText.{numbers_below}
 use Rattle.dcc_io.specs.Spaced.{behind_space}

@@ -14,7 +14,7 @@ use Rattle.dcc_packet.specs.Words.{Word}
 use Rattle.dcc_packet.specs.Written.{spaced, direction_word, state_word}
 use Rattle.dcc_regs.specs.declared.register.Speed.{Speed}
 use Rattle.dcc_regs.specs.declared.register.Speed.TheVariants.{Stop, Emergency, Step14, Step28, Step126}
-use Rattle.dcc_regs.specs.Bits.{is_one}
+use Rattle.dcc_packet.specs.Bits.{is_one}
 use Rattle.dcc_regs.specs.Loco.{is_speed, is_pending_for}
 use Rattle.dcc_io.specs.DecoderLines.{functions_line, states_line, outs_line, speed_line, pending_line}
 use Rattle.dcc_io.specs.DecoderLines.{positions_line, aspects_line}

@@ -1,6 +1,7 @@
 pub mod FrameParts
 pub mod FrameSpellings
 pub mod Same
+pub mod BitLemmas
 pub mod OneSpelling
 pub mod FirstWord
 pub mod Digits

@@ -8,8 +8,8 @@ ghost use Rattle.dcc_packet.specs.Spelling.{spelling};
 
 use crate::bits::bit;
 use crate::{
-    Address, BitPlace, Board, CvNumber, Group, GroupBits, Output, Packet, SignalAddress,
-    SpeedBits28, SpeedBits128, What,
+    Address, Board, CvNumber, Group, GroupBits, Output, Packet, SignalAddress, SpeedBits28,
+    SpeedBits128, What,
 };
 use arrayvec::ArrayVec;
 use dcc_wire::Frame;
@@ -90,10 +90,10 @@ fn put_instruction(bytes: &mut Bytes, what: &What)
         What::CvWrite { cv, value } => put(bytes, &cv_bytes(0xEC, cv, *value)),
         What::CvVerify { cv, value } => put(bytes, &cv_bytes(0xE4, cv, *value)),
         What::CvBitWrite { cv, place, one } => {
-            put(bytes, &cv_bytes(0xE8, cv, bit_byte(place, *one) | 0xF0))
+            put(bytes, &cv_bytes(0xE8, cv, place.access_bits(*one) | 0xF0))
         }
         What::CvBitVerify { cv, place, one } => {
-            put(bytes, &cv_bytes(0xE8, cv, bit_byte(place, *one) | 0xE0))
+            put(bytes, &cv_bytes(0xE8, cv, place.access_bits(*one) | 0xE0))
         }
     }
 }
@@ -103,14 +103,6 @@ fn speed28_byte(forward: bool, speed: &SpeedBits28) -> u8
     ensures { result ∷ [] ≡ instruction_bytes (What.Speed28 forward speed.now) }
 {
     speed.bits >> 1 | (speed.bits & 1) << 4 | bit(forward) << 5 | 0x40
-}
-
-/// A bit of a CV, DBBB.
-fn bit_byte(place: &BitPlace, one: bool) -> u8
-    ensures value { result ≡ 8 * bit one + place.now.place }
-    ensures bound { result ≤ 15 }
-{
-    place.place | bit(one) << 3
 }
 
 /// An access to a CV, with the last byte of the instruction.

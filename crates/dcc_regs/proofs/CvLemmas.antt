@@ -1,8 +1,8 @@
 -- A CV and its bits.
-use Rattle.std.proofs.Common.{◌≡◌, ◌≢◌, ℕ, zero, suc, ◌<◌, ◌≤◌, Bool, true, false, List, refl, sym, ◌∙◌, ap, arith}
+use Rattle.std.proofs.Common.{◌≡◌, ℕ, zero, suc, ◌<◌, ◌≤◌, Bool, true, false, List, refl, sym, ◌∙◌, ap, arith}
 use Rattle.std.proofs.Common.{replicate, get_or}
-use Rattle.std.specs.Prelude.{◌&&◌, ◌==◌, None, Some, if◌then◌else◌}
-use Rattle.std.proofs.lemmas.Bool.Decides.{nat_tests, Decides-eqb}
+use Rattle.std.specs.Prelude.{None, Some, if◌then◌else◌}
+use Rattle.std.proofs.lemmas.Bool.Decides.{nat_tests}
 use Rattle.std.proofs.lemmas.Nat.Bits.{bit_at-zero}
 use mathlib.Core.Path.{fun_ext}
 use Rattle.dcc_regs.specs.declared.register.Register.{Register}
@@ -11,53 +11,10 @@ use Rattle.dcc_regs.specs.declared.register.Register.TheVariants.{State as State
 use Rattle.dcc_regs.specs.declared.register.Register.TheVariants.{Pending as PendingRegister, Out, Position, Aspect}
 use Rattle.dcc_regs.specs.declared.register.Speed.TheVariants.{Stop}
 use Rattle.dcc_regs.specs.declared.register.Value.TheVariants.{Flag}
-use Rattle.dcc_regs.specs.Bits.{is_one, byte_of}
+use Rattle.dcc_packet.specs.Bits.{is_one}
 use Rattle.dcc_regs.specs.Addresses.{active_address}
+use Rattle.dcc_packet.proofs.BitLemmas.{byte_of_bits, same_byte}
 use Rattle.dcc_regs.specs.Loco.{LocoContent, loco_registers, is_cv_bit, holds_one, cv_of, started, powered_up, cv_in}
-
-abbrev all_below : ℕ → (ℕ → Bool) → Bool
-all_below zero test = true
-all_below (suc n) test = test n && all_below n test
-
-either_by : {A : Type 0} (k n : ℕ) (t : Bool) → (k == n) ≡ t → (k ≡ n → A) → (k ≢ n → A) → A
-either_by k n true e f g = f ((Decides-eqb k n).0 e)
-either_by k n false e f g = g (λ same. let yes : (k == n) ≡ true = (Decides-eqb k n).1 same in cc)
-
-either : {A : Type 0} (k n : ℕ) → (k ≡ n → A) → (k ≢ n → A) → A
-either k n f g = either_by k n (k == n) refl f g
-
-both : (a b : Bool) → (a && b) ≡ true → (a ≡ true) × (b ≡ true)
-both true b h = (refl, h)
-both false b h = absurd (cc)
-
-at_below : (n : ℕ) (test : ℕ → Bool) (k : ℕ) → all_below n test ≡ true → k < n → test k ≡ true
-at_below zero test k all h = absurd (omega arith)
-at_below (suc n) test k all h =
-    let parts : (test n ≡ true) × (all_below n test ≡ true) = both (test n) (all_below n test) all in
-    either k n (λ e. rw e parts.0) (λ ne. at_below n test k parts.1 (omega arith))
-
--- a byte is made of its bits
-abbrev rebuilt : ℕ → Bool
-rebuilt byte = byte_of (is_one byte) == byte
-
-all_rebuilt : all_below 256 rebuilt ≡ true
-all_rebuilt = refl
-
-pub byte_of_bits : (byte : ℕ) → byte < 256 → byte_of (is_one byte) ≡ byte
-byte_of_bits byte h = (Decides-eqb (byte_of (is_one byte)) byte).0 (at_below 256 rebuilt byte all_rebuilt h)
-
-same_byte : (f g : ℕ → Bool) → ((k : ℕ) → k ≤ 7 → f k ≡ g k) → byte_of f ≡ byte_of g
-same_byte f g same =
-    rw (
-      same 0 (omega arith),
-      same 1 (omega arith),
-      same 2 (omega arith),
-      same 3 (omega arith),
-      same 4 (omega arith),
-      same 5 (omega arith),
-      same 6 (omega arith),
-      same 7 (omega arith),
-    ) refl
 
 bit_there : (cv place : ℕ) → 1 ≤ cv → cv ≤ 1024 → place ≤ 7 → is_cv_bit cv place ≡ true
 bit_there cv place a b h = grind (arith, nat_tests)

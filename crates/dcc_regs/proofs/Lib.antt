@@ -1,5 +1,4 @@
 pub mod InParts
-pub mod Bits
 pub mod Packing
 pub mod Rows
 pub mod Walk

@@ -24,7 +24,7 @@ use Rattle.dcc_regs.specs.declared.register.Register.TheVariants.{State as State
 use Rattle.dcc_regs.specs.declared.register.Value.TheVariants.{Speed as SpeedValue, Forward, Flag, Number}
 use Rattle.dcc_regs.specs.declared.register.Speed.TheVariants.{Stop, Emergency}
 use Rattle.dcc_regs.specs.Speeds.{speed_set, direction_set}
-use Rattle.dcc_regs.specs.Bits.{is_one}
+use Rattle.dcc_packet.specs.Bits.{is_one}
 use Rattle.dcc_regs.specs.FunctionBits.{first_function, place_of}
 use Rattle.dcc_regs.specs.Sets.{sets, SetsNothing}
 use Rattle.dcc_regs.proofs.OwnWrites.{none_of}

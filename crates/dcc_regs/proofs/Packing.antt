@@ -8,8 +8,8 @@ use Rattle.std.proofs.lemmas.Nat.{or_lt, pow_below, pow_pos, and_le_r}
 use Rattle.std.proofs.lemmas.Nat.Bits.{bit_at_or, bit_at_and, bit_at-zero, bit_at-lt, bit_at-suc, bit_at_above}
 use Rattle.std.proofs.lemmas.Nat.Bits.{bit_at_ones, bit_at_clear_same, bit_at_clear_other}
 use mir.Val.{bool_byte}
-use Rattle.dcc_regs.specs.Bits.{is_one}
-use Rattle.dcc_regs.proofs.Bits.{same_bit, other_bit, by_number}
+use Rattle.dcc_packet.specs.Bits.{is_one}
+use Rattle.dcc_packet.proofs.BitLemmas.{same_bit, other_bit, by_number}
 
 -- a one that is shifted to its place is not cut off
 pub shifted_one_128 : (n : ℕ) → n ≤ 127 → 1 * 2 ^ n % 340282366920938463463374607431768211456 ≡ 2 ^ n

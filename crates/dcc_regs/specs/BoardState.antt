@@ -1,7 +1,7 @@
 -- An accessory decoder's state as plain data.
 use Rattle.std.specs.Prelude.{false, slice_index, slice_index_or}
 use Rattle.dcc_regs.specs.declared.board_state.BoardState.{BoardState}
-use Rattle.dcc_regs.specs.Bits.{is_one}
+use Rattle.dcc_packet.specs.Bits.{is_one}
 use Rattle.dcc_regs.specs.Board.{BoardContent}
 
 -- what a decoder in this state holds

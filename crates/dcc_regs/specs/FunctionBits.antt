@@ -11,7 +11,7 @@ use Rattle.dcc_packet.specs.declared.packet.Packet.{Packet}
 use Rattle.dcc_packet.specs.declared.packet.Packet.TheVariants.{Idle, Loco as ToLoco, Accessory, Signal, Other}
 use Rattle.dcc_regs.specs.declared.register.SpeedMode.{SpeedMode}
 use Rattle.dcc_regs.specs.declared.register.SpeedMode.TheVariants.{Steps14, Steps28}
-use Rattle.dcc_regs.specs.Bits.{is_one}
+use Rattle.dcc_packet.specs.Bits.{is_one}
 
 -- the function of a group's lowest bit
 abbrev pub first_function : Group → ℕ

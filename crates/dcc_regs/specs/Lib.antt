@@ -1,4 +1,3 @@
-pub mod Bits
 pub mod Heard
 pub mod Speeds
 pub mod FunctionBits

@@ -16,7 +16,7 @@ use Rattle.dcc_regs.specs.declared.register.Register.TheVariants.{Pending as Pen
 use Rattle.dcc_regs.specs.declared.register.Value.{Value}
 use Rattle.dcc_regs.specs.declared.register.Value.TheVariants.{Speed as SpeedValue, Forward, Flag}
 use Rattle.dcc_regs.specs.declared.register.Value.TheVariants.{Pending as PendingValue}
-use Rattle.dcc_regs.specs.Bits.{is_one, byte_of}
+use Rattle.dcc_packet.specs.Bits.{is_one, byte_of}
 use Rattle.dcc_regs.specs.Heard.{hears}
 use Rattle.dcc_regs.specs.States.{is_binary_state}
 use Rattle.dcc_regs.specs.Writes.{is_own_write}

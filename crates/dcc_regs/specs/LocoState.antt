@@ -1,7 +1,7 @@
 -- A locomotive decoder's state as plain data.
 use Rattle.std.specs.Prelude.{Bool, ◌&&◌, ◌==◌, nat_lt, ◌^◌, ◌%◌}
 use Rattle.dcc_regs.specs.declared.loco_state.LocoState.{LocoState}
-use Rattle.dcc_regs.specs.Bits.{is_one}
+use Rattle.dcc_packet.specs.Bits.{is_one}
 use Rattle.dcc_regs.specs.Loco.{LocoContent, cv_in, is_speed, is_pending_for}
 use Rattle.dcc_regs.specs.Addresses.{is_active}
 

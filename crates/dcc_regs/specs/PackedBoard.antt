@@ -1,7 +1,7 @@
 -- What the packed accessory decoder holds: bit n of one byte is output n, bit n of the other the side of pair n.
 use Rattle.std.specs.Prelude.{slice_index}
 use Rattle.dcc_regs.specs.declared.packed_board.PackedBoard.{PackedBoard}
-use Rattle.dcc_regs.specs.Bits.{is_one}
+use Rattle.dcc_packet.specs.Bits.{is_one}
 use Rattle.dcc_regs.specs.Board.{BoardContent}
 
 abbrev pub content : PackedBoard → BoardContent

@@ -6,7 +6,7 @@ use Rattle.dcc_packet.specs.declared.instruction.What.TheVariants.{Reset, Speed2
 use Rattle.dcc_packet.specs.declared.instruction.What.TheVariants.{CvWrite, CvVerify, CvBitWrite, CvBitVerify}
 use Rattle.dcc_packet.specs.declared.packet.Packet.{Packet}
 use Rattle.dcc_packet.specs.declared.packet.Packet.TheVariants.{Idle, Loco as ToLoco, Accessory, Signal, Other}
-use Rattle.dcc_regs.specs.Bits.{is_one}
+use Rattle.dcc_packet.specs.Bits.{is_one}
 
 -- an instruction that writes a CV or a bit of one
 abbrev pub is_cv_write : What → Bool

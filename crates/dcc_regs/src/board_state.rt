@@ -1,7 +1,7 @@
 //! An accessory decoder's state as plain data.
 
 ghost use Rattle.std.specs.Prelude.{◌≡◌, ℕ, ◌<◌, ◌≤◌, slice_index_or, false};
-ghost use Rattle.dcc_regs.specs.Bits.{is_one};
+ghost use Rattle.dcc_packet.specs.Bits.{is_one};
 
 use dcc_packet::Board;
 

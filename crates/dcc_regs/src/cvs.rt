@@ -2,7 +2,7 @@
 ghost use Rattle.std.specs.Prelude.{◌≡◌, ℕ, ◌<◌, ◌≤◌, ◌-◌, ◌==◌, ◌||◌, ◌&&◌, not, Bool, true, Some, None, unwrap_or};
 ghost use Rattle.std.specs.Prelude.{if◌then◌else◌};
 ghost use Rattle.dcc_regs.specs.Addresses.{active_address as address_at, is_active};
-ghost use Rattle.dcc_regs.specs.Bits.{is_one};
+ghost use Rattle.dcc_packet.specs.Bits.{is_one};
 ghost use Rattle.dcc_regs.specs.Loco.{cv_in, is_cv_bit};
 ghost use Rattle.dcc_regs.specs.Result.{is_effective, mode_of};
 ghost use Rattle.dcc_regs.specs.Writes.{bit_set, is_read_only};
@@ -10,7 +10,7 @@ ghost use Rattle.dcc_regs.specs.declared.register.Value.TheVariants.{Flag, Pendi
 
 use crate::register::SpeedMode;
 use crate::writes::is_repeated_write;
-use dcc_packet::{Address, BitPlace, CvNumber, Packet, What};
+use dcc_packet::{Address, CvNumber, Packet, What};
 
 /// CV1 to CV1024.
 #[derive(Clone, Copy)]
@@ -80,7 +80,7 @@ impl Cvs {
                 what: What::CvBitWrite { cv, place, one },
                 ..
             } => {
-                let value = with_bit(self.value(*cv), *place, *one);
+                let value = place.with_bit(self.value(*cv), *one);
                 self.put(*cv, value);
             }
             _ => {}
@@ -109,12 +109,4 @@ impl Cvs {
             self.bytes[number as usize - 1] = value;
         }
     }
-}
-
-/// A byte with one bit changed.
-fn with_bit(byte: u8, place: BitPlace, one: bool) -> u8
-    ensures { (k : ℕ) → k ≤ 7 → is_one result k ≡ (if k == place.place then one else is_one byte k) }
-{
-    let mask = 1 << place.place();
-    if one { byte | mask } else { byte & !mask }
 }

@@ -2,7 +2,7 @@
 
 ghost use Rattle.std.specs.Prelude.{◌≡◌, ℕ, ◌<◌, ◌≤◌, ◌^◌, ◌%◌, length, slice_index_or, false};
 ghost use Rattle.dcc_regs.specs.Addresses.{is_active as is_active_address};
-ghost use Rattle.dcc_regs.specs.Bits.{is_one};
+ghost use Rattle.dcc_packet.specs.Bits.{is_one};
 ghost use Rattle.dcc_regs.specs.Loco.{is_pending_for as is_pending_packet_for, is_speed as is_speed_in_range};
 
 use crate::heard::hears;

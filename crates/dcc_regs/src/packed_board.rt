@@ -1,7 +1,7 @@
 //! An accessory decoder with its outputs packed into one byte and the sides of its pairs into another.
 ghost use Rattle.std.specs.Prelude.{◌≡◌, ℕ, ◌<◌, ◌≤◌, ◌↔◌, unwrap_or, slice_index_or, false, true, nat_le, IsOk};
 ghost use Rattle.std.specs.Prelude.{IfOk, IfErr};
-ghost use Rattle.dcc_regs.specs.Bits.{is_one};
+ghost use Rattle.dcc_packet.specs.Bits.{is_one};
 ghost use Rattle.dcc_regs.specs.Outputs as table;
 
 use crate::board::{are_bytes, set_aspects};

@@ -2,7 +2,7 @@
 ghost use Rattle.std.specs.Prelude.{◌≡◌, ◌==◌, ℕ, ◌<◌, ◌≤◌, ◌⊎◌, Some, None, if◌then◌else◌, unwrap_or, true, ◌↔◌};
 ghost use Rattle.std.specs.Prelude.{IsOk, IfOk, IfErr};
 ghost use Rattle.dcc_regs.specs.Addresses.{is_active};
-ghost use Rattle.dcc_regs.specs.Bits.{is_one};
+ghost use Rattle.dcc_packet.specs.Bits.{is_one};
 ghost use Rattle.dcc_regs.specs.FunctionBits.{function_set as function_set_of};
 ghost use Rattle.dcc_regs.specs.Loco.{is_speed, is_pending_for};
 ghost use Rattle.dcc_regs.specs.States.{is_binary_state, state_set as state_set_of};

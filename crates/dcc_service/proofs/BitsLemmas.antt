@@ -5,17 +5,12 @@ use Rattle.std.specs.Prelude.{◌==◌}
 use Rattle.std.proofs.Math.Nat.{pow-suc}
 use Rattle.dcc_packet.specs.Rows.{bit}
 use Rattle.dcc_service.specs.Bits.{bits_of, number_of}
-use Rattle.dcc_service.proofs.BitLemmas.{weight_of}
+use Rattle.dcc_packet.proofs.BitLemmas.{shifted_one, bit_of_digit}
 
 pub length-bits_of : (n number : ℕ) → length (bits_of n number) ≡ n
 unfolding bits_of
 length-bits_of zero number = refl
 length-bits_of (suc n) number = ap suc (length-bits_of n (number / 2))
-
-lowest : (r : ℕ) → r < 2 → bit (r == 1) ≡ r
-lowest zero h = refl
-lowest (suc zero) h = refl
-lowest (suc (suc r)) h = absurd (omega arith)
 
 pub number_of-bits_of : (n number : ℕ) → number < 2 ^ n → number_of (bits_of n number) ≡ number
 unfolding bits_of number_of
@@ -23,7 +18,7 @@ number_of-bits_of zero number h = omega arith
 number_of-bits_of (suc n) number h =
     let double : 2 ^ suc n ≡ 2 * 2 ^ n = omega (arith, pow-suc 2 n) in
     let half : number / 2 < 2 ^ n = omega arith in
-    omega (arith, number_of-bits_of n (number / 2) half, lowest (number % 2) (omega arith))
+    omega (arith, number_of-bits_of n (number / 2) half, bit_of_digit (number % 2) (omega arith))
 
 doubled : (one : Bool) (n : ℕ) → bit one * 2 ^ suc n ≡ 2 * (bit one * 2 ^ n)
 doubled true n = omega (arith, pow-suc 2 n)
@@ -48,5 +43,5 @@ bits_of-more (suc n) number one h =
     ∙ ap (λ bits. (number % 2 == 1) ∷ bits) (bits_of-more n (number / 2) one half)
 
 pub byte_weight : (one : Bool) (k : ℕ) → k ≤ 7 → bit one * 2 ^ k % 256 ≡ bit one * 2 ^ k
-byte_weight true k h = omega (arith, weight_of k h)
+byte_weight true k h = omega (arith, shifted_one k h)
 byte_weight false k h = omega arith

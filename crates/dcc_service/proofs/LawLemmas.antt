@@ -6,17 +6,18 @@ use Rattle.std.proofs.lemmas.Bool.Decides.{nat_tests}
 use Rattle.std.specs.Int.{bit_at}
 use Rattle.std.proofs.lemmas.List.{get_or-set_same, get_or-set_other}
 use Rattle.std.proofs.lemmas.Nat.Bits.{bit_at-suc, bit_at_lowest}
+use Rattle.dcc_packet.specs.Bits.{with_bit}
 use Rattle.dcc_packet.specs.Rows.{bit}
 use Rattle.dcc_packet.specs.declared.cv.CvNumber.{CvNumber}
 use Rattle.dcc_service.specs.declared.packet.ServicePacket.TheVariants.{Write, Verify, BitWrite, BitVerify}
 use Rattle.dcc_service.specs.Bits.{number_of}
-use Rattle.dcc_service.specs.Cvs.{IsCvs, cv_value, is_writable, written, with_bit}
+use Rattle.dcc_service.specs.Cvs.{IsCvs, cv_value, is_writable, written}
 use Rattle.dcc_service.specs.Machine.{ServiceState}
 use Rattle.dcc_service.specs.Question.{four_no_then}
 use Rattle.dcc_service.specs.QuestionLaws.{QuestionsAreAnswered, VerifiesTell, BitVerifiesTell, WritesAreDone}
 use Rattle.dcc_service.specs.QuestionLaws.{BitWritesAreDone, KeptCvsStay, IsKept}
 use Rattle.dcc_packet.proofs.Same.{bit_below}
-use Rattle.dcc_service.proofs.BitLemmas.{bit_at-with_bit, bit_at-with_bit-other}
+use Rattle.dcc_packet.proofs.BitLemmas.{bit_at-with_bit, bit_at-with_bit-other}
 use Rattle.dcc_service.proofs.QuestionLemmas.{answers_of}
 
 pub questions_answered : QuestionsAreAnswered
@@ -86,8 +87,7 @@ bit_writes_done cv bits one before after answers other asked =
       known.1 ∙ ap four_no_then is_written,
       ap (λ (v : ℕ). bit_at v bits.place) has ∙ bit_at-with_bit (cv_value before.cvs cv) bits.place one bits.in_range,
       λ another h. ap (λ (v : ℕ). bit_at v another.place) has
-          ∙ bit_at-with_bit-other (cv_value before.cvs cv) bits.place another.place one bits.in_range another.in_range
-          h,
+          ∙ bit_at-with_bit-other (cv_value before.cvs cv) bits.place another.place one another.in_range h,
       λ another h. ap (λ (xs : List ℕ). cv_value xs another) cvs ∙ value-other before.cvs cv another value h,
     )
 

@@ -1,6 +1,5 @@
 pub mod OneSpelling
 pub mod FrameLemmas
-pub mod BitLemmas
 pub mod BitsLemmas
 pub mod StepLemmas
 pub mod QuestionLemmas

@@ -6,11 +6,12 @@ use Rattle.std.specs.List.{list_any}
 use Rattle.std.proofs.lemmas.List.{get_or-set_same, set-get_or}
 use Rattle.dcc_service.specs.declared.packet.ServicePacket.{ServicePacket}
 use Rattle.dcc_service.specs.declared.packet.ServicePacket.TheVariants.{Write, Verify, BitWrite, BitVerify}
-use Rattle.dcc_service.specs.Cvs.{is_writable, with_bit}
+use Rattle.dcc_service.specs.Cvs.{is_writable}
 use Rattle.dcc_service.specs.Machine.{ServiceState, Step, reset_bytes, acted_on, acknowledged}
 use Rattle.dcc_service.specs.Question.{question_bytes, Steps, after_question, four_no_then}
 use Rattle.dcc_service.specs.Table.{spelling}
-use Rattle.dcc_service.proofs.BitLemmas.{with_bit-kept, bit_at-with_bit}
+use Rattle.dcc_packet.specs.Bits.{with_bit}
+use Rattle.dcc_packet.proofs.BitLemmas.{with_bit-again}
 
 -- in service, with this packet pending or none
 abbrev waiting : Option ServicePacket → List ℕ → ServiceState
@@ -68,8 +69,7 @@ same_bit_again false cvs i k one h p = refl
 same_bit_again true cvs i k one h p =
     let value : ℕ = with_bit (get_or cvs i 0) k one in
     let e : get_or (set cvs i value) i 0 ≡ value = get_or-set_same cvs i value 0 h in
-    let kept : with_bit value k one ≡ value =
-    sym (with_bit-kept value k one p (bit_at-with_bit (get_or cvs i 0) k one p)) in
+    let kept : with_bit value k one ≡ value = with_bit-again (get_or cvs i 0) k one in
     ap (λ v. set (set cvs i value) i (with_bit v k one)) e ∙ ap (λ v. set (set cvs i value) i v) kept
     ∙ get_or-written cvs i value h
 

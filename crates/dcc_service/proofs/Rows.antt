@@ -5,7 +5,7 @@ use Rattle.dcc_packet.specs.declared.cv.BitPlace.{BitPlace}
 use Rattle.dcc_service.specs.declared.packet.ServicePacket.TheVariants.{Write, Verify, BitWrite, BitVerify}
 use Rattle.dcc_service.specs.Bits.{bits_of, number_of}
 use Rattle.dcc_service.specs.CvAnswers.{question_frame}
-use Rattle.dcc_service.specs.Cvs.{with_bit}
+use Rattle.dcc_packet.specs.Bits.{with_bit}
 use Rattle.dcc_service.specs.Machine.{reset_bytes, acted_on, acknowledged}
 use Rattle.dcc_service.specs.ReadingLaws.{true_answers}
 use Rattle.dcc_service.specs.Table.{spelling}

@@ -1,8 +1,6 @@
 -- The configuration variables (CVs) of a decoder.
-use Rattle.std.specs.Prelude.{◌≡◌, ℕ, ◌+◌, ◌-◌, ◌*◌, ◌^◌, ◌<◌, ◌==◌, ◌||◌, not, Bool, if◌then◌else◌, List, length}
+use Rattle.std.specs.Prelude.{◌≡◌, ℕ, ◌-◌, ◌<◌, ◌==◌, ◌||◌, not, Bool, if◌then◌else◌, List, length}
 use Rattle.std.specs.Prelude.{slice_index, slice_set}
-use Rattle.std.specs.Int.{bit_at}
-use Rattle.dcc_packet.specs.Rows.{bit}
 use Rattle.dcc_packet.specs.declared.cv.CvNumber.{CvNumber}
 
 -- CV1 to CV1024, each a byte
@@ -21,7 +19,3 @@ is_writable cv = not (cv.number == 7 || cv.number == 8)
 -- the CVs after a write of a value
 abbrev pub written : List ℕ → CvNumber → ℕ → List ℕ
 written cvs cv value = if is_writable cv then slice_set cvs (cv.number - 1) value else cvs
-
--- the byte with the bit at a place as given
-unfoldable pub with_bit : ℕ → ℕ → Bool → ℕ
-with_bit byte place one = byte - bit_at byte place * 2 ^ place + bit one * 2 ^ place

@@ -2,10 +2,11 @@
 use Rattle.std.specs.Prelude.{◌≡◌, ◌≢◌, ℕ, ◌==◌, Bool, true, false, Option, Some, None, List, [], ◌∷◌}
 use Rattle.std.specs.Int.{bit_at}
 use Rattle.dcc_wire.specs.Frames.{with_error_byte}
+use Rattle.dcc_packet.specs.Bits.{with_bit}
 use Rattle.dcc_packet.specs.Rows.{bit}
 use Rattle.dcc_service.specs.declared.packet.ServicePacket.{ServicePacket}
 use Rattle.dcc_service.specs.declared.packet.ServicePacket.TheVariants.{Write, Verify, BitWrite, BitVerify}
-use Rattle.dcc_service.specs.Cvs.{cv_value, is_writable, written, with_bit}
+use Rattle.dcc_service.specs.Cvs.{cv_value, is_writable, written}
 use Rattle.dcc_service.specs.Table.{spelling}
 
 -- what a decoder on the programming track has

@@ -4,7 +4,6 @@ ghost use Rattle.std.specs.Prelude.{◌≡◌, ◌↔◌, IsTrue};
 ghost use Rattle.dcc_service.specs.Machine.{reset_bytes};
 
 use crate::ServicePacket;
-use crate::bits::{is_set, with_bit};
 use crate::cvs::Cvs;
 use dcc_wire::Frame;
 use std::marker::Model;
@@ -115,11 +114,11 @@ impl ServiceDecoder {
             ServicePacket::Write { cv, value } => self.cvs.write(cv, *value),
             ServicePacket::Verify { cv, value } => self.cvs.value(cv) == *value,
             ServicePacket::BitWrite { cv, place, one } => {
-                let value = with_bit(self.cvs.value(cv), place, *one);
+                let value = place.with_bit(self.cvs.value(cv), *one);
                 self.cvs.write(cv, value)
             }
             ServicePacket::BitVerify { cv, place, one } => {
-                is_set(self.cvs.value(cv), place.place()) == *one
+                place.is_set(self.cvs.value(cv)) == *one
             }
         }
     }

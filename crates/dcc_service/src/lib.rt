@@ -3,7 +3,6 @@
 //! silence. Nothing here takes memory.
 #![tactic(auto)]
 
-mod bits;
 mod cvs;
 mod decoder;
 pub mod laws;

@@ -5,7 +5,6 @@ ghost use Rattle.dcc_service.specs.Table.{access_bytes, instruction_bytes, spell
 ghost use Rattle.dcc_service.specs.declared.packet.ServicePacket.{ServicePacket};
 
 use crate::ServicePacket;
-use crate::bits::is_set;
 use dcc_packet::{BitPlace, CvNumber};
 use dcc_wire::Frame;
 
@@ -43,7 +42,7 @@ fn bit_access(cv: CvNumber, last: u8) -> Option<ServicePacket>
     ensures none { IfNone result ((packet : ServicePacket) → instruction_bytes packet ≢ access_bytes 0x78 cv last) }
 {
     let place = place_of(last & 7);
-    let one = is_set(last, 3);
+    let one = place_of(3).is_set(last);
     match last & 0xF0 {
         0xF0 => Some(ServicePacket::BitWrite { cv, place, one }),
         0xE0 => Some(ServicePacket::BitVerify { cv, place, one }),

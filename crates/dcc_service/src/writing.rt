@@ -5,7 +5,6 @@ ghost use Rattle.dcc_wire.specs.Frames.{with_error_byte};
 ghost use Rattle.dcc_service.specs.Table.{access_bytes, spelling};
 
 use crate::ServicePacket;
-use crate::bits::bit_byte;
 use dcc_packet::CvNumber;
 use dcc_wire::Frame;
 
@@ -19,10 +18,10 @@ impl ServicePacket {
             ServicePacket::Write { cv, value } => access(0x7C, cv, *value),
             ServicePacket::Verify { cv, value } => access(0x74, cv, *value),
             ServicePacket::BitWrite { cv, place, one } => {
-                access(0x78, cv, bit_byte(place, *one) | 0xF0)
+                access(0x78, cv, place.access_bits(*one) | 0xF0)
             }
             ServicePacket::BitVerify { cv, place, one } => {
-                access(0x78, cv, bit_byte(place, *one) | 0xE0)
+                access(0x78, cv, place.access_bits(*one) | 0xE0)
             }
         }
     }

@@ -5,6 +5,7 @@ use crate::rows::{column, rows_hold};
 use dcc_packet::*;
 use dcc_wire::Frame;
 use std::alloc::Global;
+use std::process::Abort;
 use std::test::Fail;
 
 const LOCOMOTIVES: &str = "\
@@ -183,6 +184,36 @@ fn is_cv_access_or_not(row: &str) -> bool {
 #[test]
 fn cv_access_is_told_from_the_rest(rt: HostRuntime) {
     rows_hold(&rt, CV_ACCESS, is_cv_access_or_not);
+}
+
+/// A byte, a place, whether the bit is one there, the byte with a one there and with a zero there.
+const BITS: [(u8, u8, bool, u8, u8); 5] = [
+    (0b0000_0001, 0, true, 0b0000_0001, 0b0000_0000),
+    (0b0000_0001, 7, false, 0b1000_0001, 0b0000_0001),
+    (0b1111_1111, 7, true, 0b1111_1111, 0b0111_1111),
+    (0b1101_1111, 5, false, 0b1111_1111, 0b1101_1111),
+    (0b0000_1010, 3, true, 0b0000_1010, 0b0000_0010),
+];
+
+fn place(rt: &impl Abort, place: u8) -> BitPlace {
+    BitPlace::new(place).expect(rt, "a place")
+}
+
+#[test]
+fn bits_of_a_byte_from_the_lowest_up(rt: HostRuntime) {
+    for (byte, number, is_one, with_one, with_zero) in &BITS {
+        let place = place(&rt, *number);
+        assert_eq!(rt; place.is_set(*byte), *is_one, "{number}");
+        assert_eq!(rt; place.with_bit(*byte, true), *with_one, "{number}");
+        assert_eq!(rt; place.with_bit(*byte, false), *with_zero, "{number}");
+    }
+}
+
+#[test]
+fn an_access_to_bit_5_ends_in_its_state_and_5(rt: HostRuntime) {
+    let place = place(&rt, 5);
+    assert_eq!(rt; place.access_bits(true), 0b1101);
+    assert_eq!(rt; place.access_bits(false), 0b0101);
 }
 
 fn has_text(alloc: Global, fault: PacketFault, text: &str) -> Result<bool, Fail> {

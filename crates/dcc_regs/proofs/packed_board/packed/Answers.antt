@@ -1,5 +1,5 @@
 use Rattle.std.proofs.Common.{refl, arith, slice_index_or, false}
-use Rattle.dcc_regs.proofs.Bits.{shifted_one}
+use Rattle.dcc_packet.proofs.BitLemmas.{shifted_one}
 use Rattle.dcc_regs.proofs.Packing.{packed_more, zero_above}
 use Rattle.dcc_regs.proofs.packed_board.packed.Goals as goal
 

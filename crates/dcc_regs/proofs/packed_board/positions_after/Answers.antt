@@ -1,8 +1,8 @@
 use Rattle.std.proofs.Common.{◌≡◌, arith, unwrap_or}
 use Rattle.std.proofs.lemmas.Nat.Bits.{shr_and_one}
-use Rattle.dcc_regs.specs.Bits.{is_one}
+use Rattle.dcc_packet.specs.Bits.{is_one}
 use Rattle.dcc_regs.specs.Outputs.{position_set}
-use Rattle.dcc_regs.proofs.Bits.{shifted_one}
+use Rattle.dcc_packet.proofs.BitLemmas.{shifted_one}
 use Rattle.dcc_regs.proofs.Packing.{packed_more, zero_above}
 use Rattle.dcc_regs.proofs.packed_board.positions_after.Goals as goal
 

@@ -1,5 +1,5 @@
 use Rattle.std.proofs.Common.{◌≡◌, ℕ, ◌<◌, ◌≤◌, unwrap_or}
-use Rattle.dcc_regs.specs.Bits.{is_one}
+use Rattle.dcc_packet.specs.Bits.{is_one}
 use Rattle.dcc_regs.specs.FunctionBits.{function_set}
 use Rattle.dcc_regs.proofs.packed_loco.functions_after.Given as goal
 

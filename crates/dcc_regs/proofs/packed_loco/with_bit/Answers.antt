@@ -1,5 +1,5 @@
 use Rattle.std.proofs.Common.{arith}
-use Rattle.dcc_regs.proofs.Bits.{bit_put}
+use Rattle.dcc_packet.proofs.BitLemmas.{bit_put}
 use Rattle.dcc_regs.proofs.Packing.{shifted_one_128, turned_off}
 use Rattle.dcc_regs.proofs.packed_loco.with_bit.Goals as goal
 
