@@ -14,7 +14,8 @@ use Rattle.dcc_regs.specs.declared.register.Value.TheVariants.{Flag}
 use Rattle.dcc_packet.specs.Bits.{is_one}
 use Rattle.dcc_regs.specs.Addresses.{active_address}
 use Rattle.dcc_packet.proofs.BitLemmas.{byte_of_bits, same_byte}
-use Rattle.dcc_regs.specs.Loco.{LocoContent, loco_registers, is_cv_bit, holds_one, cv_of, started, powered_up, cv_in}
+use Rattle.dcc_packet.specs.Cvs.{cv_in}
+use Rattle.dcc_regs.specs.Loco.{LocoContent, loco_registers, is_cv_bit, holds_one, cv_of, started, powered_up}
 
 bit_there : (cv place : ℕ) → 1 ≤ cv → cv ≤ 1024 → place ≤ 7 → is_cv_bit cv place ≡ true
 bit_there cv place a b h = grind (arith, nat_tests)

@@ -1,5 +1,5 @@
 -- The registers of a locomotive decoder and their start values.
-use Rattle.std.specs.Prelude.{ℕ, Bool, true, false, ◌&&◌, nat_le, ◌-◌, Option, None, Some, List, slice_index}
+use Rattle.std.specs.Prelude.{ℕ, Bool, true, false, ◌&&◌, nat_le, Option, None, Some}
 use Rattle.std.specs.Prelude.{if◌then◌else◌}
 use Rattle.dcc_packet.specs.declared.address.Address.{Address}
 use Rattle.dcc_packet.specs.declared.instruction.What.{What}
@@ -50,10 +50,6 @@ loco_registers d PendingRegister = Some (PendingValue d.pending)
 loco_registers d (Out n) = None
 loco_registers d (Position n) = None
 loco_registers d (Aspect n) = None
-
--- the CV of a number in the list of all CVs, which begins at CV1
-abbrev pub cv_in : List ℕ → ℕ → ℕ
-cv_in cvs cv = slice_index cvs (cv - 1)
 
 -- a locomotive decoder just made or powered up: stopped, forward, all functions and binary states off, nothing pending
 abbrev pub started : (ℕ → ℕ) → LocoContent

@@ -1,7 +1,8 @@
 -- What the plain locomotive decoder holds.
 use Rattle.std.specs.Prelude.{false, slice_index_or}
 use Rattle.dcc_regs.specs.declared.loco.LocoDecoder.{LocoDecoder}
-use Rattle.dcc_regs.specs.Loco.{LocoContent, cv_in}
+use Rattle.dcc_packet.specs.Cvs.{cv_in}
+use Rattle.dcc_regs.specs.Loco.{LocoContent}
 
 abbrev pub content : LocoDecoder → LocoContent
 content d = record {

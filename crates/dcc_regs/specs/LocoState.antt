@@ -2,7 +2,8 @@
 use Rattle.std.specs.Prelude.{Bool, ◌&&◌, ◌==◌, nat_lt, ◌^◌, ◌%◌}
 use Rattle.dcc_regs.specs.declared.loco_state.LocoState.{LocoState}
 use Rattle.dcc_packet.specs.Bits.{is_one}
-use Rattle.dcc_regs.specs.Loco.{LocoContent, cv_in, is_speed, is_pending_for}
+use Rattle.dcc_packet.specs.Cvs.{cv_in}
+use Rattle.dcc_regs.specs.Loco.{LocoContent, is_speed, is_pending_for}
 use Rattle.dcc_regs.specs.Addresses.{is_active}
 
 -- a decoder can be in this state: its address is no broadcast, its speed step is in range, no function above 68 and no

@@ -1,5 +1,5 @@
 -- Writes of configuration variables on the main track (RCN-214).
-use Rattle.std.specs.Prelude.{ℕ, Bool, true, false, not, ◌&&◌, ◌||◌, ◌==◌, Option, None, Some, if◌then◌else◌}
+use Rattle.std.specs.Prelude.{ℕ, Bool, true, false, not, ◌&&◌, ◌==◌, Option, None, Some, if◌then◌else◌}
 use Rattle.dcc_packet.specs.declared.address.Address.TheVariants.{Broadcast, Short, Long}
 use Rattle.dcc_packet.specs.declared.instruction.What.{What}
 use Rattle.dcc_packet.specs.declared.instruction.What.TheVariants.{Reset, Speed28, Speed128, Functions, BinaryState}
@@ -7,6 +7,7 @@ use Rattle.dcc_packet.specs.declared.instruction.What.TheVariants.{CvWrite, CvVe
 use Rattle.dcc_packet.specs.declared.packet.Packet.{Packet}
 use Rattle.dcc_packet.specs.declared.packet.Packet.TheVariants.{Idle, Loco as ToLoco, Accessory, Signal, Other}
 use Rattle.dcc_packet.specs.Bits.{is_one}
+use Rattle.dcc_packet.specs.Cvs.{is_read_only}
 
 -- an instruction that writes a CV or a bit of one
 abbrev pub is_cv_write : What → Bool
@@ -29,10 +30,6 @@ is_own_write (Accessory board output on) = false
 is_own_write (Signal address aspect) = false
 is_own_write (Other frame) = false
 is_own_write Idle = false
-
--- CV7 and CV8, version and maker, are never changed
-abbrev pub is_read_only : ℕ → Bool
-is_read_only cv = cv == 7 || cv == 8
 
 -- the constant that an instruction sets bit k of CV n to, where it takes effect
 abbrev pub cv_bit_set : What → ℕ → ℕ → Option Bool

@@ -3,9 +3,10 @@ ghost use Rattle.std.specs.Prelude.{◌≡◌, ℕ, ◌<◌, ◌≤◌, ◌-◌,
 ghost use Rattle.std.specs.Prelude.{if◌then◌else◌};
 ghost use Rattle.dcc_regs.specs.Addresses.{active_address as address_at, is_active};
 ghost use Rattle.dcc_packet.specs.Bits.{is_one};
-ghost use Rattle.dcc_regs.specs.Loco.{cv_in, is_cv_bit};
+ghost use Rattle.dcc_packet.specs.Cvs.{cv_in, is_read_only};
+ghost use Rattle.dcc_regs.specs.Loco.{is_cv_bit};
 ghost use Rattle.dcc_regs.specs.Result.{is_effective, mode_of};
-ghost use Rattle.dcc_regs.specs.Writes.{bit_set, is_read_only};
+ghost use Rattle.dcc_regs.specs.Writes.{bit_set};
 ghost use Rattle.dcc_regs.specs.declared.register.Value.TheVariants.{Flag, Pending as PendingValue};
 
 use crate::register::SpeedMode;

@@ -35,7 +35,8 @@ pub struct LocoDecoder {
 
 impl LocoDecoder {
     ghost use Rattle.dcc_regs.specs.Addresses.{active_address};
-    ghost use Rattle.dcc_regs.specs.Loco.{cv_in, cv_of, loco_registers, powered_up, started};
+    ghost use Rattle.dcc_packet.specs.Cvs.{cv_in};
+    ghost use Rattle.dcc_regs.specs.Loco.{cv_of, loco_registers, powered_up, started};
     ghost use Rattle.dcc_regs.specs.LocoState.{is_state, content as content_of};
     ghost use Rattle.dcc_regs.specs.declared.register.Who.TheVariants.{Loco as LocoWho};
 

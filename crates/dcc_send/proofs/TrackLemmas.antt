@@ -12,7 +12,8 @@ use Rattle.dcc_service.specs.declared.reader.Reading.{Reading}
 use Rattle.dcc_service.specs.declared.reader.Reading.TheVariants.{More, Value, NoAnswer}
 use Rattle.dcc_service.specs.Bits.{bits_of, number_of}
 use Rattle.dcc_service.specs.CvAnswers.{CvAnswers, Asks, question_frame}
-use Rattle.dcc_service.specs.Cvs.{IsCvs, cv_value}
+use Rattle.dcc_packet.specs.Cvs.{cv_in}
+use Rattle.dcc_service.specs.Cvs.{IsCvs}
 use Rattle.dcc_service.specs.Machine.{ServiceState, acknowledged}
 use Rattle.dcc_service.specs.Question.{after_question}
 use Rattle.dcc_service.specs.ReadingLaws.{AreFirstOf}
@@ -157,8 +158,8 @@ outcome : (track : Option (List ℕ)) (cv : CvNumber) (told : Option ℕ) → If
     → Comes cv (answers_on track cv) (reading_of told) → told ≡ value_on track cv
 outcome None cv told ok comes = reading_of-exact told None (silence_is_no_answer cv (reading_of told) comes)
 outcome (Some cvs) cv told ok comes =
-    reading_of-exact told (Some (cv_value cvs cv))
-    (truth_is_the_value cv (cv_value cvs cv) (reading_of told) (ok.bytes (cv.number - 1)) comes)
+    reading_of-exact told (Some (cv_in cvs cv.number))
+    (truth_is_the_value cv (cv_in cvs cv.number) (reading_of told) (ok.bytes (cv.number - 1)) comes)
 
 -- a reading that has come to its end has nine answers
 nine_answers : (cv : CvNumber) (answers : List Bool) (told : Option ℕ) → Comes cv answers (reading_of told)
@@ -245,18 +246,19 @@ pub asked_last : (so_far : CvAnswers) (question : ServicePacket) (before now new
     → AreFirstOf (so_far.answers ++ answer ∷ []) (answers_on (Some before.cvs) cv)
     → Comes so_far.cv (so_far.answers ++ answer ∷ []) (reading_of told) → new ≡ after_reading before cv
 asked_last so_far question before now new cv answer None asks same_cv ok same is first comes =
-    let clash : None ≡ Some (cv_value before.cvs cv) = told_value (Some before.cvs) cv so_far answer None ok same_cv first comes in
+    let clash : None ≡ Some (cv_in before.cvs cv.number) =
+    told_value (Some before.cvs) cv so_far answer None ok same_cv first comes in
     absurd (cc)
 asked_last so_far question before now new cv answer (Some value) asks same_cv ok same is first comes =
-    let told : Some value ≡ Some (cv_value before.cvs cv) =
+    let told : Some value ≡ Some (cv_in before.cvs cv.number) =
     told_value (Some before.cvs) cv so_far answer (Some value) ok same_cv first comes in
-    let exact : value ≡ cv_value before.cvs cv = cc in
+    let exact : value ≡ cv_in before.cvs cv.number = cc in
     let parts = eight_before so_far.answers comes.0 answer true comes.1 comes.2 in
     let byte : question ≡ Verify cv value =
     byte_asked so_far question cv value asks same_cv parts.0 (comes.3 ∙ ap number_of parts.1) in
     is ∙ ap (λ q. after_question now q) (byte ∙ ap (λ (v : ℕ). Verify cv v) exact)
     ∙ ap (λ (cvs : List ℕ). record
-    { in_service = true; pending = Some (Verify cv (cv_value before.cvs cv)); cvs = cvs }) same
+    { in_service = true; pending = Some (Verify cv (cv_in before.cvs cv.number)); cvs = cvs }) same
 
 -- a fact that holds holds of an answer Ok too
 pub on_ok : (result : Result (Option ℕ) ToolFault) (P : Type 0) → P → OnOk result P

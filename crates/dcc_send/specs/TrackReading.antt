@@ -6,7 +6,7 @@ use Rattle.hex.specs.Hex.{encode_lower}
 use Rattle.dcc_packet.specs.declared.cv.CvNumber.{CvNumber}
 use Rattle.dcc_service.specs.CvAnswers.{CvAnswers, question_frame}
 use Rattle.dcc_service.specs.declared.packet.ServicePacket.TheVariants.{Verify}
-use Rattle.dcc_service.specs.Cvs.{cv_value}
+use Rattle.dcc_packet.specs.Cvs.{cv_in}
 use Rattle.dcc_service.specs.Machine.{ServiceState}
 use Rattle.dcc_service.specs.ReadingLaws.{true_answers}
 use Rattle.dcc_io.specs.declared.fault.ToolFault.{ToolFault}
@@ -17,12 +17,12 @@ use Rattle.dcc_io.specs.Written.{AppendsFront}
 -- the value of a CV on a track that has a decoder with these CVs, or none
 abbrev pub value_on : Option (List ℕ) → CvNumber → Option ℕ
 value_on None cv = None
-value_on (Some cvs) cv = Some (cv_value cvs cv)
+value_on (Some cvs) cv = Some (cv_in cvs cv.number)
 
 -- the answers to the nine questions: of a decoder the bits of its value and yes, of an empty track nine times no
 abbrev pub answers_on : Option (List ℕ) → CvNumber → List Bool
 answers_on None cv = replicate 9 false
-answers_on (Some cvs) cv = true_answers (cv_value cvs cv)
+answers_on (Some cvs) cv = true_answers (cv_in cvs cv.number)
 
 abbrev pub answer_text : Bool → List ℕ
 answer_text true = codes " yes\n"
@@ -58,7 +58,7 @@ reading_text track cv = answered_lines (unasked cv) (answers_on track cv) ++ val
 -- a decoder behind the ninth question about a CV, which it has acknowledged and which is still pending
 abbrev pub after_reading : ServiceState → CvNumber → ServiceState
 after_reading before cv =
-    record { in_service = true; pending = Some (Verify cv (cv_value before.cvs cv)); cvs = before.cvs }
+    record { in_service = true; pending = Some (Verify cv (cv_in before.cvs cv.number)); cvs = before.cvs }
 
 -- The value is told and all of the text is written, or a front of it where a write failed or took no byte.
 abbrev pub ReadsCv : Option (List ℕ) → CvNumber → Option (List ℕ) → ℕ → Result (Option ℕ) ToolFault → Option (List ℕ)

@@ -1,8 +1,7 @@
 -- What the questions of each kind come to, and the bits of a number.
 use Rattle.std.proofs.Common.{◌≡◌, ◌≢◌, ℕ, zero, suc, ◌+◌, ◌-◌, ◌*◌, ◌/◌, Bool, true, false, List, [], ◌∷◌, get_or}
-use Rattle.std.proofs.Common.{set, cond, Some, refl, ap, ◌∙◌, arith, inl, inr}
-use Rattle.std.specs.Prelude.{slice_get, ◌==◌, ◌||◌, not}
-use Rattle.std.proofs.lemmas.Bool.Decides.{nat_tests}
+use Rattle.std.proofs.Common.{set, cond, Some, refl, ap, ◌∙◌, arith}
+use Rattle.std.specs.Prelude.{slice_get, not}
 use Rattle.std.specs.Int.{bit_at}
 use Rattle.std.proofs.lemmas.List.{get_or-set_same, get_or-set_other}
 use Rattle.std.proofs.lemmas.Nat.Bits.{bit_at-suc, bit_at_lowest}
@@ -11,11 +10,12 @@ use Rattle.dcc_packet.specs.Rows.{bit}
 use Rattle.dcc_packet.specs.declared.cv.CvNumber.{CvNumber}
 use Rattle.dcc_service.specs.declared.packet.ServicePacket.TheVariants.{Write, Verify, BitWrite, BitVerify}
 use Rattle.dcc_service.specs.Bits.{number_of}
-use Rattle.dcc_service.specs.Cvs.{IsCvs, cv_value, is_writable, written}
+use Rattle.dcc_packet.specs.Cvs.{cv_in}
+use Rattle.dcc_service.specs.Cvs.{IsCvs, is_writable, written}
 use Rattle.dcc_service.specs.Machine.{ServiceState}
 use Rattle.dcc_service.specs.Question.{four_no_then}
 use Rattle.dcc_service.specs.QuestionLaws.{QuestionsAreAnswered, VerifiesTell, BitVerifiesTell, WritesAreDone}
-use Rattle.dcc_service.specs.QuestionLaws.{BitWritesAreDone, KeptCvsStay, IsKept}
+use Rattle.dcc_service.specs.QuestionLaws.{BitWritesAreDone, KeptCvsStay}
 use Rattle.dcc_packet.proofs.Same.{bit_below}
 use Rattle.dcc_packet.proofs.BitLemmas.{bit_at-with_bit, bit_at-with_bit-other}
 use Rattle.dcc_service.proofs.QuestionLemmas.{answers_of}
@@ -34,20 +34,8 @@ bit_verifies_tell cv bits one before after answers asked =
     let known = questions_answered (BitVerify cv bits one) before after answers asked in
     (known.1, ap (λ (s : ServiceState). s.cvs) known.0)
 
--- every other CV is written
-writable : (cv : CvNumber) → ¬ (IsKept cv) → is_writable cv ≡ true
-writable cv other =
-    let not_7 : cv.number ≢ 7 = λ e. other (inl e) in
-    let not_8 : cv.number ≢ 8 = λ e. other (inr e) in
-    grind (arith, nat_tests)
-
--- CV7 and CV8 are not
-kept : (cv : CvNumber) → IsKept cv → is_writable cv ≡ false
-kept cv (inl seven) = ap (λ (n : ℕ). not (n == 7 || n == 8)) seven
-kept cv (inr eight) = ap (λ (n : ℕ). not (n == 7 || n == 8)) eight
-
 value-written : (cvs : List ℕ) (cv : CvNumber) (value : ℕ) → IsCvs cvs → is_writable cv ≡ true
-    → cv_value (written cvs cv value) cv ≡ value
+    → cv_in (written cvs cv value) cv.number ≡ value
 value-written cvs cv value ok is_written =
     ap (λ (w : Bool). get_or (cond w (set cvs (cv.number - 1) value) cvs) (cv.number - 1) 0) is_written
     ∙ get_or-set_same cvs (cv.number - 1) value 0 (omega (arith, ok.count, cv.in_range))
@@ -58,7 +46,7 @@ other_kept true cvs i j value h = get_or-set_other cvs i j value 0 h
 other_kept false cvs i j value h = refl
 
 value-other : (cvs : List ℕ) (cv other : CvNumber) (value : ℕ) → other.number ≢ cv.number
-    → cv_value (written cvs cv value) other ≡ cv_value cvs other
+    → cv_in (written cvs cv value) other.number ≡ cv_in cvs other.number
 value-other cvs cv other value h =
     other_kept (is_writable cv) cvs (cv.number - 1) (other.number - 1) value
     (λ e. h (omega (arith, cv.in_range, other.in_range)))
@@ -68,42 +56,43 @@ unwritten cvs cv value isnt = ap (λ (w : Bool). cond w (set cvs (cv.number - 1)
 
 pub writes_done : WritesAreDone
 writes_done cv value before after answers other asked =
-    let is_written = writable cv other in
+    let is_written = ap not other in
     let known = questions_answered (Write cv value) before after answers asked in
     let cvs : after.cvs ≡ written before.cvs cv value = ap (λ (s : ServiceState). s.cvs) known.0 in (
       known.1 ∙ ap four_no_then is_written,
-      ap (λ (xs : List ℕ). cv_value xs cv) cvs ∙ value-written before.cvs cv value asked.cvs is_written,
-      λ another h. ap (λ (xs : List ℕ). cv_value xs another) cvs ∙ value-other before.cvs cv another value h,
+      ap (λ (xs : List ℕ). cv_in xs cv.number) cvs ∙ value-written before.cvs cv value asked.cvs is_written,
+      λ another h. ap (λ (xs : List ℕ). cv_in xs another.number) cvs ∙ value-other before.cvs cv another value h,
     )
 
 pub bit_writes_done : BitWritesAreDone
 bit_writes_done cv bits one before after answers other asked =
-    let is_written = writable cv other in
-    let value : ℕ = with_bit (cv_value before.cvs cv) bits.place one in
+    let is_written = ap not other in
+    let value : ℕ = with_bit (cv_in before.cvs cv.number) bits.place one in
     let known = questions_answered (BitWrite cv bits one) before after answers asked in
     let cvs : after.cvs ≡ written before.cvs cv value = ap (λ (s : ServiceState). s.cvs) known.0 in
-    let has : cv_value after.cvs cv ≡ value =
-    ap (λ (xs : List ℕ). cv_value xs cv) cvs ∙ value-written before.cvs cv value asked.cvs is_written in (
+    let has : cv_in after.cvs cv.number ≡ value =
+    ap (λ (xs : List ℕ). cv_in xs cv.number) cvs ∙ value-written before.cvs cv value asked.cvs is_written in (
       known.1 ∙ ap four_no_then is_written,
-      ap (λ (v : ℕ). bit_at v bits.place) has ∙ bit_at-with_bit (cv_value before.cvs cv) bits.place one bits.in_range,
+      ap (λ (v : ℕ). bit_at v bits.place) has
+          ∙ bit_at-with_bit (cv_in before.cvs cv.number) bits.place one bits.in_range,
       λ another h. ap (λ (v : ℕ). bit_at v another.place) has
-          ∙ bit_at-with_bit-other (cv_value before.cvs cv) bits.place another.place one another.in_range h,
-      λ another h. ap (λ (xs : List ℕ). cv_value xs another) cvs ∙ value-other before.cvs cv another value h,
+          ∙ bit_at-with_bit-other (cv_in before.cvs cv.number) bits.place another.place one another.in_range h,
+      λ another h. ap (λ (xs : List ℕ). cv_in xs another.number) cvs ∙ value-other before.cvs cv another value h,
     )
 
 pub kept_stay : KeptCvsStay
 kept_stay cv is = (
   λ value before after answers asked.
       let known = questions_answered (Write cv value) before after answers asked in (
-        known.1 ∙ ap four_no_then (kept cv is),
+        known.1 ∙ ap four_no_then (ap not is),
         ap (λ (s : ServiceState). s.cvs) known.0
-            ∙ unwritten before.cvs cv value (kept cv is),
+            ∙ unwritten before.cvs cv value (ap not is),
       ),
   λ bits one before after answers asked.
       let known = questions_answered (BitWrite cv bits one) before after answers asked in (
-        known.1 ∙ ap four_no_then (kept cv is),
+        known.1 ∙ ap four_no_then (ap not is),
         ap (λ (s : ServiceState). s.cvs) known.0
-            ∙ unwritten before.cvs cv (with_bit (cv_value before.cvs cv) bits.place one) (kept cv is),
+            ∙ unwritten before.cvs cv (with_bit (cv_in before.cvs cv.number) bits.place one) (ap not is),
       ),
 )
 

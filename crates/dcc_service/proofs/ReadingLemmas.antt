@@ -14,7 +14,8 @@ use Rattle.dcc_service.specs.declared.reader.Reading.{Reading}
 use Rattle.dcc_service.specs.declared.reader.Reading.TheVariants.{More, Value, NoAnswer}
 use Rattle.dcc_service.specs.Bits.{bits_of, number_of}
 use Rattle.dcc_service.specs.CvAnswers.{CvAnswers, Asks, question_frame}
-use Rattle.dcc_service.specs.Cvs.{IsCvs, cv_value}
+use Rattle.dcc_packet.specs.Cvs.{cv_in}
+use Rattle.dcc_service.specs.Cvs.{IsCvs}
 use Rattle.dcc_service.specs.Machine.{acknowledged, acted_on}
 use Rattle.dcc_service.specs.ReadingLaws.{true_answers, AreFirstOf}
 use Rattle.dcc_service.specs.Readings.{Comes}
@@ -68,18 +69,18 @@ itself n = search rules
 -- the answer about a bit
 bit_answer : (so_far : CvAnswers) (cv : CvNumber) (place number : ℕ) (one : Bool) (cvs : List ℕ) → cv ≡ so_far.cv
     → place ≡ number → one ≡ true
-    → (bit_at (cv_value cvs cv) place == bit one) ≡ (bit_at (cv_value cvs so_far.cv) number == 1)
+    → (bit_at (cv_in cvs cv.number) place == bit one) ≡ (bit_at (cv_in cvs so_far.cv.number) number == 1)
 bit_answer so_far cv place number one cvs same_cv same_place is_one =
-    ap (λ c. bit_at (cv_value cvs c) place == bit one) same_cv
-    ∙ ap (λ (k : ℕ). bit_at (cv_value cvs so_far.cv) k == bit one) same_place
-    ∙ ap (λ (b : Bool). bit_at (cv_value cvs so_far.cv) number == bit b) is_one
+    ap (λ c. bit_at (cv_in cvs c.number) place == bit one) same_cv
+    ∙ ap (λ (k : ℕ). bit_at (cv_in cvs so_far.cv.number) k == bit one) same_place
+    ∙ ap (λ (b : Bool). bit_at (cv_in cvs so_far.cv.number) number == bit b) is_one
 
 -- the answer about the byte
 byte_answer : (so_far : CvAnswers) (cv : CvNumber) (value : ℕ) (cvs : List ℕ) → cv ≡ so_far.cv
-    → value ≡ cv_value cvs so_far.cv → (cv_value cvs cv == value) ≡ true
+    → value ≡ cv_in cvs so_far.cv.number → (cv_in cvs cv.number == value) ≡ true
 byte_answer so_far cv value cvs same_cv is =
-    ap (λ c. cv_value cvs c == value) same_cv ∙ ap (λ (v : ℕ). cv_value cvs so_far.cv == v) is
-    ∙ itself (cv_value cvs so_far.cv)
+    ap (λ c. cv_in cvs c.number == value) same_cv ∙ ap (λ (v : ℕ). cv_in cvs so_far.cv.number == v) is
+    ∙ itself (cv_in cvs so_far.cv.number)
 
 -- so many true answers and one more
 more_bits : (answers : List Bool) (answer : Bool) (value : ℕ) → length answers < 8
@@ -114,18 +115,18 @@ eight_bits answers value all so_far byte =
 
 -- behind true answers, a decoder's answer is the next one
 pub next_is_true : (so_far : CvAnswers) (question : ServicePacket) (cvs : List ℕ) → IsCvs cvs → Asks so_far question
-    → AreFirstOf so_far.answers (true_answers (cv_value cvs so_far.cv))
-    → AreFirstOf (so_far.answers ++ acknowledged question cvs ∷ []) (true_answers (cv_value cvs so_far.cv))
+    → AreFirstOf so_far.answers (true_answers (cv_in cvs so_far.cv.number))
+    → AreFirstOf (so_far.answers ++ acknowledged question cvs ∷ []) (true_answers (cv_in cvs so_far.cv.number))
 next_is_true so_far (Write cv value) cvs ok asks first = absurd asks
 next_is_true so_far (BitWrite cv bits one) cvs ok asks first = absurd asks
 next_is_true so_far (BitVerify cv bits one) cvs ok asks first =
-    more_bits so_far.answers _ (cv_value cvs so_far.cv) (omega (arith, asks.1, bits.in_range)) first
+    more_bits so_far.answers _ (cv_in cvs so_far.cv.number) (omega (arith, asks.1, bits.in_range)) first
     (bit_answer so_far cv bits.place (length so_far.answers) one cvs asks.0 asks.1 asks.2)
 next_is_true so_far (Verify cv value) cvs ok asks first =
-    let is : value ≡ cv_value cvs so_far.cv =
-    asks.2 ∙ eight_bits so_far.answers (cv_value cvs so_far.cv) asks.1 first (ok.bytes (so_far.cv.number - 1))
+    let is : value ≡ cv_in cvs so_far.cv.number =
+    asks.2 ∙ eight_bits so_far.answers (cv_in cvs so_far.cv.number) asks.1 first (ok.bytes (so_far.cv.number - 1))
     in
-    all_answers so_far.answers _ (cv_value cvs so_far.cv) asks.1 first (byte_answer so_far cv value cvs asks.0 is)
+    all_answers so_far.answers _ (cv_in cvs so_far.cv.number) asks.1 first (byte_answer so_far cv value cvs asks.0 is)
 
 -- the true answers come to the value
 pub truth_is_the_value : (cv : CvNumber) (value : ℕ) (reading : Reading) → value < 256

@@ -1,6 +1,7 @@
 -- The configuration variables (CVs) of a decoder.
-use Rattle.std.specs.Prelude.{◌≡◌, ℕ, ◌-◌, ◌<◌, ◌==◌, ◌||◌, not, Bool, if◌then◌else◌, List, length}
+use Rattle.std.specs.Prelude.{◌≡◌, ℕ, ◌-◌, ◌<◌, not, Bool, if◌then◌else◌, List, length}
 use Rattle.std.specs.Prelude.{slice_index, slice_set}
+use Rattle.dcc_packet.specs.Cvs.{is_read_only}
 use Rattle.dcc_packet.specs.declared.cv.CvNumber.{CvNumber}
 
 -- CV1 to CV1024, each a byte
@@ -8,13 +9,9 @@ pub record IsCvs (cvs : List ℕ) : Type 0 where
   pub count : length cvs ≡ 1024
   pub bytes : (i : ℕ) → slice_index cvs i < 256
 
--- the value of a CV
-abbrev pub cv_value : List ℕ → CvNumber → ℕ
-cv_value cvs cv = slice_index cvs (cv.number - 1)
-
--- CV7 and CV8, which tell version and maker, are never changed
+-- all but CV7 and CV8 are written
 abbrev pub is_writable : CvNumber → Bool
-is_writable cv = not (cv.number == 7 || cv.number == 8)
+is_writable cv = not (is_read_only cv.number)
 
 -- the CVs after a write of a value
 abbrev pub written : List ℕ → CvNumber → ℕ → List ℕ

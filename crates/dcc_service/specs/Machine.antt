@@ -6,7 +6,8 @@ use Rattle.dcc_packet.specs.Bits.{with_bit}
 use Rattle.dcc_packet.specs.Rows.{bit}
 use Rattle.dcc_service.specs.declared.packet.ServicePacket.{ServicePacket}
 use Rattle.dcc_service.specs.declared.packet.ServicePacket.TheVariants.{Write, Verify, BitWrite, BitVerify}
-use Rattle.dcc_service.specs.Cvs.{cv_value, is_writable, written}
+use Rattle.dcc_packet.specs.Cvs.{cv_in}
+use Rattle.dcc_service.specs.Cvs.{is_writable, written}
 use Rattle.dcc_service.specs.Table.{spelling}
 
 -- what a decoder on the programming track has
@@ -23,15 +24,15 @@ reset_bytes = with_error_byte (0 ∷ 0 ∷ [])
 abbrev pub acted_on : ServicePacket → List ℕ → List ℕ
 acted_on (Write cv value) cvs = written cvs cv value
 acted_on (Verify cv value) cvs = cvs
-acted_on (BitWrite cv bits one) cvs = written cvs cv (with_bit (cv_value cvs cv) bits.place one)
+acted_on (BitWrite cv bits one) cvs = written cvs cv (with_bit (cv_in cvs cv.number) bits.place one)
 acted_on (BitVerify cv bits one) cvs = cvs
 
 -- whether it is acknowledged then: a write that was done, a verify that is true
 abbrev pub acknowledged : ServicePacket → List ℕ → Bool
 acknowledged (Write cv value) cvs = is_writable cv
-acknowledged (Verify cv value) cvs = cv_value cvs cv == value
+acknowledged (Verify cv value) cvs = cv_in cvs cv.number == value
 acknowledged (BitWrite cv bits one) cvs = is_writable cv
-acknowledged (BitVerify cv bits one) cvs = bit_at (cv_value cvs cv) bits.place == bit one
+acknowledged (BitVerify cv bits one) cvs = bit_at (cv_in cvs cv.number) bits.place == bit one
 
 -- A frame takes a decoder from one state to the next, with or without an acknowledgement.
 pub record Step (before : ServiceState) (frame : List ℕ) (after : ServiceState) (answer : Bool) : Type 0 where

@@ -1,12 +1,13 @@
 -- What the frames of a question come to, from any state of a decoder.
-use Rattle.std.specs.Prelude.{◌≡◌, ◌≢◌, ◌⊎◌, ℕ, ◌==◌, Bool, true, false, List, replicate}
+use Rattle.std.specs.Prelude.{◌≡◌, ◌≢◌, ℕ, ◌==◌, Bool, true, false, List, replicate}
 use Rattle.std.specs.Int.{bit_at}
 use Rattle.dcc_packet.specs.Rows.{bit}
 use Rattle.dcc_packet.specs.declared.cv.CvNumber.{CvNumber}
 use Rattle.dcc_packet.specs.declared.cv.BitPlace.{BitPlace}
 use Rattle.dcc_service.specs.declared.packet.ServicePacket.{ServicePacket}
 use Rattle.dcc_service.specs.declared.packet.ServicePacket.TheVariants.{Write, Verify, BitWrite, BitVerify}
-use Rattle.dcc_service.specs.Cvs.{IsCvs, cv_value}
+use Rattle.dcc_packet.specs.Cvs.{cv_in, is_read_only}
+use Rattle.dcc_service.specs.Cvs.{IsCvs}
 use Rattle.dcc_service.specs.Machine.{ServiceState, Step, acknowledged}
 use Rattle.dcc_service.specs.Question.{Steps, question_bytes, after_question, four_no_then}
 
@@ -34,22 +35,18 @@ abbrev pub VerifiesTell : Type 0
 VerifiesTell =
     (cv : CvNumber) (value : ℕ) (before after : ServiceState) (answers : List Bool)
     → IsAsked (Verify cv value) before after answers
-    → (answers ≡ four_no_then (cv_value before.cvs cv == value)) × (after.cvs ≡ before.cvs)
+    → (answers ≡ four_no_then (cv_in before.cvs cv.number == value)) × (after.cvs ≡ before.cvs)
 
 -- of a verify of a bit: whether the bit of the CV is as asked, and every CV stays
 abbrev pub BitVerifiesTell : Type 0
 BitVerifiesTell = (cv : CvNumber) (bits : BitPlace) (one : Bool) (before after : ServiceState) (answers : List Bool)
     → IsAsked (BitVerify cv bits one) before after answers
-    → (answers ≡ four_no_then (bit_at (cv_value before.cvs cv) bits.place == bit one)) × (after.cvs ≡ before.cvs)
-
--- CV7 and CV8
-abbrev pub IsKept : CvNumber → Type 0
-IsKept cv = (cv.number ≡ 7) ⊎ (cv.number ≡ 8)
+    → (answers ≡ four_no_then (bit_at (cv_in before.cvs cv.number) bits.place == bit one)) × (after.cvs ≡ before.cvs)
 
 -- the other CVs have the values that they had
 abbrev pub OtherCvsStay : CvNumber → List ℕ → List ℕ → Type 0
 OtherCvsStay cv before after =
-    (other : CvNumber) → other.number ≢ cv.number → cv_value after other ≡ cv_value before other
+    (other : CvNumber) → other.number ≢ cv.number → cv_in after other.number ≡ cv_in before other.number
 
 -- the other bits of a byte are as they were
 abbrev pub OtherBitsStay : BitPlace → ℕ → ℕ → Type 0
@@ -59,17 +56,18 @@ OtherBitsStay bits before after =
 -- of a write to another CV: yes, and the CV has the value
 abbrev pub WritesAreDone : Type 0
 WritesAreDone =
-    (cv : CvNumber) (value : ℕ) (before after : ServiceState) (answers : List Bool) → ¬ (IsKept cv)
+    (cv : CvNumber) (value : ℕ) (before after : ServiceState) (answers : List Bool) → is_read_only cv.number ≡ false
     → IsAsked (Write cv value) before after answers
-    → (answers ≡ four_no_then true) × (cv_value after.cvs cv ≡ value) × OtherCvsStay cv before.cvs after.cvs
+    → (answers ≡ four_no_then true) × (cv_in after.cvs cv.number ≡ value) × OtherCvsStay cv before.cvs after.cvs
 
 -- of a write to a bit of another CV: yes, and the bit is as written
 abbrev pub BitWritesAreDone : Type 0
 BitWritesAreDone =
-    (cv : CvNumber) (bits : BitPlace) (one : Bool) (before after : ServiceState) (answers : List Bool) → ¬ (IsKept cv)
+    (cv : CvNumber) (bits : BitPlace) (one : Bool) (before after : ServiceState) (answers : List Bool)
+    → is_read_only cv.number ≡ false
     → IsAsked (BitWrite cv bits one) before after answers
-    → (answers ≡ four_no_then true) × (bit_at (cv_value after.cvs cv) bits.place ≡ bit one)
-    × OtherBitsStay bits (cv_value before.cvs cv) (cv_value after.cvs cv) × OtherCvsStay cv before.cvs after.cvs
+    → (answers ≡ four_no_then true) × (bit_at (cv_in after.cvs cv.number) bits.place ≡ bit one)
+    × OtherBitsStay bits (cv_in before.cvs cv.number) (cv_in after.cvs cv.number) × OtherCvsStay cv before.cvs after.cvs
 
 -- of a write to CV7 or CV8, or to a bit of them: eight times no, and every CV stays
 abbrev pub Refuses : ServicePacket → Type 0
@@ -78,5 +76,5 @@ Refuses question = (before after : ServiceState) (answers : List Bool) → IsAsk
 
 abbrev pub KeptCvsStay : Type 0
 KeptCvsStay =
-    (cv : CvNumber) → IsKept cv
+    (cv : CvNumber) → is_read_only cv.number ≡ true
     → ((value : ℕ) → Refuses (Write cv value)) × ((bits : BitPlace) (one : Bool) → Refuses (BitWrite cv bits one))

@@ -8,7 +8,8 @@ use Rattle.dcc_service.specs.declared.packet.ServicePacket.{ServicePacket}
 use Rattle.dcc_service.specs.declared.reader.Reading.{Reading}
 use Rattle.dcc_service.specs.declared.reader.Reading.TheVariants.{Value, NoAnswer}
 use Rattle.dcc_service.specs.Bits.{bits_of, number_of}
-use Rattle.dcc_service.specs.Cvs.{IsCvs, cv_value}
+use Rattle.dcc_packet.specs.Cvs.{cv_in}
+use Rattle.dcc_service.specs.Cvs.{IsCvs}
 use Rattle.dcc_service.specs.CvAnswers.{CvAnswers, Asks, question_frame}
 use Rattle.dcc_service.specs.Machine.{acknowledged, acted_on}
 use Rattle.dcc_service.specs.Readings.{Comes}
@@ -25,8 +26,8 @@ AreFirstOf answers all = answers ≡ take (length answers) all
 -- behind true answers, whether a decoder acknowledges the question is the next true answer
 abbrev pub DecodersTellTheTruth : Type 0
 DecodersTellTheTruth = (so_far : CvAnswers) (question : ServicePacket) (cvs : List ℕ) → IsCvs cvs → Asks so_far question
-    → AreFirstOf so_far.answers (true_answers (cv_value cvs so_far.cv))
-    → AreFirstOf (so_far.answers ++ acknowledged question cvs ∷ []) (true_answers (cv_value cvs so_far.cv))
+    → AreFirstOf so_far.answers (true_answers (cv_in cvs so_far.cv.number))
+    → AreFirstOf (so_far.answers ++ acknowledged question cvs ∷ []) (true_answers (cv_in cvs so_far.cv.number))
 
 -- the questions of a reading change no CV
 abbrev pub ReadingLeavesTheCvs : Type 0

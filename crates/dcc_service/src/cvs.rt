@@ -1,7 +1,8 @@
 //! The configuration variables of a decoder.
 
 ghost use Rattle.std.specs.Prelude.{◌≡◌};
-ghost use Rattle.dcc_service.specs.Cvs.{IsCvs, cv_value, is_writable, written};
+ghost use Rattle.dcc_packet.specs.Cvs.{cv_in};
+ghost use Rattle.dcc_service.specs.Cvs.{IsCvs, is_writable, written};
 
 use dcc_packet::CvNumber;
 use std::marker::Model;
@@ -43,7 +44,7 @@ impl Cvs {
 
     /// The value of a CV.
     pub fn value(&self, cv: &CvNumber) -> u8
-        ensures { result ≡ cv_value self.now cv.now }
+        ensures { result ≡ cv_in self.now cv.now.number }
     {
         self.bytes[usize::from(cv.number()) - 1]
     }

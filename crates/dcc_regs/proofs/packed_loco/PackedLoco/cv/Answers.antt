@@ -1,5 +1,5 @@
 use Rattle.std.proofs.Common.{◌<◌, sym, ◌∙◌}
-use Rattle.dcc_regs.specs.Loco.{cv_in}
+use Rattle.dcc_packet.specs.Cvs.{cv_in}
 use Rattle.dcc_regs.specs.PackedLoco.{content}
 use Rattle.dcc_regs.proofs.CvLemmas.{cv_of-loco}
 use Rattle.dcc_regs.proofs.packed_loco.PackedLoco.cv.Goals as goal

@@ -3,7 +3,8 @@ use Rattle.dcc_regs.specs.declared.register.Who.{Who}
 use Rattle.dcc_regs.specs.declared.register.Who.TheVariants.{Loco as LocoWho}
 use Rattle.dcc_packet.specs.Bits.{is_one}
 use Rattle.dcc_regs.specs.Heard.{hears}
-use Rattle.dcc_regs.specs.Loco.{LocoContent, loco_registers, cv_in}
+use Rattle.dcc_packet.specs.Cvs.{cv_in}
+use Rattle.dcc_regs.specs.Loco.{LocoContent, loco_registers}
 use Rattle.dcc_regs.specs.PackedLoco.{content}
 use Rattle.dcc_regs.proofs.OneStep.{step-heard, pending-heard}
 use Rattle.dcc_regs.proofs.Stepping.{kept-after}
