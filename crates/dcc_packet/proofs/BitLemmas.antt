@@ -172,11 +172,13 @@ unfolding with_bit
 with_bit-again byte k one =
     same_byte (λ j. if j == k then one else is_one (byte_of (λ i. if i == k then one else is_one byte i)) j)
     (λ j. if j == k then one else is_one byte j)
-    (λ j h. chosen_again (j == k) one (is_one byte j) _ (is_one-byte_of (λ i. if i == k then one else is_one byte i) j h))
+    (λ j h.
+    chosen_again (j == k) one (is_one byte j) _ (is_one-byte_of (λ i. if i == k then one else is_one byte i) j h))
 
 -- a byte is known by its bits
 known_by_bits : (result byte place : ℕ) (one : Bool) → result < 256
-    → ((k : ℕ) → k ≤ 7 → is_one result k ≡ (if k == place then one else is_one byte k)) → result ≡ with_bit byte place one
+    → ((k : ℕ) → k ≤ 7 → is_one result k ≡ (if k == place then one else is_one byte k))
+    → result ≡ with_bit byte place one
 unfolding with_bit
 known_by_bits result byte place one small bits =
     sym (byte_of_bits result small)

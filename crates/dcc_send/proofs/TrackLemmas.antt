@@ -10,7 +10,7 @@ use Rattle.dcc_service.specs.declared.packet.ServicePacket.{ServicePacket}
 use Rattle.dcc_service.specs.declared.packet.ServicePacket.TheVariants.{Write, Verify, BitWrite, BitVerify}
 use Rattle.dcc_service.specs.declared.reader.Reading.{Reading}
 use Rattle.dcc_service.specs.declared.reader.Reading.TheVariants.{More, Value, NoAnswer}
-use Rattle.dcc_service.specs.Bits.{bits_of, number_of}
+use Rattle.dcc_service.specs.Bits.{bits_from_lowest, number_from_lowest}
 use Rattle.dcc_service.specs.CvAnswers.{CvAnswers, Asks, question_frame}
 use Rattle.dcc_packet.specs.Cvs.{cv_in}
 use Rattle.dcc_service.specs.Cvs.{IsCvs}
@@ -134,7 +134,7 @@ fails_in_line track cv so_far answer before mid after writes count later reading
     )
 
 nine_on : (track : Option (List ℕ)) (cv : CvNumber) → length (answers_on track cv) ≡ 9
-unfolding bits_of
+unfolding bits_from_lowest
 nine_on None cv = refl
 nine_on (Some cvs) cv = refl
 
@@ -232,7 +232,7 @@ eight_before answers bits answer last eight split =
 -- the question behind which a value is told is that of the byte
 byte_asked : (so_far : CvAnswers) (question : ServicePacket) (cv : CvNumber) (value : ℕ) → Asks so_far question
     → so_far.cv ≡ cv → length so_far.answers ≡ 8
-    → value ≡ number_of so_far.answers → question ≡ Verify cv value
+    → value ≡ number_from_lowest so_far.answers → question ≡ Verify cv value
 byte_asked so_far (Write c x) cv value asks same_cv all is = absurd asks
 byte_asked so_far (BitWrite c place one) cv value asks same_cv all is = absurd asks
 byte_asked so_far (BitVerify c place one) cv value asks same_cv all is = absurd (omega (arith, asks.1, place.in_range))
@@ -255,7 +255,7 @@ asked_last so_far question before now new cv answer (Some value) asks same_cv ok
     let exact : value ≡ cv_in before.cvs cv.number = cc in
     let parts = eight_before so_far.answers comes.0 answer true comes.1 comes.2 in
     let byte : question ≡ Verify cv value =
-    byte_asked so_far question cv value asks same_cv parts.0 (comes.3 ∙ ap number_of parts.1) in
+    byte_asked so_far question cv value asks same_cv parts.0 (comes.3 ∙ ap number_from_lowest parts.1) in
     is ∙ ap (λ q. after_question now q) (byte ∙ ap (λ (v : ℕ). Verify cv v) exact)
     ∙ ap (λ (cvs : List ℕ). record
     { in_service = true; pending = Some (Verify cv (cv_in before.cvs cv.number)); cvs = cvs }) same

@@ -4,43 +4,43 @@ use Rattle.std.proofs.Common.{length, refl, ap, ◌∙◌, arith}
 use Rattle.std.specs.Prelude.{◌==◌}
 use Rattle.std.proofs.Math.Nat.{pow-suc}
 use Rattle.dcc_packet.specs.Rows.{bit}
-use Rattle.dcc_service.specs.Bits.{bits_of, number_of}
+use Rattle.dcc_service.specs.Bits.{bits_from_lowest, number_from_lowest}
 use Rattle.dcc_packet.proofs.BitLemmas.{shifted_one, bit_of_digit}
 
-pub length-bits_of : (n number : ℕ) → length (bits_of n number) ≡ n
-unfolding bits_of
-length-bits_of zero number = refl
-length-bits_of (suc n) number = ap suc (length-bits_of n (number / 2))
+pub length-bits_from_lowest : (n number : ℕ) → length (bits_from_lowest n number) ≡ n
+unfolding bits_from_lowest
+length-bits_from_lowest zero number = refl
+length-bits_from_lowest (suc n) number = ap suc (length-bits_from_lowest n (number / 2))
 
-pub number_of-bits_of : (n number : ℕ) → number < 2 ^ n → number_of (bits_of n number) ≡ number
-unfolding bits_of number_of
-number_of-bits_of zero number h = omega arith
-number_of-bits_of (suc n) number h =
+pub number-bits_from_lowest : (n number : ℕ) → number < 2 ^ n → number_from_lowest (bits_from_lowest n number) ≡ number
+unfolding bits_from_lowest number_from_lowest
+number-bits_from_lowest zero number h = omega arith
+number-bits_from_lowest (suc n) number h =
     let double : 2 ^ suc n ≡ 2 * 2 ^ n = omega (arith, pow-suc 2 n) in
     let half : number / 2 < 2 ^ n = omega arith in
-    omega (arith, number_of-bits_of n (number / 2) half, bit_of_digit (number % 2) (omega arith))
+    omega (arith, number-bits_from_lowest n (number / 2) half, bit_of_digit (number % 2) (omega arith))
 
 doubled : (one : Bool) (n : ℕ) → bit one * 2 ^ suc n ≡ 2 * (bit one * 2 ^ n)
 doubled true n = omega (arith, pow-suc 2 n)
 doubled false n = omega arith
 
 -- one bit more, above the others
-pub bits_of-more : (n number : ℕ) (one : Bool) → number < 2 ^ n
-    → bits_of (suc n) (number + bit one * 2 ^ n) ≡ bits_of n number ++ one ∷ []
-unfolding bits_of
-bits_of-more zero number true h =
+pub bits_from_lowest-more : (n number : ℕ) (one : Bool) → number < 2 ^ n
+    → bits_from_lowest (suc n) (number + bit one * 2 ^ n) ≡ bits_from_lowest n number ++ one ∷ []
+unfolding bits_from_lowest
+bits_from_lowest-more zero number true h =
     let e : number ≡ 0 = omega arith in rw e refl
-bits_of-more zero number false h =
+bits_from_lowest-more zero number false h =
     let e : number ≡ 0 = omega arith in rw e refl
-bits_of-more (suc n) number one h =
+bits_from_lowest-more (suc n) number one h =
     let double : 2 ^ suc n ≡ 2 * 2 ^ n = omega (arith, pow-suc 2 n) in
     let half : number / 2 < 2 ^ n = omega arith in
     let weight = doubled one n in
     let low : (number + bit one * 2 ^ suc n) % 2 ≡ number % 2 = omega arith in
     let high : (number + bit one * 2 ^ suc n) / 2 ≡ number / 2 + bit one * 2 ^ n = omega arith in
-    ap (λ (r : ℕ). (r == 1) ∷ bits_of (suc n) ((number + bit one * 2 ^ suc n) / 2)) low
-    ∙ ap (λ (m : ℕ). (number % 2 == 1) ∷ bits_of (suc n) m) high
-    ∙ ap (λ bits. (number % 2 == 1) ∷ bits) (bits_of-more n (number / 2) one half)
+    ap (λ (r : ℕ). (r == 1) ∷ bits_from_lowest (suc n) ((number + bit one * 2 ^ suc n) / 2)) low
+    ∙ ap (λ (m : ℕ). (number % 2 == 1) ∷ bits_from_lowest (suc n) m) high
+    ∙ ap (λ bits. (number % 2 == 1) ∷ bits) (bits_from_lowest-more n (number / 2) one half)
 
 pub byte_weight : (one : Bool) (k : ℕ) → k ≤ 7 → bit one * 2 ^ k % 256 ≡ bit one * 2 ^ k
 byte_weight true k h = omega (arith, shifted_one k h)

@@ -9,7 +9,7 @@ use Rattle.dcc_packet.specs.Bits.{with_bit}
 use Rattle.dcc_packet.specs.Rows.{bit}
 use Rattle.dcc_packet.specs.declared.cv.CvNumber.{CvNumber}
 use Rattle.dcc_service.specs.declared.packet.ServicePacket.TheVariants.{Write, Verify, BitWrite, BitVerify}
-use Rattle.dcc_service.specs.Bits.{number_of}
+use Rattle.dcc_service.specs.Bits.{number_from_lowest}
 use Rattle.dcc_packet.specs.Cvs.{cv_in}
 use Rattle.dcc_service.specs.Cvs.{IsCvs, is_writable, written}
 use Rattle.dcc_service.specs.Machine.{ServiceState}
@@ -96,13 +96,14 @@ kept_stay cv is = (
       ),
 )
 
-pub bit-number_of : (bits : List Bool) (k : ℕ) (one : Bool) → slice_get bits k ≡ Some one
-    → bit_at (number_of bits) k ≡ bit one
-unfolding number_of
-bit-number_of [] k one e = absurd (cc)
-bit-number_of (b ∷ bits) zero one e =
+pub bit-number_from_lowest : (bits : List Bool) (k : ℕ) (one : Bool) → slice_get bits k ≡ Some one
+    → bit_at (number_from_lowest bits) k ≡ bit one
+unfolding number_from_lowest
+bit-number_from_lowest [] k one e = absurd (cc)
+bit-number_from_lowest (b ∷ bits) zero one e =
     let same : b ≡ one = cc in
-    bit_at_lowest (bit b + 2 * number_of bits) ∙ (omega (arith, bit_below b, ap bit same))
-bit-number_of (b ∷ bits) (suc k) one e =
-    let half : (bit b + 2 * number_of bits) / 2 ≡ number_of bits = omega (arith, bit_below b) in
-    bit_at-suc (bit b + 2 * number_of bits) k ∙ ap (λ (n : ℕ). bit_at n k) half ∙ bit-number_of bits k one e
+    bit_at_lowest (bit b + 2 * number_from_lowest bits) ∙ (omega (arith, bit_below b, ap bit same))
+bit-number_from_lowest (b ∷ bits) (suc k) one e =
+    let half : (bit b + 2 * number_from_lowest bits) / 2 ≡ number_from_lowest bits = omega (arith, bit_below b) in
+    bit_at-suc (bit b + 2 * number_from_lowest bits) k ∙ ap (λ (n : ℕ). bit_at n k) half
+    ∙ bit-number_from_lowest bits k one e

@@ -5,20 +5,22 @@ use mir.Val.{bool_byte}
 use Rattle.dcc_packet.specs.declared.cv.CvNumber.{CvNumber}
 use Rattle.dcc_service.specs.CvAnswers.{CvAnswers}
 use Rattle.dcc_packet.specs.Rows.{bit}
-use Rattle.dcc_service.specs.Bits.{bits_of, number_of}
-use Rattle.dcc_service.proofs.BitsLemmas.{length-bits_of, number_of-bits_of, bits_of-more, byte_weight}
+use Rattle.dcc_service.specs.Bits.{bits_from_lowest, number_from_lowest}
+use Rattle.dcc_service.proofs.BitsLemmas.{length-bits_from_lowest, number-bits_from_lowest}
+use Rattle.dcc_service.proofs.BitsLemmas.{bits_from_lowest-more, byte_weight}
 
 -- the fields of a reading, and what callers see of it
 abbrev pub view : CvNumber → ℕ → ℕ → CvAnswers
-view cv known value = record { cv = cv; answers = bits_of known value }
+view cv known value = record { cv = cv; answers = bits_from_lowest known value }
 
 pub counted : (cv : CvNumber) (known value : ℕ) (so_far : CvAnswers) → view cv known value ≡ so_far
     → length so_far.answers ≡ known
-counted cv known value so_far e = sym (ap (λ (a : CvAnswers). length a.answers) e) ∙ length-bits_of known value
+counted cv known value so_far e = sym (ap (λ (a : CvAnswers). length a.answers) e) ∙ length-bits_from_lowest known value
 
 pub valued : (cv : CvNumber) (known value : ℕ) (so_far : CvAnswers) → view cv known value ≡ so_far → value < 2 ^ known
-    → value ≡ number_of so_far.answers
-valued cv known value so_far e h = sym (number_of-bits_of known value h) ∙ ap (λ (a : CvAnswers). number_of a.answers) e
+    → value ≡ number_from_lowest so_far.answers
+valued cv known value so_far e h =
+    sym (number-bits_from_lowest known value h) ∙ ap (λ (a : CvAnswers). number_from_lowest a.answers) e
 
 byte_of : (one : Bool) → bool_byte one ≡ bit one
 byte_of true = refl
@@ -33,5 +35,5 @@ answered cv known value byte reply so_far e h few is =
     let weight : byte * 2 ^ known % 256 ≡ bit reply * 2 ^ known =
     ap (λ (b : ℕ). b * 2 ^ known % 256) (is ∙ byte_of reply) ∙ byte_weight reply known (omega arith) in
     rw add-one (ap (λ (w : ℕ). view cv (suc known) (value + w)) weight
-    ∙ ap (λ answers. record { cv = cv; answers = answers }) (bits_of-more known value reply h)
+    ∙ ap (λ answers. record { cv = cv; answers = answers }) (bits_from_lowest-more known value reply h)
     ∙ ap (λ (a : CvAnswers). record { cv = a.cv; answers = a.answers ++ reply ∷ [] }) e)

@@ -12,7 +12,7 @@ use Rattle.dcc_service.specs.declared.packet.ServicePacket.{ServicePacket}
 use Rattle.dcc_service.specs.declared.packet.ServicePacket.TheVariants.{Write, Verify, BitWrite, BitVerify}
 use Rattle.dcc_service.specs.declared.reader.Reading.{Reading}
 use Rattle.dcc_service.specs.declared.reader.Reading.TheVariants.{More, Value, NoAnswer}
-use Rattle.dcc_service.specs.Bits.{bits_of, number_of}
+use Rattle.dcc_service.specs.Bits.{bits_from_lowest, number_from_lowest}
 use Rattle.dcc_service.specs.CvAnswers.{CvAnswers, Asks, question_frame}
 use Rattle.dcc_packet.specs.Cvs.{cv_in}
 use Rattle.dcc_service.specs.Cvs.{IsCvs}
@@ -20,29 +20,30 @@ use Rattle.dcc_service.specs.Machine.{acknowledged, acted_on}
 use Rattle.dcc_service.specs.ReadingLaws.{true_answers, AreFirstOf}
 use Rattle.dcc_service.specs.Readings.{Comes}
 use Rattle.dcc_service.specs.Table.{access_bytes, spelling}
-use Rattle.dcc_service.proofs.BitsLemmas.{length-bits_of, number_of-bits_of}
+use Rattle.dcc_service.proofs.BitsLemmas.{length-bits_from_lowest, number-bits_from_lowest}
 
 -- the next bit of a number
-pub bits_of-next : (n number : ℕ) → bits_of (suc n) number ≡ bits_of n number ++ (bit_at number n == 1) ∷ []
-unfolding bits_of
-bits_of-next zero number = ap (λ (r : ℕ). (r == 1) ∷ []) (sym (bit_at_lowest number))
-bits_of-next (suc n) number =
-    ap (λ bits. (number % 2 == 1) ∷ bits) (bits_of-next n (number / 2))
-    ∙ ap (λ (r : ℕ). (number % 2 == 1) ∷ (bits_of n (number / 2) ++ (r == 1) ∷ [])) (sym (bit_at-suc number n))
+pub bits_from_lowest-next : (n number : ℕ)
+    → bits_from_lowest (suc n) number ≡ bits_from_lowest n number ++ (bit_at number n == 1) ∷ []
+unfolding bits_from_lowest
+bits_from_lowest-next zero number = ap (λ (r : ℕ). (r == 1) ∷ []) (sym (bit_at_lowest number))
+bits_from_lowest-next (suc n) number =
+    ap (λ bits. (number % 2 == 1) ∷ bits) (bits_from_lowest-next n (number / 2))
+    ∙ ap (λ (r : ℕ). (number % 2 == 1) ∷ (bits_from_lowest n (number / 2) ++ (r == 1) ∷ [])) (sym (bit_at-suc number n))
 
 -- the lowest bits of the lowest bits
-take-bits_of : (n m number : ℕ) → n ≤ m → take n (bits_of m number) ≡ bits_of n number
-unfolding bits_of
-take-bits_of zero m number h = refl
-take-bits_of (suc n) zero number h = absurd (omega arith)
-take-bits_of (suc n) (suc m) number h =
-    ap (λ bits. (number % 2 == 1) ∷ bits) (take-bits_of n m (number / 2) (omega arith))
+take-bits_from_lowest : (n m number : ℕ) → n ≤ m → take n (bits_from_lowest m number) ≡ bits_from_lowest n number
+unfolding bits_from_lowest
+take-bits_from_lowest zero m number h = refl
+take-bits_from_lowest (suc n) zero number h = absurd (omega arith)
+take-bits_from_lowest (suc n) (suc m) number h =
+    ap (λ bits. (number % 2 == 1) ∷ bits) (take-bits_from_lowest n m (number / 2) (omega arith))
 
 -- the first eight true answers are bits of the value
-first_bits : (n value : ℕ) → n ≤ 8 → take n (true_answers value) ≡ bits_of n value
+first_bits : (n value : ℕ) → n ≤ 8 → take n (true_answers value) ≡ bits_from_lowest n value
 first_bits n value few =
-    let fits : n ≤ length (bits_of 8 value) = omega (arith, length-bits_of 8 value) in
-    take-append-le n (bits_of 8 value) (true ∷ []) fits ∙ take-bits_of n 8 value few
+    let fits : n ≤ length (bits_from_lowest 8 value) = omega (arith, length-bits_from_lowest 8 value) in
+    take-append-le n (bits_from_lowest 8 value) (true ∷ []) fits ∙ take-bits_from_lowest n 8 value few
 
 -- the last of a list is known, and what stands before it
 before_last : (xs ys : List Bool) (x y : Bool) → xs ++ x ∷ [] ≡ ys ++ y ∷ [] → (xs ≡ ys) × (x ≡ y)
@@ -91,27 +92,27 @@ more_bits answers answer value few so_far is =
     let longer : length (answers ++ answer ∷ []) ≡ suc n = omega (arith, length-append answers (answer ∷ [])) in
     ap (λ (b : Bool). answers ++ b ∷ []) is
     ∙ ap (λ (xs : List Bool). xs ++ (bit_at value n == 1) ∷ []) (so_far ∙ first_bits n value (omega arith))
-    ∙ sym (bits_of-next n value) ∙ sym (first_bits (suc n) value (omega arith))
+    ∙ sym (bits_from_lowest-next n value) ∙ sym (first_bits (suc n) value (omega arith))
     ∙ ap (λ (m : ℕ). take m (true_answers value)) (sym longer)
 
 all_answers : (answers : List Bool) (answer : Bool) (value : ℕ) → length answers ≡ 8
     → AreFirstOf answers (true_answers value) → answer ≡ true
     → AreFirstOf (answers ++ answer ∷ []) (true_answers value)
 all_answers answers answer value all so_far is =
-    let bits : answers ≡ bits_of 8 value =
+    let bits : answers ≡ bits_from_lowest 8 value =
     so_far ∙ ap (λ (m : ℕ). take m (true_answers value)) all ∙ first_bits 8 value (omega arith) in
     let nine : length (answers ++ answer ∷ []) ≡ 9 = omega (arith, length-append answers (answer ∷ [])) in
     let many : length (true_answers value) ≡ 9 =
-    omega (arith, length-append (bits_of 8 value) (true ∷ []), length-bits_of 8 value) in
+    omega (arith, length-append (bits_from_lowest 8 value) (true ∷ []), length-bits_from_lowest 8 value) in
     ap (λ (b : Bool). answers ++ b ∷ []) is ∙ ap (λ (xs : List Bool). xs ++ true ∷ []) bits
     ∙ sym (take_all 9 (true_answers value) (omega arith)) ∙ ap (λ (m : ℕ). take m (true_answers value)) (sym nine)
 
 -- eight true answers have the value
 eight_bits : (answers : List Bool) (value : ℕ) → length answers ≡ 8 → AreFirstOf answers (true_answers value)
-    → value < 256 → number_of answers ≡ value
+    → value < 256 → number_from_lowest answers ≡ value
 eight_bits answers value all so_far byte =
-    ap number_of (so_far ∙ ap (λ (m : ℕ). take m (true_answers value)) all ∙ first_bits 8 value (omega arith))
-    ∙ number_of-bits_of 8 value byte
+    ap number_from_lowest (so_far ∙ ap (λ (m : ℕ). take m (true_answers value)) all ∙ first_bits 8 value (omega arith))
+    ∙ number-bits_from_lowest 8 value byte
 
 -- behind true answers, a decoder's answer is the next one
 pub next_is_true : (so_far : CvAnswers) (question : ServicePacket) (cvs : List ℕ) → IsCvs cvs → Asks so_far question
@@ -132,12 +133,13 @@ next_is_true so_far (Verify cv value) cvs ok asks first =
 pub truth_is_the_value : (cv : CvNumber) (value : ℕ) (reading : Reading) → value < 256
     → Comes cv (true_answers value) reading → reading ≡ Value value
 truth_is_the_value cv value (More reader) byte comes =
-    absurd (omega (arith, comes.0, length-append (bits_of 8 value) (true ∷ []), length-bits_of 8 value))
+    let count = length-bits_from_lowest 8 value in
+    absurd (omega (arith, comes.0, length-append (bits_from_lowest 8 value) (true ∷ []), count))
 truth_is_the_value cv value (Value told) byte comes =
-    let parts = before_last (bits_of 8 value) comes.0 true true comes.2 in
-    ap Value (comes.3 ∙ ap number_of (sym parts.0) ∙ number_of-bits_of 8 value byte)
+    let parts = before_last (bits_from_lowest 8 value) comes.0 true true comes.2 in
+    ap Value (comes.3 ∙ ap number_from_lowest (sym parts.0) ∙ number-bits_from_lowest 8 value byte)
 truth_is_the_value cv value NoAnswer byte comes =
-    let parts = before_last (bits_of 8 value) comes.0 true false comes.2 in
+    let parts = before_last (bits_from_lowest 8 value) comes.0 true false comes.2 in
     let contrary : true ≡ false = parts.1 in absurd (cc)
 
 -- nine times no comes to no answer
@@ -158,13 +160,13 @@ pub frame_asked : (so_far : CvAnswers) (question : ServicePacket) → Asks so_fa
 frame_asked so_far (Write cv value) asks = absurd asks
 frame_asked so_far (BitWrite cv bits one) asks = absurd asks
 frame_asked so_far (Verify cv value) asks =
-    let byte : List ℕ = with_error_byte (access_bytes 0x74 so_far.cv (number_of so_far.answers)) in
+    let byte : List ℕ = with_error_byte (access_bytes 0x74 so_far.cv (number_from_lowest so_far.answers)) in
     let place : List ℕ = with_error_byte (access_bytes 0x78 so_far.cv (0xE8 + length so_far.answers)) in
     ap (λ c. with_error_byte (access_bytes 0x74 c value)) asks.0
     ∙ ap (λ (v : ℕ). with_error_byte (access_bytes 0x74 so_far.cv v)) asks.2
     ∙ ap (λ (t : Bool). cond t byte place) (sym (ap (λ (n : ℕ). n == 8) asks.1))
 frame_asked so_far (BitVerify cv bits one) asks =
-    let byte : List ℕ = with_error_byte (access_bytes 0x74 so_far.cv (number_of so_far.answers)) in
+    let byte : List ℕ = with_error_byte (access_bytes 0x74 so_far.cv (number_from_lowest so_far.answers)) in
     let place : List ℕ = with_error_byte (access_bytes 0x78 so_far.cv (0xE8 + length so_far.answers)) in
     let last : 0xE0 + 8 * bit one + bits.place ≡ 0xE8 + length so_far.answers = omega (arith, ap bit asks.2, asks.1) in
     ap (λ c. with_error_byte (access_bytes 0x78 c (0xE0 + 8 * bit one + bits.place))) asks.0

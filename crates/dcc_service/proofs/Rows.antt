@@ -3,7 +3,7 @@ use Rattle.std.proofs.Common.{◌≡◌, true, false, [], ◌∷◌, refl, lit�
 use Rattle.dcc_packet.specs.declared.cv.CvNumber.{CvNumber}
 use Rattle.dcc_packet.specs.declared.cv.BitPlace.{BitPlace}
 use Rattle.dcc_service.specs.declared.packet.ServicePacket.TheVariants.{Write, Verify, BitWrite, BitVerify}
-use Rattle.dcc_service.specs.Bits.{bits_of, number_of}
+use Rattle.dcc_service.specs.Bits.{bits_from_lowest, number_from_lowest}
 use Rattle.dcc_service.specs.CvAnswers.{question_frame}
 use Rattle.dcc_packet.specs.Bits.{with_bit}
 use Rattle.dcc_service.specs.Machine.{reset_bytes, acted_on, acknowledged}
@@ -32,7 +32,8 @@ record Rows : Type 0 where
   question_of_bit_0 : question_frame (record { cv = cv1; answers = [] }) ≡ 0x78 ∷ 0x00 ∷ 0xE8 ∷ 0x90 ∷ []
   question_of_bit_3 : question_frame
       (record { cv = cv1; answers = false ∷ true ∷ false ∷ [] }) ≡ 0x78 ∷ 0x00 ∷ 0xEB ∷ 0x93 ∷ []
-  question_of_the_byte : question_frame (record { cv = cv1; answers = bits_of 8 10 }) ≡ 0x74 ∷ 0x00 ∷ 0x0A ∷ 0x7E ∷ []
+  question_of_the_byte : question_frame
+      (record { cv = cv1; answers = bits_from_lowest 8 10 }) ≡ 0x74 ∷ 0x00 ∷ 0x0A ∷ 0x7E ∷ []
   answers_of_10 : true_answers 10 ≡ false ∷ true ∷ false ∷ true ∷ false ∷ false ∷ false ∷ false ∷ true ∷ []
   write_is_done : acted_on (Write cv1 10) (3 ∷ []) ≡ 10 ∷ []
   write_is_acknowledged : acknowledged (Write cv1 10) (3 ∷ []) ≡ true
@@ -44,7 +45,7 @@ record Rows : Type 0 where
   bit_is_cleared : acted_on (BitWrite cv1 place5 false) (43 ∷ []) ≡ 11 ∷ []
 
 rows : Rows
-unfolding bits_of number_of with_bit
+unfolding bits_from_lowest number_from_lowest with_bit
 rows = record {
   the_reset = refl;
   write_of_cv1 = refl;

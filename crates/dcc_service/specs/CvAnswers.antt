@@ -4,7 +4,7 @@ use Rattle.dcc_wire.specs.Frames.{with_error_byte}
 use Rattle.dcc_packet.specs.declared.cv.CvNumber.{CvNumber}
 use Rattle.dcc_service.specs.declared.packet.ServicePacket.{ServicePacket}
 use Rattle.dcc_service.specs.declared.packet.ServicePacket.TheVariants.{Write, Verify, BitWrite, BitVerify}
-use Rattle.dcc_service.specs.Bits.{number_of}
+use Rattle.dcc_service.specs.Bits.{number_from_lowest}
 use Rattle.dcc_service.specs.Table.{access_bytes}
 
 -- a CV that is being read, and the answers so far
@@ -15,7 +15,8 @@ pub record CvAnswers : Type 0 where
 -- The next question: behind k answers whether bit k is one, behind eight whether the byte is that of the answers.
 abbrev pub Asks : CvAnswers → ServicePacket → Type 0
 Asks so_far (BitVerify cv bits one) = (cv ≡ so_far.cv) × (bits.place ≡ length so_far.answers) × (one ≡ true)
-Asks so_far (Verify cv value) = (cv ≡ so_far.cv) × (length so_far.answers ≡ 8) × (value ≡ number_of so_far.answers)
+Asks so_far (Verify cv value) =
+    (cv ≡ so_far.cv) × (length so_far.answers ≡ 8) × (value ≡ number_from_lowest so_far.answers)
 Asks so_far (Write cv value) = ⊥
 Asks so_far (BitWrite cv bits one) = ⊥
 
@@ -23,5 +24,5 @@ Asks so_far (BitWrite cv bits one) = ⊥
 abbrev pub question_frame : CvAnswers → List ℕ
 question_frame so_far =
     if length so_far.answers == 8
-    then with_error_byte (access_bytes 0x74 so_far.cv (number_of so_far.answers))
+    then with_error_byte (access_bytes 0x74 so_far.cv (number_from_lowest so_far.answers))
     else with_error_byte (access_bytes 0x78 so_far.cv (0xE8 + length so_far.answers))

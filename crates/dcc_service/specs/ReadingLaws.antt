@@ -7,7 +7,7 @@ use Rattle.dcc_packet.specs.declared.cv.CvNumber.{CvNumber}
 use Rattle.dcc_service.specs.declared.packet.ServicePacket.{ServicePacket}
 use Rattle.dcc_service.specs.declared.reader.Reading.{Reading}
 use Rattle.dcc_service.specs.declared.reader.Reading.TheVariants.{Value, NoAnswer}
-use Rattle.dcc_service.specs.Bits.{bits_of, number_of}
+use Rattle.dcc_service.specs.Bits.{bits_from_lowest, number_from_lowest}
 use Rattle.dcc_packet.specs.Cvs.{cv_in}
 use Rattle.dcc_service.specs.Cvs.{IsCvs}
 use Rattle.dcc_service.specs.CvAnswers.{CvAnswers, Asks, question_frame}
@@ -17,7 +17,7 @@ use Rattle.dcc_service.specs.Table.{spelling}
 
 -- the true answers to the nine questions about a CV with this value: its bits, the lowest first, and yes
 abbrev pub true_answers : ℕ → List Bool
-true_answers value = bits_of 8 value ++ true ∷ []
+true_answers value = bits_from_lowest 8 value ++ true ∷ []
 
 -- the answers so far are the first of these
 abbrev pub AreFirstOf : List Bool → List Bool → Type 0
@@ -47,7 +47,7 @@ SilenceComesToNoAnswer = (cv : CvNumber) (reading : Reading) → Comes cv (repli
 -- bit k of a number is the one at place k of its bits
 abbrev pub NumbersHaveTheirBits : Type 0
 NumbersHaveTheirBits =
-    (bits : List Bool) (k : ℕ) (one : Bool) → slice_get bits k ≡ Some one → bit_at (number_of bits) k ≡ bit one
+    (bits : List Bool) (k : ℕ) (one : Bool) → slice_get bits k ≡ Some one → bit_at (number_from_lowest bits) k ≡ bit one
 
 -- the question of a reading has this frame
 abbrev pub QuestionsHaveTheirFrames : Type 0

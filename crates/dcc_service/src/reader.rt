@@ -19,12 +19,12 @@ pub struct CvReader {
 
 impl Model for CvReader {
     ghost use Rattle.std.specs.Prelude.{◌≤◌, ◌<◌, ◌^◌};
-    ghost use Rattle.dcc_service.specs.Bits.{bits_of};
+    ghost use Rattle.dcc_service.specs.Bits.{bits_from_lowest};
     ghost use Rattle.dcc_service.specs.CvAnswers.{CvAnswers};
 
     ghost Value = { CvAnswers };
 
-    ghost view = { λ r. record { cv = r.cv; answers = bits_of r.known r.value } };
+    ghost view = { λ r. record { cv = r.cv; answers = bits_from_lowest r.known r.value } };
 
     ghost invariant = { λ r. (r.known ≤ 8) × (r.value < 2 ^ r.known) };
 }

@@ -4,7 +4,8 @@ use Rattle.dcc_packet.proofs.cv.BitPlace.with_bit.Goals as goal
 
 pub returns-then-one-clause-value : goal.returns-then-one-clause-value
 returns-then-one-clause-value c =
-    rw c.if-one.true (with_bit-put c.args.byte c.args.self.now.place (omega (arith, c.ranges.byte)) c.args.self.now.in_range)
+    rw c.if-one.true
+    (with_bit-put c.args.byte c.args.self.now.place (omega (arith, c.ranges.byte)) c.args.self.now.in_range)
 
 pub returns-then-one-clause-bits : goal.returns-then-one-clause-bits
 returns-then-one-clause-bits c k h =
