@@ -36,9 +36,6 @@ conflict_from p q together (mode, differ) =
       apart = two.apart;
     }
 
-pub together_of : (p q : Packet) → Conflict p q → HeardTogether p q
-together_of p q c = record { who = c.who; first = c.first_heard; second = c.second_heard }
-
 differ_by : (a b : Option Value) (v w : Value) → a ≡ Some v → b ≡ Some w → v ≢ w → Differ a b
 differ_by a b v w e f d =
     subst (λ (o : Option Value). Differ o b) (sym e) (subst (λ (o : Option Value). Differ (Some v) o) (sym f) d)

@@ -3,19 +3,15 @@ use Rattle.std.proofs.Common.{◌≡◌, ℕ, zero, suc, ◌<◌, ◌≤◌, Boo
 use Rattle.std.proofs.Common.{replicate, get_or}
 use Rattle.std.specs.Prelude.{None, Some, if◌then◌else◌}
 use Rattle.std.proofs.lemmas.Bool.Decides.{nat_tests}
-use Rattle.std.proofs.lemmas.Nat.Bits.{bit_at-zero}
 use mathlib.Core.Path.{fun_ext}
-use Rattle.dcc_regs.specs.declared.register.Register.{Register}
-use Rattle.dcc_regs.specs.declared.register.Register.TheVariants.{Speed as SpeedRegister, Direction, Function}
-use Rattle.dcc_regs.specs.declared.register.Register.TheVariants.{State as StateRegister, CvBit}
-use Rattle.dcc_regs.specs.declared.register.Register.TheVariants.{Pending as PendingRegister, Out, Position, Aspect}
+use Rattle.dcc_regs.specs.declared.register.Register.TheVariants.{CvBit}
 use Rattle.dcc_regs.specs.declared.register.Speed.TheVariants.{Stop}
 use Rattle.dcc_regs.specs.declared.register.Value.TheVariants.{Flag}
 use Rattle.dcc_packet.specs.Bits.{is_one}
 use Rattle.dcc_regs.specs.Addresses.{active_address}
 use Rattle.dcc_packet.proofs.BitLemmas.{byte_of_bits, same_byte}
 use Rattle.dcc_packet.specs.Cvs.{cv_in}
-use Rattle.dcc_regs.specs.Loco.{LocoContent, loco_registers, is_cv_bit, holds_one, cv_of, started, powered_up}
+use Rattle.dcc_regs.specs.Loco.{LocoContent, loco_registers, is_cv_bit, holds_one, cv_of, started}
 
 bit_there : (cv place : ℕ) → 1 ≤ cv → cv ≤ 1024 → place ≤ 7 → is_cv_bit cv place ≡ true
 bit_there cv place a b h = grind (arith, nat_tests)
@@ -73,21 +69,6 @@ started-off n k bytes =
     (record { speed = Stop; forward = true; functions = off; states = f; cvs = cv_in bytes; pending = None }))
     (off-all k)
 
--- power-up keeps the CVs
-powered_up_at : (d : LocoContent) (r : Register) → loco_registers (started d.cvs) r ≡ powered_up (loco_registers d) r
-powered_up_at d SpeedRegister = refl
-powered_up_at d Direction = refl
-powered_up_at d (Function n) = refl
-powered_up_at d (StateRegister n) = refl
-powered_up_at d (CvBit cv place) = refl
-powered_up_at d PendingRegister = refl
-powered_up_at d (Out n) = refl
-powered_up_at d (Position n) = refl
-powered_up_at d (Aspect n) = refl
-
-pub started-powered_up : (d : LocoContent) → loco_registers (started d.cvs) ≡ powered_up (loco_registers d)
-started-powered_up d = fun_ext (powered_up_at d)
-
 -- the active address is in four CVs
 pub active_address-same : (f g : ℕ → ℕ) → f 1 ≡ g 1 → f 17 ≡ g 17 → f 18 ≡ g 18 → f 29 ≡ g 29
     → active_address f ≡ active_address g
@@ -99,22 +80,3 @@ active_address-loco d a b c e =
     sym (active_address-same (cv_of (loco_registers d)) d.cvs
     (cv_of-loco d 1 (omega arith) (omega arith) a) (cv_of-loco d 17 (omega arith) (omega arith) b)
     (cv_of-loco d 18 (omega arith) (omega arith) c) (cv_of-loco d 29 (omega arith) (omega arith) e))
-
--- the number 0 has no function and no state on
-pub is_one-zero : (k : ℕ) → is_one 0 k ≡ false
-is_one-zero k = rw (bit_at-zero k) refl
-
-pub started-zero : (bytes : List ℕ)
-    → loco_registers
-    (record {
-      speed = Stop;
-      forward = true;
-      functions = is_one 0;
-      states = is_one 0;
-      cvs = cv_in bytes;
-      pending = None;
-    }) ≡ loco_registers (started (cv_in bytes))
-started-zero bytes =
-    ap (λ (f : ℕ → Bool). loco_registers
-    (record { speed = Stop; forward = true; functions = f; states = f; cvs = cv_in bytes; pending = None }))
-    (fun_ext is_one-zero)

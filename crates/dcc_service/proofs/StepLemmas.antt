@@ -29,10 +29,6 @@ is_pending None p = inr (λ e. absurd (cc))
 is_pending (Some q) p =
     compared (pointwise eqb (spelling q) (spelling p)) q p (pointwise_decides Decides-eqb (spelling q) (spelling p))
 
-pub one_reset : (frame : List ℕ) (before after other : ServiceState) (answer reply : Bool) → frame ≡ reset_bytes
-    → Step before frame after answer → Step before frame other reply → Same after other answer reply
-one_reset frame before after other answer reply e step again = both_are (step.reset e) (again.reset e)
-
 by_pending : (packet : ServicePacket) (frame : List ℕ) (before after other : ServiceState) (answer reply : Bool)
     → frame ≡ spelling packet → before.in_service ≡ true
     → (before.pending ≡ Some packet) ⊎ (before.pending ≢ Some packet) → Step before frame after answer
