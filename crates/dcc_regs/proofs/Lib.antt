@@ -13,7 +13,7 @@ pub mod MeetLemmas
 pub mod ConflictLemmas
 pub mod LawLemmas
 pub mod CvLemmas
-pub mod WholeMap
+pub mod KindsDiffer
 pub mod Runs
 pub mod SameValues
 pub mod OwnWrites

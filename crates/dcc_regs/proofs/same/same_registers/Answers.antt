@@ -2,7 +2,7 @@ use Rattle.std.proofs.Common.{◌≡◌, ◌∙◌, sym, subst}
 use Rattle.dcc_regs.specs.declared.register.Who.{Who}
 use Rattle.dcc_regs.specs.Result.{RegisterMap}
 use Rattle.dcc_regs.specs.Possible.{IsPossible}
-use Rattle.dcc_regs.proofs.WholeMap.{kinds_differ}
+use Rattle.dcc_regs.proofs.KindsDiffer.{kinds_differ}
 use Rattle.dcc_regs.proofs.same.same_registers.Goals as goal
 
 is_possible : {who who' : Who} {m : RegisterMap} → who ≡ who' → IsPossible who m → IsPossible who' m
