@@ -1,29 +1,27 @@
 -- What words say of both captures of one input.
 use Rattle.std.proofs.Common.{◌≡◌, ◌≢◌, ◌⊎◌, inl, inr, ℕ, ◌+◌, ◌-◌, ◌<◌, ◌≤◌, List, [], ◌∷◌, ◌++◌, length, take}
 use Rattle.std.proofs.Common.{replicate, filter, Bool, true, false, not, cond, eqb, nat_le, ◌&&◌, Option, None, Some}
-use Rattle.std.proofs.Common.{Result, Ok, Err, refl, sym, ap, ◌∙◌, subst, arith, append_assoc, length-append, IfSome}
-use Rattle.std.proofs.Common.{IsSomeAnd}
-use Rattle.std.proofs.Math.Seq.{take-append-add}
-use Rattle.std.proofs.lemmas.List.{append-nil}
+use Rattle.std.proofs.Common.{Result, Ok, Err, refl, sym, ap, ◌∙◌, subst, arith, append_assoc, IfSome}
 use Rattle.std.proofs.lemmas.Bool.Decides.{nat_tests}
 use Rattle.dcc_packet.specs.declared.fault.PacketFault.TheVariants as faults
 use Rattle.dcc_io.specs.declared.word.Run.{Run}
 use Rattle.dcc_io.specs.declared.fault.KeptFault.{KeptFault}
 use Rattle.dcc_io.specs.declared.fault.KeptFault.TheVariants.{Number, Line, Read, TooMuch}
 use Rattle.dcc_io.specs.Place.{Place, line_behind}
-use Rattle.dcc_io.specs.Failures.{one_more}
 use Rattle.dcc_io.specs.Told.{IsAtEnd}
 use Rattle.dcc_io.specs.InputState.{InputState, all_lines}
 use Rattle.dcc_io.specs.Words.{Word, ended_words, is_gap, uncommented, onto_first, pieces, but_last, has_bytes}
 use Rattle.dcc_io.specs.Words.{is_mark, run_of}
-use Rattle.dcc_io.specs.Passed.{Uses, Passed, FailsBehind, FailsBeforeWord, OverflowsBeforeWord, AnswersWord}
+use Rattle.dcc_io.specs.Took.{within_limit}
+use Rattle.dcc_io.specs.Passed.{Passed, IsBeforeWord, AnswersWord}
 use Rattle.dcc_io.specs.Capture.{halves_of}
 use Rattle.dcc_io.specs.BothCaptures.{Both, Said, stopped, in_front, only_second, has_more_words, behind_mark}
 use Rattle.dcc_io.specs.BothCaptures.{counted_first, both_of, both_from, in_limit}
 use Rattle.dcc_io.specs.FirstRead.{LeadsIn, Leads, first_so_far, first_is, IsBehindLine, StopsBoth, AnswersFirst}
 use Rattle.dcc_io.specs.FirstSteps.{CountsWord, EndsMark}
-use Rattle.dcc_io.proofs.PassedLemmas.{map_same}
-use Rattle.dcc_io.proofs.CaptureLemmas.{with_left, count_more, above_limit, not_within, zero_fits, same_test, enough}
+use Rattle.dcc_io.proofs.TookLemmas.{if_some_all, map_text, Took-start, Took-counted, Took-join, told_behind}
+use Rattle.dcc_io.proofs.TookLemmas.{fails_behind, within_limit-used, not_within, zero_fits}
+use Rattle.dcc_io.proofs.CaptureLemmas.{enough}
 use Rattle.dcc_io.proofs.RunWordLemmas.{some_half}
 
 -- each word stands on this line or behind it
@@ -102,27 +100,7 @@ second_behind line most place rest more last (inr behind) front = rw (no_more_wo
 
 pub Leads-start : (before : ℕ) (input : InputState) → input.fault ≡ None
     → Leads before input input (both_from before input)
-Leads-start before input fault = record { text = go input.text; bytes = omega arith; fault = fault; failures = refl }
-  where
-    go : (text : Option (List ℕ))
-        → IfSome text (λ whole. IsSomeAnd text (λ rest. LeadsIn before input input (both_from before input) whole rest))
-    go None = tt
-    go (Some text) =
-        record {
-          used = [];
-          whole = refl;
-          goes_on = λ end more last. refl;
-          bytes = omega arith;
-          room = λ some. absurd (omega arith);
-          lines = refl;
-        }
-
-room_of : (p q y z : List ℕ) (bytes left : ℕ) → y ≡ q ++ z → left + length q ≡ bytes
-    → (0 < length p → bytes ≡ 0 → y ≡ []) → (0 < length q → left ≡ 0 → z ≡ [])
-    → 0 < length (p ++ q) → left ≡ 0 → z ≡ []
-room_of p [] y z bytes left whole total first second some none =
-    sym whole ∙ first (subst (λ (l : List ℕ). 0 < length l) (append-nil p) some) (omega (arith, total, none))
-room_of p (x ∷ q) y z bytes left whole total first second some none = second (omega arith) none
+Leads-start before input fault = Took-start input fault (λ end more last. refl)
 
 -- more words were read
 pub Leads-words : (before : ℕ) (old now new : InputState) (words : List Word)
@@ -131,91 +109,31 @@ pub Leads-words : (before : ℕ) (old now new : InputState) (words : List Word)
     → ((end : ℕ) (more : List ℕ) (last : Option KeptFault)
     → F end (words ++ ended_words new.place more) last ≡ G end more last)
     → Leads before old new G
-Leads-words before old now new words F G leads passed each = record {
-  text = go old.text now.text new.text leads.text passed.text;
-  bytes = omega (arith, leads.bytes, passed.bytes);
-  fault = passed.fault;
-  failures = passed.failures ∙ leads.failures;
-}
-  where
-    go : (x y z : Option (List ℕ))
-        → IfSome x
-        (λ text. IsSomeAnd y
-        (λ rest. LeadsIn before old now (λ end more last. F end (ended_words now.place more) last) text rest))
-        → IfSome y (λ text. IsSomeAnd z (λ rest. Uses now new words text rest))
-        → IfSome x (λ text. IsSomeAnd z (λ rest. LeadsIn before old new G text rest))
-    go None y z p q = tt
-    go (Some x) None z p q = absurd p
-    go (Some x) (Some y) None p q = absurd q
-    go (Some x) (Some y) (Some z) p q = record {
-      used = p.used ++ q.used;
-      whole = p.whole ∙ ap (λ (rest : List ℕ). p.used ++ rest) q.whole ∙ sym (append_assoc p.used q.used z);
-      goes_on =
-          λ end more last. ap (λ (bytes : List ℕ). both_from before old end bytes last)
-          (append_assoc p.used q.used more) ∙ p.goes_on end (q.used ++ more) last
-          ∙ ap (λ ws. F end ws last) (q.passes more) ∙ each end more last;
-      bytes = simp length-append (omega (arith, p.bytes, q.bytes));
-      room = room_of p.used q.used y z now.bytes new.bytes q.whole q.bytes p.room q.room;
-      lines = q.lines ∙ p.lines;
-    }
+Leads-words before old now new words F G leads passed each =
+    Took-join leads passed.took
+    (λ first second says passes end more last.
+    ap (λ (bytes : List ℕ). both_from before old end bytes last) (append_assoc first second more)
+    ∙ says end (second ++ more) last ∙ ap (λ ws. F end ws last) (passes more) ∙ each end more last)
 
 -- halves of the first capture, and then what leads on from there
 pub Leads-join : (first before : ℕ) (start now new : InputState) (halves : List ℕ) (G H : Said)
     → Leads first start now (first_so_far halves before now) → Leads before now new G
     → ((end : ℕ) (more : List ℕ) (last : Option KeptFault) → in_front halves (G end more last) ≡ H end more last)
     → Leads first start new H
-Leads-join first before start now new halves G H leads next each = record {
-  text = go start.text now.text new.text leads.text next.text;
-  bytes = omega (arith, leads.bytes, next.bytes);
-  fault = next.fault;
-  failures = next.failures ∙ leads.failures;
-}
-  where
-    go : (x y z : Option (List ℕ))
-        → IfSome x (λ text. IsSomeAnd y (λ rest. LeadsIn first start now (first_so_far halves before now) text rest))
-        → IfSome y (λ text. IsSomeAnd z (λ rest. LeadsIn before now new G text rest))
-        → IfSome x (λ text. IsSomeAnd z (λ rest. LeadsIn first start new H text rest))
-    go None y z p q = tt
-    go (Some x) None z p q = absurd p
-    go (Some x) (Some y) None p q = absurd q
-    go (Some x) (Some y) (Some z) p q = record {
-      used = p.used ++ q.used;
-      whole = p.whole ∙ ap (λ (rest : List ℕ). p.used ++ rest) q.whole ∙ sym (append_assoc p.used q.used z);
-      goes_on =
-          λ end more last. ap (λ (bytes : List ℕ). both_from first start end bytes last)
-          (append_assoc p.used q.used more) ∙ p.goes_on end (q.used ++ more) last
-          ∙ ap (in_front halves) (q.goes_on end more last) ∙ each end more last;
-      bytes = simp length-append (omega (arith, p.bytes, q.bytes));
-      room = room_of p.used q.used y z now.bytes new.bytes q.whole q.bytes p.room q.room;
-      lines = q.lines ∙ p.lines;
-    }
+Leads-join first before start now new halves G H leads next each =
+    Took-join leads next
+    (λ front back says then end more last.
+    ap (λ (bytes : List ℕ). both_from first start end bytes last) (append_assoc front back more)
+    ∙ says end (back ++ more) last ∙ ap (in_front halves) (then end more last) ∙ each end more last)
 
 -- what is said of the text is said of the rest
 pub in_limit_of : (before : ℕ) (old new : InputState) (said : Said) (text rest : List ℕ)
     → LeadsIn before old new said text rest
     → in_limit (both_from before old) old text ≡ in_limit said new rest
-in_limit_of before old new said text rest leads = go (nat_le (length rest) new.bytes) refl
-  where
-    lengths : length text ≡ length leads.used + length rest
-    lengths = ap length leads.whole ∙ length-append leads.used rest
-
-    test : nat_le (length text) old.bytes ≡ nat_le (length rest) new.bytes
-    test = same_test (length text) (length leads.used) (length rest) old.bytes new.bytes lengths leads.bytes
-
-    go : (within : Bool) → nat_le (length rest) new.bytes ≡ within
-        → in_limit (both_from before old) old text ≡ in_limit said new rest
-    go true within = rw (test, within, ← leads.lines)
-        (ap (λ bytes. both_from before old (all_lines new rest + 1) bytes None) leads.whole
-        ∙ leads.goes_on (all_lines new rest + 1) rest None)
-    go false within =
-        let count = count_more old.bytes new.bytes (length leads.used) rest leads.bytes
-        (above_limit (length rest) new.bytes within) leads.room in
-        let front : take (old.bytes - 1) text ≡ leads.used ++ take (new.bytes - 1) rest =
-        ap (λ n. take n text) count ∙ ap (take (length leads.used + (new.bytes - 1))) leads.whole
-        ∙ take-append-add leads.used rest (new.bytes - 1) in
-        rw (test, within, ← leads.lines)
-        (ap (λ bytes. both_from before old (all_lines new rest + 1) bytes (Some TooMuch)) front
-        ∙ leads.goes_on (all_lines new rest + 1) (take (new.bytes - 1) rest) (Some TooMuch))
+in_limit_of before old new said text rest leads =
+    ap (λ n. within_limit (both_from before old (n + 1)) old text) (sym leads.lines)
+    ∙ within_limit-used old new (both_from before old (all_lines new rest + 1)) (said (all_lines new rest + 1)) text
+    rest leads (λ more last. leads.is (all_lines new rest + 1) more last)
 
 same_cond : {A : Type 0} (b : Bool) (x : A) → cond b x x ≡ x
 same_cond true x = refl
@@ -225,83 +143,42 @@ same_cond false x = refl
 pub stops_said : (before : ℕ) (old mid : InputState) (fault : KeptFault)
     → Leads before old mid (λ end more last. stopped fault)
     → IfSome old.text (λ text. in_limit (both_from before old) old text ≡ stopped fault)
-stops_said before old mid fault leads = go old.text mid.text leads.text
-  where
-    go : (x y : Option (List ℕ))
-        → IfSome x (λ text. IsSomeAnd y (λ rest. LeadsIn before old mid (λ end more last. stopped fault) text rest))
-        → IfSome x (λ text. in_limit (both_from before old) old text ≡ stopped fault)
-    go None y p = tt
-    go (Some x) None p = absurd p
-    go (Some x) (Some y) p =
-        in_limit_of before old mid (λ end more last. stopped fault) x y p
-        ∙ same_cond (nat_le (length y) mid.bytes) (stopped fault)
+stops_said before old mid fault leads =
+    map_text (LeadsIn before old mid (λ end more last. stopped fault))
+    (λ text. in_limit (both_from before old) old text ≡ stopped fault) old.text mid.text
+    (λ text rest uses. in_limit_of before old mid (λ end more last. stopped fault) text rest uses
+    ∙ same_cond (nat_le (length rest) mid.bytes) (stopped fault))
+    leads.text
 
 module _ (before : ℕ) (old mid : InputState) (F : ℕ → List Word → Option KeptFault → Both) where
   abbrev Led : Type 0
   Led = Leads before old mid (λ end more last. F end (ended_words mid.place more) last)
 
-  -- a read failed before the next word
-  stops_read : (new : InputState) → Led → FailsBeforeWord mid new → ((end : ℕ) → F end [] (Some Read) ≡ stopped Read)
-      → StopsBoth before old Read new
-  stops_read new leads fails each =
-      (fails.failures ∙ ap one_more leads.failures, fails.ahead, go old.text mid.text new.text leads.text fails.text)
-    where
-      go : (x y z : Option (List ℕ))
-          → IfSome x
-          (λ text. IsSomeAnd y
-          (λ rest. LeadsIn before old mid (λ end more last. F end (ended_words mid.place more) last) text rest))
-          → IfSome y (λ text. IsSomeAnd z (λ rest. FailsBehind mid new text rest))
-          → IfSome x
-          (λ text. IsSomeAnd z
-          (λ rest. (used : List ℕ) × (text ≡ used ++ rest)
-          × ((end : ℕ) → both_from before old end used (Some Read) ≡ stopped Read)))
-      go None y z p q = tt
-      go (Some x) None z p q = absurd p
-      go (Some x) (Some y) None p q = absurd q
-      go (Some x) (Some y) (Some z) p q = (
-        p.used ++ q.used,
-        p.whole ∙ ap (λ (rest : List ℕ). p.used ++ rest) q.whole ∙ sym (append_assoc p.used q.used z),
-        λ end. p.goes_on end q.used (Some Read) ∙ ap (λ ws. F end ws (Some Read)) q.none ∙ each end,
-      )
-
-  -- the limit of bytes cuts the next word
-  stops_over : (new : InputState) → Led → OverflowsBeforeWord mid new
-      → ((end : ℕ) → F end [] (Some TooMuch) ≡ stopped TooMuch) → StopsBoth before old TooMuch new
-  stops_over new leads over each = (over.failures ∙ leads.failures, go old.text mid.text leads.text over.text)
-    where
-      go : (x y : Option (List ℕ))
-          → IfSome x
-          (λ text. IsSomeAnd y
-          (λ rest. LeadsIn before old mid (λ end more last. F end (ended_words mid.place more) last) text rest))
-          → IfSome y (λ text. (mid.bytes < length text) × (ended_words mid.place (take (mid.bytes - 1) text) ≡ []))
-          → IfSome x (λ text. in_limit (both_from before old) old text ≡ stopped TooMuch)
-      go None y p q = tt
-      go (Some x) None p q = absurd p
-      go (Some x) (Some y) p q =
-          in_limit_of before old mid (λ end more last. F end (ended_words mid.place more) last) x y p
-          ∙ rw (not_within (length y) mid.bytes q.0, q.1) (each (all_lines mid y + 1))
-
+  -- a fault before the next word
   pub stops_word : (new : InputState) (fault : KeptFault) → Led → AnswersWord mid (Err fault) new
       → ((end : ℕ) (f : KeptFault) → F end [] (Some f) ≡ stopped f)
       → StopsBoth before old fault new × (new.fault ≡ Some fault)
-  stops_word new Read leads answer each = (stops_read new leads answer (λ end. each end Read), answer.fault)
-  stops_word new TooMuch leads answer each = (stops_over new leads answer (λ end. each end TooMuch), answer.fault)
+  stops_word new Read leads answer each = (
+    fails_behind leads (IsBeforeWord mid) (λ used. (end : ℕ) → both_from before old end used (Some Read) ≡ stopped Read)
+        new answer.0
+        (λ first second says none end. says end second (Some Read) ∙ ap (λ ws. F end ws (Some Read)) none
+        ∙ each end Read),
+    answer.1,
+  )
+  stops_word new TooMuch leads answer each = (
+    (
+      answer.0.0 ∙ leads.failures,
+      told_behind leads (λ rest. (mid.bytes < length rest) × IsBeforeWord mid (take (mid.bytes - 1) rest))
+          (λ text. in_limit (both_from before old) old text ≡ stopped TooMuch)
+          (λ text rest uses over.
+          in_limit_of before old mid (λ end more last. F end (ended_words mid.place more) last) text rest uses
+          ∙ rw (not_within (length rest) mid.bytes over.0, over.1) (each (all_lines mid rest + 1) TooMuch))
+          answer.0.1,
+    ),
+    answer.1,
+  )
   stops_word new (Number line) leads answer each = absurd answer
   stops_word new (Line line fault) leads answer each = absurd answer
-
--- a count of halves may change where nothing is said of it
-Leads-counted : (before left : ℕ) (old mid : InputState) (said : Said) → Leads before old mid said
-    → Leads before old (with_left mid left) said
-Leads-counted before left old mid said leads = record {
-  text = map_same (λ text rest. LeadsIn before old mid said text rest)
-      (λ text rest. LeadsIn before old (with_left mid left) said text rest) old.text mid.text
-      (λ text rest p. record
-      { used = p.used; whole = p.whole; goes_on = p.goes_on; bytes = p.bytes; room = p.room; lines = p.lines })
-      leads.text;
-  bytes = leads.bytes;
-  fault = leads.fault;
-  failures = leads.failures;
-}
 
 counted_some : (most : ℕ) (run : Run) (rest : ℕ → Both) → run.n ≤ most
     → counted_first most run rest ≡ in_front (replicate run.n run.us) (rest (most - run.n))
@@ -330,10 +207,6 @@ eqb_same n = grind (arith, nat_tests)
 past : (a b : ℕ) → a ≤ b → b ≢ a → a < b
 past a b before other = grind (arith, nat_tests)
 
-if_some_all : (R : List ℕ → Type 0) (text : Option (List ℕ)) → ((rest : List ℕ) → R rest) → IfSome text R
-if_some_all R None all = tt
-if_some_all R (Some rest) all = all rest
-
 module _ (before line : ℕ) (word : List ℕ) (old mid : InputState) (fault : old.fault ≡ None)
     (passed : Passed old (record { line = line; bytes = word } ∷ []) mid) where
   abbrev mark : Bool
@@ -353,11 +226,12 @@ module _ (before line : ℕ) (word : List ℕ) (old mid : InputState) (fault : o
       → CountsWord mid line word result new → AnswersFirst before old result new
   counts new (Ok (Some taken)) none fewer count = rw count.3 (
     rw count.0
-        (Leads-counted before (mid.halves - taken.1.n) old mid said
+        (Took-counted (mid.halves - taken.1.n)
         (led said
         (λ end more last. rw (none, count.1, ← passed.halves)
         (counted_some mid.halves taken.1 (λ left. both_of line left end (ended_words mid.place more) last)
-        count.2)))),
+        count.2)))
+        (λ used says. says)),
     let fits = count.2 in omega (arith, fits, passed.halves),
     some_half word taken.1 count.1,
     fewer,
@@ -444,7 +318,16 @@ pub answers_lacking : (before : ℕ) (old mid new : InputState) → old.fault �
     → new ≡ with_fault mid (Line (mid.lines + 1) faults.Word)
     → AnswersFirst before old (Err (Line (mid.lines + 1) faults.Word)) new
 answers_lacking before old mid new none passed at_end is_new =
-    rw is_new ((passed.failures, go old.text mid.text leads.text at_end), refl)
+    rw is_new (
+      (
+        passed.failures,
+        told_behind leads (λ rest. rest ≡ [])
+            (λ text. in_limit (both_from before old) old text ≡ stopped (Line (mid.lines + 1) faults.Word))
+            (λ text rest uses end. in_limit_of before old mid said text rest uses ∙ ap (in_limit said mid) end
+            ∙ rw (zero_fits mid.bytes) refl) at_end,
+      ),
+      refl,
+    )
   where
     said : Said
     said end more last = both_of before old.halves end (ended_words mid.place more) last
@@ -452,11 +335,3 @@ answers_lacking before old mid new none passed at_end is_new =
     leads : Leads before old mid said
     leads = Leads-words before old old mid [] (λ end ws last. both_of before old.halves end ws last) said
         (Leads-start before old none) passed (λ end more last. refl)
-
-    go : (x y : Option (List ℕ)) → IfSome x (λ text. IsSomeAnd y (λ rest. LeadsIn before old mid said text rest))
-        → IsAtEnd y
-        → IfSome x (λ text. in_limit (both_from before old) old text ≡ stopped (Line (mid.lines + 1) faults.Word))
-    go None y p end = tt
-    go (Some x) None p end = absurd p
-    go (Some x) (Some y) p end =
-        in_limit_of before old mid said x y p ∙ ap (in_limit said mid) end ∙ rw (zero_fits mid.bytes) refl

@@ -12,25 +12,14 @@ use Rattle.dcc_io.specs.declared.fault.KeptFault.TheVariants.{Number, Line, Read
 use Rattle.dcc_io.specs.Told.{IsAtEnd}
 use Rattle.dcc_io.specs.InputState.{InputState}
 use Rattle.dcc_io.specs.Words.{Word, ended_words, run_of}
-use Rattle.dcc_io.specs.Passed.{Uses, Passed, FailsBehind, EndsWord, AnswersWord}
+use Rattle.dcc_io.specs.Passed.{Passed, IsBeforeWord, EndsWord, AnswersWord}
 use Rattle.dcc_io.specs.Items.{Items, preceded, only_fault, Gives, StopsAt}
 use Rattle.dcc_io.specs.Capture.{behind_word, halves_of, capture_in, capture_before_failure, captures, GaveHalves}
 use Rattle.dcc_io.specs.Capture.{AnswersRun, CountsRun}
-use Rattle.dcc_io.proofs.PassedLemmas.{map_same}
+use Rattle.dcc_io.proofs.TookLemmas.{if_some_map, map_same, with_left, count_more, above_limit, not_within, zero_fits}
+use Rattle.dcc_io.proofs.TookLemmas.{same_test}
+use Rattle.dcc_io.proofs.PassedLemmas.{PassesIn}
 use Rattle.dcc_io.proofs.RunWordLemmas.{some_half}
-
-abbrev pub with_left : InputState → ℕ → InputState
-with_left input left =
-    record {
-      text = input.text;
-      ahead = input.ahead;
-      place = input.place;
-      lines = input.lines;
-      halves = left;
-      bytes = input.bytes;
-      fault = input.fault;
-      failures = input.failures;
-    }
 
 -- where the text is cut at the limit, and the fault behind that
 record CutOf (old new : InputState) (words : List Word) (text rest : List ℕ) : Type 0 where
@@ -39,27 +28,7 @@ record CutOf (old new : InputState) (words : List Word) (text rest : List ℕ) :
   whole : capture_in old text ≡ halves_of old.halves (words ++ ended_words new.place more) last
   rest_is : (left : ℕ) → capture_in (with_left new left) rest ≡ halves_of left (ended_words new.place more) last
 
-pub count_more : (most left used : ℕ) (rest : List ℕ) → left + used ≡ most → left < length rest
-    → (0 < used → left ≡ 0 → rest ≡ []) → most - 1 ≡ used + (left - 1)
-count_more most zero zero rest total some room = omega arith
-count_more most zero (suc used) rest total some room =
-    let none : length rest ≡ 0 = ap length (room (omega arith) refl) in absurd (omega arith)
-count_more most (suc left) used rest total some room = omega arith
-
-pub above_limit : (n most : ℕ) → nat_le n most ≡ false → most < n
-above_limit n most above = grind (arith, nat_tests)
-
-pub not_within : (n most : ℕ) → most < n → nat_le n most ≡ false
-not_within n most above = grind (arith, nat_tests)
-
-pub zero_fits : (most : ℕ) → nat_le 0 most ≡ true
-zero_fits most = grind (arith, nat_tests)
-
-pub same_test : (whole used rest most left : ℕ) → whole ≡ used + rest → left + used ≡ most
-    → nat_le whole most ≡ nat_le rest left
-same_test whole used rest most left total bytes = grind (arith, nat_tests)
-
-cut_of : (old new : InputState) (words : List Word) (text rest : List ℕ) → Uses old new words text rest
+cut_of : (old new : InputState) (words : List Word) (text rest : List ℕ) → PassesIn old new words text rest
     → CutOf old new words text rest
 cut_of old new words text rest uses = go (nat_le (length rest) new.bytes) refl
   where
@@ -73,7 +42,7 @@ cut_of old new words text rest uses = go (nat_le (length rest) new.bytes) refl
     go true within = record {
       more = rest;
       last = None;
-      whole = rw (test, within, uses.whole) (ap (λ ws. halves_of old.halves ws None) (uses.passes rest));
+      whole = rw (test, within, uses.whole) (ap (λ ws. halves_of old.halves ws None) (uses.is rest));
       rest_is = λ left. rw within refl;
     }
     go false within = record {
@@ -83,7 +52,7 @@ cut_of old new words text rest uses = go (nat_le (length rest) new.bytes) refl
           let count = count_more old.bytes new.bytes (length uses.used) rest uses.bytes
           (above_limit (length rest) new.bytes within) uses.room in
           rw (test, within, count, uses.whole, take-append-add uses.used rest (new.bytes - 1))
-          (ap (λ ws. halves_of old.halves ws (Some TooMuch)) (uses.passes (take (new.bytes - 1) rest)));
+          (ap (λ ws. halves_of old.halves ws (Some TooMuch)) (uses.is (take (new.bytes - 1) rest)));
       rest_is = λ left. rw within refl;
     }
 
@@ -115,7 +84,7 @@ pub Gave-word : (old mid new : InputState) (line : ℕ) (run : Run) (word : List
     → GaveHalves old (replicate run.n run.us) new
 Gave-word old mid new line run word passed spells fits is_new = rw is_new record {
   items = record {
-    text = map_same (λ text rest. Uses old mid (record { line = line; bytes = word } ∷ []) text rest)
+    text = map_same (λ text rest. PassesIn old mid (record { line = line; bytes = word } ∷ []) text rest)
         (λ text rest. Gives captures old (replicate run.n run.us) counted text rest) old.text mid.text
         (λ text rest uses.
         let cut = cut_of old mid (record { line = line; bytes = word } ∷ []) text rest uses in
@@ -126,7 +95,7 @@ Gave-word old mid new line run word passed spells fits is_new = rw is_new record
               cut.whole ∙ one (ended_words mid.place cut.more) cut.last
               ∙ ap (preceded (replicate run.n run.us)) (sym (cut.rest_is (mid.halves - run.n)));
           in_part =
-              λ more. ap (λ ws. halves_of old.halves ws (Some Read)) (uses.passes more)
+              λ more. ap (λ ws. halves_of old.halves ws (Some Read)) (uses.is more)
               ∙ one (ended_words mid.place more) (Some Read);
           lines = uses.lines;
         })
@@ -175,7 +144,7 @@ stops_at_word old mid new line word passed spells is_new =
   where
     go : (whole rest : Option (List ℕ))
         → IfSome whole
-        (λ text. IsSomeAnd rest (λ more. Uses old mid (record { line = line; bytes = word } ∷ []) text more))
+        (λ text. IsSomeAnd rest (λ more. PassesIn old mid (record { line = line; bytes = word } ∷ []) text more))
         → IfSome whole (λ text. capture_in old text ≡ only_fault (Some (Number line)))
     go None rest uses = tt
     go (Some text) None uses = absurd uses
@@ -208,7 +177,7 @@ stops_at_limit old mid new line run word passed spells above is_new =
 
     go : (whole rest : Option (List ℕ))
         → IfSome whole
-        (λ text. IsSomeAnd rest (λ more. Uses old mid (record { line = line; bytes = word } ∷ []) text more))
+        (λ text. IsSomeAnd rest (λ more. PassesIn old mid (record { line = line; bytes = word } ∷ []) text more))
         → IfSome whole (λ text. capture_in old text ≡ only_fault (Some TooMuch))
     go None rest uses = tt
     go (Some text) None uses = absurd uses
@@ -222,7 +191,7 @@ pub Gave-end : (old new : InputState) → Passed old [] new → IsAtEnd new.text
 Gave-end old new passed at_end = (
   record {
     items = record {
-      text = map_same (λ text rest. Uses old new [] text rest) (λ text rest. Gives captures old [] new text rest)
+      text = map_same (λ text rest. PassesIn old new [] text rest) (λ text rest. Gives captures old [] new text rest)
           old.text new.text
           (λ text rest uses.
           let cut = cut_of old new [] text rest uses in
@@ -233,7 +202,7 @@ Gave-end old new passed at_end = (
                 cut.whole ∙ ap (λ most. halves_of most (ended_words new.place cut.more) cut.last) (sym passed.halves)
                 ∙ sym (cut.rest_is new.halves);
             in_part =
-                λ more. ap (λ ws. halves_of old.halves ws (Some Read)) (uses.passes more)
+                λ more. ap (λ ws. halves_of old.halves ws (Some Read)) (uses.is more)
                 ∙ ap (λ most. halves_of most (ended_words new.place more) (Some Read)) (sym passed.halves);
             lines = uses.lines;
           })
@@ -248,7 +217,7 @@ Gave-end old new passed at_end = (
   go old.text new.text passed.text at_end,
 )
   where
-    go : (whole rest : Option (List ℕ)) → IfSome whole (λ text. IsSomeAnd rest (λ more. Uses old new [] text more))
+    go : (whole rest : Option (List ℕ)) → IfSome whole (λ text. IsSomeAnd rest (λ more. PassesIn old new [] text more))
         → IsAtEnd rest → IfSome whole (λ text. capture_in old text ≡ only_fault None)
     go None rest uses end = tt
     go (Some text) None uses end = absurd uses
@@ -258,35 +227,29 @@ Gave-end old new passed at_end = (
         ∙ sym (cut.rest_is new.halves)
         ∙ ap (capture_in new) end ∙ rw (zero_fits new.bytes) refl
 
--- a fact of the text
-pub if_some_map : (P Q : List ℕ → Type 0) (text : Option (List ℕ)) → ((bytes : List ℕ) → P bytes → Q bytes)
-    → IfSome text P → IfSome text Q
-if_some_map P Q None each fact = tt
-if_some_map P Q (Some bytes) each fact = each bytes fact
-
 pub stops_answer : (old new : InputState) (fault : KeptFault) → AnswersWord old (Err fault) new
     → AnswersRun old (Err fault) new
 stops_answer old new Read answer = (
   (
-    answer.failures,
-    answer.ahead,
-    map_same (λ text rest. FailsBehind old new text rest)
+    answer.0.0,
+    answer.0.1,
+    map_same (λ text rest. (used : List ℕ) × (text ≡ used ++ rest) × IsBeforeWord old used)
         (λ text rest. (used : List ℕ) × (text ≡ used ++ rest)
         × (capture_before_failure old used ≡ only_fault (Some Read))) old.text new.text
-        (λ text rest before. (before.used, before.whole, ap (λ ws. halves_of old.halves ws (Some Read)) before.none))
-        answer.text,
+        (λ text rest before. (before.0, before.1, ap (λ ws. halves_of old.halves ws (Some Read)) before.2))
+        answer.0.2,
   ),
-  answer.fault,
+  answer.1,
 )
 stops_answer old new TooMuch answer = (
   (
-    answer.failures,
-    if_some_map (λ text. (old.bytes < length text) × (ended_words old.place (take (old.bytes - 1) text) ≡ []))
+    answer.0.0,
+    if_some_map (λ text. (old.bytes < length text) × IsBeforeWord old (take (old.bytes - 1) text))
         (λ text. capture_in old text ≡ only_fault (Some TooMuch)) old.text
         (λ text over. rw (not_within (length text) old.bytes over.0)
-        (ap (λ ws. halves_of old.halves ws (Some TooMuch)) over.1)) answer.text,
+        (ap (λ ws. halves_of old.halves ws (Some TooMuch)) over.1)) answer.0.1,
   ),
-  answer.fault,
+  answer.1,
 )
 stops_answer old new (Number line) answer = absurd answer
 stops_answer old new (Line line fault) answer = absurd answer

@@ -12,7 +12,7 @@ use Rattle.dcc_io.specs.Passed.{Passed}
 use Rattle.dcc_io.specs.FirstRead.{EndsLine}
 use Rattle.dcc_io.proofs.WordsLemmas.{eqb_line_feed}
 use Rattle.dcc_io.proofs.PassedLemmas.{Opens, TakesNoted, Opens-word, Opens-gap, EndsWord-gap, Passed-gap, Passed-end}
-use Rattle.dcc_io.proofs.CaptureLemmas.{if_some_map}
+use Rattle.dcc_io.proofs.TookLemmas.{if_some_map, if_some_all}
 
 -- within a line, no word of which has ended
 pub record OpensHere (old : InputState) (so_far : RunWord) (now : InputState) : Type 0 where
@@ -49,10 +49,6 @@ OpensHere-gap old now new so_far byte so takes gap empty other = record {
   opens = Opens-gap old now new so_far byte so.opens takes gap empty;
   here = same_line now new byte takes (other_byte byte 10 other) ∙ so.here;
 }
-
-if_some_all : (R : List ℕ → Type 0) (text : Option (List ℕ)) → ((rest : List ℕ) → R rest) → IfSome text R
-if_some_all R None all = tt
-if_some_all R (Some rest) all = all rest
 
 -- the line feed behind no word
 pub ends_here : (old now new : InputState) (so_far : RunWord) (byte : ℕ) (so : OpensHere old so_far now)

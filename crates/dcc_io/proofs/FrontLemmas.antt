@@ -17,12 +17,13 @@ use Rattle.dcc_io.specs.Front.{BeginsWithWord, HasLineFeedAt, IsFrontWord, is_pl
 use Rattle.dcc_io.specs.declared.fault.KeptFault.{KeptFault}
 use Rattle.dcc_io.specs.Told.{Told}
 use Rattle.dcc_io.specs.InputState.{InputState, closed_text, closing}
-use Rattle.dcc_io.specs.Passed.{Passed, Uses}
+use Rattle.dcc_io.specs.Passed.{Passed}
 use Rattle.dcc_io.specs.Capture.{AnswersRun}
 use Rattle.dcc_io.specs.FirstRead.{AnswersFirst}
 use Rattle.dcc_io.proofs.WordsLemmas.{eqb_line_feed, behind, opened, opened-none, opened-word, opened-gap, ended}
 use Rattle.dcc_io.proofs.HandLemmas.{outside}
 use Rattle.dcc_io.proofs.RunWordLemmas.{run_of_duration}
+use Rattle.dcc_io.proofs.PassedLemmas.{PassesIn}
 use Rattle.dcc_io.proofs.CaptureLemmas.{Gave-word}
 use Rattle.dcc_io.proofs.BothLemmas.{counts}
 use Rattle.dcc_io.proofs.SpellsLemmas.{digit_value-digit, is_ascii_digit-digit, digits_value_after-push}
@@ -229,16 +230,18 @@ passes_word old new whole rest ahead len ends_line old_text new_text consumed be
     let used : take (len + 1) ahead ≡ take len ahead ++ get_or ahead len 0 ∷ [] = take_more ahead len 0 begins.inside in
     let count : length (take len ahead) ≡ len = let inside = begins.inside in simp length-take (omega arith) in
     record {
-      text = subst
-          (λ (xs : Option (List ℕ)). IfSome xs (λ text. IsSomeAnd new.text (λ left. Uses old new words text left)))
-          (sym old_text)
-          (subst (λ (xs : Option (List ℕ)). IfSome (closed_text false whole)
-          (λ text. IsSomeAnd xs (λ left. Uses old new words text left))) (sym new_text)
-          (go used count whole rest consumed));
+      took = record {
+        text = subst
+            (λ (xs : Option (List ℕ)). IfSome xs
+            (λ text. IsSomeAnd new.text (λ left. PassesIn old new words text left))) (sym old_text)
+            (subst (λ (xs : Option (List ℕ)). IfSome (closed_text false whole)
+            (λ text. IsSomeAnd xs (λ left. PassesIn old new words text left))) (sym new_text)
+            (go used count whole rest consumed));
+        bytes = omega (arith, bytes);
+        fault = fault;
+        failures = failures;
+      };
       halves = halves;
-      bytes = omega (arith, bytes);
-      fault = fault;
-      failures = failures;
     }
   where
     words : List Word
@@ -247,14 +250,14 @@ passes_word old new whole rest ahead len ends_line old_text new_text consumed be
     go : take (len + 1) ahead ≡ take len ahead ++ get_or ahead len 0 ∷ [] → length (take len ahead) ≡ len
         → (xs ys : Option (List ℕ)) → Consumes xs ys (take (len + 1) ahead)
         → IfSome (closed_text false xs)
-        (λ text. IsSomeAnd (closed_text false ys) (λ left. Uses old new words text left))
+        (λ text. IsSomeAnd (closed_text false ys) (λ left. PassesIn old new words text left))
     go used count None ys taken = tt
     go used count (Some xs) None taken = absurd taken
     go used count (Some xs) (Some ys) taken = let some = begins.some in record {
       used = take len ahead ++ get_or ahead len 0 ∷ [];
       whole = ap (λ (zs : List ℕ). zs ++ 10 ∷ []) (taken ∙ ap (λ (zs : List ℕ). zs ++ ys) used)
           ∙ append_assoc (take len ahead ++ get_or ahead len 0 ∷ []) ys (10 ∷ []);
-      passes =
+      is =
           λ more. ap
           (λ (in_comment : Bool). ended_words (record { line = old.place.line; in_comment = in_comment })
           ((take len ahead ++ get_or ahead len 0 ∷ []) ++ more)) no_comment
@@ -359,11 +362,13 @@ passes_line_feed : (source later : Told) (line lines halves bytes : ℕ) → 1 <
     (state_of later (line + 1) line false false halves (bytes - 1) None)
 unfolding comments is_gap
 passes_line_feed source later line lines halves bytes room is_feed consumed failures = record {
-  text = go source.text later.text consumed;
+  took = record {
+    text = go source.text later.text consumed;
+    bytes = omega arith;
+    fault = refl;
+    failures = failures;
+  };
   halves = refl;
-  bytes = omega arith;
-  fault = refl;
-  failures = failures;
 }
   where
     old : InputState
@@ -377,7 +382,9 @@ passes_line_feed source later line lines halves bytes room is_feed consumed fail
     some (byte ∷ rest) = refl
 
     go : (xs ys : Option (List ℕ)) → Consumes xs ys (take 1 source.ahead)
-        → IfSome (closed_text false xs) (λ text. IsSomeAnd (closed_text false ys) (λ left. Uses old new [] text left))
+        → IfSome (closed_text false xs)
+        (λ text. IsSomeAnd (closed_text false ys)
+        (λ left. PassesIn old new [] text left))
     go None ys taken = tt
     go (Some xs) None taken = absurd taken
     go (Some xs) (Some ys) taken =
@@ -386,7 +393,7 @@ passes_line_feed source later line lines halves bytes room is_feed consumed fail
         record {
           used = 10 ∷ [];
           whole = whole;
-          passes = λ more. sym (opened-none (outside line) (10 ∷ more)) ∙ opened-gap (outside line) [] 10 more refl;
+          is = λ more. sym (opened-none (outside line) (10 ∷ more)) ∙ opened-gap (outside line) [] 10 more refl;
           bytes = omega arith;
           room = λ one none. absurd (omega (arith, none));
           lines = ap (λ n. lines_through n (line + 1) (ys ++ 10 ∷ [])) (sym (some ys))

@@ -3,6 +3,7 @@ pub mod InputLemmas
 pub mod WordsLemmas
 pub mod SpellsLemmas
 pub mod RunWordLemmas
+pub mod TookLemmas
 pub mod PassedLemmas
 pub mod CaptureLemmas
 pub mod WrittenLemmas

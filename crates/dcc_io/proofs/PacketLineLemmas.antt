@@ -17,7 +17,7 @@ use Rattle.dcc_io.specs.LineRead.{FailsWithin, FailsInLine, OverflowsInLine}
 use Rattle.dcc_io.specs.Items.{Items, preceded, only_fault, Gives, Gave, StopsAt}
 use Rattle.dcc_io.specs.PacketLines.{is_skipped, Saying, behind_line, items_of, items_in, items_before_failure}
 use Rattle.dcc_io.specs.PacketLines.{lines_by}
-use Rattle.dcc_io.proofs.CaptureLemmas.{count_more, above_limit, not_within, zero_fits, same_test}
+use Rattle.dcc_io.proofs.TookLemmas.{count_more, above_limit, not_within, zero_fits, same_test}
 use Rattle.dcc_io.proofs.LineLemmas.{bad-more}
 
 abbrev numbered : ℕ → List ℕ → NumberedLine

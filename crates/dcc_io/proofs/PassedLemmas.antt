@@ -12,53 +12,31 @@ use Rattle.dcc_io.specs.Place.{Place, line_behind, lines_with, lines_through}
 use Rattle.dcc_io.specs.Failures.{one_more}
 use Rattle.dcc_io.specs.Told.{BeginsWith, IsAtEnd}
 use Rattle.dcc_io.specs.InputState.{InputState, all_lines, TakesByte, FailsToRead, HasMoreBytes, AnswersByte}
-use Rattle.dcc_io.specs.Words.{Word, ended_words, is_some_byte, is_gap, comments}
+use Rattle.dcc_io.specs.Words.{Word, ended_words, is_some_byte, is_gap, comments, Passes}
 use Rattle.dcc_io.specs.Spells.{Spells}
-use Rattle.dcc_io.specs.Passed.{Uses, Passed, FailsBehind, FailsBeforeWord, OverflowsBeforeWord, EndsWord, AnswersWord}
+use Rattle.dcc_io.specs.Took.{Uses, Took, FailsBehind, OverflowsBehind}
+use Rattle.dcc_io.specs.Passed.{Passed, IsBeforeWord, EndsWord, AnswersWord}
 use Rattle.dcc_io.proofs.WordsLemmas.{behind, opened, opened-none, opened-word, opened-gap, ended}
+use Rattle.dcc_io.proofs.TookLemmas.{if_some_map, if_some_all, join_whole, Took-start, Took-map, Took-join}
 
--- bytes were used, which end in the front of a word
-pub record OpensIn (old now : InputState) (word text rest : List ℕ) : Type 0 where
-  pub used : List ℕ
-  pub whole : text ≡ used ++ rest
-  pub goes_on : (more : List ℕ) → ended_words old.place (used ++ more) ≡ opened now.place word more
-  pub bytes : now.bytes + length used ≡ old.bytes
-  pub room : 0 < length used → now.bytes ≡ 0 → rest ≡ []
-  pub lines : all_lines now rest ≡ all_lines old text
-  -- a text ends with a line feed, and so not within a word
-  pub closed : rest ≡ [] → word ≡ []
+-- these bytes end in the front of a word
+abbrev pub IsOpenBehind : InputState → InputState → List ℕ → List ℕ → Type 0
+IsOpenBehind old now word used =
+    (more : List ℕ) → ended_words old.place (used ++ more) ≡ opened now.place word more
 
+-- bytes were used, in which these words have ended
+abbrev pub PassesIn : InputState → InputState → List Word → List ℕ → List ℕ → Type 0
+PassesIn old new words text rest = Uses (λ used. Passes old.place used words new.place) old new text rest
+
+-- bytes were read, which end in the front of a word
 pub record Opens (old : InputState) (so_far : RunWord) (now : InputState) : Type 0 where
   pub word : List ℕ
   pub spelled : Spells so_far word
-  pub text : IfSome old.text (λ text. IsSomeAnd now.text (λ rest. OpensIn old now word text rest))
+  pub took : Took (IsOpenBehind old now word) old now
+  pub open took use *
   pub halves : now.halves ≡ old.halves
-  pub bytes : now.bytes ≤ old.bytes
-  pub fault : now.fault ≡ None
-  pub failures : now.failures ≡ old.failures
-
--- what holds of the text and its rest, after a byte was taken
-pub map_taken : (P Q : List ℕ → List ℕ → Type 0) (R : List ℕ → Type 0) (whole rest new : Option (List ℕ)) (byte : ℕ)
-    → ((text more : List ℕ) → P text (byte ∷ more) → R more → Q text more)
-    → IfSome whole (λ text. IsSomeAnd rest (λ more. P text more)) → BeginsWith rest byte new → IfSome new R
-    → IfSome whole (λ text. IsSomeAnd new (λ more. Q text more))
-map_taken P Q R None rest new byte each before taken fact = tt
-map_taken P Q R (Some text) None new byte each before taken fact = absurd before
-map_taken P Q R (Some text) (Some more) None byte each before taken fact = absurd taken
-map_taken P Q R (Some text) (Some more) (Some fewer) byte each before taken fact =
-    each text fewer (subst (λ (x : List ℕ). P text x) taken before) fact
-
--- three facts of the rest
-if_some_three : (R S T : List ℕ → Type 0) (text : Option (List ℕ)) → IfSome text R → IfSome text S → IfSome text T
-    → IfSome text (λ rest. R rest × S rest × T rest)
-if_some_three R S T None first second third = tt
-if_some_three R S T (Some rest) first second third = (first, second, third)
-
--- a fact of the rest, in other words
-if_some_map : (R S : List ℕ → Type 0) (text : Option (List ℕ)) → ((rest : List ℕ) → R rest → S rest) → IfSome text R
-    → IfSome text S
-if_some_map R S None each fact = tt
-if_some_map R S (Some rest) each fact = each rest fact
+  -- a text ends with a line feed, and so not within a word
+  pub closed : IfSome now.text (λ rest. rest ≡ [] → word ≡ [])
 
 -- a byte more leaves the number of all lines
 pub step_lines : (old new : InputState) (byte : ℕ) (rest : List ℕ)
@@ -68,68 +46,53 @@ step_lines old new byte rest lines line =
     ap (λ n. lines_through n new.place.line rest) lines
     ∙ ap (λ n. lines_through (lines_with old.lines old.place.line rest) n rest) line
 
--- a fact of the rest under a premise
-if_some_under : (A : Type 0) (R : List ℕ → Type 0) (text : Option (List ℕ)) → (A → IfSome text R)
-    → IfSome text (λ rest. A → R rest)
-if_some_under A R None fact = tt
-if_some_under A R (Some rest) fact = fact
-
--- what holds of the text and its rest, in other words
-pub map_same : (P Q : List ℕ → List ℕ → Type 0) (whole rest : Option (List ℕ))
-    → ((text more : List ℕ) → P text more → Q text more)
-    → IfSome whole (λ text. IsSomeAnd rest (λ more. P text more))
-    → IfSome whole (λ text. IsSomeAnd rest (λ more. Q text more))
-map_same P Q None rest each before = tt
-map_same P Q (Some text) None each before = absurd before
-map_same P Q (Some text) (Some more) each before = each text more before
-
--- the same, after nothing was taken
-pub map_kept : (P Q : List ℕ → List ℕ → Type 0) (whole rest new : Option (List ℕ))
-    → ((text more : List ℕ) → P text more → Q text more)
-    → IfSome whole (λ text. IsSomeAnd rest (λ more. P text more)) → Keeps rest new
-    → IfSome whole (λ text. IsSomeAnd new (λ more. Q text more))
-map_kept P Q None rest new each before kept = tt
-map_kept P Q (Some text) None new each before kept = absurd before
-map_kept P Q (Some text) (Some more) None each before kept = absurd kept
-map_kept P Q (Some text) (Some more) (Some same) each before kept =
-    each text same (subst (λ (x : List ℕ). P text x) (sym kept) before)
-
-starts_text : (input : InputState) (text : Option (List ℕ))
-    → IfSome text (λ whole. IsSomeAnd text (λ rest. OpensIn input input [] whole rest))
-starts_text input None = tt
-starts_text input (Some text) = record {
-  used = [];
-  whole = refl;
-  goes_on = λ more. sym (opened-none input.place more);
-  bytes = omega arith;
-  room = λ some. absurd (omega arith);
-  lines = refl;
-  closed = λ none. refl;
+-- one byte was read
+pub took_byte : (old new : InputState) (byte : ℕ) → BeginsWith old.text byte new.text
+    → IfSome new.text (λ rest. new.lines ≡ lines_with old.lines old.place.line rest)
+    → new.place.line ≡ line_behind old.place.line byte → new.bytes + 1 ≡ old.bytes
+    → (new.bytes ≡ 0 → IsAtEnd new.text) → new.fault ≡ None → new.failures ≡ old.failures
+    → Took (λ used. used ≡ byte ∷ []) old new
+took_byte old new byte begins lines line bytes room fault failures = record {
+  text = go old.text new.text begins lines room;
+  bytes = omega (arith, bytes);
+  fault = fault;
+  failures = failures;
 }
+  where
+    go : (x y : Option (List ℕ)) → BeginsWith x byte y
+        → IfSome y (λ rest. new.lines ≡ lines_with old.lines old.place.line rest) → (new.bytes ≡ 0 → IsAtEnd y)
+        → IfSome x (λ text. IsSomeAnd y (λ rest. Uses (λ used. used ≡ byte ∷ []) old new text rest))
+    go None y taken with_rest end = tt
+    go (Some text) None taken with_rest end = absurd taken
+    go (Some text) (Some rest) taken with_rest end = record {
+      used = byte ∷ [];
+      whole = taken;
+      is = refl;
+      bytes = omega (arith, bytes);
+      room = λ some. end;
+      lines = step_lines old new byte rest with_rest line ∙ ap (λ (xs : List ℕ). all_lines old xs) (sym taken);
+    }
+
+abbrev no_word : List ℕ
+no_word = []
 
 pub Opens-start : (input : InputState) (so_far : RunWord) → input.fault ≡ None → Spells so_far []
     → Opens input so_far input
 Opens-start input so_far fault spelled = record {
   word = [];
   spelled = spelled;
-  text = starts_text input input.text;
+  took = Took-start input fault (λ more. sym (opened-none input.place more));
   halves = refl;
-  bytes = omega arith;
-  fault = fault;
-  failures = refl;
+  closed = if_some_all (λ rest. rest ≡ [] → no_word ≡ []) input.text (λ rest none. refl);
 }
 
 -- a byte was taken, and it was noted whether it begins or ends a comment
 pub record TakesNoted (old : InputState) (byte : ℕ) (new : InputState) : Type 0 where
-  pub text : BeginsWith old.text byte new.text
+  pub took : Took (λ used. used ≡ byte ∷ []) old new
   pub place : new.place ≡ behind old.place byte
-  pub lines : IfSome new.text (λ rest. new.lines ≡ lines_with old.lines old.place.line rest)
   pub halves : new.halves ≡ old.halves
-  pub bytes : new.bytes + 1 ≡ old.bytes
-  pub room : new.bytes ≡ 0 → IsAtEnd new.text
+  pub fewer : new.bytes < old.bytes
   pub last : IfSome new.text (λ rest. rest ≡ [] → byte ≡ 10)
-  pub fault : new.fault ≡ None
-  pub failures : new.failures ≡ old.failures
 
 abbrev pub noted : InputState → ℕ → InputState
 noted mid byte =
@@ -147,15 +110,12 @@ noted mid byte =
 pub takes_noted : (old mid new : InputState) (byte : ℕ) → TakesByte old byte mid → new ≡ noted mid byte
     → TakesNoted old byte new
 takes_noted old mid new byte takes is_new = rw is_new record {
-  text = takes.text;
+  took = took_byte old (noted mid byte) byte takes.text takes.lines takes.line takes.bytes takes.room takes.fault
+      takes.failures;
   place = rw (takes.line, takes.in_comment) refl;
-  lines = takes.lines;
   halves = takes.halves;
-  bytes = takes.bytes;
-  room = takes.room;
+  fewer = let bytes = takes.bytes in omega (arith, bytes);
   last = takes.last;
-  fault = takes.fault;
-  failures = takes.failures;
 }
 
 or_false : (a b : Bool) → (a || b) ≡ false → (a ≡ false) × (b ≡ false)
@@ -166,19 +126,17 @@ line_feed_is_gap : (byte : ℕ) → byte ≡ 10 → is_gap byte ≡ true
 unfolding is_gap
 line_feed_is_gap byte is_line_feed = rw is_line_feed refl
 
--- what the rest behind a taken byte is known to be
-abbrev pub Behind : InputState → InputState → ℕ → List ℕ → Type 0
-Behind old new byte rest =
-    (new.bytes ≡ 0 → rest ≡ []) × (rest ≡ [] → byte ≡ 10) × (all_lines new rest ≡ all_lines old (byte ∷ rest))
-
-behind_taken : (old new : InputState) (byte : ℕ) → TakesNoted old byte new → IfSome new.text (Behind old new byte)
-behind_taken old new byte takes =
-    if_some_three (λ rest. new.bytes ≡ 0 → rest ≡ []) (λ rest. rest ≡ [] → byte ≡ 10)
-    (λ rest. all_lines new rest ≡ all_lines old (byte ∷ rest)) new.text
-    (if_some_under (new.bytes ≡ 0) (λ rest. rest ≡ []) new.text takes.room) takes.last
-    (if_some_map (λ rest. new.lines ≡ lines_with old.lines old.place.line rest)
-    (λ rest. all_lines new rest ≡ all_lines old (byte ∷ rest)) new.text
-    (λ rest lines. step_lines old new byte rest lines (ap (λ (place : Place). place.line) takes.place)) takes.lines)
+-- a byte behind the front of a word
+took_more : (old now new : InputState) (word : List ℕ) (byte : ℕ) (said : List ℕ → List Word)
+    → Took (IsOpenBehind old now word) old now → TakesNoted now byte new
+    → ((more : List ℕ) → opened now.place word (byte ∷ more) ≡ said more)
+    → Took (λ used. (more : List ℕ) → ended_words old.place (used ++ more) ≡ said more) old new
+took_more old now new word byte said took takes each =
+    Took-join took takes.took
+    (λ first second goes_on is more. ap (λ (back : List ℕ). ended_words old.place ((first ++ back) ++ more)) is
+    ∙ ap (ended_words old.place) (append_assoc first (byte ∷ []) more)
+    ∙ goes_on (byte ∷ more)
+    ∙ each more)
 
 -- a byte of the word was taken
 pub Opens-word : (old now new : InputState) (so_far more_far : RunWord) (byte : ℕ) → Opens old so_far now
@@ -191,57 +149,39 @@ Opens-word old now new so_far more_far byte opens takes no_gap spells =
     record {
       word = opens.word ++ byte ∷ [];
       spelled = spells opens.word opens.spelled;
-      text = map_taken (λ text rest. OpensIn old now opens.word text rest)
-          (λ text rest. OpensIn old new (opens.word ++ byte ∷ []) text rest) (Behind now new byte)
-          old.text now.text new.text byte
-          (λ text more before known. record {
-            used = before.used ++ byte ∷ [];
-            whole = before.whole ∙ sym (append_assoc before.used (byte ∷ []) more);
-            goes_on =
-                λ after. ap (ended_words old.place) (append_assoc before.used (byte ∷ []) after)
-                ∙ before.goes_on (byte ∷ after)
-                ∙ opened-word now.place opens.word byte after apart.0 apart.1
-                ∙ ap (λ (place : Place). opened place (opens.word ++ byte ∷ []) after) (sym takes.place);
-            bytes = simp length-append (omega (arith, before.bytes, takes.bytes));
-            room = λ some. known.0;
-            lines = known.2 ∙ before.lines;
-            closed =
-                λ none. let gap = line_feed_is_gap byte (known.1 none) in
-                let clash : true ≡ false = sym gap ∙ apart.1 in cc;
-          })
-          opens.text takes.text (behind_taken now new byte takes);
+      took = took_more old now new opens.word byte (opened new.place (opens.word ++ byte ∷ [])) opens.took takes
+          (λ more. opened-word now.place opens.word byte more apart.0 apart.1
+          ∙ ap (λ (place : Place). opened place (opens.word ++ byte ∷ []) more) (sym takes.place));
       halves = takes.halves ∙ opens.halves;
-      bytes = omega (arith, takes.bytes, opens.bytes);
-      fault = takes.fault;
-      failures = takes.failures ∙ opens.failures;
+      closed = if_some_map (λ rest. rest ≡ [] → byte ≡ 10) (λ rest. rest ≡ [] → opens.word ++ byte ∷ [] ≡ []) new.text
+          (λ rest last none. let gap = line_feed_is_gap byte (last none) in
+          let clash : true ≡ false = sym gap ∙ apart.1 in cc) takes.last;
     }
 
 -- a gap was taken, which ends the word
-uses_gap : (old now new : InputState) (so_far : RunWord) (byte : ℕ) (opens : Opens old so_far now)
+Passed-ended : (old now new : InputState) (so_far : RunWord) (byte : ℕ) (opens : Opens old so_far now)
     → TakesNoted now byte new
-    → (comments now.place.in_comment byte || is_gap byte) ≡ true
-    → IfSome old.text (λ text. IsSomeAnd new.text (λ rest. Uses old new (ended now.place.line opens.word) text rest))
-uses_gap old now new so_far byte opens takes gap =
-    map_taken (λ text rest. OpensIn old now opens.word text rest)
-    (λ text rest. Uses old new (ended now.place.line opens.word) text rest) (Behind now new byte)
-    old.text now.text new.text byte
-    (λ text more before known. record {
-      used = before.used ++ byte ∷ [];
-      whole = before.whole ∙ sym (append_assoc before.used (byte ∷ []) more);
-      passes =
-          λ after. ap (ended_words old.place) (append_assoc before.used (byte ∷ []) after)
-          ∙ before.goes_on (byte ∷ after)
-          ∙ opened-gap now.place opens.word byte after gap
-          ∙ ap (λ (place : Place). ended now.place.line opens.word ++ ended_words place after) (sym takes.place);
-      bytes = simp length-append (omega (arith, before.bytes, takes.bytes));
-      room = λ some. known.0;
-      lines = known.2 ∙ before.lines;
-    })
-    opens.text takes.text (behind_taken now new byte takes)
+    → (comments now.place.in_comment byte || is_gap byte) ≡ true → Passed old (ended now.place.line opens.word) new
+Passed-ended old now new so_far byte opens takes gap = record {
+  took = took_more old now new opens.word byte
+      (λ more. ended now.place.line opens.word ++ ended_words new.place more) opens.took takes
+      (λ more. opened-gap now.place opens.word byte more gap
+      ∙ ap (λ (place : Place). ended now.place.line opens.word ++ ended_words place more) (sym takes.place));
+  halves = takes.halves ∙ opens.halves;
+}
 
 no_bytes : (word : List ℕ) → is_some_byte word ≡ false → word ≡ []
 no_bytes [] none = refl
 no_bytes (byte ∷ word) none = cc
+
+-- a gap where no word is open ends none
+pub Passed-gap : (old now new : InputState) (so_far : RunWord) (byte : ℕ) (opens : Opens old so_far now)
+    → TakesNoted now byte new
+    → (comments now.place.in_comment byte || is_gap byte) ≡ true → is_some_byte opens.word ≡ false → Passed old [] new
+Passed-gap old now new so_far byte opens takes gap empty =
+    subst (λ (words : List Word). Passed old words new)
+    (ap (ended now.place.line) (no_bytes opens.word empty))
+    (Passed-ended old now new so_far byte opens takes gap)
 
 -- a gap where no word is open
 pub Opens-gap : (old now new : InputState) (so_far : RunWord) (byte : ℕ) (opens : Opens old so_far now)
@@ -249,45 +189,14 @@ pub Opens-gap : (old now new : InputState) (so_far : RunWord) (byte : ℕ) (open
     → (comments now.place.in_comment byte || is_gap byte) ≡ true → is_some_byte opens.word ≡ false
     → Opens old so_far new
 Opens-gap old now new so_far byte opens takes gap empty =
-    let none = no_bytes opens.word empty in
+    let passed = Passed-gap old now new so_far byte opens takes gap empty in
     record {
       word = [];
-      spelled = subst (λ (word : List ℕ). Spells so_far word) none opens.spelled;
-      text = map_same (λ text rest. Uses old new (ended now.place.line opens.word) text rest)
-          (λ text rest. OpensIn old new [] text rest) old.text new.text
-          (λ text more uses. record {
-            used = uses.used;
-            whole = uses.whole;
-            goes_on =
-                λ after. uses.passes after
-                ∙ ap (λ (word : List ℕ). ended now.place.line word ++ ended_words new.place after) none
-                ∙ sym (opened-none new.place after);
-            bytes = uses.bytes;
-            room = uses.room;
-            lines = uses.lines;
-            closed = λ end. refl;
-          })
-          (uses_gap old now new so_far byte opens takes gap);
-      halves = takes.halves ∙ opens.halves;
-      bytes = omega (arith, takes.bytes, opens.bytes);
-      fault = takes.fault;
-      failures = takes.failures ∙ opens.failures;
+      spelled = subst (λ (word : List ℕ). Spells so_far word) (no_bytes opens.word empty) opens.spelled;
+      took = Took-map passed.took (λ used passes more. passes more ∙ sym (opened-none new.place more));
+      halves = passed.halves;
+      closed = if_some_all (λ rest. rest ≡ [] → no_word ≡ []) new.text (λ rest none. refl);
     }
-
--- a gap where no word is open ends none
-pub Passed-gap : (old now new : InputState) (so_far : RunWord) (byte : ℕ) (opens : Opens old so_far now)
-    → TakesNoted now byte new
-    → (comments now.place.in_comment byte || is_gap byte) ≡ true → is_some_byte opens.word ≡ false → Passed old [] new
-Passed-gap old now new so_far byte opens takes gap empty = record {
-  text = subst
-      (λ (words : List Word). IfSome old.text (λ text. IsSomeAnd new.text (λ rest. Uses old new words text rest)))
-      (ap (ended now.place.line) (no_bytes opens.word empty))
-      (uses_gap old now new so_far byte opens takes gap);
-  halves = takes.halves ∙ opens.halves;
-  bytes = omega (arith, takes.bytes, opens.bytes);
-  fault = takes.fault;
-  failures = takes.failures ∙ opens.failures;
-}
 
 ended-some : (line : ℕ) (word : List ℕ) → is_some_byte word ≡ true
     → ended line word ≡ record { line = line; bytes = word } ∷ []
@@ -309,62 +218,72 @@ pub EndsWord-gap : (old now new : InputState) (so_far : RunWord) (byte : ℕ) (o
 EndsWord-gap old now new so_far byte opens takes gap some = record {
   word = opens.word;
   spelled = opens.spelled;
-  passed = record {
-    text = subst
-        (λ (words : List Word). IfSome old.text (λ text. IsSomeAnd new.text (λ rest. Uses old new words text rest)))
-        (ended-some now.place.line opens.word some)
-        (uses_gap old now new so_far byte opens takes gap);
-    halves = takes.halves ∙ opens.halves;
-    bytes = omega (arith, takes.bytes, opens.bytes);
-    fault = takes.fault;
-    failures = takes.failures ∙ opens.failures;
-  };
-  fewer = omega (arith, takes.bytes, opens.bytes);
+  passed = subst (λ (words : List Word). Passed old words new) (ended-some now.place.line opens.word some)
+      (Passed-ended old now new so_far byte opens takes gap);
+  fewer = let before = opens.bytes in let fewer = takes.fewer in omega (arith, before, fewer);
   behind = subst (λ (place : Place). now.place.line ≤ place.line) (sym takes.place) (line_grows now.place.line byte);
 }
 
 -- the end
 pub Passed-end : (old now : InputState) (so_far : RunWord) → Opens old so_far now → IsAtEnd now.text → Passed old [] now
 Passed-end old now so_far opens at_end = record {
-  text = go old.text now.text opens.text at_end;
+  took = record {
+    text = go old.text now.text opens.text opens.closed at_end;
+    bytes = opens.bytes;
+    fault = opens.fault;
+    failures = opens.failures;
+  };
   halves = opens.halves;
-  bytes = opens.bytes;
-  fault = opens.fault;
-  failures = opens.failures;
 }
   where
     go : (whole rest : Option (List ℕ))
-        → IfSome whole (λ text. IsSomeAnd rest (λ more. OpensIn old now opens.word text more)) → IsAtEnd rest
-        → IfSome whole (λ text. IsSomeAnd rest (λ more. Uses old now [] text more))
-    go None rest before end = tt
-    go (Some text) None before end = absurd before
-    go (Some text) (Some more) before end = record {
+        → IfSome whole (λ text. IsSomeAnd rest (λ more. Uses (IsOpenBehind old now opens.word) old now text more))
+        → IfSome rest (λ more. more ≡ [] → opens.word ≡ []) → IsAtEnd rest
+        → IfSome whole (λ text. IsSomeAnd rest (λ more. PassesIn old now [] text more))
+    go None rest before closed end = tt
+    go (Some text) None before closed end = absurd before
+    go (Some text) (Some more) before closed end = record {
       used = before.used;
       whole = before.whole;
-      passes =
-          λ after. before.goes_on after ∙ ap (λ (word : List ℕ). opened now.place word after) (before.closed end)
+      is =
+          λ after. before.is after ∙ ap (λ (word : List ℕ). opened now.place word after) (closed end)
           ∙ opened-none now.place after;
       bytes = before.bytes;
       room = before.room;
       lines = before.lines;
     }
 
--- a read failed within a word or a gap
-pub fails_before_word : (old now new : InputState) (so_far : RunWord) → Opens old so_far now → FailsToRead now new
-    → FailsBeforeWord old new
-fails_before_word old now new so_far opens fails = record {
-  text = map_kept (λ text rest. OpensIn old now opens.word text rest) (λ text rest. FailsBehind old new text rest)
-      old.text now.text new.text
-      (λ text more before. record {
-        used = before.used;
-        whole = before.whole;
-        none = ap (ended_words old.place) (sym (append-nil before.used)) ∙ before.goes_on [] ∙ refl;
-      })
-      opens.text fails.text;
-  ahead = fails.ahead;
-  fault = fails.fault;
-  failures = fails.failures ∙ ap one_more opens.failures;
-}
+-- what holds of the text and its rest, after a byte was taken
+pub map_taken : (P Q : List ℕ → List ℕ → Type 0) (R : List ℕ → Type 0) (whole rest new : Option (List ℕ)) (byte : ℕ)
+    → ((text more : List ℕ) → P text (byte ∷ more) → R more → Q text more)
+    → IfSome whole (λ text. IsSomeAnd rest (λ more. P text more)) → BeginsWith rest byte new → IfSome new R
+    → IfSome whole (λ text. IsSomeAnd new (λ more. Q text more))
+map_taken P Q R None rest new byte each before taken fact = tt
+map_taken P Q R (Some text) None new byte each before taken fact = absurd before
+map_taken P Q R (Some text) (Some more) None byte each before taken fact = absurd taken
+map_taken P Q R (Some text) (Some more) (Some fewer) byte each before taken fact =
+    each text fewer (subst (λ (x : List ℕ). P text x) taken before) fact
+
+-- what holds of the text and its rest, after nothing was taken
+pub map_kept : (P Q : List ℕ → List ℕ → Type 0) (whole rest new : Option (List ℕ))
+    → ((text more : List ℕ) → P text more → Q text more)
+    → IfSome whole (λ text. IsSomeAnd rest (λ more. P text more)) → Keeps rest new
+    → IfSome whole (λ text. IsSomeAnd new (λ more. Q text more))
+map_kept P Q None rest new each before kept = tt
+map_kept P Q (Some text) None new each before kept = absurd before
+map_kept P Q (Some text) (Some more) None each before kept = absurd kept
+map_kept P Q (Some text) (Some more) (Some same) each before kept =
+    each text same (subst (λ (x : List ℕ). P text x) (sym kept) before)
+
+-- a read failed behind bytes that were read
+pub fails_to_read : (P Q : List ℕ → Type 0) (old now new : InputState) → Took P old now → FailsToRead now new
+    → ((used : List ℕ) → P used → Q used) → FailsBehind Q old new
+fails_to_read P Q old now new took fails each = (
+  fails.failures ∙ ap one_more took.failures,
+  fails.ahead,
+  map_kept (Uses P old now) (λ text rest. (used : List ℕ) × (text ≡ used ++ rest) × Q used) old.text now.text new.text
+      (λ text more uses. (uses.used, uses.whole, each uses.used uses.is)) took.text fails.text,
+)
 
 -- how many bytes were used where one more would be too many
 pub count_used : (most left used : ℕ) (more : List ℕ) → left + used ≡ most → left ≤ 1 → left < length more
@@ -374,38 +293,45 @@ count_used most zero (suc used) more total few some room =
     let none : length more ≡ 0 = ap length (room (omega arith) refl) in absurd (omega arith)
 count_used most (suc left) used more total few some room = omega arith
 
--- there are too many bytes, within a word or a gap
-pub overflows_before_word : (old now new : InputState) (so_far : RunWord) → Opens old so_far now → HasMoreBytes now new
-    → OverflowsBeforeWord old new
-overflows_before_word old now new so_far opens has_more = record {
-  text = go old.text now.text opens.text has_more.text;
-  fault = has_more.fault;
-  failures = has_more.failures ∙ opens.failures;
-}
+-- behind bytes that were read, more are left than may be taken
+pub has_too_many : (P Q : List ℕ → Type 0) (old now new : InputState) → Took P old now → HasMoreBytes now new
+    → ((used : List ℕ) → P used → Q used) → OverflowsBehind Q old new
+has_too_many P Q old now new took has_more each = (
+  has_more.failures ∙ took.failures,
+  join_whole (Uses P old now) (λ more. now.bytes < length more)
+      (λ text. (old.bytes < length text) × Q (take (old.bytes - 1) text)) old.text now.text over took.text has_more.text,
+)
   where
-    go : (whole rest : Option (List ℕ))
-        → IfSome whole (λ text. IsSomeAnd rest (λ more. OpensIn old now opens.word text more))
-        → IfSome rest (λ more. now.bytes < length more)
-        → IfSome whole (λ text. (old.bytes < length text) × (ended_words old.place (take (old.bytes - 1) text) ≡ []))
-    go None rest before longer = tt
-    go (Some text) None before longer = absurd before
-    go (Some text) (Some more) before longer =
-        let count = count_used old.bytes now.bytes (length before.used) more before.bytes has_more.bytes longer
-        before.room in
-        let whole : length text ≡ length before.used + length more =
-        ap length before.whole ∙ length-append before.used more in
-        let front : take (old.bytes - 1) text ≡ before.used =
-        ap (λ n. take n text) count ∙ ap (take (length before.used)) before.whole
-        ∙ take-append_seam before.used more in (
-          omega (arith, whole, before.bytes, longer),
-          ap (ended_words old.place) (front ∙ sym (append-nil before.used))
-              ∙ before.goes_on [] ∙ refl,
+    over : (text more : List ℕ) → Uses P old now text more → now.bytes < length more
+        → (old.bytes < length text) × Q (take (old.bytes - 1) text)
+    over text more uses longer =
+        let count = count_used old.bytes now.bytes (length uses.used) more uses.bytes has_more.bytes longer
+        uses.room in
+        let whole : length text ≡ length uses.used + length more =
+        ap length uses.whole ∙ length-append uses.used more in
+        let front : take (old.bytes - 1) text ≡ uses.used =
+        ap (λ n. take n text) count ∙ ap (take (length uses.used)) uses.whole
+        ∙ take-append_seam uses.used more in (
+          omega (arith, whole, uses.bytes, longer),
+          subst Q (sym front) (each uses.used uses.is),
         )
+
+-- within a word or a gap no word has ended
+before_word : (old now : InputState) (word used : List ℕ) → IsOpenBehind old now word used → IsBeforeWord old used
+before_word old now word used goes_on = ap (ended_words old.place) (sym (append-nil used)) ∙ goes_on [] ∙ refl
 
 pub answers_err : (old now new : InputState) (so_far : RunWord) (fault : KeptFault) → Opens old so_far now
     → AnswersByte now (Err fault) new → AnswersWord old (Err fault) new
-answers_err old now new so_far Read opens answer = fails_before_word old now new so_far opens answer
-answers_err old now new so_far TooMuch opens answer = overflows_before_word old now new so_far opens answer
+answers_err old now new so_far Read opens answer = (
+  fails_to_read (IsOpenBehind old now opens.word) (IsBeforeWord old) old now new opens.took answer
+      (before_word old now opens.word),
+  answer.fault,
+)
+answers_err old now new so_far TooMuch opens answer = (
+  has_too_many (IsOpenBehind old now opens.word) (IsBeforeWord old) old now new opens.took answer
+      (before_word old now opens.word),
+  answer.fault,
+)
 answers_err old now new so_far (Number line) opens answer = answer
 answers_err old now new so_far (Line line fault) opens answer = answer
 
@@ -419,32 +345,14 @@ from_not_false false result is_not told = cc
 
 -- these words were passed, and then those
 pub Passed-join : (old mid new : InputState) (front words : List Word) → Passed old front mid → Passed mid words new
-    → new.bytes < mid.bytes → Passed old (front ++ words) new
-Passed-join old mid new front words first next fewer = record {
-  text = go old.text mid.text new.text first.text next.text;
+    → Passed old (front ++ words) new
+Passed-join old mid new front words first next = record {
+  took = Took-join first.took next.took
+      (λ used behind passes then more. ap (ended_words old.place) (append_assoc used behind more)
+      ∙ passes (behind ++ more) ∙ ap (λ (ws : List Word). front ++ ws) (then more)
+      ∙ sym (append_assoc front words (ended_words new.place more)));
   halves = next.halves ∙ first.halves;
-  bytes = omega (arith, next.bytes, first.bytes);
-  fault = next.fault;
-  failures = next.failures ∙ first.failures;
 }
-  where
-    go : (whole middle rest : Option (List ℕ))
-        → IfSome whole (λ text. IsSomeAnd middle (λ more. Uses old mid front text more))
-        → IfSome middle (λ text. IsSomeAnd rest (λ more. Uses mid new words text more))
-        → IfSome whole (λ text. IsSomeAnd rest (λ more. Uses old new (front ++ words) text more))
-    go None middle rest a b = tt
-    go (Some text) None rest a b = absurd a
-    go (Some text) (Some more) None a b = absurd b
-    go (Some text) (Some more) (Some last) a b = record {
-      used = a.used ++ b.used;
-      whole = a.whole ∙ ap (λ (xs : List ℕ). a.used ++ xs) b.whole ∙ sym (append_assoc a.used b.used last);
-      passes = λ after. ap (ended_words old.place) (append_assoc a.used b.used after) ∙ a.passes (b.used ++ after)
-          ∙ ap (λ (ws : List Word). front ++ ws) (b.passes after)
-          ∙ sym (append_assoc front words (ended_words new.place after));
-      bytes = simp length-append (omega (arith, a.bytes, b.bytes));
-      room = λ some. b.room (let bytes = b.bytes in omega (arith, bytes, fewer));
-      lines = b.lines ∙ a.lines;
-    }
 
 -- a word that has ended behind gaps
 pub ends_behind_gaps : (old mid new : InputState) (line : ℕ) (so_far : RunWord) → Passed old [] mid
@@ -452,7 +360,7 @@ pub ends_behind_gaps : (old mid new : InputState) (line : ℕ) (so_far : RunWord
 ends_behind_gaps old mid new line so_far gaps ends = record {
   word = ends.word;
   spelled = ends.spelled;
-  passed = Passed-join old mid new [] (record { line = line; bytes = ends.word } ∷ []) gaps ends.passed ends.fewer;
+  passed = Passed-join old mid new [] (record { line = line; bytes = ends.word } ∷ []) gaps ends.passed;
   fewer = let fewer = ends.fewer in omega (arith, fewer, gaps.bytes);
   behind = ends.behind;
 }

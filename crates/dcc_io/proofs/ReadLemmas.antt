@@ -20,7 +20,7 @@ use Rattle.dcc_io.specs.TextReader.{Text, Stop, Reader, read_on, ◌>>=◌, done
 use Rattle.dcc_io.specs.TextReader.{judged, line_by}
 use Rattle.dcc_io.specs.TextReader.Stop.{refused, cut, too_many}
 use Rattle.dcc_io.specs.TextRead.{at, answer_of, answer_in, answer_before_failure, LeadsIn, Leads, Refuses, Answers}
-use Rattle.dcc_io.proofs.CaptureLemmas.{count_more, above_limit, same_test, zero_fits, not_within}
+use Rattle.dcc_io.proofs.TookLemmas.{count_more, above_limit, same_test, zero_fits, not_within}
 use Rattle.dcc_io.proofs.LineLemmas.{bad-more}
 
 -- what holds of the text and its rest holds in other words

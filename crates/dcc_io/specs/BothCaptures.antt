@@ -1,11 +1,12 @@
 -- The two captures of one input, with a line of the one word `---` between them.
 use Rattle.std.specs.Prelude.{ℕ, ◌+◌, ◌-◌, ◌==◌, ◌&&◌, not, nat_le, ◌∷◌, ◌++◌, List, [], Bool, false, Option, None}
-use Rattle.std.specs.Prelude.{Some, length, take, replicate, if◌then◌else◌}
+use Rattle.std.specs.Prelude.{Some, replicate, if◌then◌else◌}
 use Rattle.dcc_io.specs.declared.fault.KeptFault.{KeptFault}
 use Rattle.dcc_io.specs.declared.fault.KeptFault.TheVariants.{Number, TooMuch}
 use Rattle.dcc_io.specs.declared.word.Run.{Run}
 use Rattle.dcc_io.specs.InputState.{InputState, all_lines}
 use Rattle.dcc_io.specs.Words.{Word, ended_words, is_mark, run_of}
+use Rattle.dcc_io.specs.Took.{within_limit}
 use Rattle.dcc_io.specs.Items.{Items}
 use Rattle.dcc_io.specs.Capture.{halves_of}
 use Rattle.dcc_io.specs.TextRead.{cut_by}
@@ -68,6 +69,4 @@ both_from before input end bytes last = both_of before input.halves end (ended_w
 
 -- what is said of an input with this text, cut at its limit
 abbrev pub in_limit : Said → InputState → List ℕ → Both
-in_limit said input text =
-    if nat_le (length text) input.bytes then said (all_lines input text + 1) text None
-    else said (all_lines input text + 1) (take (input.bytes - 1) text) (Some TooMuch)
+in_limit said input text = within_limit (said (all_lines input text + 1)) input text

@@ -1,11 +1,12 @@
 -- What a capture gives: its halves up to the first fault.
 use Rattle.std.specs.Prelude.{◌≡◌, ℕ, ◌+◌, ◌-◌, ◌<◌, ◌≤◌, ◌∷◌, List, [], Option, None, Some, Result, Ok, Err, nat_le}
-use Rattle.std.specs.Prelude.{length, take, replicate, IfSome, if◌then◌else◌}
+use Rattle.std.specs.Prelude.{length, replicate, IfSome, if◌then◌else◌}
 use Rattle.dcc_io.specs.declared.fault.KeptFault.{KeptFault}
 use Rattle.dcc_io.specs.declared.fault.KeptFault.TheVariants.{Number, Line, Read, TooMuch}
 use Rattle.dcc_io.specs.declared.word.Run.{Run}
 use Rattle.dcc_io.specs.Told.{IsAtEnd}
 use Rattle.dcc_io.specs.InputState.{InputState}
+use Rattle.dcc_io.specs.Took.{within_limit}
 use Rattle.dcc_io.specs.Items.{Items, Reading, preceded, only_fault, Gave, StopsAt}
 use Rattle.dcc_io.specs.Words.{Word, ended_words, run_of}
 
@@ -27,8 +28,7 @@ halves_of most (word ∷ words) last = behind_word most word.line (run_of word.b
 -- the capture in an input with this text
 abbrev pub capture_in : InputState → List ℕ → Items ℕ
 capture_in input text =
-    if nat_le (length text) input.bytes then halves_of input.halves (ended_words input.place text) None
-    else halves_of input.halves (ended_words input.place (take (input.bytes - 1) text)) (Some TooMuch)
+    within_limit (λ bytes last. halves_of input.halves (ended_words input.place bytes) last) input text
 
 -- the capture in an input whose reader fails behind these bytes
 abbrev pub capture_before_failure : InputState → List ℕ → Items ℕ

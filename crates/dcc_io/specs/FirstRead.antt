@@ -1,31 +1,27 @@
 -- What was read of the first of two captures.
-use Rattle.std.specs.Prelude.{◌≡◌, ◌⊎◌, ℕ, ◌+◌, ◌<◌, ◌≤◌, ◌∷◌, ◌++◌, List, [], Bool, true, false, Option, None, Some}
-use Rattle.std.specs.Prelude.{Result, Ok, Err, length, replicate, IfSome, IsSomeAnd}
+use Rattle.std.specs.Prelude.{◌≡◌, ◌⊎◌, ℕ, ◌+◌, ◌<◌, ◌∷◌, ◌++◌, List, [], Bool, true, false, Option, None, Some}
+use Rattle.std.specs.Prelude.{Result, Ok, Err, replicate, IfSome}
 use Rattle.dcc_io.specs.declared.fault.KeptFault.{KeptFault}
-use Rattle.dcc_io.specs.declared.fault.KeptFault.TheVariants.{Number, Line, Read, TooMuch}
+use Rattle.dcc_io.specs.declared.fault.KeptFault.TheVariants.{Read}
 use Rattle.dcc_io.specs.declared.word.Run.{Run}
-use Rattle.dcc_io.specs.Failures.{one_more}
-use Rattle.dcc_io.specs.InputState.{InputState, all_lines}
+use Rattle.dcc_io.specs.InputState.{InputState}
 use Rattle.dcc_io.specs.Words.{ended_words}
+use Rattle.dcc_io.specs.Took.{Uses, Took, Stops}
 use Rattle.dcc_io.specs.Passed.{Passed, AnswersWord}
 use Rattle.dcc_io.specs.BothCaptures.{Said, stopped, in_front, behind_mark, both_from, in_limit}
 
--- bytes were used, behind which this is said, whatever follows them
-pub record LeadsIn (before : ℕ) (old new : InputState) (said : Said) (text rest : List ℕ) : Type 0 where
-  pub used : List ℕ
-  pub whole : text ≡ used ++ rest
-  pub goes_on : (end : ℕ) (more : List ℕ) (last : Option KeptFault)
-      → both_from before old end (used ++ more) last ≡ said end more last
-  pub bytes : new.bytes + length used ≡ old.bytes
-  pub room : 0 < length used → new.bytes ≡ 0 → rest ≡ []
-  pub lines : all_lines new rest ≡ all_lines old text
+-- behind these bytes this is said, whatever follows them
+abbrev pub SaysBehind : ℕ → InputState → Said → List ℕ → Type 0
+SaysBehind before input said used = (end : ℕ) (more : List ℕ) (last : Option KeptFault)
+    → both_from before input end (used ++ more) last ≡ said end more last
+
+-- bytes were used, behind which this is said
+abbrev pub LeadsIn : ℕ → InputState → InputState → Said → List ℕ → List ℕ → Type 0
+LeadsIn before old new said text rest = Uses (SaysBehind before old said) old new text rest
 
 -- an input was read up to where this is said, and nothing went wrong
-pub record Leads (before : ℕ) (old new : InputState) (said : Said) : Type 0 where
-  pub text : IfSome old.text (λ text. IsSomeAnd new.text (λ rest. LeadsIn before old new said text rest))
-  pub bytes : new.bytes ≤ old.bytes
-  pub fault : new.fault ≡ None
-  pub failures : new.failures ≡ old.failures
+abbrev pub Leads : ℕ → InputState → InputState → Said → Type 0
+Leads before old new said = Took (SaysBehind before old said) old new
 
 -- these halves of the first capture, and then what comes behind a word on this line
 abbrev pub first_so_far : List ℕ → ℕ → InputState → Said
@@ -48,17 +44,9 @@ pub record EndsFirst (before : ℕ) (old : InputState) (halves : List ℕ) (new 
 
 -- nothing more can be taken of the first capture before this fault
 abbrev pub StopsBoth : ℕ → InputState → KeptFault → InputState → Type 0
-StopsBoth before old Read new = (new.failures ≡ one_more old.failures) × (new.ahead ≡ [])
-    × IfSome old.text (λ text. IsSomeAnd new.text (λ rest. (used : List ℕ) × (text ≡ used ++ rest)
-    × ((end : ℕ) → both_from before old end used (Some Read) ≡ stopped Read)))
-StopsBoth before old (Number line) new =
-    (new.failures ≡ old.failures)
-    × IfSome old.text (λ text. in_limit (both_from before old) old text ≡ stopped (Number line))
-StopsBoth before old (Line line fault) new =
-    (new.failures ≡ old.failures)
-    × IfSome old.text (λ text. in_limit (both_from before old) old text ≡ stopped (Line line fault))
-StopsBoth before old TooMuch new =
-    (new.failures ≡ old.failures) × IfSome old.text (λ text. in_limit (both_from before old) old text ≡ stopped TooMuch)
+StopsBoth before old fault new =
+    Stops (λ used. (end : ℕ) → both_from before old end used (Some Read) ≡ stopped Read)
+    (λ text. in_limit (both_from before old) old text ≡ stopped fault) old fault new
 
 -- the halves of the next run of the first capture, and its line, or none behind the line `---`, or a fault
 abbrev pub AnswersFirst : ℕ → InputState → Result (Option (ℕ × Run)) KeptFault → InputState → Type 0

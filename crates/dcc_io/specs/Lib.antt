@@ -3,6 +3,7 @@ pub mod Failures
 pub mod Faults
 pub mod Front
 pub mod InputState
+pub mod Took
 pub mod Passed
 pub mod Place
 pub mod Spells

@@ -6,4 +6,4 @@ pub returns-then-begins_with_line_feed-clause-passed : goal.returns-then-begins_
 returns-then-begins_with_line_feed-clause-passed g c =
     Passed-join c.args.self.now c.pass_word.new.self c.pass_line_feed.new.self
     (record { line = c.args.self.now.place.line; bytes = take c.args.word_len c.args.self.now.ahead } ∷ []) []
-    c.pass_word.ensures.passed c.pass_line_feed.ensures.passed c.pass_line_feed.ensures.fewer
+    c.pass_word.ensures.passed c.pass_line_feed.ensures.passed

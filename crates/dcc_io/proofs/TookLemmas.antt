@@ -1,0 +1,217 @@
+-- Bytes that were read of an input, one step after the other.
+use Rattle.std.proofs.Common.{zero, suc, ◌≡◌, ℕ, ◌+◌, ◌-◌, ◌<◌, List, [], ◌∷◌, ◌++◌, length, take, Bool, true, false}
+use Rattle.std.proofs.Common.{nat_le, Option, None, Some, refl, sym, ap, ◌∙◌, subst, arith, append_assoc}
+use Rattle.std.proofs.Common.{length-append, IfSome, IsSomeAnd}
+use Rattle.std.proofs.Math.Seq.{take-append-add}
+use Rattle.std.proofs.lemmas.List.{append-nil}
+use Rattle.std.proofs.lemmas.Bool.Decides.{nat_tests}
+use Rattle.dcc_io.specs.declared.fault.KeptFault.{KeptFault}
+use Rattle.dcc_io.specs.declared.fault.KeptFault.TheVariants.{Number, Line, Read, TooMuch}
+use Rattle.dcc_io.specs.Failures.{one_more}
+use Rattle.dcc_io.specs.InputState.{InputState}
+use Rattle.dcc_io.specs.Took.{Uses, Took, within_limit, FailsBehind, Stops}
+
+-- a fact of the text, in other words
+pub if_some_map : (P Q : List ℕ → Type 0) (text : Option (List ℕ)) → ((bytes : List ℕ) → P bytes → Q bytes)
+    → IfSome text P → IfSome text Q
+if_some_map P Q None each fact = tt
+if_some_map P Q (Some bytes) each fact = each bytes fact
+
+pub if_some_all : (P : List ℕ → Type 0) (text : Option (List ℕ)) → ((bytes : List ℕ) → P bytes) → IfSome text P
+if_some_all P None all = tt
+if_some_all P (Some bytes) all = all bytes
+
+-- what holds of the text and its rest, in other words
+pub map_same : (P Q : List ℕ → List ℕ → Type 0) (whole rest : Option (List ℕ))
+    → ((text more : List ℕ) → P text more → Q text more)
+    → IfSome whole (λ text. IsSomeAnd rest (λ more. P text more))
+    → IfSome whole (λ text. IsSomeAnd rest (λ more. Q text more))
+map_same P Q None rest each before = tt
+map_same P Q (Some text) None each before = absurd before
+map_same P Q (Some text) (Some more) each before = each text more before
+
+-- what holds of the text, told of it and its rest
+pub map_text : (P : List ℕ → List ℕ → Type 0) (R : List ℕ → Type 0) (whole rest : Option (List ℕ))
+    → ((text more : List ℕ) → P text more → R text) → IfSome whole (λ text. IsSomeAnd rest (λ more. P text more))
+    → IfSome whole R
+map_text P R None rest each before = tt
+map_text P R (Some text) None each before = absurd before
+map_text P R (Some text) (Some more) each before = each text more before
+
+-- what holds of a text and its rest, and of that rest and its own
+pub join_both : (P Q R : List ℕ → List ℕ → Type 0) (whole mid rest : Option (List ℕ))
+    → ((text between more : List ℕ) → P text between → Q between more → R text more)
+    → IfSome whole (λ text. IsSomeAnd mid (λ between. P text between))
+    → IfSome mid (λ between. IsSomeAnd rest (λ more. Q between more))
+    → IfSome whole (λ text. IsSomeAnd rest (λ more. R text more))
+join_both P Q R None mid rest each before behind = tt
+join_both P Q R (Some text) None rest each before behind = absurd before
+join_both P Q R (Some text) (Some between) None each before behind = absurd behind
+join_both P Q R (Some text) (Some between) (Some more) each before behind = each text between more before behind
+
+-- what holds of a text and its rest, and of that rest
+pub join_whole : (P : List ℕ → List ℕ → Type 0) (Q R : List ℕ → Type 0) (whole mid : Option (List ℕ))
+    → ((text between : List ℕ) → P text between → Q between → R text)
+    → IfSome whole (λ text. IsSomeAnd mid (λ between. P text between)) → IfSome mid Q → IfSome whole R
+join_whole P Q R None mid each before behind = tt
+join_whole P Q R (Some text) None each before behind = absurd before
+join_whole P Q R (Some text) (Some between) each before behind = each text between before behind
+
+pub count_more : (most left used : ℕ) (rest : List ℕ) → left + used ≡ most → left < length rest
+    → (0 < used → left ≡ 0 → rest ≡ []) → most - 1 ≡ used + (left - 1)
+count_more most zero zero rest total some room = omega arith
+count_more most zero (suc used) rest total some room =
+    let none : length rest ≡ 0 = ap length (room (omega arith) refl) in absurd (omega arith)
+count_more most (suc left) used rest total some room = omega arith
+
+pub above_limit : (n most : ℕ) → nat_le n most ≡ false → most < n
+above_limit n most above = grind (arith, nat_tests)
+
+pub not_within : (n most : ℕ) → most < n → nat_le n most ≡ false
+not_within n most above = grind (arith, nat_tests)
+
+pub zero_fits : (most : ℕ) → nat_le 0 most ≡ true
+zero_fits most = grind (arith, nat_tests)
+
+pub same_test : (whole used rest most left : ℕ) → whole ≡ used + rest → left + used ≡ most
+    → nat_le whole most ≡ nat_le rest left
+same_test whole used rest most left total bytes = grind (arith, nat_tests)
+
+-- nothing was read yet
+pub Took-start : {P : List ℕ → Type 0} (input : InputState) → input.fault ≡ None → P [] → Took P input input
+Took-start {P = P} input fault none =
+    record { text = go input.text; bytes = omega arith; fault = fault; failures = refl }
+  where
+    go : (text : Option (List ℕ)) → IfSome text (λ whole. IsSomeAnd text (λ rest. Uses P input input whole rest))
+    go None = tt
+    go (Some text) =
+        record {
+          used = [];
+          whole = refl;
+          is = none;
+          bytes = omega arith;
+          room = λ some. absurd (omega arith);
+          lines = refl;
+        }
+
+abbrev pub with_left : InputState → ℕ → InputState
+with_left input left =
+    record {
+      text = input.text;
+      ahead = input.ahead;
+      place = input.place;
+      lines = input.lines;
+      halves = left;
+      bytes = input.bytes;
+      fault = input.fault;
+      failures = input.failures;
+    }
+
+-- another fact of the same bytes, and another count of halves, of which nothing is said
+pub Took-counted : {P Q : List ℕ → Type 0} {old new : InputState} (left : ℕ) → Took P old new
+    → ((used : List ℕ) → P used → Q used) → Took Q old (with_left new left)
+Took-counted {P = P} {Q = Q} {old = old} {new = new} left took each = record {
+  text = map_same (Uses P old new) (Uses Q old (with_left new left)) old.text new.text
+      (λ text rest uses. record {
+        used = uses.used;
+        whole = uses.whole;
+        is = each uses.used uses.is;
+        bytes = uses.bytes;
+        room = uses.room;
+        lines = uses.lines;
+      })
+      took.text;
+  bytes = took.bytes;
+  fault = took.fault;
+  failures = took.failures;
+}
+
+pub Took-map : {P Q : List ℕ → Type 0} {old new : InputState} → Took P old new → ((used : List ℕ) → P used → Q used)
+    → Took Q old new
+Took-map {new = new} took each = Took-counted new.halves took each
+
+room_of : (p q y z : List ℕ) (bytes left : ℕ) → y ≡ q ++ z → left + length q ≡ bytes
+    → (0 < length p → bytes ≡ 0 → y ≡ []) → (0 < length q → left ≡ 0 → z ≡ [])
+    → 0 < length (p ++ q) → left ≡ 0 → z ≡ []
+room_of p [] y z bytes left whole total first second some none =
+    sym whole ∙ first (subst (λ (l : List ℕ). 0 < length l) (append-nil p) some) (omega (arith, total, none))
+room_of p (x ∷ q) y z bytes left whole total first second some none = second (omega arith) none
+
+split_at : (front back text between rest : List ℕ) → text ≡ front ++ between → between ≡ back ++ rest
+    → text ≡ (front ++ back) ++ rest
+split_at front back text between rest first second =
+    first ∙ ap (λ (bytes : List ℕ). front ++ bytes) second ∙ sym (append_assoc front back rest)
+
+module _ {P : List ℕ → Type 0} {old mid : InputState} (front : Took P old mid) where
+  -- what was read, and then what was read behind it
+  pub Took-join : {Q R : List ℕ → Type 0} {new : InputState} → Took Q mid new
+      → ((first second : List ℕ) → P first → Q second → R (first ++ second)) → Took R old new
+  Took-join {Q = Q} {R = R} {new = new} back each = record {
+    text = join_both (Uses P old mid) (Uses Q mid new) (Uses R old new) old.text mid.text new.text
+        (λ text between rest a b. record {
+          used = a.used ++ b.used;
+          whole = split_at a.used b.used text between rest a.whole b.whole;
+          is = each a.used b.used a.is b.is;
+          bytes = simp length-append (omega (arith, a.bytes, b.bytes));
+          room = room_of a.used b.used between rest mid.bytes new.bytes b.whole b.bytes a.room b.room;
+          lines = b.lines ∙ a.lines;
+        })
+        front.text back.text;
+    bytes = omega (arith, front.bytes, back.bytes);
+    fault = back.fault;
+    failures = back.failures ∙ front.failures;
+  }
+
+  -- what holds of the text, told of its rest
+  pub told_behind : (Q R : List ℕ → Type 0)
+      → ((text rest : List ℕ) → Uses P old mid text rest → Q rest → R text) → IfSome mid.text Q → IfSome old.text R
+  told_behind Q R each rest = join_whole (Uses P old mid) Q R old.text mid.text each front.text rest
+
+  -- a read failed behind what was read
+  pub fails_behind : (Q R : List ℕ → Type 0) (new : InputState) → FailsBehind Q mid new
+      → ((first second : List ℕ) → P first → Q second → R (first ++ second)) → FailsBehind R old new
+  fails_behind Q R new fails each = (
+    fails.0 ∙ ap one_more front.failures,
+    fails.1,
+    join_both (Uses P old mid) (λ text rest. (used : List ℕ) × (text ≡ used ++ rest) × Q used)
+        (λ text rest. (used : List ℕ) × (text ≡ used ++ rest) × R used) old.text mid.text new.text
+        (λ text between rest a b. (
+          a.used ++ b.0,
+          split_at a.used b.0 text between rest a.whole b.1,
+          each a.used b.0 a.is b.2,
+        )) front.text fails.2,
+  )
+
+  -- what stops the rest stops the whole
+  pub Stops-behind : (F G Q R : List ℕ → Type 0) (new : InputState) (fault : KeptFault) → Stops F Q mid fault new
+      → ((first second : List ℕ) → P first → F second → G (first ++ second))
+      → ((text rest : List ℕ) → Uses P old mid text rest → Q rest → R text)
+      → Stops G R old fault new
+  Stops-behind F G Q R new Read stops fails says = fails_behind F G new stops fails
+  Stops-behind F G Q R new TooMuch stops fails says = (stops.0 ∙ front.failures, told_behind Q R says stops.1)
+  Stops-behind F G Q R new (Number line) stops fails says = (stops.0 ∙ front.failures, told_behind Q R says stops.1)
+  Stops-behind F G Q R new (Line line why) stops fails says = (stops.0 ∙ front.failures, told_behind Q R says stops.1)
+
+-- what is said of the text, told of its rest
+pub within_limit-used : {A : Type 0} {P : List ℕ → Type 0} (old new : InputState)
+    (said rest_said : List ℕ → Option KeptFault → A) (text rest : List ℕ) (uses : Uses P old new text rest)
+    → ((more : List ℕ) (last : Option KeptFault) → said (uses.used ++ more) last ≡ rest_said more last)
+    → within_limit said old text ≡ within_limit rest_said new rest
+within_limit-used old new said rest_said text rest uses each = go (nat_le (length rest) new.bytes) refl
+  where
+    test : nat_le (length text) old.bytes ≡ nat_le (length rest) new.bytes
+    test = same_test (length text) (length uses.used) (length rest) old.bytes new.bytes
+        (ap length uses.whole ∙ length-append uses.used rest) uses.bytes
+
+    go : (within : Bool) → nat_le (length rest) new.bytes ≡ within
+        → within_limit said old text ≡ within_limit rest_said new rest
+    go true within =
+        rw (test, within) (ap (λ (bytes : List ℕ). said bytes None) uses.whole ∙ each rest None)
+    go false within =
+        let count = count_more old.bytes new.bytes (length uses.used) rest uses.bytes
+        (above_limit (length rest) new.bytes within) uses.room in
+        let front : take (old.bytes - 1) text ≡ uses.used ++ take (new.bytes - 1) rest =
+        ap (λ n. take n text) count ∙ ap (take (length uses.used + (new.bytes - 1))) uses.whole
+        ∙ take-append-add uses.used rest (new.bytes - 1) in
+        rw (test, within)
+        (ap (λ (bytes : List ℕ). said bytes (Some TooMuch)) front ∙ each (take (new.bytes - 1) rest) (Some TooMuch))

@@ -1,0 +1,47 @@
+-- What was read of an input, whatever is said of it.
+use Rattle.std.specs.Prelude.{◌≡◌, ℕ, ◌+◌, ◌-◌, ◌<◌, ◌≤◌, nat_le, ◌++◌, List, [], Option, None, Some, length, take}
+use Rattle.std.specs.Prelude.{IfSome, IsSomeAnd, if◌then◌else◌}
+use Rattle.dcc_io.specs.declared.fault.KeptFault.{KeptFault}
+use Rattle.dcc_io.specs.declared.fault.KeptFault.TheVariants.{Read, TooMuch}
+use Rattle.dcc_io.specs.Failures.{one_more}
+use Rattle.dcc_io.specs.InputState.{InputState, all_lines}
+
+-- bytes were used, of which this fact holds, and this is the rest
+pub record Uses (fact : List ℕ → Type 0) (old new : InputState) (text rest : List ℕ) : Type 0 where
+  pub used : List ℕ
+  pub whole : text ≡ used ++ rest
+  pub is : fact used
+  pub bytes : new.bytes + length used ≡ old.bytes
+  pub room : 0 < length used → new.bytes ≡ 0 → rest ≡ []
+  pub lines : all_lines new rest ≡ all_lines old text
+
+-- bytes were read, of which this fact holds, and nothing went wrong
+pub record Took (fact : List ℕ → Type 0) (old new : InputState) : Type 0 where
+  pub text : IfSome old.text (λ text. IsSomeAnd new.text (λ rest. Uses fact old new text rest))
+  pub bytes : new.bytes ≤ old.bytes
+  pub fault : new.fault ≡ None
+  pub failures : new.failures ≡ old.failures
+
+-- what is said of an input with this text, from its bytes up to the limit and the fault behind them or none
+abbrev pub within_limit : {A : Type 0} → (List ℕ → Option KeptFault → A) → InputState → List ℕ → A
+within_limit said input text =
+    if nat_le (length text) input.bytes then said text None else said (take (input.bytes - 1) text) (Some TooMuch)
+
+-- this fact holds of the bytes before the rest
+abbrev pub StandsBehind : (List ℕ → Type 0) → InputState → InputState → Type 0
+StandsBehind fact old new =
+    IfSome old.text (λ text. IsSomeAnd new.text (λ rest. (used : List ℕ) × (text ≡ used ++ rest) × fact used))
+
+-- a read failed behind bytes of which this fact holds
+abbrev pub FailsBehind : (List ℕ → Type 0) → InputState → InputState → Type 0
+FailsBehind fact old new = (new.failures ≡ one_more old.failures) × (new.ahead ≡ []) × StandsBehind fact old new
+
+-- there are more bytes than may be taken, and this fact holds of those that may
+abbrev pub OverflowsBehind : (List ℕ → Type 0) → InputState → InputState → Type 0
+OverflowsBehind fact old new = (new.failures ≡ old.failures)
+    × IfSome old.text (λ text. (old.bytes < length text) × fact (take (old.bytes - 1) text))
+
+-- a read failed behind bytes of which the first fact holds, or the second holds of the text
+abbrev pub Stops : (List ℕ → Type 0) → (List ℕ → Type 0) → InputState → KeptFault → InputState → Type 0
+Stops fails says old Read new = FailsBehind fails old new
+Stops fails says old fault new = (new.failures ≡ old.failures) × IfSome old.text says
