@@ -19,7 +19,7 @@ use Rattle.dcc_io.specs.BothCaptures.{Both, Said, stopped, in_front, only_second
 use Rattle.dcc_io.specs.BothCaptures.{counted_first, both_of, both_from, in_limit}
 use Rattle.dcc_io.specs.FirstRead.{LeadsIn, Leads, first_so_far, first_is, IsBehindLine, StopsBoth, AnswersFirst}
 use Rattle.dcc_io.specs.FirstSteps.{CountsWord, EndsMark}
-use Rattle.dcc_io.proofs.TookLemmas.{if_some_all, map_text, Took-start, Took-counted, Took-join, told_behind}
+use Rattle.dcc_io.proofs.TookLemmas.{same_cond, if_some_all, map_text, Took-start, Took-counted, Took-join, told_behind}
 use Rattle.dcc_io.proofs.TookLemmas.{fails_behind, within_limit-used, not_within, zero_fits}
 use Rattle.dcc_io.proofs.CaptureLemmas.{enough}
 use Rattle.dcc_io.proofs.RunWordLemmas.{some_half}
@@ -134,10 +134,6 @@ in_limit_of before old new said text rest leads =
     ap (λ n. within_limit (both_from before old (n + 1)) old text) (sym leads.lines)
     ∙ within_limit-used old new (both_from before old (all_lines new rest + 1)) (said (all_lines new rest + 1)) text
     rest leads (λ more last. leads.is (all_lines new rest + 1) more last)
-
-same_cond : {A : Type 0} (b : Bool) (x : A) → cond b x x ≡ x
-same_cond true x = refl
-same_cond false x = refl
 
 -- a fault stands, whatever follows
 pub stops_said : (before : ℕ) (old mid : InputState) (fault : KeptFault)

@@ -1,7 +1,7 @@
 -- The lines of a decoder text, read one after the other.
 use Rattle.std.proofs.Common.{zero, suc, ◌≡◌, ℕ, ◌+◌, ◌-◌, ◌<◌, ◌≤◌, List, [], ◌∷◌, ◌++◌, length, Bool, Option, None}
 use Rattle.std.proofs.Common.{Some, Result, Ok, Err, refl, ◌∙◌, arith, replicate, slice_set, length-append}
-use Rattle.std.proofs.Common.{if◌then◌else◌, All, IsOk, is_ok, slice_index_or, IfSome, IsSomeAnd}
+use Rattle.std.proofs.Common.{if◌then◌else◌, All, IsOk, is_ok, slice_index_or}
 use Rattle.std.proofs.lemmas.List.Elements.{All-append}
 use Rattle.dcc_packet.specs.declared.accessory.Board.{Board}
 use Rattle.dcc_packet.specs.declared.address.Address.{Address}
@@ -18,14 +18,16 @@ use Rattle.dcc_io.specs.declared.decoder_line.Head.{Head}
 use Rattle.dcc_io.specs.declared.decoder_line.Head.TheVariants as heads
 use Rattle.dcc_io.specs.declared.decoder_line.LocoLine.TheVariants as behind
 use Rattle.dcc_io.specs.InputState.{InputState}
+use Rattle.dcc_io.specs.Took.{Uses}
 use Rattle.dcc_io.specs.DecoderLines.{version_line, head_line, speed_line, functions_line, pending_line, loco_line}
 use Rattle.dcc_io.specs.DecoderLines.{outs_line, positions_line, aspects_line}
 use Rattle.dcc_io.specs.TextReader.{Text, Reader, ◌>>=◌, done, line_by}
-use Rattle.dcc_io.specs.TextRead.{at, LeadsIn, Leads, Refuses, Answers, UsedWholeLines}
+use Rattle.dcc_io.specs.TextRead.{at, GoesOn, Leads, Refuses, Answers, UsedWholeLines}
 use Rattle.dcc_regs.specs.declared.register.Who.{Who}
 use Rattle.dcc_io.specs.declared.decoder_line.Version.{Version}
 use Rattle.dcc_io.specs.DecoderText.{states_by, decoder_lines, behind_loco_line, cvs_from, cvs_lines, loco_lines}
 use Rattle.dcc_io.specs.DecoderText.{board_lines, decoders_from, decoder_text}
+use Rattle.dcc_io.proofs.TookLemmas.{map_text}
 use Rattle.dcc_io.proofs.ReadLemmas.{Leads-start, Leads-then, Answers-fault, Refuses-too_many}
 
 -- what follows each line of an accessory decoder
@@ -283,17 +285,10 @@ no_empty_text line read says = cc
 -- decoders were read up to the end of a line
 pub through_end : (old new : InputState) (decoders : List Saved) → Leads decoder_text old (done decoders) new
     → UsedWholeLines old new
-through_end old new decoders leads = go old.text new.text leads.text
+through_end old new decoders leads =
+    map_text (Uses (GoesOn decoder_text old (done decoders) new) old new) (λ text. new.lines + 1 ≡ new.place.line)
+    old.text new.text (λ text rest uses. behind uses.used uses.is) leads.text
   where
-    behind : (used : List ℕ) → ((more : List ℕ) → decoder_text (at old (used ++ more)) ≡ done decoders (at new more))
-        → (0 < length used → new.lines + 1 ≡ new.place.line)
-        → new.lines + 1 ≡ new.place.line
-    behind [] goes_on lines = absurd (no_empty_text old.place.line (decoders, at new []) (goes_on []))
-    behind (byte ∷ used) goes_on lines = lines (omega arith)
-
-    go : (x y : Option (List ℕ))
-        → IfSome x (λ text. IsSomeAnd y (λ rest. LeadsIn decoder_text old (done decoders) new text rest))
-        → IfSome x (λ text. new.lines + 1 ≡ new.place.line)
-    go None y p = tt
-    go (Some x) None p = absurd p
-    go (Some x) (Some y) p = behind p.used p.goes_on p.lines
+    behind : (used : List ℕ) → GoesOn decoder_text old (done decoders) new used → new.lines + 1 ≡ new.place.line
+    behind [] goes = absurd (no_empty_text old.place.line (decoders, at new []) (goes.goes_on []))
+    behind (byte ∷ used) goes = goes.last (omega arith)

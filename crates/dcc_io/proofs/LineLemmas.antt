@@ -2,7 +2,6 @@
 use Rattle.std.proofs.Common.{zero, suc, ◌≡◌, ℕ, ◌+◌, ◌-◌, ◌<◌, ◌≤◌, List, [], ◌∷◌, ◌++◌, length, take, Bool, true}
 use Rattle.std.proofs.Common.{false, eqb, Option, None, Some, Err, refl, sym, ap, ◌∙◌, subst, arith, append_assoc}
 use Rattle.std.proofs.Common.{length-append, ◌&&◌, ◌⊎◌, inl, inr, IfSome, IsSomeAnd}
-use Rattle.std.proofs.Math.Seq.{take-append_seam}
 use Rattle.std.proofs.Math.Dec.{leb}
 use Rattle.std.proofs.lemmas.Bool.{le-leb, lt-leb}
 use Rattle.std.proofs.lemmas.Bool.Decides.{leb_tells}
@@ -13,14 +12,15 @@ use Rattle.std.specs.Prelude.{nat_le, nat_lt}
 use Rattle.dcc_packet.specs.declared.fault.PacketFault.TheVariants as faults
 use Rattle.dcc_io.specs.declared.fault.KeptFault.{KeptFault}
 use Rattle.dcc_io.specs.declared.fault.KeptFault.TheVariants.{Number, Line, Read, TooMuch}
-use Rattle.dcc_io.specs.Place.{Place, lines_with}
-use Rattle.dcc_io.specs.Failures.{one_more}
+use Rattle.dcc_io.specs.Place.{Place, line_behind, lines_with, lines_through}
 use Rattle.dcc_io.specs.Told.{BeginsWith, IsAtEnd}
-use Rattle.dcc_io.specs.InputState.{InputState, TakesByte, FailsToRead, HasMoreBytes, AnswersByte}
+use Rattle.dcc_io.specs.InputState.{InputState, all_lines, TakesByte, AnswersByte}
 use Rattle.dcc_io.specs.Lines.{is_good}
 use Rattle.dcc_io.specs.LineRead.{has_line_feed, lines_within, IsOneLine, EndsLine, EndsText, IsBadAt, MeetsBadLine}
-use Rattle.dcc_io.specs.LineRead.{FailsWithin, FailsInLine, OverflowsInLine, AnswersLine}
-use Rattle.dcc_io.proofs.PassedLemmas.{map_taken, map_kept, count_used}
+use Rattle.dcc_io.specs.LineRead.{AnswersLine}
+use Rattle.dcc_io.specs.Took.{Uses, Took}
+use Rattle.dcc_io.proofs.TookLemmas.{if_some_map, if_some_all, Took-start, Took-join}
+use Rattle.dcc_io.proofs.PassedLemmas.{took_byte, map_taken, fails_to_read, has_too_many, or_false}
 
 pub and_true : (a b : Bool) → (a && b) ≡ true → (a ≡ true) × (b ≡ true)
 and_true true b h = (refl, h)
@@ -91,23 +91,21 @@ bad-byte line byte (inr past) =
 -- bytes were used, which begin a line
 pub record OpensLine (old : InputState) (line : List ℕ) (now : InputState) : Type 0 where
   pub is_line : IsOneLine line
-  pub text : IfSome old.text (λ text. IsSomeAnd now.text (λ rest. (text ≡ line ++ rest) × (rest ≡ [] → line ≡ [])))
+  pub took : Took (λ used. used ≡ line) old now
+  pub open took use *
+  -- a text ends with a line feed, and so not within a line
+  pub closed : IfSome now.text (λ rest. rest ≡ [] → line ≡ [])
   pub place : now.place ≡ old.place
   pub lines : IfSome old.text
       (λ text. IsSomeAnd now.text (λ rest. now.lines ≡ lines_within old.lines old.place.line line))
   pub halves : now.halves ≡ old.halves
-  pub bytes : now.bytes + length line ≡ old.bytes
-  pub room : 0 < length line → now.bytes ≡ 0 → IsAtEnd now.text
-  pub fault : now.fault ≡ None
-  pub failures : now.failures ≡ old.failures
+  pub count : now.bytes + length line ≡ old.bytes
+
+abbrev LineIn : InputState → InputState → List ℕ → List ℕ → List ℕ → Type 0
+LineIn old now line text rest = Uses (λ used. used ≡ line) old now text rest
 
 abbrev no_bytes : List ℕ
 no_bytes = []
-
-starts_text : (text : Option (List ℕ))
-    → IfSome text (λ whole. IsSomeAnd text (λ rest. (whole ≡ [] ++ rest) × (rest ≡ [] → no_bytes ≡ [])))
-starts_text None = tt
-starts_text (Some text) = (refl, λ none. refl)
 
 starts_lines : (input : InputState) (text : Option (List ℕ))
     → IfSome text (λ whole. IsSomeAnd text (λ rest. input.lines ≡ lines_within input.lines input.place.line no_bytes))
@@ -132,14 +130,12 @@ same_place old new line comment =
 pub OpensLine-start : (input : InputState) → input.fault ≡ None → OpensLine input [] input
 OpensLine-start input fault = record {
   is_line = record { good = refl; one = refl };
-  text = starts_text input.text;
+  took = Took-start input fault refl;
+  closed = if_some_all (λ rest. rest ≡ [] → no_bytes ≡ []) input.text (λ rest none. refl);
   place = refl;
   lines = starts_lines input input.text;
   halves = refl;
-  bytes = omega arith;
-  room = λ some. absurd (omega arith);
-  fault = fault;
-  failures = refl;
+  count = omega arith;
 }
 
 -- a byte of the line was taken
@@ -150,13 +146,12 @@ OpensLine-byte old now new line byte opens takes no_end fits =
     let parts = and_true (nat_lt (length line) 512) (is_ascii byte) fits in
     record {
       is_line = one-more_byte line byte opens.is_line (below parts.0) parts.1 no_end;
-      text = map_taken (λ text rest. (text ≡ line ++ rest) × (rest ≡ [] → line ≡ []))
-          (λ text rest. (text ≡ (line ++ byte ∷ []) ++ rest) × (rest ≡ [] → line ++ byte ∷ [] ≡ []))
-          (λ rest. rest ≡ [] → byte ≡ 10)
-          old.text now.text new.text byte
-          (λ text more before
-          last. (before.0 ∙ sym (append_assoc line (byte ∷ []) more), λ none. absurd (not_end (last none))))
-          opens.text takes.text takes.last;
+      took = Took-join opens.took
+          (took_byte now new byte takes.text takes.lines takes.line takes.bytes takes.room takes.fault takes.failures)
+          (λ first second is then. ap (λ (bytes : List ℕ). bytes ++ second) is
+          ∙ ap (λ (bytes : List ℕ). line ++ bytes) then);
+      closed = if_some_map (λ rest. rest ≡ [] → byte ≡ 10) (λ rest. rest ≡ [] → line ++ byte ∷ [] ≡ []) new.text
+          (λ rest last none. absurd (not_end (last none))) takes.last;
       place = same_place now.place new.place (takes.line ∙ rw no_end refl) takes.in_comment ∙ opens.place;
       lines = map_taken (λ text rest. now.lines ≡ lines_within old.lines old.place.line line)
           (λ text rest. new.lines ≡ lines_within old.lines old.place.line (line ++ byte ∷ []))
@@ -166,10 +161,7 @@ OpensLine-byte old now new line byte opens takes no_end fits =
           (if_some_both (λ rest. rest ≡ [] → byte ≡ 10) (λ rest. new.lines ≡ lines_with now.lines now.place.line rest)
           new.text takes.last takes.lines);
       halves = takes.halves ∙ opens.halves;
-      bytes = simp length-append (omega (arith, opens.bytes, takes.bytes));
-      room = λ some. takes.room;
-      fault = takes.fault;
-      failures = takes.failures ∙ opens.failures;
+      count = simp length-append (omega (arith, opens.count, takes.bytes));
     }
   where
     below : nat_lt (length line) 512 ≡ true → length line < 512
@@ -195,9 +187,10 @@ pub OpensLine-ends : (old now new : InputState) (line : List ℕ) (byte n : ℕ)
 OpensLine-ends old now new line byte n opens takes is_end is_number = record {
   at = is_number;
   is_line = opens.is_line;
-  text = map_taken (λ text rest. (text ≡ line ++ rest) × (rest ≡ [] → line ≡ []))
-      (λ text rest. text ≡ line ++ 10 ∷ rest) (λ rest. rest ≡ [] → byte ≡ 10)
-      old.text now.text new.text byte (λ text more before last. before.0 ∙ ap (λ (end : ℕ). line ++ end ∷ more) is_end)
+  text = map_taken (LineIn old now line) (λ text rest. text ≡ line ++ 10 ∷ rest) (λ rest. rest ≡ [] → byte ≡ 10)
+      old.text now.text new.text byte
+      (λ text more before last. before.whole ∙ ap (λ (bytes : List ℕ). bytes ++ byte ∷ more) before.is
+      ∙ ap (λ (end : ℕ). line ++ end ∷ more) is_end)
       opens.text takes.text takes.last;
   next = same_place (record { line = now.place.line + 1; in_comment = now.place.in_comment }) new.place
       (takes.line ∙ rw is_end refl) takes.in_comment ∙ rw opens.place refl;
@@ -208,7 +201,7 @@ OpensLine-ends old now new line byte n opens takes is_end is_number = record {
       ∙ ap (λ (place : Place). lines_with (lines_within old.lines old.place.line line) place.line more) opens.place)
       opens.lines takes.text takes.lines;
   halves = takes.halves ∙ opens.halves;
-  bytes = omega (arith, opens.bytes, takes.bytes);
+  bytes = omega (arith, opens.count, takes.bytes);
   room = takes.room;
   fault = takes.fault;
   failures = takes.failures ∙ opens.failures;
@@ -218,32 +211,34 @@ OpensLine-ends old now new line byte n opens takes is_end is_number = record {
 pub OpensLine-none : (old now : InputState) (line : List ℕ) → OpensLine old line now → IsAtEnd now.text
     → EndsText old now
 OpensLine-none old now line opens at_end = record {
-  text = go old.text now.text opens.text at_end;
+  text = go old.text now.text opens.text opens.closed at_end;
   at_end = at_end;
-  bytes = omega (arith, opens.bytes);
+  bytes = opens.bytes;
   place = opens.place;
-  lines = kept old.text now.text opens.text opens.lines at_end;
+  lines = kept old.text now.text opens.closed opens.lines at_end;
   halves = opens.halves;
   fault = opens.fault;
   failures = opens.failures;
 }
   where
     go : (whole rest : Option (List ℕ))
-        → IfSome whole (λ text. IsSomeAnd rest (λ more. (text ≡ line ++ more) × (more ≡ [] → line ≡ []))) → IsAtEnd rest
+        → IfSome whole (λ text. IsSomeAnd rest (λ more. LineIn old now line text more))
+        → IfSome rest (λ more. more ≡ [] → line ≡ []) → IsAtEnd rest
         → IfSome whole (λ text. IsSomeAnd rest (λ more. (text ≡ []) × (more ≡ [])))
-    go None rest before end = tt
-    go (Some text) None before end = absurd before
-    go (Some text) (Some more) before end = (before.0 ∙ rw (before.1 end, end) refl, end)
+    go None rest before closed end = tt
+    go (Some text) None before closed end = absurd before
+    go (Some text) (Some more) before closed end =
+        let none = closed end in
+        (before.whole ∙ ap (λ (bytes : List ℕ). bytes ++ more) before.is ∙ rw (none, end) refl, end)
 
-    kept : (whole rest : Option (List ℕ))
-        → IfSome whole (λ text. IsSomeAnd rest (λ more. (text ≡ line ++ more) × (more ≡ [] → line ≡ [])))
+    kept : (whole rest : Option (List ℕ)) → IfSome rest (λ more. more ≡ [] → line ≡ [])
         → IfSome whole (λ text. IsSomeAnd rest (λ more. now.lines ≡ lines_within old.lines old.place.line line))
         → IsAtEnd rest
         → IfSome whole (λ text. IsSomeAnd rest (λ more. now.lines ≡ old.lines))
-    kept None rest before lines end = tt
-    kept (Some text) None before lines end = absurd before
-    kept (Some text) (Some more) before lines end =
-        lines ∙ ap (λ (xs : List ℕ). lines_within old.lines old.place.line xs) (before.1 end)
+    kept None rest closed lines end = tt
+    kept (Some text) None closed lines end = absurd lines
+    kept (Some text) (Some more) closed lines end =
+        lines ∙ ap (λ (xs : List ℕ). lines_within old.lines old.place.line xs) (closed end)
 
 -- a byte that makes the line bad was taken
 pub OpensLine-bad : (old now mid new : InputState) (line : List ℕ) (byte number : ℕ) → OpensLine old line now
@@ -277,8 +272,7 @@ OpensLine-bad old now mid new line byte number opens takes no_end fails is_numbe
     some_left (suc left) rest last room = omega arith
 
     go : (whole rest after : Option (List ℕ))
-        → IfSome whole (λ text. IsSomeAnd rest (λ more. (text ≡ line ++ more) × (more ≡ [] → line ≡ [])))
-        → BeginsWith rest byte after
+        → IfSome whole (λ text. IsSomeAnd rest (λ more. LineIn old now line text more)) → BeginsWith rest byte after
         → IfSome after (λ left. left ≡ [] → byte ≡ 10) → (mid.bytes ≡ 0 → IsAtEnd after) → IfSome whole (IsBadAt old)
     go None rest after before taken last room = tt
     go (Some text) None after before taken last room = absurd before
@@ -288,49 +282,94 @@ OpensLine-bad old now mid new line byte number opens takes no_end fails is_numbe
         record {
           line = line ++ byte ∷ [];
           rest = fewer;
-          whole = before.0 ∙ ap (λ (bytes : List ℕ). line ++ bytes) taken ∙ sym (append_assoc line (byte ∷ []) fewer);
+          whole = before.whole ∙ ap (λ (bytes : List ℕ). bytes ++ more) before.is
+              ∙ ap (λ (bytes : List ℕ). line ++ bytes) taken ∙ sym (append_assoc line (byte ∷ []) fewer);
           bad = bad-byte line byte (why (and_false (nat_lt (length line) 512) (is_ascii byte) fails));
           one = no_feed-more line byte opens.is_line.one no_end;
-          within = simp length-append (omega (arith, opens.bytes, takes.bytes, left));
+          within = simp length-append (omega (arith, opens.count, takes.bytes, left));
         }
 
-fails_in_line : (old now new : InputState) (line : List ℕ) → OpensLine old line now → FailsToRead now new
-    → FailsInLine old new
-fails_in_line old now new line opens fails = record {
-  text = map_kept (λ text rest. (text ≡ line ++ rest) × (rest ≡ [] → line ≡ [])) FailsWithin old.text now.text new.text
-      (λ text more before. record { used = line; whole = before.0; is_line = opens.is_line }) opens.text fails.text;
-  ahead = fails.ahead;
-  fault = fails.fault;
-  failures = fails.failures ∙ ap one_more opens.failures;
-}
+-- a line and its line feed leave the number of all lines
+lines_of_line : (lines number : ℕ) (line rest : List ℕ) → has_line_feed line ≡ false
+    → lines_through lines number (line ++ 10 ∷ rest) ≡ lines_through
+    (lines_with (lines_within lines number line) number rest) (number + 1) rest
+lines_of_line lines number [] rest one = refl
+lines_of_line lines number (byte ∷ line) rest one =
+    let parts = or_false (eqb byte 10) (has_line_feed line) one in
+    ap (λ n. lines_through n (line_behind number byte) (line ++ 10 ∷ rest)) (some line)
+    ∙ rw parts.0 (lines_of_line number number line rest parts.1)
+    ∙ ap (λ n. lines_through (lines_with n number rest) (number + 1) rest) (within line)
+  where
+    some : (line : List ℕ) → lines_with lines number (line ++ 10 ∷ rest) ≡ number
+    some [] = refl
+    some (first ∷ line) = refl
 
-overflows_in_line : (old now new : InputState) (line : List ℕ) → OpensLine old line now → HasMoreBytes now new
-    → OverflowsInLine old new
-overflows_in_line old now new line opens has_more = record {
-  text = go old.text now.text opens.text has_more.text opens.room;
-  fault = has_more.fault;
-  failures = has_more.failures ∙ opens.failures;
+    within : (line : List ℕ) → lines_within number number line ≡ number
+    within [] = refl
+    within (first ∷ line) = refl
+
+pub kept_lines : (old new : InputState) (line text rest : List ℕ) → has_line_feed line ≡ false → text ≡ line ++ 10 ∷ rest
+    → new.place.line ≡ old.place.line + 1
+    → new.lines ≡ lines_with (lines_within old.lines old.place.line line) old.place.line rest
+    → all_lines new rest ≡ all_lines old text
+kept_lines old new line text rest one whole at lines =
+    ap (λ n. lines_through n new.place.line rest) lines
+    ∙ ap (λ n. lines_through (lines_with (lines_within old.lines old.place.line line) old.place.line rest) n rest) at
+    ∙ sym (lines_of_line old.lines old.place.line line rest one) ∙ ap (λ (xs : List ℕ). all_lines old xs) (sym whole)
+
+-- these bytes are a line and its line feed, and a line that has bytes is the last that was used
+abbrev pub IsThrough : InputState → InputState → List ℕ → List ℕ → Type 0
+IsThrough old new line used = (used ≡ line ++ 10 ∷ []) × (0 < length line → new.lines + 1 ≡ new.place.line)
+
+pub took_line : (old new : InputState) (number : ℕ) (line : List ℕ) → EndsLine old number line new
+    → Took (IsThrough old new line) old new
+took_line old new number line ends = record {
+  text = join_text (λ text rest. text ≡ line ++ 10 ∷ rest)
+      (λ text rest. new.lines ≡ lines_with (lines_within old.lines old.place.line line) old.place.line rest)
+      (Uses (IsThrough old new line) old new)
+      old.text new.text (λ text rest whole lines end. record {
+        used = line ++ 10 ∷ [];
+        whole = whole ∙ sym (append_assoc line (10 ∷ []) rest);
+        is = (refl, λ some. let at = on_line line rest some lines in omega (arith, at, next));
+        bytes = simp length-append (omega (arith, ends.bytes));
+        room = λ some. end;
+        lines = kept_lines old new line text rest ends.is_line.one whole next lines;
+      })
+      ends.text ends.lines ends.room;
+  bytes = omega (arith, ends.bytes);
+  fault = ends.fault;
+  failures = ends.failures;
 }
   where
-    go : (whole rest : Option (List ℕ))
-        → IfSome whole (λ text. IsSomeAnd rest (λ more. (text ≡ line ++ more) × (more ≡ [] → line ≡ [])))
-        → IfSome rest (λ more. now.bytes < length more)
-        → (0 < length line → now.bytes ≡ 0 → IsAtEnd rest)
-        → IfSome whole (λ text. (old.bytes < length text) × IsOneLine (take (old.bytes - 1) text))
-    go None rest before longer room = tt
-    go (Some text) None before longer room = absurd before
-    go (Some text) (Some more) before longer room =
-        let count = count_used old.bytes now.bytes (length line) more opens.bytes has_more.bytes longer room in
-        let whole : length text ≡ length line + length more = ap length before.0 ∙ length-append line more in
-        let front : take (old.bytes - 1) text ≡ line =
-        ap (λ n. take n text) count ∙ ap (take (length line)) before.0 ∙ take-append_seam line more in (
-          omega (arith, whole, opens.bytes, longer),
-          subst (λ (bytes : List ℕ). IsOneLine bytes) (sym front) opens.is_line,
-        )
+    next : new.place.line ≡ old.place.line + 1
+    next = ap (λ (place : Place). place.line) ends.next
+
+    on_line : (front rest : List ℕ) → 0 < length front
+        → new.lines ≡ lines_with (lines_within old.lines old.place.line front) old.place.line rest
+        → new.lines ≡ old.place.line
+    on_line [] rest some lines = absurd (omega (arith, some))
+    on_line (byte ∷ front) [] some lines = lines
+    on_line (byte ∷ front) (next ∷ rest) some lines = lines
+
+    join_text : (P Q R : List ℕ → List ℕ → Type 0) (x y : Option (List ℕ))
+        → ((text rest : List ℕ) → P text rest → Q text rest → (new.bytes ≡ 0 → rest ≡ []) → R text rest)
+        → IfSome x (λ text. IsSomeAnd y (λ rest. P text rest)) → IfSome x (λ text. IsSomeAnd y (λ rest. Q text rest))
+        → (new.bytes ≡ 0 → IsAtEnd y) → IfSome x (λ text. IsSomeAnd y (λ rest. R text rest))
+    join_text P Q R None y each whole lines end = tt
+    join_text P Q R (Some text) None each whole lines end = absurd whole
+    join_text P Q R (Some text) (Some rest) each whole lines end = each text rest whole lines end
 
 pub line_err : (old now new : InputState) (line : List ℕ) (fault : KeptFault) → OpensLine old line now
     → AnswersByte now (Err fault) new → AnswersLine old (Err fault) new
-line_err old now new line Read opens answer = fails_in_line old now new line opens answer
-line_err old now new line TooMuch opens answer = overflows_in_line old now new line opens answer
+line_err old now new line Read opens answer = (
+  fails_to_read (λ used. used ≡ line) IsOneLine old now new opens.took answer
+      (λ used is. subst IsOneLine (sym is) opens.is_line),
+  answer.fault,
+)
+line_err old now new line TooMuch opens answer = (
+  has_too_many (λ used. used ≡ line) IsOneLine old now new opens.took answer
+      (λ used is. subst IsOneLine (sym is) opens.is_line),
+  answer.fault,
+)
 line_err old now new line (Number n) opens answer = absurd answer
 line_err old now new line (Line n why) opens answer = absurd answer

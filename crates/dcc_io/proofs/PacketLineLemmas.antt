@@ -13,19 +13,16 @@ use Rattle.dcc_io.specs.Told.{IsAtEnd}
 use Rattle.dcc_io.specs.InputState.{InputState, all_lines}
 use Rattle.dcc_io.specs.Lines.{NumberedLine, lines_from, onto_first_line, is_good}
 use Rattle.dcc_io.specs.LineRead.{has_line_feed, lines_within, IsOneLine, EndsLine, EndsText, IsBadAt, MeetsBadLine}
-use Rattle.dcc_io.specs.LineRead.{FailsWithin, FailsInLine, OverflowsInLine}
+use Rattle.dcc_io.specs.LineRead.{FailsInLine, OverflowsInLine}
 use Rattle.dcc_io.specs.Items.{Items, preceded, only_fault, Gives, Gave, StopsAt}
 use Rattle.dcc_io.specs.PacketLines.{is_skipped, Saying, behind_line, items_of, items_in, items_before_failure}
 use Rattle.dcc_io.specs.PacketLines.{lines_by}
-use Rattle.dcc_io.proofs.TookLemmas.{count_more, above_limit, not_within, zero_fits, same_test}
-use Rattle.dcc_io.proofs.LineLemmas.{bad-more}
+use Rattle.dcc_io.proofs.TookLemmas.{if_some_map, Stops-map, count_more, above_limit, not_within, zero_fits, same_test}
+use Rattle.dcc_io.proofs.PassedLemmas.{or_false}
+use Rattle.dcc_io.proofs.LineLemmas.{bad-more, kept_lines}
 
 abbrev numbered : ℕ → List ℕ → NumberedLine
 numbered number bytes = record { number = number; bytes = bytes }
-
-feed_parts : (a b : Bool) → (a || b) ≡ false → (a ≡ false) × (b ≡ false)
-feed_parts true b h = cc
-feed_parts false b h = (refl, h)
 
 lines_from-byte : (number byte : ℕ) (text : List ℕ) (lines : List NumberedLine) → eqb byte 10 ≡ false
     → lines_from number text ≡ lines → lines_from number (byte ∷ text) ≡ onto_first_line byte lines
@@ -50,14 +47,14 @@ lines_from-line : (number : ℕ) (line rest : List ℕ) → has_line_feed line �
     → lines_from number (line ++ 10 ∷ rest) ≡ numbered number line ∷ lines_from (number + 1) rest
 lines_from-line number [] rest one = refl
 lines_from-line number (byte ∷ line) rest one =
-    let parts = feed_parts (eqb byte 10) (has_line_feed line) one in
+    let parts = or_false (eqb byte 10) (has_line_feed line) one in
     rw parts.0 (ap (onto_first_line byte) (lines_from-line number line rest parts.1))
 
 lines_from-open : (number : ℕ) (line : List ℕ) → has_line_feed line ≡ false
     → lines_from number line ≡ numbered number line ∷ []
 lines_from-open number [] one = refl
 lines_from-open number (byte ∷ line) one =
-    let parts = feed_parts (eqb byte 10) (has_line_feed line) one in
+    let parts = or_false (eqb byte 10) (has_line_feed line) one in
     rw parts.0 (ap (onto_first_line byte) (lines_from-open number line parts.1))
 
 -- bytes of one line go on as the first line of what follows them
@@ -70,7 +67,7 @@ goes_on : (number : ℕ) (line rest : List ℕ) → has_line_feed line ≡ false
 goes_on number [] rest one =
     let first = begins number rest in record { tail = first.bytes; others = first.others; is = first.is }
 goes_on number (byte ∷ line) rest one =
-    let parts = feed_parts (eqb byte 10) (has_line_feed line) one in
+    let parts = or_false (eqb byte 10) (has_line_feed line) one in
     let later = goes_on number line rest parts.1 in
     record {
       tail = later.tail;
@@ -148,34 +145,6 @@ module _ {A B : Type 0} (saying : Saying A B) where
           (above_limit (length rest) new.bytes within) (λ some. room) in
           rw (test, within, count, split, take-append-add used rest (new.bytes - 1))
           (step (take (new.bytes - 1) rest) (Some TooMuch))
-
-  -- a line and its line feed leave the number of all lines
-  lines_of_line : (lines number : ℕ) (line rest : List ℕ) → has_line_feed line ≡ false
-      → lines_through lines number (line ++ 10 ∷ rest) ≡ lines_through
-      (lines_with (lines_within lines number line) number rest) (number + 1) rest
-  lines_of_line lines number [] rest one = refl
-  lines_of_line lines number (byte ∷ line) rest one =
-      let parts = feed_parts (eqb byte 10) (has_line_feed line) one in
-      ap (λ n. lines_through n (line_behind number byte) (line ++ 10 ∷ rest)) (some line)
-      ∙ rw parts.0 (lines_of_line number number line rest parts.1)
-      ∙ ap (λ n. lines_through (lines_with n number rest) (number + 1) rest) (within line)
-    where
-      some : (line : List ℕ) → lines_with lines number (line ++ 10 ∷ rest) ≡ number
-      some [] = refl
-      some (first ∷ line) = refl
-
-      within : (line : List ℕ) → lines_within number number line ≡ number
-      within [] = refl
-      within (first ∷ line) = refl
-
-  kept_lines : (old new : InputState) (line text rest : List ℕ) → has_line_feed line ≡ false → text ≡ line ++ 10 ∷ rest
-      → new.place.line ≡ old.place.line + 1
-      → new.lines ≡ lines_with (lines_within old.lines old.place.line line) old.place.line rest
-      → all_lines new rest ≡ all_lines old text
-  kept_lines old new line text rest one whole at lines =
-      ap (λ n. lines_through n new.place.line rest) lines
-      ∙ ap (λ n. lines_through (lines_with (lines_within old.lines old.place.line line) old.place.line rest) n rest) at
-      ∙ sym (lines_of_line old.lines old.place.line line rest one) ∙ ap (λ (xs : List ℕ). all_lines old xs) (sym whole)
 
   -- a line that says these items was taken
   gave_line : (old new : InputState) (number : ℕ) (line : List ℕ) (items : List A) → EndsLine old number line new
@@ -315,26 +284,22 @@ module _ {A B : Type 0} (saying : Saying A B) where
 
   pub stops_in_line : (old new : InputState) → FailsInLine old new
       → StopsAt (lines_by saying) old Read new × (new.fault ≡ Some Read)
-  stops_in_line old new fails = ((fails.failures, fails.ahead, go old.text new.text fails.text), fails.fault)
-    where
-      go : (whole left : Option (List ℕ)) → IfSome whole (λ text. IsSomeAnd left (λ rest. FailsWithin text rest))
-          → IfSome whole
-          (λ text. IsSomeAnd left
-          (λ rest. (used : List ℕ) × (text ≡ used ++ rest)
-          × (items_before_failure saying old used ≡ only_fault (Some Read))))
-      go None left text = tt
-      go (Some text) None within = absurd within
-      go (Some text) (Some rest) within =
-          (within.used, within.whole, open_says old.place.line within.used (Some Read) within.is_line)
+  stops_in_line old new fails = (
+    Stops-map IsOneLine (λ used. items_before_failure saying old used ≡ only_fault (Some Read)) (λ text. Unit {0})
+        (λ text. Unit {0}) old new Read fails.0 (λ used. open_says old.place.line used (Some Read))
+        (λ text none. none),
+    fails.1,
+  )
 
   pub overflows_line : (old new : InputState) → OverflowsInLine old new
       → StopsAt (lines_by saying) old TooMuch new × (new.fault ≡ Some TooMuch)
-  overflows_line old new overflows = ((overflows.failures, go old.text overflows.text), overflows.fault)
-    where
-      go : (whole : Option (List ℕ))
-          → IfSome whole (λ text. (old.bytes < length text) × IsOneLine (take (old.bytes - 1) text))
-          → IfSome whole (λ text. items_in saying old text ≡ only_fault (Some TooMuch))
-      go None over = tt
-      go (Some text) over =
-          rw (not_within (length text) old.bytes over.0)
-          (open_says old.place.line (take (old.bytes - 1) text) (Some TooMuch) over.1)
+  overflows_line old new overflows = (
+    (
+      overflows.0.0,
+      if_some_map (λ text. (old.bytes < length text) × IsOneLine (take (old.bytes - 1) text))
+          (λ text. items_in saying old text ≡ only_fault (Some TooMuch)) old.text
+          (λ text over. rw (not_within (length text) old.bytes over.0)
+          (open_says old.place.line (take (old.bytes - 1) text) (Some TooMuch) over.1)) overflows.0.1,
+    ),
+    overflows.1,
+  )

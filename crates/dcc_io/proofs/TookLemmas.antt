@@ -1,7 +1,7 @@
 -- Bytes that were read of an input, one step after the other.
 use Rattle.std.proofs.Common.{zero, suc, ◌≡◌, ℕ, ◌+◌, ◌-◌, ◌<◌, List, [], ◌∷◌, ◌++◌, length, take, Bool, true, false}
 use Rattle.std.proofs.Common.{nat_le, Option, None, Some, refl, sym, ap, ◌∙◌, subst, arith, append_assoc}
-use Rattle.std.proofs.Common.{length-append, IfSome, IsSomeAnd}
+use Rattle.std.proofs.Common.{length-append, cond, IfSome, IsSomeAnd}
 use Rattle.std.proofs.Math.Seq.{take-append-add}
 use Rattle.std.proofs.lemmas.List.{append-nil}
 use Rattle.std.proofs.lemmas.Bool.Decides.{nat_tests}
@@ -76,6 +76,11 @@ zero_fits most = grind (arith, nat_tests)
 pub same_test : (whole used rest most left : ℕ) → whole ≡ used + rest → left + used ≡ most
     → nat_le whole most ≡ nat_le rest left
 same_test whole used rest most left total bytes = grind (arith, nat_tests)
+
+-- what is said either way
+pub same_cond : {A : Type 0} (b : Bool) (x : A) → cond b x x ≡ x
+same_cond true x = refl
+same_cond false x = refl
 
 -- nothing was read yet
 pub Took-start : {P : List ℕ → Type 0} (input : InputState) → input.fault ≡ None → P [] → Took P input input
@@ -191,6 +196,20 @@ module _ {P : List ℕ → Type 0} {old mid : InputState} (front : Took P old mi
   Stops-behind F G Q R new TooMuch stops fails says = (stops.0 ∙ front.failures, told_behind Q R says stops.1)
   Stops-behind F G Q R new (Number line) stops fails says = (stops.0 ∙ front.failures, told_behind Q R says stops.1)
   Stops-behind F G Q R new (Line line why) stops fails says = (stops.0 ∙ front.failures, told_behind Q R says stops.1)
+
+-- what stops an input, in other words
+pub Stops-map : (F G Q R : List ℕ → Type 0) (old new : InputState) (fault : KeptFault) → Stops F Q old fault new
+    → ((used : List ℕ) → F used → G used) → ((text : List ℕ) → Q text → R text) → Stops G R old fault new
+Stops-map F G Q R old new Read stops fails says = (
+  stops.0,
+  stops.1,
+  map_same (λ text rest. (used : List ℕ) × (text ≡ used ++ rest) × F used)
+      (λ text rest. (used : List ℕ) × (text ≡ used ++ rest) × G used) old.text new.text
+      (λ text rest behind. (behind.0, behind.1, fails behind.0 behind.2)) stops.2,
+)
+Stops-map F G Q R old new TooMuch stops fails says = (stops.0, if_some_map Q R old.text says stops.1)
+Stops-map F G Q R old new (Number line) stops fails says = (stops.0, if_some_map Q R old.text says stops.1)
+Stops-map F G Q R old new (Line line why) stops fails says = (stops.0, if_some_map Q R old.text says stops.1)
 
 -- what is said of the text, told of its rest
 pub within_limit-used : {A : Type 0} {P : List ℕ → Type 0} (old new : InputState)

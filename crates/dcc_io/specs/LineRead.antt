@@ -1,15 +1,15 @@
 -- What was read of an input's lines.
-use Rattle.std.specs.Prelude.{◌≡◌, ℕ, ◌+◌, ◌-◌, ◌<◌, ◌≤◌, ◌∷◌, ◌++◌, ◌==◌, List, [], Bool, true, false, Option, None}
-use Rattle.std.specs.Prelude.{Some, Result, Ok, Err, length, take, IfSome, IsSomeAnd}
+use Rattle.std.specs.Prelude.{◌≡◌, ℕ, ◌+◌, ◌<◌, ◌≤◌, ◌∷◌, ◌++◌, ◌==◌, List, [], Bool, true, false, Option, None}
+use Rattle.std.specs.Prelude.{Some, Result, Ok, Err, length, IfSome, IsSomeAnd}
 use Rattle.std.specs.List.{list_any}
 use Rattle.dcc_packet.specs.declared.fault.PacketFault.TheVariants as faults
 use Rattle.dcc_io.specs.declared.text_line.TextLine.{TextLine}
 use Rattle.dcc_io.specs.declared.fault.KeptFault.{KeptFault}
 use Rattle.dcc_io.specs.declared.fault.KeptFault.TheVariants.{Number, Line, Read, TooMuch}
-use Rattle.dcc_io.specs.Failures.{one_more}
 use Rattle.dcc_io.specs.Place.{lines_with}
 use Rattle.dcc_io.specs.Told.{IsAtEnd}
 use Rattle.dcc_io.specs.InputState.{InputState}
+use Rattle.dcc_io.specs.Took.{FailsBehind, OverflowsBehind}
 use Rattle.dcc_io.specs.Lines.{is_good}
 
 -- whether there is a line feed
@@ -67,23 +67,13 @@ pub record MeetsBadLine (old : InputState) (number : ℕ) (new : InputState) : T
   pub fault : new.fault ≡ Some (Line number faults.Word)
   pub failures : new.failures ≡ old.failures
 
--- a read failed behind these bytes of one line
-pub record FailsWithin (text rest : List ℕ) : Type 0 where
-  pub used : List ℕ
-  pub whole : text ≡ used ++ rest
-  pub is_line : IsOneLine used
-
-pub record FailsInLine (old new : InputState) : Type 0 where
-  pub text : IfSome old.text (λ text. IsSomeAnd new.text (λ rest. FailsWithin text rest))
-  pub ahead : new.ahead ≡ []
-  pub fault : new.fault ≡ Some Read
-  pub failures : new.failures ≡ one_more old.failures
+-- a read failed behind bytes of one line
+abbrev pub FailsInLine : InputState → InputState → Type 0
+FailsInLine old new = FailsBehind IsOneLine old new × (new.fault ≡ Some Read)
 
 -- no line has ended in the bytes that may be taken
-pub record OverflowsInLine (old new : InputState) : Type 0 where
-  pub text : IfSome old.text (λ text. (old.bytes < length text) × IsOneLine (take (old.bytes - 1) text))
-  pub fault : new.fault ≡ Some TooMuch
-  pub failures : new.failures ≡ old.failures
+abbrev pub OverflowsInLine : InputState → InputState → Type 0
+OverflowsInLine old new = OverflowsBehind IsOneLine old new × (new.fault ≡ Some TooMuch)
 
 abbrev pub AnswersLine : InputState → Result (Option TextLine) KeptFault → InputState → Type 0
 AnswersLine old (Ok (Some line)) new = EndsLine old line.number line.text.bytes new

@@ -190,7 +190,7 @@ first_stops start now new before framer packets Read none so_far answer = inr (
     go (Some x) (Some y) (Some z) p q = (
       p.used ++ q.0,
       p.whole ∙ ap (λ (rest : List ℕ). p.used ++ rest) q.1 ∙ sym (append_assoc p.used q.0 z),
-      ap (λ (both : Both). both.fault) (p.goes_on 0 q.0 (Some Read) ∙ ap (in_front so_far.halves) (q.2 0)),
+      ap (λ (both : Both). both.fault) (p.is 0 q.0 (Some Read) ∙ ap (in_front so_far.halves) (q.2 0)),
     )
 
 pub kept_before : (input : InputState) (fault : KeptFault) → input.fault ≡ Some fault
@@ -316,7 +316,7 @@ module _ (old mid : InputState) (packets : List Packet) (first : GatheredFirst o
       go (Some x) (Some y) (Some z) p behind q = (
         p.used ++ q.0,
         p.whole ∙ ap (λ (rest : List ℕ). p.used ++ rest) q.1 ∙ sym (append_assoc p.used q.0 z),
-        ap (λ (both : Both). both.fault) (p.goes_on 0 q.0 (Some Read)
+        ap (λ (both : Both). both.fault) (p.is 0 q.0 (Some Read)
             ∙ ap (in_front first.halves)
             (second_behind first.ends.line mid.halves mid.place y q.0 (Some Read) behind (front_none q.0 z y q.1)))
             ∙ q.2.0,
