@@ -1,8 +1,7 @@
 -- What words say of a capture.
-use Rattle.std.proofs.Common.{zero, suc, ◌≡◌, ℕ, ◌+◌, ◌-◌, ◌<◌, ◌≤◌, List, [], ◌∷◌, ◌++◌, length, take, Bool, true}
-use Rattle.std.proofs.Common.{false, nat_le, Option, None, Some, Result, Ok, Err, refl, sym, ap, ◌∙◌, subst, arith}
-use Rattle.std.proofs.Common.{length-append, replicate, IfSome, IsSomeAnd}
-use Rattle.std.proofs.Math.Seq.{take-append-add}
+use Rattle.std.proofs.Common.{◌≡◌, ℕ, ◌+◌, ◌-◌, ◌<◌, ◌≤◌, List, [], ◌∷◌, ◌++◌, length, true}
+use Rattle.std.proofs.Common.{nat_le, Option, None, Some, Result, Ok, Err, refl, sym, ap, ◌∙◌, subst, arith}
+use Rattle.std.proofs.Common.{replicate, IfSome}
 use Rattle.std.proofs.lemmas.List.{length-replicate}
 use Rattle.std.proofs.lemmas.Bool.Decides.{nat_tests}
 use Rattle.dcc_io.specs.declared.word.Run.{Run}
@@ -13,48 +12,14 @@ use Rattle.dcc_io.specs.Told.{IsAtEnd}
 use Rattle.dcc_io.specs.InputState.{InputState}
 use Rattle.dcc_io.specs.Words.{Word, ended_words, run_of}
 use Rattle.dcc_io.specs.Passed.{Passed, IsBeforeWord, EndsWord, AnswersWord}
-use Rattle.dcc_io.specs.Items.{Items, preceded, only_fault, Gives, StopsAt}
+use Rattle.dcc_io.specs.Items.{Items, preceded, only_fault, Gave, StopsAt}
 use Rattle.dcc_io.specs.Capture.{behind_word, halves_of, capture_in, capture_before_failure, captures, GaveHalves}
 use Rattle.dcc_io.specs.Capture.{AnswersRun, CountsRun}
-use Rattle.dcc_io.proofs.TookLemmas.{if_some_map, map_same, with_left, count_more, above_limit, not_within, zero_fits}
-use Rattle.dcc_io.proofs.TookLemmas.{same_test}
+use Rattle.dcc_io.proofs.TookLemmas.{map_text, not_within, zero_fits, same_cond, Took-counted, Took-map}
+use Rattle.dcc_io.proofs.TookLemmas.{told_behind, Stops-map, within_limit-used, overflows}
 use Rattle.dcc_io.proofs.PassedLemmas.{PassesIn}
+use Rattle.dcc_io.proofs.ItemsLemmas.{in_whole}
 use Rattle.dcc_io.proofs.RunWordLemmas.{some_half}
-
--- where the text is cut at the limit, and the fault behind that
-record CutOf (old new : InputState) (words : List Word) (text rest : List ℕ) : Type 0 where
-  more : List ℕ
-  last : Option KeptFault
-  whole : capture_in old text ≡ halves_of old.halves (words ++ ended_words new.place more) last
-  rest_is : (left : ℕ) → capture_in (with_left new left) rest ≡ halves_of left (ended_words new.place more) last
-
-cut_of : (old new : InputState) (words : List Word) (text rest : List ℕ) → PassesIn old new words text rest
-    → CutOf old new words text rest
-cut_of old new words text rest uses = go (nat_le (length rest) new.bytes) refl
-  where
-    lengths : length text ≡ length uses.used + length rest
-    lengths = ap length uses.whole ∙ length-append uses.used rest
-
-    test : nat_le (length text) old.bytes ≡ nat_le (length rest) new.bytes
-    test = same_test (length text) (length uses.used) (length rest) old.bytes new.bytes lengths uses.bytes
-
-    go : (within : Bool) → nat_le (length rest) new.bytes ≡ within → CutOf old new words text rest
-    go true within = record {
-      more = rest;
-      last = None;
-      whole = rw (test, within, uses.whole) (ap (λ ws. halves_of old.halves ws None) (uses.is rest));
-      rest_is = λ left. rw within refl;
-    }
-    go false within = record {
-      more = take (new.bytes - 1) rest;
-      last = Some TooMuch;
-      whole =
-          let count = count_more old.bytes new.bytes (length uses.used) rest uses.bytes
-          (above_limit (length rest) new.bytes within) uses.room in
-          rw (test, within, count, uses.whole, take-append-add uses.used rest (new.bytes - 1))
-          (ap (λ ws. halves_of old.halves ws (Some TooMuch)) (uses.is (take (new.bytes - 1) rest)));
-      rest_is = λ left. rw within refl;
-    }
 
 pub enough : (n most : ℕ) → n ≤ most → nat_le n most ≡ true
 enough n most fits = grind (arith, nat_tests)
@@ -83,47 +48,28 @@ pub Gave-word : (old mid new : InputState) (line : ℕ) (run : Run) (word : List
     }
     → GaveHalves old (replicate run.n run.us) new
 Gave-word old mid new line run word passed spells fits is_new = rw is_new record {
-  items = record {
-    text = map_same (λ text rest. PassesIn old mid (record { line = line; bytes = word } ∷ []) text rest)
-        (λ text rest. Gives captures old (replicate run.n run.us) counted text rest) old.text mid.text
-        (λ text rest uses.
-        let cut = cut_of old mid (record { line = line; bytes = word } ∷ []) text rest uses in
-        record {
-          used = uses.used;
-          whole = uses.whole;
-          in_whole =
-              cut.whole ∙ one (ended_words mid.place cut.more) cut.last
-              ∙ ap (preceded (replicate run.n run.us)) (sym (cut.rest_is (mid.halves - run.n)));
-          in_part =
-              λ more. ap (λ ws. halves_of old.halves ws (Some Read)) (uses.is more)
-              ∙ one (ended_words mid.place more) (Some Read);
-          lines = uses.lines;
-        })
-        passed.text;
-    bytes = passed.bytes;
-    fault = passed.fault;
-    failures = passed.failures;
-  };
+  items = Took-counted (mid.halves - run.n) passed.took
+      (λ used passes more last. ap (λ ws. halves_of old.halves ws last) (passes more)
+      ∙ one (ended_words mid.place more) last);
   left = simp length-replicate (omega (arith, passed.halves));
 }
   where
-    counted : InputState
-    counted =
-        record {
-          text = mid.text;
-          ahead = mid.ahead;
-          place = mid.place;
-          lines = mid.lines;
-          halves = mid.halves - run.n;
-          bytes = mid.bytes;
-          fault = mid.fault;
-          failures = mid.failures;
-        }
-
     one : (ws : List Word) (last : Option KeptFault)
         → halves_of old.halves (record { line = line; bytes = word } ∷ ws) last ≡ preceded (replicate run.n run.us)
         (halves_of (mid.halves - run.n) ws last)
     one ws last = rw (spells, ← passed.halves) (behind_some mid.halves line run (λ left. halves_of left ws last) fits)
+
+-- words behind which only this fault comes
+stops_text : (old mid : InputState) (words : List Word) (fault : KeptFault) → Passed old words mid
+    → ((ws : List Word) (last : Option KeptFault) → halves_of old.halves (words ++ ws) last ≡ only_fault (Some fault))
+    → IfSome old.text (λ text. capture_in old text ≡ only_fault (Some fault))
+stops_text old mid words fault passed each =
+    map_text (PassesIn old mid words) (λ text. capture_in old text ≡ only_fault (Some fault)) old.text mid.text
+    (λ text rest uses.
+    within_limit-used old mid (captures old) (λ bytes last. only_fault (Some fault)) text rest uses
+    (λ more last. ap (λ ws. halves_of old.halves ws last) (uses.is more) ∙ each (ended_words mid.place more) last)
+    ∙ same_cond (nat_le (length rest) mid.bytes) (only_fault (Some fault)))
+    passed.text
 
 -- a word that spells no run
 pub stops_at_word : (old mid new : InputState) (line : ℕ) (word : List ℕ)
@@ -140,17 +86,14 @@ pub stops_at_word : (old mid new : InputState) (line : ℕ) (word : List ℕ)
     }
     → StopsAt captures old (Number line) new × (new.fault ≡ Some (Number line))
 stops_at_word old mid new line word passed spells is_new =
-    rw is_new ((passed.failures, go old.text mid.text passed.text), refl)
-  where
-    go : (whole rest : Option (List ℕ))
-        → IfSome whole
-        (λ text. IsSomeAnd rest (λ more. PassesIn old mid (record { line = line; bytes = word } ∷ []) text more))
-        → IfSome whole (λ text. capture_in old text ≡ only_fault (Some (Number line)))
-    go None rest uses = tt
-    go (Some text) None uses = absurd uses
-    go (Some text) (Some rest) uses =
-        let cut = cut_of old mid (record { line = line; bytes = word } ∷ []) text rest uses in cut.whole
-        ∙ rw spells refl
+    rw is_new (
+      (
+        passed.failures,
+        stops_text old mid (record { line = line; bytes = word } ∷ []) (Number line) passed
+            (λ ws last. rw spells refl),
+      ),
+      refl,
+    )
 
 -- a run of too many halves
 pub stops_at_limit : (old mid new : InputState) (line : ℕ) (run : Run) (word : List ℕ)
@@ -168,87 +111,43 @@ pub stops_at_limit : (old mid new : InputState) (line : ℕ) (run : Run) (word :
     }
     → StopsAt captures old TooMuch new × (new.fault ≡ Some TooMuch)
 stops_at_limit old mid new line run word passed spells above is_new =
-    rw is_new ((passed.failures, go old.text mid.text passed.text), refl)
-  where
-    one : (ws : List Word) (last : Option KeptFault)
-        → halves_of old.halves (record { line = line; bytes = word } ∷ ws) last ≡ only_fault (Some TooMuch)
-    one ws last =
-        rw (spells, ← passed.halves) (behind_too_many mid.halves line run (λ left. halves_of left ws last) above)
-
-    go : (whole rest : Option (List ℕ))
-        → IfSome whole
-        (λ text. IsSomeAnd rest (λ more. PassesIn old mid (record { line = line; bytes = word } ∷ []) text more))
-        → IfSome whole (λ text. capture_in old text ≡ only_fault (Some TooMuch))
-    go None rest uses = tt
-    go (Some text) None uses = absurd uses
-    go (Some text) (Some rest) uses =
-        let cut = cut_of old mid (record { line = line; bytes = word } ∷ []) text rest uses in
-        cut.whole ∙ one (ended_words mid.place cut.more) cut.last
+    rw is_new (
+      (
+        passed.failures,
+        stops_text old mid (record { line = line; bytes = word } ∷ []) TooMuch passed
+            (λ ws last. rw (spells, ← passed.halves)
+            (behind_too_many mid.halves line run (λ left. halves_of left ws last) above)),
+      ),
+      refl,
+    )
 
 -- the end
 pub Gave-end : (old new : InputState) → Passed old [] new → IsAtEnd new.text
     → GaveHalves old [] new × IsAtEnd new.text × IfSome old.text (λ text. capture_in old text ≡ only_fault None)
 Gave-end old new passed at_end = (
-  record {
-    items = record {
-      text = map_same (λ text rest. PassesIn old new [] text rest) (λ text rest. Gives captures old [] new text rest)
-          old.text new.text
-          (λ text rest uses.
-          let cut = cut_of old new [] text rest uses in
-          record {
-            used = uses.used;
-            whole = uses.whole;
-            in_whole =
-                cut.whole ∙ ap (λ most. halves_of most (ended_words new.place cut.more) cut.last) (sym passed.halves)
-                ∙ sym (cut.rest_is new.halves);
-            in_part =
-                λ more. ap (λ ws. halves_of old.halves ws (Some Read)) (uses.is more)
-                ∙ ap (λ most. halves_of most (ended_words new.place more) (Some Read)) (sym passed.halves);
-            lines = uses.lines;
-          })
-          passed.text;
-      bytes = passed.bytes;
-      fault = passed.fault;
-      failures = passed.failures;
-    };
-    left = omega (arith, passed.halves);
-  },
+  record { items = items; left = omega (arith, passed.halves) },
   at_end,
-  go old.text new.text passed.text at_end,
+  told_behind items (λ rest. rest ≡ []) (λ text. capture_in old text ≡ only_fault None)
+      (λ text rest gives end. in_whole captures old new [] text rest gives ∙ ap (capture_in new) end
+      ∙ rw (zero_fits new.bytes) refl) at_end,
 )
   where
-    go : (whole rest : Option (List ℕ)) → IfSome whole (λ text. IsSomeAnd rest (λ more. PassesIn old new [] text more))
-        → IsAtEnd rest → IfSome whole (λ text. capture_in old text ≡ only_fault None)
-    go None rest uses end = tt
-    go (Some text) None uses end = absurd uses
-    go (Some text) (Some rest) uses end =
-        let cut = cut_of old new [] text rest uses in
-        cut.whole ∙ ap (λ most. halves_of most (ended_words new.place cut.more) cut.last) (sym passed.halves)
-        ∙ sym (cut.rest_is new.halves)
-        ∙ ap (capture_in new) end ∙ rw (zero_fits new.bytes) refl
+    items : Gave captures old [] new
+    items = Took-map passed.took
+        (λ used passes more last. ap (λ ws. halves_of old.halves ws last) (passes more)
+        ∙ ap (λ most. halves_of most (ended_words new.place more) last) (sym passed.halves))
 
 pub stops_answer : (old new : InputState) (fault : KeptFault) → AnswersWord old (Err fault) new
     → AnswersRun old (Err fault) new
 stops_answer old new Read answer = (
-  (
-    answer.0.0,
-    answer.0.1,
-    map_same (λ text rest. (used : List ℕ) × (text ≡ used ++ rest) × IsBeforeWord old used)
-        (λ text rest. (used : List ℕ) × (text ≡ used ++ rest)
-        × (capture_before_failure old used ≡ only_fault (Some Read))) old.text new.text
-        (λ text rest before. (before.0, before.1, ap (λ ws. halves_of old.halves ws (Some Read)) before.2))
-        answer.0.2,
-  ),
+  Stops-map (IsBeforeWord old) (λ used. capture_before_failure old used ≡ only_fault (Some Read)) (λ text. Unit {0})
+      (λ text. Unit {0}) old new Read answer.0 (λ used. ap (λ ws. halves_of old.halves ws (Some Read)))
+      (λ text none. none),
   answer.1,
 )
 stops_answer old new TooMuch answer = (
-  (
-    answer.0.0,
-    if_some_map (λ text. (old.bytes < length text) × IsBeforeWord old (take (old.bytes - 1) text))
-        (λ text. capture_in old text ≡ only_fault (Some TooMuch)) old.text
-        (λ text over. rw (not_within (length text) old.bytes over.0)
-        (ap (λ ws. halves_of old.halves ws (Some TooMuch)) over.1)) answer.0.1,
-  ),
+  overflows (IsBeforeWord old) (captures old) (only_fault (Some TooMuch)) old new answer.0
+      (λ used. ap (λ ws. halves_of old.halves ws (Some TooMuch))),
   answer.1,
 )
 stops_answer old new (Number line) answer = absurd answer

@@ -1,5 +1,5 @@
 -- A line that is being read, and what ends it.
-use Rattle.std.proofs.Common.{zero, suc, ◌≡◌, ℕ, ◌+◌, ◌-◌, ◌<◌, ◌≤◌, List, [], ◌∷◌, ◌++◌, length, take, Bool, true}
+use Rattle.std.proofs.Common.{zero, suc, ◌≡◌, ℕ, ◌+◌, ◌-◌, ◌<◌, ◌≤◌, List, [], ◌∷◌, ◌++◌, length, Bool, true}
 use Rattle.std.proofs.Common.{false, eqb, Option, None, Some, Err, refl, sym, ap, ◌∙◌, subst, arith, append_assoc}
 use Rattle.std.proofs.Common.{length-append, ◌&&◌, ◌⊎◌, inl, inr, IfSome, IsSomeAnd}
 use Rattle.std.proofs.Math.Dec.{leb}
@@ -19,7 +19,7 @@ use Rattle.dcc_io.specs.Lines.{is_good}
 use Rattle.dcc_io.specs.LineRead.{has_line_feed, lines_within, IsOneLine, EndsLine, EndsText, IsBadAt, MeetsBadLine}
 use Rattle.dcc_io.specs.LineRead.{AnswersLine}
 use Rattle.dcc_io.specs.Took.{Uses, Took}
-use Rattle.dcc_io.proofs.TookLemmas.{if_some_map, if_some_all, Took-start, Took-join}
+use Rattle.dcc_io.proofs.TookLemmas.{if_some_map, if_some_all, Took-start, Took-closed, Took-join}
 use Rattle.dcc_io.proofs.PassedLemmas.{took_byte, map_taken, fails_to_read, has_too_many, or_false}
 
 pub and_true : (a b : Bool) → (a && b) ≡ true → (a ≡ true) × (b ≡ true)
@@ -211,34 +211,23 @@ OpensLine-ends old now new line byte n opens takes is_end is_number = record {
 pub OpensLine-none : (old now : InputState) (line : List ℕ) → OpensLine old line now → IsAtEnd now.text
     → EndsText old now
 OpensLine-none old now line opens at_end = record {
-  text = go old.text now.text opens.text opens.closed at_end;
+  text = go old.text now.text took.text at_end;
   at_end = at_end;
-  bytes = opens.bytes;
+  took = took;
   place = opens.place;
-  lines = kept old.text now.text opens.closed opens.lines at_end;
   halves = opens.halves;
-  fault = opens.fault;
-  failures = opens.failures;
 }
   where
-    go : (whole rest : Option (List ℕ))
-        → IfSome whole (λ text. IsSomeAnd rest (λ more. LineIn old now line text more))
-        → IfSome rest (λ more. more ≡ [] → line ≡ []) → IsAtEnd rest
-        → IfSome whole (λ text. IsSomeAnd rest (λ more. (text ≡ []) × (more ≡ [])))
-    go None rest before closed end = tt
-    go (Some text) None before closed end = absurd before
-    go (Some text) (Some more) before closed end =
-        let none = closed end in
-        (before.whole ∙ ap (λ (bytes : List ℕ). bytes ++ more) before.is ∙ rw (none, end) refl, end)
+    took : Took (λ used. used ≡ []) old now
+    took = Took-closed (line ≡ []) opens.took opens.closed at_end (λ used none is. is ∙ none)
 
-    kept : (whole rest : Option (List ℕ)) → IfSome rest (λ more. more ≡ [] → line ≡ [])
-        → IfSome whole (λ text. IsSomeAnd rest (λ more. now.lines ≡ lines_within old.lines old.place.line line))
-        → IsAtEnd rest
-        → IfSome whole (λ text. IsSomeAnd rest (λ more. now.lines ≡ old.lines))
-    kept None rest closed lines end = tt
-    kept (Some text) None closed lines end = absurd lines
-    kept (Some text) (Some more) closed lines end =
-        lines ∙ ap (λ (xs : List ℕ). lines_within old.lines old.place.line xs) (closed end)
+    go : (whole rest : Option (List ℕ))
+        → IfSome whole (λ text. IsSomeAnd rest (λ more. LineIn old now [] text more)) → IsAtEnd rest
+        → IfSome whole (λ text. IsSomeAnd rest (λ more. (text ≡ []) × (more ≡ [])))
+    go None rest before end = tt
+    go (Some text) None before end = absurd before
+    go (Some text) (Some more) before end =
+        (before.whole ∙ ap (λ (bytes : List ℕ). bytes ++ more) before.is ∙ end, end)
 
 -- a byte that makes the line bad was taken
 pub OpensLine-bad : (old now mid new : InputState) (line : List ℕ) (byte number : ℕ) → OpensLine old line now
@@ -308,7 +297,7 @@ lines_of_line lines number (byte ∷ line) rest one =
     within [] = refl
     within (first ∷ line) = refl
 
-pub kept_lines : (old new : InputState) (line text rest : List ℕ) → has_line_feed line ≡ false → text ≡ line ++ 10 ∷ rest
+kept_lines : (old new : InputState) (line text rest : List ℕ) → has_line_feed line ≡ false → text ≡ line ++ 10 ∷ rest
     → new.place.line ≡ old.place.line + 1
     → new.lines ≡ lines_with (lines_within old.lines old.place.line line) old.place.line rest
     → all_lines new rest ≡ all_lines old text

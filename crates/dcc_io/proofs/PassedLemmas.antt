@@ -17,7 +17,7 @@ use Rattle.dcc_io.specs.Spells.{Spells}
 use Rattle.dcc_io.specs.Took.{Uses, Took, FailsBehind, OverflowsBehind}
 use Rattle.dcc_io.specs.Passed.{Passed, IsBeforeWord, EndsWord, AnswersWord}
 use Rattle.dcc_io.proofs.WordsLemmas.{behind, opened, opened-none, opened-word, opened-gap, ended}
-use Rattle.dcc_io.proofs.TookLemmas.{if_some_map, if_some_all, join_whole, Took-start, Took-map, Took-join}
+use Rattle.dcc_io.proofs.TookLemmas.{if_some_map, if_some_all, join_whole, Took-start, Took-map, Took-closed, Took-join}
 
 -- these bytes end in the front of a word
 abbrev pub IsOpenBehind : InputState → InputState → List ℕ → List ℕ → Type 0
@@ -227,31 +227,11 @@ EndsWord-gap old now new so_far byte opens takes gap some = record {
 -- the end
 pub Passed-end : (old now : InputState) (so_far : RunWord) → Opens old so_far now → IsAtEnd now.text → Passed old [] now
 Passed-end old now so_far opens at_end = record {
-  took = record {
-    text = go old.text now.text opens.text opens.closed at_end;
-    bytes = opens.bytes;
-    fault = opens.fault;
-    failures = opens.failures;
-  };
+  took = Took-closed (opens.word ≡ []) opens.took opens.closed at_end
+      (λ used none goes_on more. goes_on more ∙ ap (λ (word : List ℕ). opened now.place word more) none
+      ∙ opened-none now.place more);
   halves = opens.halves;
 }
-  where
-    go : (whole rest : Option (List ℕ))
-        → IfSome whole (λ text. IsSomeAnd rest (λ more. Uses (IsOpenBehind old now opens.word) old now text more))
-        → IfSome rest (λ more. more ≡ [] → opens.word ≡ []) → IsAtEnd rest
-        → IfSome whole (λ text. IsSomeAnd rest (λ more. PassesIn old now [] text more))
-    go None rest before closed end = tt
-    go (Some text) None before closed end = absurd before
-    go (Some text) (Some more) before closed end = record {
-      used = before.used;
-      whole = before.whole;
-      is =
-          λ after. before.is after ∙ ap (λ (word : List ℕ). opened now.place word after) (closed end)
-          ∙ opened-none now.place after;
-      bytes = before.bytes;
-      room = before.room;
-      lines = before.lines;
-    }
 
 -- what holds of the text and its rest, after a byte was taken
 pub map_taken : (P Q : List ℕ → List ℕ → Type 0) (R : List ℕ → Type 0) (whole rest new : Option (List ℕ)) (byte : ℕ)
@@ -299,7 +279,8 @@ pub has_too_many : (P Q : List ℕ → Type 0) (old now new : InputState) → To
 has_too_many P Q old now new took has_more each = (
   has_more.failures ∙ took.failures,
   join_whole (Uses P old now) (λ more. now.bytes < length more)
-      (λ text. (old.bytes < length text) × Q (take (old.bytes - 1) text)) old.text now.text over took.text has_more.text,
+      (λ text. (old.bytes < length text) × Q (take (old.bytes - 1) text)) old.text now.text over took.text
+      has_more.text,
 )
   where
     over : (text more : List ℕ) → Uses P old now text more → now.bytes < length more

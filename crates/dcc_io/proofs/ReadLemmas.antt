@@ -1,8 +1,7 @@
 -- How readers of a text follow one another.
-use Rattle.std.proofs.Common.{◌≡◌, ℕ, ◌+◌, ◌-◌, ◌<◌, List, [], ◌∷◌, ◌++◌, length, take, Bool, true, false, cond, eqb}
-use Rattle.std.proofs.Common.{nat_le, ◌||◌, Option, None, Some, Result, Ok, Err, refl, sym, ap, ◌∙◌, subst, arith}
+use Rattle.std.proofs.Common.{◌≡◌, ℕ, ◌+◌, ◌-◌, ◌<◌, List, [], ◌∷◌, ◌++◌, length, take, Bool, true, false, eqb}
+use Rattle.std.proofs.Common.{nat_le, Option, None, Some, Result, Ok, Err, refl, sym, ap, ◌∙◌, subst, arith}
 use Rattle.std.proofs.Common.{append_assoc, length-append, ◌⊎◌, inl, inr, IfOk}
-use Rattle.std.proofs.Math.Seq.{take-append-add}
 use Rattle.std.proofs.lemmas.List.{append-nil}
 use Rattle.dcc_packet.specs.declared.fault.PacketFault.{PacketFault}
 use Rattle.dcc_packet.specs.declared.fault.PacketFault.TheVariants as faults
@@ -20,7 +19,8 @@ use Rattle.dcc_io.specs.TextReader.{judged, line_by}
 use Rattle.dcc_io.specs.TextReader.Stop.{refused, cut, too_many}
 use Rattle.dcc_io.specs.TextRead.{at, answer_of, answer_in, answer_before_failure, GoesOn, Leads, Refuses, Answers}
 use Rattle.dcc_io.proofs.TookLemmas.{if_some_map, if_some_all, map_text, Took-start, Took-map, Took-join, Stops-map}
-use Rattle.dcc_io.proofs.TookLemmas.{same_cond, Stops-behind, within_limit-used, zero_fits, not_within}
+use Rattle.dcc_io.proofs.TookLemmas.{same_cond, Stops-behind, within_limit-used, within_limit-front, overflows}
+use Rattle.dcc_io.proofs.TookLemmas.{zero_fits}
 use Rattle.dcc_io.proofs.PassedLemmas.{or_false}
 use Rattle.dcc_io.proofs.LineLemmas.{bad-more, IsThrough, took_line}
 
@@ -203,24 +203,10 @@ module _ {A : Type 0} (rule : List Word → Result A PacketFault) where
 
   bad_text : (old : InputState) (text : List ℕ) → IsBadAt old text
       → answer_in (line_by rule) old text ≡ Err (Line old.place.line faults.Word)
-  bad_text old text bad = go (nat_le (length text) old.bytes) refl
-    where
-      front : take (old.bytes - 1) text ≡ bad.line ++ take (old.bytes - 1 - length bad.line) bad.rest
-      front =
-          let within = bad.within in
-          let count : old.bytes - 1 ≡ length bad.line + (old.bytes - 1 - length bad.line) = omega arith in
-          ap (λ n. take n text) count ∙ ap (take (length bad.line + (old.bytes - 1 - length bad.line))) bad.whole
-          ∙ take-append-add bad.line bad.rest (old.bytes - 1 - length bad.line)
-
-      go : (b : Bool) → nat_le (length text) old.bytes ≡ b
-          → answer_in (line_by rule) old text ≡ Err (Line old.place.line faults.Word)
-      go true is =
-          rw is (ap (λ (bytes : List ℕ). answer_of None (line_by rule (at old bytes))) bad.whole
-          ∙ ap (answer_of None) (line-bad old.place.line bad.line bad.rest bad.bad bad.one))
-      go false is =
-          rw is (ap (λ (bytes : List ℕ). answer_of (Some TooMuch) (line_by rule (at old bytes))) front
-          ∙ ap (answer_of (Some TooMuch))
-          (line-bad old.place.line bad.line (take (old.bytes - 1 - length bad.line) bad.rest) bad.bad bad.one))
+  bad_text old text bad =
+      within_limit-front old (λ bytes last. answer_of last (line_by rule (at old bytes)))
+      (Err (Line old.place.line faults.Word)) text bad.line bad.rest bad.whole bad.within
+      (λ more last. ap (answer_of last) (line-bad old.place.line bad.line more bad.bad bad.one))
 
   missed_text : (old : InputState) (text : List ℕ) → IsBadAt old text ⊎ (text ≡ [])
       → answer_in (line_by rule) old text ≡ Err (Line old.place.line faults.Word)
@@ -234,19 +220,14 @@ module _ {A : Type 0} (rule : List Word → Result A PacketFault) where
       rw (h.0, h.1.at) (
         (
           h.1.failures,
-          if_some_map (λ text. IsBadAt old text ⊎ (text ≡ [])) (Says (line_by rule) (Line old.place.line faults.Word) old)
-              old.text (missed_text old) h.1.text,
+          if_some_map (λ text. IsBadAt old text ⊎ (text ≡ []))
+              (Says (line_by rule) (Line old.place.line faults.Word) old) old.text (missed_text old) h.1.text,
         ),
         rw h.1.at at h.1.fault,
       )
   line-missed old new TooMuch h = (
-    (
-      h.0.0,
-      if_some_map (λ text. (old.bytes < length text) × IsOneLine (take (old.bytes - 1) text))
-          (Says (line_by rule) TooMuch old) old.text
-          (λ text over. rw (not_within (length text) old.bytes over.0)
-          (ap (answer_of (Some TooMuch)) (line-cut old.place.line (take (old.bytes - 1) text) over.1))) h.0.1,
-    ),
+    overflows IsOneLine (λ bytes last. answer_of last (line_by rule (at old bytes))) (Err TooMuch) old new h.0
+        (λ used is_line. ap (answer_of (Some TooMuch)) (line-cut old.place.line used is_line)),
     h.1,
   )
   line-missed old new Read h = (
@@ -306,7 +287,8 @@ module _ {A : Type 0} (rule : List Word → Result A PacketFault) where
           rw (h.0, h.1, ends.at) (
             (
               ends.failures,
-              map_text (Uses (IsThrough old mid line) old mid) (Says (line_by rule) (Line old.place.line why) old) old.text mid.text
+              map_text (Uses (IsThrough old mid line) old mid) (Says (line_by rule) (Line old.place.line why) old)
+                  old.text mid.text
                   (refused_text why is) (took_line old mid n line ends).text,
             ),
             refl,

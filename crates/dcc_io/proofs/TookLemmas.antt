@@ -8,8 +8,9 @@ use Rattle.std.proofs.lemmas.Bool.Decides.{nat_tests}
 use Rattle.dcc_io.specs.declared.fault.KeptFault.{KeptFault}
 use Rattle.dcc_io.specs.declared.fault.KeptFault.TheVariants.{Number, Line, Read, TooMuch}
 use Rattle.dcc_io.specs.Failures.{one_more}
+use Rattle.dcc_io.specs.Told.{IsAtEnd}
 use Rattle.dcc_io.specs.InputState.{InputState}
-use Rattle.dcc_io.specs.Took.{Uses, Took, within_limit, FailsBehind, Stops}
+use Rattle.dcc_io.specs.Took.{Uses, Took, within_limit, FailsBehind, OverflowsBehind, Stops}
 
 -- a fact of the text, in other words
 pub if_some_map : (P Q : List ℕ → Type 0) (text : Option (List ℕ)) → ((bytes : List ℕ) → P bytes → Q bytes)
@@ -57,14 +58,14 @@ join_whole P Q R None mid each before behind = tt
 join_whole P Q R (Some text) None each before behind = absurd before
 join_whole P Q R (Some text) (Some between) each before behind = each text between before behind
 
-pub count_more : (most left used : ℕ) (rest : List ℕ) → left + used ≡ most → left < length rest
+count_more : (most left used : ℕ) (rest : List ℕ) → left + used ≡ most → left < length rest
     → (0 < used → left ≡ 0 → rest ≡ []) → most - 1 ≡ used + (left - 1)
 count_more most zero zero rest total some room = omega arith
 count_more most zero (suc used) rest total some room =
     let none : length rest ≡ 0 = ap length (room (omega arith) refl) in absurd (omega arith)
 count_more most (suc left) used rest total some room = omega arith
 
-pub above_limit : (n most : ℕ) → nat_le n most ≡ false → most < n
+above_limit : (n most : ℕ) → nat_le n most ≡ false → most < n
 above_limit n most above = grind (arith, nat_tests)
 
 pub not_within : (n most : ℕ) → most < n → nat_le n most ≡ false
@@ -73,7 +74,7 @@ not_within n most above = grind (arith, nat_tests)
 pub zero_fits : (most : ℕ) → nat_le 0 most ≡ true
 zero_fits most = grind (arith, nat_tests)
 
-pub same_test : (whole used rest most left : ℕ) → whole ≡ used + rest → left + used ≡ most
+same_test : (whole used rest most left : ℕ) → whole ≡ used + rest → left + used ≡ most
     → nat_le whole most ≡ nat_le rest left
 same_test whole used rest most left total bytes = grind (arith, nat_tests)
 
@@ -134,6 +135,31 @@ Took-counted {P = P} {Q = Q} {old = old} {new = new} left took each = record {
 pub Took-map : {P Q : List ℕ → Type 0} {old new : InputState} → Took P old new → ((used : List ℕ) → P used → Q used)
     → Took Q old new
 Took-map {new = new} took each = Took-counted new.halves took each
+
+-- the same, where the end of the text tells more of them
+pub Took-closed : {P Q : List ℕ → Type 0} {old new : InputState} (K : Type 0) → Took P old new
+    → IfSome new.text (λ rest. rest ≡ [] → K) → IsAtEnd new.text → ((used : List ℕ) → K → P used → Q used)
+    → Took Q old new
+Took-closed {P = P} {Q = Q} {old = old} {new = new} K took closed at_end each = record {
+  text = go old.text new.text took.text closed at_end;
+  bytes = took.bytes;
+  fault = took.fault;
+  failures = took.failures;
+}
+  where
+    go : (x y : Option (List ℕ)) → IfSome x (λ text. IsSomeAnd y (λ rest. Uses P old new text rest))
+        → IfSome y (λ rest. rest ≡ [] → K) → IsAtEnd y
+        → IfSome x (λ text. IsSomeAnd y (λ rest. Uses Q old new text rest))
+    go None y uses known end = tt
+    go (Some text) None uses known end = absurd uses
+    go (Some text) (Some rest) uses known end = record {
+      used = uses.used;
+      whole = uses.whole;
+      is = each uses.used (known end) uses.is;
+      bytes = uses.bytes;
+      room = uses.room;
+      lines = uses.lines;
+    }
 
 room_of : (p q y z : List ℕ) (bytes left : ℕ) → y ≡ q ++ z → left + length q ≡ bytes
     → (0 < length p → bytes ≡ 0 → y ≡ []) → (0 < length q → left ≡ 0 → z ≡ [])
@@ -210,6 +236,36 @@ Stops-map F G Q R old new Read stops fails says = (
 Stops-map F G Q R old new TooMuch stops fails says = (stops.0, if_some_map Q R old.text says stops.1)
 Stops-map F G Q R old new (Number line) stops fails says = (stops.0, if_some_map Q R old.text says stops.1)
 Stops-map F G Q R old new (Line line why) stops fails says = (stops.0, if_some_map Q R old.text says stops.1)
+
+-- what is said of the bytes that may be taken, where there are more
+pub overflows : {A : Type 0} (P : List ℕ → Type 0) (said : List ℕ → Option KeptFault → A) (x : A)
+    (old new : InputState) → OverflowsBehind P old new → ((used : List ℕ) → P used → said used (Some TooMuch) ≡ x)
+    → (new.failures ≡ old.failures) × IfSome old.text (λ text. within_limit said old text ≡ x)
+overflows P said x old new over each = (
+  over.0,
+  if_some_map (λ text. (old.bytes < length text) × P (take (old.bytes - 1) text))
+      (λ text. within_limit said old text ≡ x) old.text
+      (λ text more. rw (not_within (length text) old.bytes more.0) (each (take (old.bytes - 1) text) more.1)) over.1,
+)
+
+-- what is said of bytes that may all be taken, whatever follows them
+pub within_limit-front : {A : Type 0} (old : InputState) (said : List ℕ → Option KeptFault → A) (x : A)
+    (text front rest : List ℕ) → text ≡ front ++ rest → length front < old.bytes
+    → ((more : List ℕ) (last : Option KeptFault) → said (front ++ more) last ≡ x) → within_limit said old text ≡ x
+within_limit-front old said x text front rest whole fits each = go (nat_le (length text) old.bytes) refl
+  where
+    cut : take (old.bytes - 1) text ≡ front ++ take (old.bytes - 1 - length front) rest
+    cut =
+        let count : old.bytes - 1 ≡ length front + (old.bytes - 1 - length front) = omega arith in
+        ap (λ n. take n text) count ∙ ap (take (length front + (old.bytes - 1 - length front))) whole
+        ∙ take-append-add front rest (old.bytes - 1 - length front)
+
+    go : (within : Bool) → nat_le (length text) old.bytes ≡ within → within_limit said old text ≡ x
+    go true within = rw within (ap (λ (bytes : List ℕ). said bytes None) whole ∙ each rest None)
+    go false within =
+        rw within
+        (ap (λ (bytes : List ℕ). said bytes (Some TooMuch)) cut
+        ∙ each (take (old.bytes - 1 - length front) rest) (Some TooMuch))
 
 -- what is said of the text, told of its rest
 pub within_limit-used : {A : Type 0} {P : List ℕ → Type 0} (old new : InputState)

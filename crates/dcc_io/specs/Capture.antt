@@ -2,12 +2,11 @@
 use Rattle.std.specs.Prelude.{◌≡◌, ℕ, ◌+◌, ◌-◌, ◌<◌, ◌≤◌, ◌∷◌, List, [], Option, None, Some, Result, Ok, Err, nat_le}
 use Rattle.std.specs.Prelude.{length, replicate, IfSome, if◌then◌else◌}
 use Rattle.dcc_io.specs.declared.fault.KeptFault.{KeptFault}
-use Rattle.dcc_io.specs.declared.fault.KeptFault.TheVariants.{Number, Line, Read, TooMuch}
+use Rattle.dcc_io.specs.declared.fault.KeptFault.TheVariants.{Number, Line, TooMuch}
 use Rattle.dcc_io.specs.declared.word.Run.{Run}
 use Rattle.dcc_io.specs.Told.{IsAtEnd}
 use Rattle.dcc_io.specs.InputState.{InputState}
-use Rattle.dcc_io.specs.Took.{within_limit}
-use Rattle.dcc_io.specs.Items.{Items, Reading, preceded, only_fault, Gave, StopsAt}
+use Rattle.dcc_io.specs.Items.{Items, Reading, in_text, before_failure, preceded, only_fault, Gave, StopsAt}
 use Rattle.dcc_io.specs.Words.{Word, ended_words, run_of}
 
 -- a run, where at most so many halves may be taken, and what comes behind it where so many are left
@@ -25,17 +24,16 @@ abbrev pub halves_of : ℕ → List Word → Option KeptFault → Items ℕ
 halves_of most [] last = only_fault last
 halves_of most (word ∷ words) last = behind_word most word.line (run_of word.bytes) (λ left. halves_of left words last)
 
+abbrev pub captures : Reading ℕ
+captures input bytes last = halves_of input.halves (ended_words input.place bytes) last
+
 -- the capture in an input with this text
 abbrev pub capture_in : InputState → List ℕ → Items ℕ
-capture_in input text =
-    within_limit (λ bytes last. halves_of input.halves (ended_words input.place bytes) last) input text
+capture_in input text = in_text captures input text
 
 -- the capture in an input whose reader fails behind these bytes
 abbrev pub capture_before_failure : InputState → List ℕ → Items ℕ
-capture_before_failure input used = halves_of input.halves (ended_words input.place used) (Some Read)
-
-abbrev pub captures : Reading ℕ
-captures = record { in_text = capture_in; before_failure = capture_before_failure }
+capture_before_failure input used = before_failure captures input used
 
 -- these halves were taken, and nothing went wrong
 pub record GaveHalves (old : InputState) (halves : List ℕ) (new : InputState) : Type 0 where

@@ -1,5 +1,5 @@
 -- What was read of an input's lines.
-use Rattle.std.specs.Prelude.{◌≡◌, ℕ, ◌+◌, ◌<◌, ◌≤◌, ◌∷◌, ◌++◌, ◌==◌, List, [], Bool, true, false, Option, None}
+use Rattle.std.specs.Prelude.{◌≡◌, ℕ, ◌+◌, ◌<◌, ◌∷◌, ◌++◌, ◌==◌, List, [], Bool, true, false, Option, None}
 use Rattle.std.specs.Prelude.{Some, Result, Ok, Err, length, IfSome, IsSomeAnd}
 use Rattle.std.specs.List.{list_any}
 use Rattle.dcc_packet.specs.declared.fault.PacketFault.TheVariants as faults
@@ -9,7 +9,7 @@ use Rattle.dcc_io.specs.declared.fault.KeptFault.TheVariants.{Number, Line, Read
 use Rattle.dcc_io.specs.Place.{lines_with}
 use Rattle.dcc_io.specs.Told.{IsAtEnd}
 use Rattle.dcc_io.specs.InputState.{InputState}
-use Rattle.dcc_io.specs.Took.{FailsBehind, OverflowsBehind}
+use Rattle.dcc_io.specs.Took.{Took, FailsBehind, OverflowsBehind}
 use Rattle.dcc_io.specs.Lines.{is_good}
 
 -- whether there is a line feed
@@ -45,12 +45,9 @@ pub record EndsLine (old : InputState) (number : ℕ) (line : List ℕ) (new : I
 pub record EndsText (old new : InputState) : Type 0 where
   pub text : IfSome old.text (λ text. IsSomeAnd new.text (λ rest. (text ≡ []) × (rest ≡ [])))
   pub at_end : IsAtEnd new.text
-  pub bytes : new.bytes ≤ old.bytes
+  pub took : Took (λ used. used ≡ []) old new
   pub place : new.place ≡ old.place
-  pub lines : IfSome old.text (λ text. IsSomeAnd new.text (λ rest. new.lines ≡ old.lines))
   pub halves : new.halves ≡ old.halves
-  pub fault : new.fault ≡ None
-  pub failures : new.failures ≡ old.failures
 
 -- the next line is bad at the last of these bytes, all of which may be taken
 pub record IsBadAt (old : InputState) (text : List ℕ) : Type 0 where

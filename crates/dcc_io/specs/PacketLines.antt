@@ -1,6 +1,6 @@
 -- The lines of a text and the items that they say, and its packet lines, which say frames.
-use Rattle.std.specs.Prelude.{ℕ, ◌-◌, ◌∷◌, ◌==◌, ◌||◌, nat_le, List, [], Bool, false, not, length, take, Option, None}
-use Rattle.std.specs.Prelude.{Some, Result, Ok, Err, if◌then◌else◌}
+use Rattle.std.specs.Prelude.{ℕ, ◌∷◌, ◌==◌, ◌||◌, List, [], Bool, false, not, Option, Some, Result, Ok, Err}
+use Rattle.std.specs.Prelude.{if◌then◌else◌}
 use Rattle.dcc_packet.specs.declared.fault.PacketFault.{PacketFault}
 use Rattle.dcc_packet.specs.declared.fault.PacketFault.TheVariants as faults
 use Rattle.std.specs.List.{list_all}
@@ -10,7 +10,7 @@ use Rattle.dcc_io.specs.declared.fault.KeptFault.{KeptFault}
 use Rattle.dcc_io.specs.declared.fault.KeptFault.TheVariants as kept
 use Rattle.dcc_io.specs.InputState.{InputState}
 use Rattle.dcc_io.specs.Lines.{NumberedLine, lines_from, is_good}
-use Rattle.dcc_io.specs.Items.{Items, Reading, only_fault, preceded}
+use Rattle.dcc_io.specs.Items.{Items, Reading, in_text, before_failure, only_fault, preceded}
 
 -- a line whose first character is #
 abbrev pub is_comment_line : List ℕ → Bool
@@ -49,19 +49,17 @@ items_of saying [] last = only_fault last
 items_of saying (line ∷ []) last = open_line line last
 items_of saying (line ∷ next ∷ lines) last = behind_line saying line (items_of saying (next ∷ lines) last)
 
+-- lines whose words are read so
+abbrev pub lines_by : {A B : Type 0} → Saying A B → Reading A
+lines_by saying input bytes last = items_of saying (lines_from input.place.line bytes) last
+
 -- the items in an input with this text
 abbrev pub items_in : {A B : Type 0} → Saying A B → InputState → List ℕ → Items A
-items_in saying input text =
-    if nat_le (length text) input.bytes then items_of saying (lines_from input.place.line text) None
-    else items_of saying (lines_from input.place.line (take (input.bytes - 1) text)) (Some kept.TooMuch)
+items_in saying input text = in_text (lines_by saying) input text
 
 -- the items in an input whose reader fails behind these bytes
 abbrev pub items_before_failure : {A B : Type 0} → Saying A B → InputState → List ℕ → Items A
-items_before_failure saying input used = items_of saying (lines_from input.place.line used) (Some kept.Read)
-
--- lines whose words are read so
-abbrev pub lines_by : {A B : Type 0} → Saying A B → Reading A
-lines_by saying = record { in_text = items_in saying; before_failure = items_before_failure saying }
+items_before_failure saying input used = before_failure (lines_by saying) input used
 
 -- the words of a packet line say one frame
 abbrev pub packet_words : Saying (List ℕ) (List ℕ)

@@ -24,7 +24,7 @@ use Rattle.dcc_io.specs.Written.{AppendsFront}
 use Rattle.dcc_listen.specs.Shown.{StopsWriting, Lists, ListsFront, Shows}
 use Rattle.dcc_io.specs.Held.{Holds}
 use Rattle.dcc_listen.specs.Held.{WritesRest}
-use Rattle.dcc_io.proofs.ItemsLemmas.{Gave-none, Gave-append, up_to_fault, reads_up_to, uses_all_lines}
+use Rattle.dcc_io.proofs.ItemsLemmas.{Gave-none, Gave-append, in_whole, up_to_fault, reads_up_to, uses_all_lines}
 use Rattle.dcc_listen.proofs.ListingLaws.{IsListing-append}
 use Rattle.dcc_io.proofs.HeldLemmas.{Holds-same, Holds-wrote, Holds-append, Holds-fails, Holds-fails_with, Holds-rest}
 
@@ -165,7 +165,7 @@ front_of_all words start now halves text before after gave lists wrote = go star
     go (Some all) (Some rest) gives =
         let later = (capture_in now rest).said in
         let in_all : (capture_in start all).said ≡ halves ++ later =
-        ap (λ (items : Items ℕ). items.said) gives.in_whole in
+        ap (λ (items : Items ℕ). items.said) (in_whole captures start now halves all rest gives) in
         let grown = seen-grows halves later in
         record {
           shown = seen halves;

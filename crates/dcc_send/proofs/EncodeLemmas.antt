@@ -21,7 +21,7 @@ use Rattle.dcc_send.specs.Held.{WritesOut}
 use Rattle.dcc_send.specs.Encoded.{frame_line, encoding, Encodes, EncodesText}
 use Rattle.dcc_io.proofs.HeldLemmas.{Holds-same, Holds-wrote, Holds-append, Holds-fails, Holds-fails_with, Holds-rest}
 use Rattle.dcc_io.proofs.WrittenLemmas.{AppendsFront-more}
-use Rattle.dcc_io.proofs.ItemsLemmas.{Gave-none, Gave-append, up_to_fault, reads_up_to, uses_all_lines}
+use Rattle.dcc_io.proofs.ItemsLemmas.{Gave-none, Gave-append, in_whole, up_to_fault, reads_up_to, uses_all_lines}
 
 -- so far these frames were read, and their lines written or held
 pub record Encoding (how : Encode) (start now : InputState) (held : List ℕ) (before after : Option (List ℕ))
@@ -87,7 +87,9 @@ front_of_all how start now frames before after gave wrote = go start.text now.te
     go (Some text) (Some rest) gives =
         let later = (frames_in now rest).said in
         let lines : encoding how (frames_in start text).said ≡ encoding how frames ++ encoding how later =
-        ap (λ (items : Items (List ℕ)). encoding how items.said) gives.in_whole ∙ encoding-append how frames later in
+        ap (λ (items : Items (List ℕ)). encoding how items.said)
+        (in_whole packet_lines start now frames text rest gives)
+        ∙ encoding-append how frames later in
         subst (λ (bytes : List ℕ). AppendsFront before after bytes) (sym lines)
         (AppendsFront-more before after (encoding how frames) (encoding how later) wrote)
 

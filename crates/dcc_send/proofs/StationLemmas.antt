@@ -29,7 +29,7 @@ use Rattle.dcc_send.specs.StationEncoded.{refusal, refusal_line, command_line, a
 use Rattle.dcc_send.specs.StationEncoded.{WroteFront, Answered, StationText}
 use Rattle.dcc_send.specs.Held.{WritesOut, HoldsAnswers, HeldFront, HoldsAnswersOrFails}
 use Rattle.dcc_io.proofs.HeldLemmas.{Holds-same, Holds-wrote, Holds-append, Holds-fails, Holds-fails_with, Holds-rest}
-use Rattle.dcc_io.proofs.ItemsLemmas.{Gave-none, Gave-append, up_to_fault, reads_up_to, uses_all_lines}
+use Rattle.dcc_io.proofs.ItemsLemmas.{Gave-none, Gave-append, in_whole, up_to_fault, reads_up_to, uses_all_lines}
 
 pub AnswersAll-append : (how : Encode) (s between new : Sending) (xs ys : List Asked) (first rest : List ℕ)
     → AnswersAll how s xs first between → AnswersAll how between ys rest new
@@ -136,7 +136,7 @@ front_of_all how s start now items before after gave wrote = go start.text now.t
     go (Some text) (Some rest) gives =
         let later = (items_in station_words now rest).said in
         let all : (items_in station_words start text).said ≡ items ++ later =
-        ap (λ (n : Items Asked). n.said) gives.in_whole in
+        ap (λ (n : Items Asked). n.said) (in_whole station_lines start now items text rest gives) in
         subst (λ (n : List Asked). WroteFront how s n before after) (sym all)
         (WroteFront-more how s items later before after wrote)
 

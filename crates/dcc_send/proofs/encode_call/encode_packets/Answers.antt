@@ -2,7 +2,7 @@ use Rattle.std.proofs.Common.{sym, subst, ◌∙◌}
 use Rattle.dcc_io.specs.InputState.{InputState}
 use Rattle.dcc_send.specs.Encoded.{EncodesText}
 use Rattle.dcc_send.proofs.EncodeLemmas.{Encoding-start, Encoding-wrote, Encoding-packet, stops_at_write}
-use Rattle.dcc_send.proofs.EncodeLemmas.{stops_before_read}
+use Rattle.dcc_send.proofs.EncodeLemmas.{stops_before_read, encodes_up_to}
 use Rattle.dcc_send.proofs.encode_call.encode_packets.Goals as goal
 
 pub packets-init : goal.packets-init
@@ -35,3 +35,10 @@ returns-in-Err-clause-encodes g c fault =
     rw failed.0
     (stops_before_read c.args.how c.args.input.now c.packets.input c.packets.held _ _ _ _ _ _ c.packets.invariant
     failed.1 failed.2)
+
+pub returns-in-Ok-Err-clause-encodes : goal.returns-in-Ok-Err-clause-encodes
+returns-in-Ok-Err-clause-encodes g c fault =
+    let took = rw c.in-Ok-Err.field-0-is at c.in-Ok-Err.ensures in
+    rw c.told-in-Ok-Err.ensures
+    (encodes_up_to c.args.how c.args.input.now c.packets.input c.next_packet.new.input c.packets.held
+    c.next_packet.new.held _ _ _ _ _ _ c.in-Ok-Err.fault c.packets.invariant took.0 took.1)

@@ -1,6 +1,6 @@
 use Rattle.std.proofs.Common.{sym, ◌∙◌}
 use Rattle.dcc_send.proofs.StationLemmas.{Answering-start, Answering-wrote, Answering-line, stops_at_write}
-use Rattle.dcc_send.proofs.StationLemmas.{stops_before_read}
+use Rattle.dcc_send.proofs.StationLemmas.{stops_before_read, answers_up_to}
 use Rattle.dcc_send.proofs.station_encoding.encode_by_station.Goals as goal
 
 pub lines-init : goal.lines-init
@@ -33,3 +33,10 @@ returns-in-Err-clause-answers g c fault =
     rw failed.0
     (stops_before_read c.args.how c.args.station.now c.lines.station c.args.input.now c.lines.input c.lines.held _ _
     _ _ _ _ c.lines.invariant failed.1 failed.2)
+
+pub returns-in-Ok-Err-clause-answers : goal.returns-in-Ok-Err-clause-answers
+returns-in-Ok-Err-clause-answers g c fault =
+    let took = rw c.in-Ok-Err.field-0-is at c.in-Ok-Err.ensures in
+    rw c.told-in-Ok-Err.ensures
+    (answers_up_to c.args.how c.args.station.now c.lines.station c.args.input.now c.lines.input c.next_line.new.input
+    c.lines.held c.next_line.new.held _ _ _ _ _ _ c.in-Ok-Err.fault c.lines.invariant took.0 took.1)
