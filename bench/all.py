@@ -4,7 +4,9 @@
     bench/all.py [PROGRAM [OTHER]]
 
 PROGRAM is the built program, crates/dcc/out/dcc if it is not given. OTHER is another program with the same commands, to be measured
-beside it. Processor seconds (user and system) on one core, each command in turn with the others, the median of ROUNDS runs.
+beside it. Processor seconds (user and system) on one core, each command in turn with the others, the median of ROUNDS runs. A ratio is
+the median of the ratios in each round, of runs that stand side by side, so that a machine whose speed changes from one second to
+the next changes it little; where OTHER is given, the last column is the first program's ratio to it.
 """
 import os
 import resource
@@ -98,15 +100,20 @@ def main():
                 times.setdefault((name, "wc -w"), []).append(seconds(["wc", "-w"], at(file)))
                 for program in programs:
                     times.setdefault((name, program), []).append(seconds([program, *words], at(file)))
-        print("| | `wc -w` | " + " | ".join(f"`{os.path.basename(p)}`" for p in programs) + " |")
-        print("|---|---|" + "---|" * len(programs))
+        def ratio(name, one, other):
+            return statistics.median(x / y for x, y in zip(times[name, one], times[name, other]))
+
+        heads = ["`wc -w`", *[f"`{os.path.basename(p)}`" for p in programs]]
+        heads += [f"`{os.path.basename(programs[0])}` to `{os.path.basename(p)}`" for p in programs[1:]]
+        print("| | " + " | ".join(heads) + " |")
+        print("|---|" + "---|" * len(heads))
         for name, _, _ in rows:
-            base = statistics.median(times[name, "wc -w"])
-            cells = []
+            cells = [f"{statistics.median(times[name, 'wc -w']):.3f} s"]
             for program in programs:
-                took = statistics.median(times[name, program])
-                cells.append(f"{took:.3f} s ({took / base:.2f} times)")
-            print(f"| {name} | {base:.3f} s | " + " | ".join(cells) + " |")
+                cells.append(f"{statistics.median(times[name, program]):.3f} s, {ratio(name, program, 'wc -w'):.2f} times")
+            cells += [f"{ratio(name, programs[0], other):.2f}" for other in programs[1:]]
+            print(f"| {name} | " + " | ".join(cells) + " |")
+
 
 
 main()

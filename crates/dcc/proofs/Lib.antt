@@ -1,2 +1,2 @@
 mod AskedLemmas
-mod WorkedWords
+mod WorkedExamples

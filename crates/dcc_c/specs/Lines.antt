@@ -2,9 +2,9 @@
 use Rattle.std.specs.Prelude.{ℕ, Result, Ok, Err}
 use Rattle.dcc_packet.specs.declared.fault.PacketFault.{PacketFault}
 use Rattle.dcc_packet.specs.declared.packet.Packet.{Packet}
-use Rattle.dcc_packet.specs.Fault.{number_of}
+use Rattle.dcc_packet.specs.Fault.{packet_fault_number}
 
 -- 0 for a packet, else the number of the fault, 1 to 14 for P1 to P14
 abbrev pub line_answer : Result Packet PacketFault → ℕ
 line_answer (Ok packet) = 0
-line_answer (Err fault) = number_of fault
+line_answer (Err fault) = packet_fault_number fault

@@ -7,8 +7,8 @@ use Rattle.dcc_c.specs.declared.outcome.DccOutcome.{DccOutcome}
 use Rattle.dcc_c.specs.Frames.{bytes_of}
 
 -- a packet, or a refusal by its number, H1 to H5
-abbrev pub said : DccOutcome → Seen
-said o =
+abbrev pub outcome_seen : DccOutcome → Seen
+outcome_seen o =
     if o.refusal == 0 then Packet (bytes_of o.frame)
     else (if o.refusal == 1 then Refused BadHalf
     else (if o.refusal == 2 then Refused SplitBit
@@ -17,5 +17,5 @@ said o =
     else Refused (ErrorByte (bytes_of o.frame))))))
 
 -- the answer 0 says that there is none
-abbrev pub answered : ℕ → DccOutcome → Seen
-answered answer o = if answer == 0 then Nothing else said o
+abbrev pub seen_at_answer : ℕ → DccOutcome → Seen
+seen_at_answer answer o = if answer == 0 then Nothing else outcome_seen o

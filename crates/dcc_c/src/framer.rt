@@ -2,14 +2,14 @@
 
 ghost use Rattle.std.specs.Prelude.{◌≡◌, ◌≢◌, ◌≤◌, ◌+◌, ◌-◌, ◌++◌, ◌∷◌, [], ℕ, List, length, replicate};
 ghost use Rattle.dcc_wire.specs.declared.fault.Seen.TheVariants.{Nothing};
-ghost use Rattle.dcc_wire.specs.Framing.{Hunting, StandsFor, seen, reported};
+ghost use Rattle.dcc_wire.specs.Framing.{Hunting, StandsFor, seen, report_at};
 ghost use Rattle.dcc_wire.specs.Half.{class_of};
 ghost use Rattle.dcc_wire.specs.Kept.{kept_rest};
 ghost use Rattle.dcc_wire.specs.Outcomes.{ones_left};
 ghost use Rattle.dcc_wire.specs.Runs.{rest_after_run};
-ghost use Rattle.dcc_c.specs.Outcomes.{answered};
+ghost use Rattle.dcc_c.specs.Outcomes.{seen_at_answer};
 
-use crate::outcome::{DccOutcome, told};
+use crate::outcome::{DccOutcome, outcome_of};
 use dcc_wire::{Framer, KeptFramer, RunSeen, Seen};
 
 /// A framer that was given no halves.
@@ -26,7 +26,7 @@ fn push(kept: &mut KeptFramer, us: u16) -> Seen
     ensures stands { (halves : List ℕ) → StandsFor (kept_rest kept.old) halves
         → StandsFor (kept_rest kept.new) (halves ++ us ∷ []) }
     ensures sees { (halves : List ℕ) → StandsFor (kept_rest kept.old) halves →
-        seen (halves ++ us ∷ []) ≡ seen halves ++ reported (length halves) result }
+        seen (halves ++ us ∷ []) ≡ seen halves ++ report_at (length halves) result }
     ensures hunts { result ≢ Seen.Nothing → kept_rest kept.new ≡ Hunting (ones_left result) }
 {
     let mut framer = kept.framer();
@@ -43,8 +43,8 @@ pub extern "C" fn dcc_push(framer: &mut KeptFramer, us: u16, outcome: &mut DccOu
     ensures stands { (halves : List ℕ) → StandsFor (kept_rest framer.old) halves
         → StandsFor (kept_rest framer.new) (halves ++ us ∷ []) }
     ensures sees { (halves : List ℕ) → StandsFor (kept_rest framer.old) halves →
-        seen (halves ++ us ∷ []) ≡ seen halves ++ reported (length halves) (answered result outcome.new) }
-    ensures hunts { result ≢ 0 → kept_rest framer.new ≡ Hunting (ones_left (answered result outcome.new)) }
+        seen (halves ++ us ∷ []) ≡ seen halves ++ report_at (length halves) (seen_at_answer result outcome.new) }
+    ensures hunts { result ≢ 0 → kept_rest framer.new ≡ Hunting (ones_left (seen_at_answer result outcome.new)) }
     ensures at { result ≢ 0 → outcome.new.at ≡ 1 }
     ensures bit { result ≤ 1 }
     ensures kept { result ≡ 0 → outcome.new ≡ outcome.old }
@@ -53,7 +53,7 @@ pub extern "C" fn dcc_push(framer: &mut KeptFramer, us: u16, outcome: &mut DccOu
     if answer.is_nothing() {
         return 0;
     }
-    *outcome = told(1, &answer);
+    *outcome = outcome_of(1, &answer);
     1
 }
 
@@ -63,7 +63,7 @@ fn push_run(kept: &mut KeptFramer, us: u16, n: u32) -> RunSeen
     ensures stands { (halves : List ℕ) → StandsFor (kept_rest kept.old) halves
         → StandsFor (kept_rest kept.new) (halves ++ replicate n us) }
     ensures sees { (halves : List ℕ) → StandsFor (kept_rest kept.old) halves →
-        seen (halves ++ replicate n us) ≡ seen halves ++ reported (length halves + result.at - 1) result.seen }
+        seen (halves ++ replicate n us) ≡ seen halves ++ report_at (length halves + result.at - 1) result.seen }
     ensures before { (halves : List ℕ) → StandsFor (kept_rest kept.old) halves →
         seen (halves ++ replicate (result.at - 1) us) ≡ seen halves }
     ensures something { result.seen ≢ Seen.Nothing → (1 ≤ result.at) × (result.at ≤ n) }
@@ -78,7 +78,7 @@ fn push_run(kept: &mut KeptFramer, us: u16, n: u32) -> RunSeen
 
 /// Takes n halves of this many microseconds, as n calls of `dcc_push` would. The answer is 1 where an outcome ends with one of
 /// them, which is written then with that half's number, and else 0. At most one of them ends an outcome.
-#[tactic(auto, unfolding(dcc_wire::specs::Framing::reported))]
+#[tactic(auto, unfolding(dcc_wire::specs::Framing::report_at))]
 #[unsafe(no_mangle)]
 pub extern "C" fn dcc_push_run(
     framer: &mut KeptFramer,
@@ -90,12 +90,12 @@ pub extern "C" fn dcc_push_run(
     ensures stands { (halves : List ℕ) → StandsFor (kept_rest framer.old) halves →
         StandsFor (kept_rest framer.new) (halves ++ replicate n us) }
     ensures sees { (halves : List ℕ) → StandsFor (kept_rest framer.old) halves →
-        seen (halves ++ replicate n us) ≡ seen halves ++ reported (length halves + outcome.new.at - 1) (answered result outcome.new) }
+        seen (halves ++ replicate n us) ≡ seen halves ++ report_at (length halves + outcome.new.at - 1) (seen_at_answer result outcome.new) }
     ensures before { result ≢ 0 → (halves : List ℕ) → StandsFor (kept_rest framer.old) halves →
         seen (halves ++ replicate (outcome.new.at - 1) us) ≡ seen halves }
     ensures something { result ≢ 0 → (1 ≤ outcome.new.at) × (outcome.new.at ≤ n) }
     ensures hunts { result ≢ 0 → kept_rest framer.new
-        ≡ rest_after_run (Hunting (ones_left (answered result outcome.new))) (class_of us) (n - outcome.new.at) }
+        ≡ rest_after_run (Hunting (ones_left (seen_at_answer result outcome.new))) (class_of us) (n - outcome.new.at) }
     ensures bit { result ≤ 1 }
     ensures kept { result ≡ 0 → outcome.new ≡ outcome.old }
 {
@@ -103,6 +103,6 @@ pub extern "C" fn dcc_push_run(
     if answer.seen.is_nothing() {
         return 0;
     }
-    *outcome = told(answer.at, &answer.seen);
+    *outcome = outcome_of(answer.at, &answer.seen);
     1
 }

@@ -2,7 +2,7 @@
 
 ghost use Rattle.std.specs.Prelude.{◌≡◌, ◌≢◌, ◌≤◌, length};
 ghost use Rattle.dcc_c.specs.Frames.{bytes_of};
-ghost use Rattle.dcc_c.specs.Outcomes.{said};
+ghost use Rattle.dcc_c.specs.Outcomes.{outcome_seen};
 
 use crate::frame::DccFrame;
 use dcc_wire::{Fault, Seen};
@@ -20,9 +20,9 @@ pub struct DccOutcome {
 }
 
 /// The outcome of an answer that is one.
-pub(crate) fn told(at: u32, answer: &Seen) -> DccOutcome
+pub(crate) fn outcome_of(at: u32, answer: &Seen) -> DccOutcome
     ensures at { result.at ≡ at }
-    ensures says { answer.now ≢ Seen.Nothing → said result ≡ answer.now }
+    ensures says { answer.now ≢ Seen.Nothing → outcome_seen result ≡ answer.now }
 {
     match answer {
         Seen::Nothing => numbers(at, 0, &[]),

@@ -4,7 +4,7 @@ use Rattle.std.proofs.Common.{append-nil}
 use Rattle.std.proofs.lemmas.List.{append_cancel_left}
 use Rattle.dcc_wire.specs.declared.fault.Seen.{Seen}
 use Rattle.dcc_wire.specs.declared.fault.Seen.TheVariants.{Nothing, Packet as PacketSeen, Refused}
-use Rattle.dcc_wire.specs.Framing.{Rest, StandsFor, seen, reported}
+use Rattle.dcc_wire.specs.Framing.{Rest, StandsFor, seen, report_at}
 use Rattle.dcc_wire.specs.Frames.{IsFrame}
 use Rattle.dcc_wire.specs.Sending.{Sent, sent, sent_all, at_last_halves, AllFrames}
 use Rattle.dcc_wire.proofs.SendingLemmas.{seen-sent_all}
@@ -26,8 +26,8 @@ last_after-one first (next ∷ more) at = last_after-one next.1 more at
 -- what is kept at one half more
 pub keeps : (more : List (ℕ × Seen)) (place : ℕ) (answer heard kept : Seen) → heard ≡ last_of more
     → (answer ≡ Nothing → kept ≡ heard) → (answer ≢ Nothing → kept ≡ answer)
-    → kept ≡ last_of (more ++ reported place answer)
-unfolding reported last_of last_after
+    → kept ≡ last_of (more ++ report_at place answer)
+unfolding report_at last_of last_after
 keeps more place Nothing heard kept e quiet told = quiet refl ∙ e ∙ ap last_of (sym (append-nil more))
 keeps more place (PacketSeen frame) heard kept e quiet told =
     told (λ f. absurd (cc)) ∙ sym (last_after-one Nothing more (place, PacketSeen frame))
@@ -58,7 +58,7 @@ sending_none track all left rails e stands = record {
 pub sending_more : (track all left : List ℕ) (rails next : Rest) (us : ℕ) (answer heard kept : Seen)
     → (s : Sending track all (us ∷ left) rails heard)
     → StandsFor next ((track ++ s.taken) ++ us ∷ [])
-    → seen ((track ++ s.taken) ++ us ∷ []) ≡ seen (track ++ s.taken) ++ reported (length (track ++ s.taken)) answer
+    → seen ((track ++ s.taken) ++ us ∷ []) ≡ seen (track ++ s.taken) ++ report_at (length (track ++ s.taken)) answer
     → (answer ≡ Nothing → kept ≡ heard) → (answer ≢ Nothing → kept ≡ answer) → Sending track all left next kept
 sending_more track all left rails next us answer heard kept s stands sees quiet told =
     let whole : track ++ (s.taken ++ us ∷ []) ≡ (track ++ s.taken) ++ us ∷ [] =
@@ -68,9 +68,9 @@ sending_more track all left rails next us answer heard kept s stands sees quiet 
       taken = s.taken ++ us ∷ [];
       parts = append_assoc s.taken (us ∷ []) left ∙ s.parts;
       stands = rw whole stands;
-      more = s.more ++ reported place answer;
-      shows = ap seen whole ∙ sees ∙ ap (λ l. l ++ reported place answer) s.shows
-          ∙ append_assoc (seen track) s.more (reported place answer);
+      more = s.more ++ report_at place answer;
+      shows = ap seen whole ∙ sees ∙ ap (λ l. l ++ report_at place answer) s.shows
+          ∙ append_assoc (seen track) s.more (report_at place answer);
       last = keeps s.more place answer heard kept s.last quiet told;
     }
 

@@ -132,5 +132,6 @@ read_right {who} {left} {right} {left_rest} {right_rest} {left_ended} {right_end
       stands = subst (λ w. StandsFor next (with_item w None g.lists)) wants (gives g.lists g.stands);
       who_is = same ∙ g.who_is;
       left_side = g.left_side;
-      right_side = at_end right g.lists.right right_rest later g.lists.right_ended right_ended ended g.right_side took.none;
+      right_side =
+          at_end right g.lists.right right_rest later g.lists.right_ended right_ended ended g.right_side took.none;
     }

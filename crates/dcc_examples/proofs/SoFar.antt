@@ -3,7 +3,7 @@ use Rattle.std.proofs.Common.{Bool, ap, ◌∙◌, sym, ◌≡◌, ℕ, ◌+◌,
 use Rattle.std.proofs.Common.{take, slice_index_or, refl, subst, arith}
 use Rattle.std.proofs.lemmas.Grind.{common_steps}
 use Rattle.std.proofs.lemmas.List.Elements.{filter-append}
-use Rattle.dcc_wire.specs.Framing.{Rest, StandsFor, seen, reported}
+use Rattle.dcc_wire.specs.Framing.{Rest, StandsFor, seen, report_at}
 use Rattle.dcc_wire.specs.declared.fault.Seen.{Seen}
 use Rattle.dcc_wire.specs.declared.fault.Seen.TheVariants.{Nothing, Packet as PacketSeen, Refused}
 use Rattle.dcc_wire.specs.declared.frame.Frame.{Frame}
@@ -51,18 +51,20 @@ one_half : {L : Type 0} {told : L → Note → L → Type 0} {durations : List �
     {start now then : RegisterMap} {a b c : L}
     → (next : Rest) (us : ℕ) (answer : Seen) (shown : List Packet) → SoFar told durations framer who start who' now a b
     → StandsFor next (durations ++ us ∷ [])
-    → seen (durations ++ us ∷ []) ≡ seen durations ++ reported (length durations) answer
+    → seen (durations ++ us ∷ []) ≡ seen durations ++ report_at (length durations) answer
     → AreSpelled shown (frames_of answer) → HasHeard shown who' now who'' then → IsTold told (heard who shown) b c
     → SoFar told (durations ++ us ∷ []) next who start who'' then a c
 one_half {L} {told} {durations} {framer} {who} {who'} {who''} {start} {now} {then} {a} {b} {c} next us answer shown
     before stands sees spelled hear tell = record {
       stands = stands;
       packets = before.packets ++ shown;
-      seen = packets_more durations (durations ++ us ∷ []) answer (length durations) before.packets shown sees before.seen
+      seen = packets_more durations (durations ++ us ∷ []) answer (length durations) before.packets shown sees
+          before.seen
           spelled;
       heard_all = heard_more before.heard_all hear;
       told_all =
-          let e : heard who (before.packets ++ shown) ≡ heard who before.packets ++ heard who shown = filter-append (hears who) before.packets shown in
+          let e : heard who (before.packets ++ shown) ≡ heard who before.packets ++ heard who shown =
+          filter-append (hears who) before.packets shown in
           rw e (told_more told (heard who before.packets) (heard who shown) a b c before.told_all tell);
     }
 
@@ -72,7 +74,7 @@ pub one_packet : {L : Type 0} {told : L → Note → L → Type 0} {durations : 
     → (next : Rest) (us : ℕ) (answer : Seen) (frame : Frame) (p : Packet)
     → SoFar told durations framer who start who' now a b
     → StandsFor next (durations ++ us ∷ [])
-    → seen (durations ++ us ∷ []) ≡ seen durations ++ reported (length durations) answer
+    → seen (durations ++ us ∷ []) ≡ seen durations ++ report_at (length durations) answer
     → answer ≡ PacketSeen frame → spelling p ≡ frame
     → HasHeard (p ∷ []) who' now who'' then → IsTold told (heard who (p ∷ [])) b c
     → SoFar told (durations ++ us ∷ []) next who start who'' then a c
@@ -84,7 +86,7 @@ pub no_packet : {L : Type 0} {told : L → Note → L → Type 0} {durations : L
     {start now : RegisterMap} {a b : L}
     → (next : Rest) (us : ℕ) (answer : Seen) → SoFar told durations framer who start who' now a b
     → StandsFor next (durations ++ us ∷ [])
-    → seen (durations ++ us ∷ []) ≡ seen durations ++ reported (length durations) answer
+    → seen (durations ++ us ∷ []) ≡ seen durations ++ report_at (length durations) answer
     → ((frame : Frame) → answer ≡ PacketSeen frame → ⊥) → SoFar told (durations ++ us ∷ []) next who start who' now a b
 no_packet {L} {told} {durations} {framer} {who} {who'} {start} {now} next us answer before stands sees none =
     one_half next us answer [] before stands sees (none_spelled answer none) (heard_nothing who' now) refl

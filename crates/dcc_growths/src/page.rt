@@ -35,9 +35,7 @@ impl Page {
 }
 
 impl Sink for Page {
-    ghost contents = { λ _. None };
-
-    ghost failures = { λ page. page.failures };
+    ghost state = { λ page. record { contents = None; failures = page.failures } };
 
     fn write(&mut self, bytes: &[u8]) -> Result<usize, Failed> {
         let len = self.len.min(2048);

@@ -7,18 +7,18 @@ use Rattle.dcc_packet.specs.declared.fault.PacketFault.TheVariants as faults
 use Rattle.dcc_io.specs.declared.word.Run.{Run}
 use Rattle.dcc_io.specs.declared.fault.KeptFault.{KeptFault}
 use Rattle.dcc_io.specs.declared.fault.KeptFault.TheVariants.{Number, Line, Read, TooMuch}
-use Rattle.dcc_io.specs.Place.{Place, line_behind}
-use Rattle.dcc_io.specs.Told.{IsAtEnd}
+use Rattle.dcc_io.specs.TextPlace.{TextPlace, line_behind}
+use Rattle.dcc_io.specs.ReaderState.{IsAtEnd}
 use Rattle.dcc_io.specs.InputState.{InputState, all_lines}
-use Rattle.dcc_io.specs.Words.{Word, ended_words, is_gap, uncommented, onto_first, pieces, but_last, has_bytes}
+use Rattle.dcc_io.specs.Words.{Word, ended_words, is_gap, without_comments, onto_first, pieces, but_last, has_bytes}
 use Rattle.dcc_io.specs.Words.{is_mark, run_of}
 use Rattle.dcc_io.specs.Took.{within_limit}
-use Rattle.dcc_io.specs.Passed.{Passed, IsBeforeWord, AnswersWord}
+use Rattle.dcc_io.specs.PassedWords.{Passed, IsBeforeWord, AnswersWord}
 use Rattle.dcc_io.specs.Capture.{halves_of}
-use Rattle.dcc_io.specs.BothCaptures.{Both, Said, stopped, in_front, only_second, has_more_words, behind_mark}
+use Rattle.dcc_io.specs.BothCaptures.{Both, Said, fault_alone, in_front, only_second, has_more_words, behind_mark}
 use Rattle.dcc_io.specs.BothCaptures.{counted_first, both_of, both_from, in_limit}
 use Rattle.dcc_io.specs.FirstRead.{LeadsIn, Leads, first_so_far, first_is, IsBehindLine, StopsBoth, AnswersFirst}
-use Rattle.dcc_io.specs.FirstSteps.{CountsWord, EndsMark}
+use Rattle.dcc_io.specs.Inner.FirstSteps.{CountsWord, EndsMark}
 use Rattle.dcc_io.proofs.TookLemmas.{same_cond, if_some_all, map_text, Took-start, Took-counted, Took-join, told_behind}
 use Rattle.dcc_io.proofs.TookLemmas.{fails_behind, within_limit-used, not_within, zero_fits}
 use Rattle.dcc_io.proofs.CaptureLemmas.{enough}
@@ -79,20 +79,20 @@ other_line : (line next : ℕ) → line < next → eqb next line ≡ false
 other_line line next behind = grind (arith, nat_tests)
 
 -- the words behind a line do not stand on it
-pub no_more_words : (line : ℕ) (place : Place) (text : List ℕ) → line < place.line
+pub no_more_words : (line : ℕ) (place : TextPlace) (text : List ℕ) → line < place.line
     → has_more_words line (ended_words place text) ≡ false
 no_more_words line place text behind =
-    let all = from_pieces place.line (uncommented place.in_comment text) in
+    let all = from_pieces place.line (without_comments place.in_comment text) in
     go (ended_words place text)
-    (from_filter place.line has_bytes (but_last (pieces place.line (uncommented place.in_comment text)))
-    (from_but_last place.line (pieces place.line (uncommented place.in_comment text)) all))
+    (from_filter place.line has_bytes (but_last (pieces place.line (without_comments place.in_comment text)))
+    (from_but_last place.line (pieces place.line (without_comments place.in_comment text)) all))
   where
     go : (words : List Word) → AllFrom place.line words → has_more_words line words ≡ false
     go [] all = refl
     go (word ∷ words) all = other_line line word.line (omega (arith, behind, all.0))
 
 -- what comes behind the line of a mark is the second capture
-pub second_behind : (line most : ℕ) (place : Place) (rest more : List ℕ) (last : Option KeptFault)
+pub second_behind : (line most : ℕ) (place : TextPlace) (rest more : List ℕ) (last : Option KeptFault)
     → (rest ≡ []) ⊎ (line < place.line) → (rest ≡ [] → more ≡ [])
     → behind_mark line most (ended_words place more) last ≡ only_second (halves_of most (ended_words place more) last)
 second_behind line most place rest more last (inl none) front = rw (front none) refl
@@ -137,13 +137,13 @@ in_limit_of before old new said text rest leads =
 
 -- a fault stands, whatever follows
 pub stops_said : (before : ℕ) (old mid : InputState) (fault : KeptFault)
-    → Leads before old mid (λ end more last. stopped fault)
-    → IfSome old.text (λ text. in_limit (both_from before old) old text ≡ stopped fault)
+    → Leads before old mid (λ end more last. fault_alone fault)
+    → IfSome old.text (λ text. in_limit (both_from before old) old text ≡ fault_alone fault)
 stops_said before old mid fault leads =
-    map_text (LeadsIn before old mid (λ end more last. stopped fault))
-    (λ text. in_limit (both_from before old) old text ≡ stopped fault) old.text mid.text
-    (λ text rest uses. in_limit_of before old mid (λ end more last. stopped fault) text rest uses
-    ∙ same_cond (nat_le (length rest) mid.bytes) (stopped fault))
+    map_text (LeadsIn before old mid (λ end more last. fault_alone fault))
+    (λ text. in_limit (both_from before old) old text ≡ fault_alone fault) old.text mid.text
+    (λ text rest uses. in_limit_of before old mid (λ end more last. fault_alone fault) text rest uses
+    ∙ same_cond (nat_le (length rest) mid.bytes) (fault_alone fault))
     leads.text
 
 module _ (before : ℕ) (old mid : InputState) (F : ℕ → List Word → Option KeptFault → Both) where
@@ -152,10 +152,11 @@ module _ (before : ℕ) (old mid : InputState) (F : ℕ → List Word → Option
 
   -- a fault before the next word
   pub stops_word : (new : InputState) (fault : KeptFault) → Led → AnswersWord mid (Err fault) new
-      → ((end : ℕ) (f : KeptFault) → F end [] (Some f) ≡ stopped f)
+      → ((end : ℕ) (f : KeptFault) → F end [] (Some f) ≡ fault_alone f)
       → StopsBoth before old fault new × (new.fault ≡ Some fault)
   stops_word new Read leads answer each = (
-    fails_behind leads (IsBeforeWord mid) (λ used. (end : ℕ) → both_from before old end used (Some Read) ≡ stopped Read)
+    fails_behind leads (IsBeforeWord mid)
+        (λ used. (end : ℕ) → both_from before old end used (Some Read) ≡ fault_alone Read)
         new answer.0
         (λ first second says none end. says end second (Some Read) ∙ ap (λ ws. F end ws (Some Read)) none
         ∙ each end Read),
@@ -165,7 +166,7 @@ module _ (before : ℕ) (old mid : InputState) (F : ℕ → List Word → Option
     (
       answer.0.0 ∙ leads.failures,
       told_behind leads (λ rest. (mid.bytes < length rest) × IsBeforeWord mid (take (mid.bytes - 1) rest))
-          (λ text. in_limit (both_from before old) old text ≡ stopped TooMuch)
+          (λ text. in_limit (both_from before old) old text ≡ fault_alone TooMuch)
           (λ text rest uses over.
           in_limit_of before old mid (λ end more last. F end (ended_words mid.place more) last) text rest uses
           ∙ rw (not_within (length rest) mid.bytes over.0, over.1) (each (all_lines mid rest + 1) TooMuch))
@@ -181,7 +182,7 @@ counted_some : (most : ℕ) (run : Run) (rest : ℕ → Both) → run.n ≤ most
 counted_some most run rest fits = rw (enough run.n most fits) refl
 
 counted_too_many : (most : ℕ) (run : Run) (rest : ℕ → Both) → most < run.n
-    → counted_first most run rest ≡ stopped TooMuch
+    → counted_first most run rest ≡ fault_alone TooMuch
 counted_too_many most run rest above = rw (not_within run.n most above) refl
 
 abbrev with_fault : InputState → KeptFault → InputState
@@ -249,14 +250,14 @@ module _ (before line : ℕ) (word : List ℕ) (old mid : InputState) (fault : o
             (
               passed.failures,
               stops_said before old mid (Number line)
-                  (led (λ end more last. stopped (Number line)) (λ end more last. rw (none, bad.0) refl)),
+                  (led (λ end more last. fault_alone (Number line)) (λ end more last. rw (none, bad.0) refl)),
             ),
             refl,
           )
       go told is_new (inr (run, spells, is_told, no_room)) = rw (is_new, is_told) (
         (
           passed.failures,
-          stops_said before old mid TooMuch (led (λ end more last. stopped TooMuch)
+          stops_said before old mid TooMuch (led (λ end more last. fault_alone TooMuch)
               (λ end more last. rw (none, spells, ← passed.halves)
               (counted_too_many mid.halves run (λ left. both_of line left end (ended_words mid.place more) last)
               no_room))),
@@ -293,7 +294,7 @@ module _ (before line : ℕ) (word : List ℕ) (old mid : InputState) (fault : o
       stops_said before old next (Number line)
           (Leads-words before old mid next (record { line = mid.place.line; bytes = more.0 } ∷ [])
           (λ end ws last. behind_mark line old.halves ws last)
-          (λ end more last. stopped (Number line)) (at_mark begins) more.1
+          (λ end more last. fault_alone (Number line)) (at_mark begins) more.1
           (λ end rest last. rw (here, eqb_same line) refl)),
     ),
     refl,
@@ -318,7 +319,7 @@ answers_lacking before old mid new none passed at_end is_new =
       (
         passed.failures,
         told_behind leads (λ rest. rest ≡ [])
-            (λ text. in_limit (both_from before old) old text ≡ stopped (Line (mid.lines + 1) faults.Word))
+            (λ text. in_limit (both_from before old) old text ≡ fault_alone (Line (mid.lines + 1) faults.Word))
             (λ text rest uses end. in_limit_of before old mid said text rest uses ∙ ap (in_limit said mid) end
             ∙ rw (zero_fits mid.bytes) refl) at_end,
       ),

@@ -8,11 +8,11 @@ use Rattle.dcc_io.specs.declared.word.Run.{Run}
 use Rattle.dcc_io.specs.declared.word.RunWord.{RunWord}
 use Rattle.dcc_io.specs.declared.fault.KeptFault.{KeptFault}
 use Rattle.dcc_io.specs.declared.fault.KeptFault.TheVariants.{Number, Line, Read, TooMuch}
-use Rattle.dcc_io.specs.Told.{IsAtEnd}
+use Rattle.dcc_io.specs.ReaderState.{IsAtEnd}
 use Rattle.dcc_io.specs.InputState.{InputState}
 use Rattle.dcc_io.specs.Words.{Word, ended_words, run_of}
-use Rattle.dcc_io.specs.Passed.{Passed, IsBeforeWord, EndsWord, AnswersWord}
-use Rattle.dcc_io.specs.Items.{Items, preceded, only_fault, Gave, StopsAt}
+use Rattle.dcc_io.specs.PassedWords.{Passed, IsBeforeWord, EndsWord, AnswersWord}
+use Rattle.dcc_io.specs.Items.{Items, items_behind, only_fault, Gave, StopsAt}
 use Rattle.dcc_io.specs.Capture.{behind_word, halves_of, capture_in, capture_before_failure, captures, GaveHalves}
 use Rattle.dcc_io.specs.Capture.{AnswersRun, CountsRun}
 use Rattle.dcc_io.proofs.TookLemmas.{map_text, not_within, zero_fits, same_cond, Took-counted, Took-map}
@@ -25,7 +25,7 @@ pub enough : (n most : ℕ) → n ≤ most → nat_le n most ≡ true
 enough n most fits = grind (arith, nat_tests)
 
 behind_some : (most line : ℕ) (run : Run) (rest : ℕ → Items ℕ) → run.n ≤ most
-    → behind_word most line (Some run) rest ≡ preceded (replicate run.n run.us) (rest (most - run.n))
+    → behind_word most line (Some run) rest ≡ items_behind (replicate run.n run.us) (rest (most - run.n))
 behind_some most line run rest fits = rw (enough run.n most fits) refl
 
 behind_too_many : (most line : ℕ) (run : Run) (rest : ℕ → Items ℕ) → most < run.n
@@ -55,7 +55,7 @@ Gave-word old mid new line run word passed spells fits is_new = rw is_new record
 }
   where
     one : (ws : List Word) (last : Option KeptFault)
-        → halves_of old.halves (record { line = line; bytes = word } ∷ ws) last ≡ preceded (replicate run.n run.us)
+        → halves_of old.halves (record { line = line; bytes = word } ∷ ws) last ≡ items_behind (replicate run.n run.us)
         (halves_of (mid.halves - run.n) ws last)
     one ws last = rw (spells, ← passed.halves) (behind_some mid.halves line run (λ left. halves_of left ws last) fits)
 

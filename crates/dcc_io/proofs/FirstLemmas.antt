@@ -3,12 +3,12 @@ use Rattle.std.proofs.Common.{◌≡◌, ◌≢◌, ◌⊎◌, inl, inr, ℕ, �
 use Rattle.std.proofs.Common.{Ok, refl, ap, ◌∙◌, subst, arith}
 use Rattle.std.proofs.lemmas.Bool.Decides.{nat_tests}
 use Rattle.dcc_io.specs.declared.word.RunWord.{RunWord}
-use Rattle.dcc_io.specs.Place.{Place}
-use Rattle.dcc_io.specs.Told.{IsAtEnd}
-use Rattle.dcc_io.specs.Spells.{Spells}
+use Rattle.dcc_io.specs.TextPlace.{TextPlace}
+use Rattle.dcc_io.specs.ReaderState.{IsAtEnd}
+use Rattle.dcc_io.specs.SpelledWords.{Spells}
 use Rattle.dcc_io.specs.InputState.{InputState}
 use Rattle.dcc_io.specs.Words.{is_some_byte, is_gap, comments}
-use Rattle.dcc_io.specs.Passed.{Passed}
+use Rattle.dcc_io.specs.PassedWords.{Passed}
 use Rattle.dcc_io.specs.FirstRead.{EndsLine}
 use Rattle.dcc_io.proofs.WordsLemmas.{eqb_line_feed}
 use Rattle.dcc_io.proofs.PassedLemmas.{Opens, TakesNoted, Opens-word, Opens-gap, EndsWord-gap, Passed-gap, Passed-end}
@@ -21,7 +21,7 @@ pub record OpensHere (old : InputState) (so_far : RunWord) (now : InputState) : 
 
 same_line : (now new : InputState) (byte : ℕ) → TakesNoted now byte new → eqb byte 10 ≡ false
     → new.place.line ≡ now.place.line
-same_line now new byte takes other = ap (λ (place : Place). place.line) takes.place ∙ rw other refl
+same_line now new byte takes other = ap (λ (place : TextPlace). place.line) takes.place ∙ rw other refl
 
 pub OpensHere-word : (old now new : InputState) (so_far more_far : RunWord) (byte : ℕ) → OpensHere old so_far now
     → TakesNoted now byte new
@@ -57,7 +57,7 @@ pub ends_here : (old now new : InputState) (so_far : RunWord) (byte : ℕ) (so :
     → EndsLine old (Ok true) new
 ends_here old now new so_far byte so takes gap empty feed =
     let line : new.place.line ≡ old.place.line + 1 =
-    ap (λ (place : Place). place.line) takes.place ∙ rw feed refl ∙ ap (λ n. n + 1) so.here in (
+    ap (λ (place : TextPlace). place.line) takes.place ∙ rw feed refl ∙ ap (λ n. n + 1) so.here in (
       Passed-gap old now new so_far byte so.opens takes gap empty,
       if_some_all (λ rest. (rest ≡ []) ⊎ (old.place.line < new.place.line)) new.text
           (λ rest. inr (omega (arith, line))),

@@ -11,13 +11,13 @@ use Rattle.std.specs.List.{list_all}
 use Rattle.std.specs.Char.{is_ascii_digit}
 use Rattle.std.specs.Str.Parse.{digits_value}
 use Rattle.dcc_io.specs.declared.word.FrontWord.{FrontWord}
-use Rattle.dcc_io.specs.Place.{Place, line_behind, lines_with, lines_through}
+use Rattle.dcc_io.specs.TextPlace.{TextPlace, line_behind, lines_with, lines_through}
 use Rattle.dcc_io.specs.Words.{Word, is_gap, is_dash, is_mark, comments, ended_words, duration_of, Passes}
-use Rattle.dcc_io.specs.Front.{BeginsWithWord, HasLineFeedAt, IsFrontWord, is_plain}
+use Rattle.dcc_io.specs.Inner.FrontWords.{BeginsWithWord, HasLineFeedAt, IsFrontWord, is_plain}
 use Rattle.dcc_io.specs.declared.fault.KeptFault.{KeptFault}
-use Rattle.dcc_io.specs.Told.{Told}
+use Rattle.dcc_io.specs.ReaderState.{ReaderState}
 use Rattle.dcc_io.specs.InputState.{InputState, closed_text, closing}
-use Rattle.dcc_io.specs.Passed.{Passed}
+use Rattle.dcc_io.specs.PassedWords.{Passed}
 use Rattle.dcc_io.specs.Capture.{AnswersRun}
 use Rattle.dcc_io.specs.FirstRead.{AnswersFirst}
 use Rattle.dcc_io.proofs.WordsLemmas.{eqb_line_feed, behind, opened, opened-none, opened-word, opened-gap, ended}
@@ -77,7 +77,7 @@ opened-plain line front (byte ∷ word) more digits =
     let parts = both (is_plain byte) (list_all is_plain word) digits in
     let plain = plain_parts byte parts.0 in
     opened-word (outside line) front byte (word ++ more) plain.no_comment plain.no_gap
-    ∙ ap (λ (place : Place). opened place (front ++ byte ∷ []) (word ++ more)) (stays plain)
+    ∙ ap (λ (place : TextPlace). opened place (front ++ byte ∷ []) (word ++ more)) (stays plain)
     ∙ opened-plain line (front ++ byte ∷ []) word more parts.1
     ∙ ap (λ (xs : List ℕ). opened (outside line) xs more) (append_assoc front (byte ∷ []) word)
   where
@@ -263,11 +263,11 @@ passes_word old new whole rest ahead len ends_line old_text new_text consumed be
           ((take len ahead ++ get_or ahead len 0 ∷ []) ++ more)) no_comment
           ∙ passes_front old.place.line (get_or ahead len 0) (take len ahead) begins.plain (omega (arith, count, some))
           begins.gap more
-          ∙ ap (λ (at : Place). words ++ ended_words at more) (sym place);
+          ∙ ap (λ (at : TextPlace). words ++ ended_words at more) (sym place);
       bytes = simp length-append (omega (arith, bytes, count));
       room = λ one none. absurd (omega arith);
       lines = ap (λ n. lines_through n new.place.line (ys ++ 10 ∷ [])) lines
-          ∙ ap (λ (at : Place). lines_through old.place.line at.line (ys ++ 10 ∷ [])) place
+          ∙ ap (λ (at : TextPlace). lines_through old.place.line at.line (ys ++ 10 ∷ [])) place
           ∙ sym (lines_of_front old.lines old.place.line (get_or ahead len 0) (take len ahead) ys begins.plain)
           ∙ ap (λ (zs : List ℕ). lines_through old.lines old.place.line zs)
           (sym (append_assoc (take len ahead ++ get_or ahead len 0 ∷ []) ys (10 ∷ []))
@@ -318,7 +318,7 @@ takes_half old mid new bytes front is passed fewer some counted = record {
 }
 
 -- what an input with these fields is
-abbrev pub state_of : Told → ℕ → ℕ → Bool → Bool → ℕ → ℕ → Option KeptFault → InputState
+abbrev pub state_of : ReaderState → ℕ → ℕ → Bool → Bool → ℕ → ℕ → Option KeptFault → InputState
 state_of source line lines in_comment closed halves bytes fault = record {
   text = closed_text closed source.text;
   ahead = source.ahead;
@@ -330,7 +330,8 @@ state_of source line lines in_comment closed halves bytes fault = record {
   failures = source.failures;
 }
 
-pub passes_word_at : (source later : Told) (line next lines halves bytes len : ℕ) (in_comment closed ends_line : Bool)
+pub passes_word_at : (source later : ReaderState) (line next lines halves bytes len : ℕ)
+    (in_comment closed ends_line : Bool)
     (fault : Option KeptFault)
     → closed ≡ false → in_comment ≡ false → len < bytes → BeginsWithWord source.ahead len ends_line
     → Consumes source.text later.text (take (len + 1) source.ahead) → later.failures ≡ source.failures → fault ≡ None
@@ -356,7 +357,8 @@ pub same_line_of_gap : (line gap : ℕ) (ends_line : Bool) → ends_line ≡ eqb
 same_line_of_gap line gap ends_line is ends = rw (sym is ∙ ends) refl
 
 -- a line feed behind no word was passed
-passes_line_feed : (source later : Told) (line lines halves bytes : ℕ) → 1 < bytes + 1 → take 1 source.ahead ≡ 10 ∷ []
+passes_line_feed : (source later : ReaderState) (line lines halves bytes : ℕ) → 1 < bytes + 1
+    → take 1 source.ahead ≡ 10 ∷ []
     → Consumes source.text later.text (take 1 source.ahead) → later.failures ≡ source.failures
     → Passed (state_of source line lines false false halves bytes None) []
     (state_of later (line + 1) line false false halves (bytes - 1) None)
@@ -404,7 +406,7 @@ first_of : (bytes : List ℕ) (byte : ℕ) → 0 < length bytes → get_or bytes
 first_of [] byte some is = absurd (omega (arith, some))
 first_of (first ∷ bytes) byte some is = ap (λ (b : ℕ). b ∷ []) is
 
-pub passes_line_feed_at : (source later : Told) (line lines halves bytes : ℕ) (in_comment closed : Bool)
+pub passes_line_feed_at : (source later : ReaderState) (line lines halves bytes : ℕ) (in_comment closed : Bool)
     (fault : Option KeptFault)
     → closed ≡ false → in_comment ≡ false → fault ≡ None → 1 < bytes + closing closed → HasLineFeedAt source.ahead 0
     → Consumes source.text later.text (take 1 source.ahead) → later.failures ≡ source.failures

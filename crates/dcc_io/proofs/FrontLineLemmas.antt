@@ -10,13 +10,13 @@ use Rattle.std.specs.Char.{is_ascii}
 use Rattle.std.specs.List.{list_all}
 use Rattle.std.specs.Io.KnownBytes.{Consumes}
 use Rattle.dcc_io.specs.declared.fault.KeptFault.{KeptFault}
-use Rattle.dcc_io.specs.Told.{Told}
-use Rattle.dcc_io.specs.Place.{lines_with}
+use Rattle.dcc_io.specs.ReaderState.{ReaderState}
+use Rattle.dcc_io.specs.TextPlace.{lines_with}
 use Rattle.dcc_io.specs.InputState.{closed_text, closing}
-use Rattle.dcc_io.specs.Lines.{is_good}
-use Rattle.dcc_io.specs.LineRead.{has_line_feed, lines_within, EndsLine}
+use Rattle.dcc_io.specs.NumberedLines.{is_good}
+use Rattle.dcc_io.specs.Inner.NextLine.{has_line_feed, lines_within, EndsLine}
 use Rattle.dcc_io.specs.PacketLines.{is_skipped}
-use Rattle.dcc_io.specs.FrontLine.{IsFrontLine, IsEndedLine}
+use Rattle.dcc_io.specs.Inner.FrontLine.{IsFrontLine, IsEndedLine}
 use Rattle.dcc_io.proofs.FrontLemmas.{state_of}
 
 -- the bytes so far are good and of one line
@@ -67,7 +67,7 @@ line_of_front bytes line n is front =
     ap (take n) front.whole ∙ ap (λ k. take k (line ++ 10 ∷ front.behind)) is
     ∙ take-append-add line (10 ∷ front.behind) 1
 
-pub takes_line_at : (source later : Told) (line lines halves bytes len : ℕ) (in_comment closed : Bool)
+pub takes_line_at : (source later : ReaderState) (line lines halves bytes len : ℕ) (in_comment closed : Bool)
     (fault : Option KeptFault) (text : List ℕ)
     → closed ≡ false → len < bytes → IsFrontLine source.ahead text → length text ≡ len
     → Consumes source.text later.text (take (len + 1) source.ahead) → later.failures ≡ source.failures → fault ≡ None

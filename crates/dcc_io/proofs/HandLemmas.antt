@@ -2,11 +2,11 @@
 use Rattle.std.proofs.Common.{◌≡◌, ◌≢◌, ℕ, List, [], ◌∷◌, ◌++◌, drop, get_or, length, ◌<◌, ◌+◌, Bool, true, false}
 use Rattle.std.proofs.Common.{cond, eqb, refl, sym, ap, ◌∙◌, subst, ◌||◌, add-one, drop-cons}
 use Rattle.std.proofs.lemmas.Bool.{ne_eqb}
-use Rattle.dcc_io.specs.Place.{Place, line_behind}
+use Rattle.dcc_io.specs.TextPlace.{TextPlace, line_behind}
 use Rattle.dcc_io.specs.Words.{Word, is_gap, comments, ended_words, is_some_byte}
 use Rattle.dcc_io.proofs.WordsLemmas.{behind, opened, opened-none, opened-word, opened-gap, ended}
 
-abbrev pub outside : ℕ → Place
+abbrev pub outside : ℕ → TextPlace
 outside line = record { line = line; in_comment = false }
 
 -- some of these bytes were looked at, which end within a word or not

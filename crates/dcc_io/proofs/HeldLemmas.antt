@@ -1,15 +1,16 @@
 -- Bytes that are held behind those that were written.
-use Rattle.std.proofs.Common.{ℕ, List, [], ◌++◌, Option, refl, sym, ap, ◌∙◌, subst, append_assoc}
+use Rattle.std.proofs.Common.{ℕ, List, [], ◌++◌, refl, sym, ap, ◌∙◌, subst, append_assoc}
 use Rattle.std.specs.Io.KnownBytes.{Appends}
-use Rattle.dcc_io.specs.Written.{AppendsFront}
+use Rattle.dcc_io.specs.WriterState.{WriterState}
+use Rattle.dcc_io.specs.WrittenBytes.{AppendsFront}
 use Rattle.dcc_io.specs.Held.{Holds}
 use Rattle.dcc_io.proofs.WrittenLemmas.{Appends-none, Appends-append}
 
 -- nothing was written yet
-pub Holds-same : (before : Option (List ℕ)) (bytes : List ℕ) → Holds before before bytes bytes
+pub Holds-same : (before : WriterState) (bytes : List ℕ) → Holds before before bytes bytes
 Holds-same before bytes = record { written = []; whole = refl; appended = Appends-none before }
 
-pub Holds-append : (before mid after : Option (List ℕ)) (bytes held more later : List ℕ) → Holds before mid bytes held
+pub Holds-append : (before mid after : WriterState) (bytes held more later : List ℕ) → Holds before mid bytes held
     → Holds mid after (held ++ more) later → Holds before after (bytes ++ more) later
 Holds-append before mid after bytes held more later first second = record {
   written = first.written ++ second.written;
@@ -19,7 +20,7 @@ Holds-append before mid after bytes held more later first second = record {
   appended = Appends-append before mid after first.written second.written first.appended second.appended;
 }
 
-pub Holds-wrote : (before mid after : Option (List ℕ)) (bytes held later : List ℕ) → Holds before mid bytes held
+pub Holds-wrote : (before mid after : WriterState) (bytes held later : List ℕ) → Holds before mid bytes held
     → Holds mid after held later → Holds before after bytes later
 Holds-wrote before mid after bytes held later first second = record {
   written = first.written ++ second.written;
@@ -29,7 +30,7 @@ Holds-wrote before mid after bytes held later first second = record {
 }
 
 -- a write failed
-pub Holds-fails : (before mid after : Option (List ℕ)) (bytes held : List ℕ) → Holds before mid bytes held
+pub Holds-fails : (before mid after : WriterState) (bytes held : List ℕ) → Holds before mid bytes held
     → AppendsFront mid after held → AppendsFront before after bytes
 Holds-fails before mid after bytes held first second = record {
   front = first.written ++ second.front;
@@ -39,7 +40,7 @@ Holds-fails before mid after bytes held first second = record {
   written = Appends-append before mid after first.written second.front first.appended second.written;
 }
 
-pub Holds-fails_with : (before mid after : Option (List ℕ)) (bytes held more : List ℕ) → Holds before mid bytes held
+pub Holds-fails_with : (before mid after : WriterState) (bytes held more : List ℕ) → Holds before mid bytes held
     → AppendsFront mid after (held ++ more) → AppendsFront before after (bytes ++ more)
 Holds-fails_with before mid after bytes held more first second = record {
   front = first.written ++ second.front;
@@ -51,8 +52,8 @@ Holds-fails_with before mid after bytes held more first second = record {
 }
 
 -- what was still held was written
-pub Holds-rest : (before mid after : Option (List ℕ)) (bytes held : List ℕ) → Holds before mid bytes held
-    → Appends mid after held → Appends before after bytes
+pub Holds-rest : (before mid after : WriterState) (bytes held : List ℕ) → Holds before mid bytes held
+    → Appends mid.contents after.contents held → Appends before.contents after.contents bytes
 Holds-rest before mid after bytes held first wrote =
-    subst (λ (xs : List ℕ). Appends before after xs) (sym first.whole)
+    subst (λ (xs : List ℕ). Appends before.contents after.contents xs) (sym first.whole)
     (Appends-append before mid after first.written held first.appended wrote)

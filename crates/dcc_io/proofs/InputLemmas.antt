@@ -1,8 +1,8 @@
 -- The line feed that closes an input.
 use Rattle.std.proofs.Common.{◌≡◌, ℕ, List, [], ◌∷◌, ◌++◌, Bool, true, false, Option, None, Some, IfSome, refl}
 use Rattle.std.specs.Io.KnownBytes.{Keeps}
-use Rattle.dcc_io.specs.Place.{lines_with}
-use Rattle.dcc_io.specs.Told.{BeginsWith, IsAtEnd}
+use Rattle.dcc_io.specs.TextPlace.{lines_with}
+use Rattle.dcc_io.specs.ReaderState.{BeginsWith, IsAtEnd}
 use Rattle.dcc_io.specs.InputState.{closed_text}
 
 -- at the end of what a reader has, the line feed is what is left

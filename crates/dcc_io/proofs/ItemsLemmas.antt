@@ -5,9 +5,9 @@ use Rattle.std.proofs.lemmas.List.{append-nil}
 use Rattle.dcc_io.specs.declared.fault.KeptFault.{KeptFault}
 use Rattle.dcc_io.specs.declared.fault.KeptFault.TheVariants.{Number, Line, Read, TooMuch}
 use Rattle.dcc_io.specs.Failures.{HasRisen}
-use Rattle.dcc_io.specs.Told.{IsAtEnd}
+use Rattle.dcc_io.specs.ReaderState.{IsAtEnd}
 use Rattle.dcc_io.specs.InputState.{InputState, all_lines, UsesAllLines}
-use Rattle.dcc_io.specs.Items.{Items, Reading, in_text, before_failure, preceded, only_fault, Gives, Gave, StopsAt}
+use Rattle.dcc_io.specs.Items.{Items, Reading, in_text, before_failure, items_behind, only_fault, Gives, Gave, StopsAt}
 use Rattle.dcc_io.specs.Items.{EndsWith, ReadsUpTo}
 use Rattle.dcc_io.proofs.TookLemmas.{Took-start, Took-join, told_behind, fails_behind, Stops-behind, within_limit-used}
 use Rattle.dcc_io.proofs.WrittenLemmas.{HasRisen-one_more}
@@ -17,7 +17,7 @@ module _ {A : Type 0} (reading : Reading A) where
   Gave-none input fault = Took-start input fault (λ more last. refl)
 
   joined : (first second : List A) (items : Items A)
-      → preceded first (preceded second items) ≡ preceded (first ++ second) items
+      → items_behind first (items_behind second items) ≡ items_behind (first ++ second) items
   joined first second items =
       ap (λ (said : List A). record { said = said; fault = items.fault }) (sym (append_assoc first second items.said))
 
@@ -26,27 +26,29 @@ module _ {A : Type 0} (reading : Reading A) where
   Gave-append old mid new first second a b =
       Took-join a b
       (λ front back say then more last. ap (λ (bytes : List ℕ). reading old bytes last) (append_assoc front back more)
-      ∙ say (back ++ more) last ∙ ap (preceded first) (then more last) ∙ joined first second (reading new more last))
+      ∙ say (back ++ more) last ∙ ap (items_behind first) (then more last)
+      ∙ joined first second (reading new more last))
 
   -- what the text says, told of its rest
   pub in_whole : (old new : InputState) (items : List A) (text rest : List ℕ) → Gives reading old items new text rest
-      → in_text reading old text ≡ preceded items (in_text reading new rest)
+      → in_text reading old text ≡ items_behind items (in_text reading new rest)
   in_whole old new items text rest gives =
-      within_limit-used old new (reading old) (λ bytes last. preceded items (reading new bytes last)) text rest gives
+      within_limit-used old new (reading old) (λ bytes last. items_behind items (reading new bytes last)) text rest
+      gives
       gives.is
       ∙ either (nat_le (length rest) new.bytes)
     where
       either : (within : Bool)
-          → cond within (preceded items (reading new rest None))
-          (preceded items (reading new (take (new.bytes - 1) rest) (Some TooMuch)))
-          ≡ preceded items
+          → cond within (items_behind items (reading new rest None))
+          (items_behind items (reading new (take (new.bytes - 1) rest) (Some TooMuch)))
+          ≡ items_behind items
           (cond within (reading new rest None) (reading new (take (new.bytes - 1) rest) (Some TooMuch)))
       either true = refl
       either false = refl
 
   -- items, and then no more before this fault
   ends_with : (items : Items A) (fault : Option KeptFault) (said : List A) (fact : List A → Type 0)
-      → items ≡ preceded said (only_fault fault) → fact said → EndsWith fault fact items
+      → items ≡ items_behind said (only_fault fault) → fact said → EndsWith fault fact items
   ends_with items fault said fact whole holds = rw whole (refl, subst fact (sym (append-nil said)) holds)
 
   pub up_to_fault : (start now : InputState) (said : List A) (fault : Option KeptFault) (fact : List A → Type 0)
@@ -57,7 +59,7 @@ module _ {A : Type 0} (reading : Reading A) where
       told_behind gave (λ text. in_text reading now text ≡ only_fault fault)
       (λ text. EndsWith fault fact (in_text reading start text))
       (λ text rest gives none. ends_with (in_text reading start text) fault said fact
-      (in_whole start now said text rest gives ∙ ap (preceded said) none) holds) stops
+      (in_whole start now said text rest gives ∙ ap (items_behind said) none) holds) stops
 
   -- what was read up to a fault
   pub reads_up_to : (start now new : InputState) (fault : KeptFault) (said : List A) (fact : List A → Type 0)
@@ -73,7 +75,7 @@ module _ {A : Type 0} (reading : Reading A) where
       let fails = fails_behind gave (λ used. before_failure reading now used ≡ only_fault (Some Read))
       (λ used. EndsWith (Some Read) fact (before_failure reading start used)) new stops
       (λ front back say none. ends_with (before_failure reading start (front ++ back)) (Some Read) said fact
-      (say back (Some Read) ∙ ap (preceded said) none) holds) in (
+      (say back (Some Read) ∙ ap (items_behind said) none) holds) in (
         fails.2,
         fails.1,
         subst (λ (n : ℕ). HasRisen start.failures n) (sym fails.0) (HasRisen-one_more start.failures),
@@ -86,7 +88,7 @@ module _ {A : Type 0} (reading : Reading A) where
   all_behind start now gave none =
       told_behind gave (λ text. in_text reading now text ≡ only_fault None)
       (λ text. in_text reading start text ≡ only_fault None)
-      (λ text rest gives none. in_whole start now [] text rest gives ∙ ap (preceded []) none) none
+      (λ text rest gives none. in_whole start now [] text rest gives ∙ ap (items_behind []) none) none
 
   -- the state at a fault may be told from further back, where nothing was said in between
   pub StopsAt-behind : (start now new : InputState) (fault : KeptFault) → Gave reading start [] now
@@ -96,8 +98,8 @@ module _ {A : Type 0} (reading : Reading A) where
       (λ used. before_failure reading start used ≡ only_fault (Some Read))
       (λ text. in_text reading now text ≡ only_fault (Some fault))
       (λ text. in_text reading start text ≡ only_fault (Some fault)) new fault stops
-      (λ front back say none. say back (Some Read) ∙ ap (preceded []) none)
-      (λ text rest gives none. in_whole start now [] text rest gives ∙ ap (preceded []) none)
+      (λ front back say none. say back (Some Read) ∙ ap (items_behind []) none)
+      (λ text rest gives none. in_whole start now [] text rest gives ∙ ap (items_behind []) none)
 
   -- where nothing is left, each line is used
   pub uses_all_lines : (start now : InputState) (said : List A) → Gave reading start said now → IsAtEnd now.text

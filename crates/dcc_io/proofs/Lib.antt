@@ -20,7 +20,8 @@ pub mod BitsLemmas
 pub mod PendingLemmas
 pub mod ReadLemmas
 pub mod DecoderTextLemmas
-pub mod ListingLemmas
+pub mod DecimalLemmas
 mod BlankLines
 pub mod FirstLemmas
 pub mod BothLemmas
+pub mod CallLemmas

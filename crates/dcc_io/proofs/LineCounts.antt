@@ -1,7 +1,7 @@
 -- The lines of a whole text.
 use Rattle.std.proofs.Common.{◌≡◌, ℕ, ◌+◌, List, [], ◌∷◌, ◌++◌, Bool, true, false, cond, eqb, refl, ◌∙◌, arith}
-use Rattle.dcc_io.specs.Place.{line_behind, lines_through}
-use Rattle.dcc_io.specs.LineLaws.{line_count, LinesAreCounted}
+use Rattle.dcc_io.specs.TextPlace.{line_behind, lines_through}
+use Rattle.dcc_io.specs.LineCount.{line_count, LinesAreCounted}
 
 -- from this line on, the last line is so many further on
 last_line : (lines line byte : ℕ) (text : List ℕ)

@@ -12,15 +12,17 @@ use Rattle.std.specs.Prelude.{nat_le, nat_lt}
 use Rattle.dcc_packet.specs.declared.fault.PacketFault.TheVariants as faults
 use Rattle.dcc_io.specs.declared.fault.KeptFault.{KeptFault}
 use Rattle.dcc_io.specs.declared.fault.KeptFault.TheVariants.{Number, Line, Read, TooMuch}
-use Rattle.dcc_io.specs.Place.{Place, line_behind, lines_with, lines_through}
-use Rattle.dcc_io.specs.Told.{BeginsWith, IsAtEnd}
+use Rattle.dcc_io.specs.TextPlace.{TextPlace, line_behind, lines_with, lines_through}
+use Rattle.dcc_io.specs.ReaderState.{BeginsWith, IsAtEnd}
 use Rattle.dcc_io.specs.InputState.{InputState, all_lines, TakesByte, AnswersByte}
-use Rattle.dcc_io.specs.Lines.{is_good}
-use Rattle.dcc_io.specs.LineRead.{has_line_feed, lines_within, IsOneLine, EndsLine, EndsText, IsBadAt, MeetsBadLine}
-use Rattle.dcc_io.specs.LineRead.{AnswersLine}
+use Rattle.dcc_io.specs.NumberedLines.{is_good}
+use Rattle.dcc_io.specs.Inner.NextLine.{has_line_feed, lines_within, IsOneLine, EndsLine, EndsText, IsBadAt}
+use Rattle.dcc_io.specs.Inner.NextLine.{MeetsBadLine}
+use Rattle.dcc_io.specs.Inner.NextLine.{AnswersLine}
 use Rattle.dcc_io.specs.Took.{Uses, Took}
 use Rattle.dcc_io.proofs.TookLemmas.{if_some_map, if_some_all, Took-start, Took-closed, Took-join}
-use Rattle.dcc_io.proofs.PassedLemmas.{took_byte, map_taken, fails_to_read, has_too_many, or_false}
+use Rattle.dcc_io.proofs.TookLemmas.{took_byte, map_taken, fails_to_read, has_too_many}
+use Rattle.dcc_io.proofs.PassedLemmas.{or_false}
 
 pub and_true : (a b : Bool) → (a && b) ≡ true → (a ≡ true) × (b ≡ true)
 and_true true b h = (refl, h)
@@ -122,7 +124,7 @@ if_some_both : (R S : List ℕ → Type 0) (text : Option (List ℕ)) → IfSome
 if_some_both R S None first second = tt
 if_some_both R S (Some rest) first second = (first, second)
 
-same_place : (old new : Place) → new.line ≡ old.line → new.in_comment ≡ old.in_comment → new ≡ old
+same_place : (old new : TextPlace) → new.line ≡ old.line → new.in_comment ≡ old.in_comment → new ≡ old
 same_place old new line comment =
     ap (λ (n : ℕ). record { line = n; in_comment = new.in_comment }) line
     ∙ ap (λ (b : Bool). record { line = old.line; in_comment = b }) comment
@@ -179,7 +181,8 @@ OpensLine-byte old now new line byte opens takes no_end fits =
         → new.lines ≡ lines_within old.lines old.place.line (line ++ byte ∷ [])
     on_line [] known = absurd (not_end (known.0 refl))
     on_line (next ∷ more) known =
-        known.1 ∙ ap (λ (place : Place). place.line) opens.place ∙ sym (within-more old.lines old.place.line byte line)
+        known.1 ∙ ap (λ (place : TextPlace). place.line) opens.place
+        ∙ sym (within-more old.lines old.place.line byte line)
 
 -- its line feed was taken
 pub OpensLine-ends : (old now new : InputState) (line : List ℕ) (byte n : ℕ) → OpensLine old line now
@@ -198,7 +201,7 @@ OpensLine-ends old now new line byte n opens takes is_end is_number = record {
       (λ text rest. new.lines ≡ lines_with (lines_within old.lines old.place.line line) old.place.line rest)
       (λ rest. new.lines ≡ lines_with now.lines now.place.line rest) old.text now.text new.text byte
       (λ text more before known. known ∙ ap (λ n. lines_with n now.place.line more) before
-      ∙ ap (λ (place : Place). lines_with (lines_within old.lines old.place.line line) place.line more) opens.place)
+      ∙ ap (λ (place : TextPlace). lines_with (lines_within old.lines old.place.line line) place.line more) opens.place)
       opens.lines takes.text takes.lines;
   halves = takes.halves ∙ opens.halves;
   bytes = omega (arith, opens.count, takes.bytes);
@@ -331,7 +334,7 @@ took_line old new number line ends = record {
 }
   where
     next : new.place.line ≡ old.place.line + 1
-    next = ap (λ (place : Place). place.line) ends.next
+    next = ap (λ (place : TextPlace). place.line) ends.next
 
     on_line : (front rest : List ℕ) → 0 < length front
         → new.lines ≡ lines_with (lines_within old.lines old.place.line front) old.place.line rest

@@ -6,14 +6,14 @@ use Rattle.dcc_packet.specs.declared.fault.PacketFault.TheVariants as faults
 use Rattle.dcc_packet.specs.Words.{words}
 use Rattle.dcc_io.specs.declared.fault.KeptFault.{KeptFault}
 use Rattle.dcc_io.specs.declared.fault.KeptFault.TheVariants.{Line, Read, TooMuch}
-use Rattle.dcc_io.specs.Place.{Place}
-use Rattle.dcc_io.specs.Told.{IsAtEnd}
+use Rattle.dcc_io.specs.TextPlace.{TextPlace}
+use Rattle.dcc_io.specs.ReaderState.{IsAtEnd}
 use Rattle.dcc_io.specs.InputState.{InputState}
-use Rattle.dcc_io.specs.Lines.{NumberedLine, lines_from, onto_first_line, is_good}
-use Rattle.dcc_io.specs.LineRead.{has_line_feed, IsOneLine, EndsLine, EndsText, IsBadAt, MeetsBadLine}
-use Rattle.dcc_io.specs.LineRead.{FailsInLine, OverflowsInLine}
+use Rattle.dcc_io.specs.NumberedLines.{NumberedLine, lines_from, onto_first_line, is_good}
+use Rattle.dcc_io.specs.Inner.NextLine.{has_line_feed, IsOneLine, EndsLine, EndsText, IsBadAt, MeetsBadLine}
+use Rattle.dcc_io.specs.Inner.NextLine.{FailsInLine, OverflowsInLine}
 use Rattle.dcc_io.specs.Took.{Uses}
-use Rattle.dcc_io.specs.Items.{Items, preceded, only_fault, Gave, StopsAt}
+use Rattle.dcc_io.specs.Items.{Items, items_behind, only_fault, Gave, StopsAt}
 use Rattle.dcc_io.specs.PacketLines.{is_skipped, Saying, behind_line, items_of, items_in, items_before_failure}
 use Rattle.dcc_io.specs.PacketLines.{lines_by}
 use Rattle.dcc_io.proofs.TookLemmas.{if_some_map, map_text, same_cond, Took-map, Stops-map, within_limit-used}
@@ -98,12 +98,12 @@ module _ {A B : Type 0} (saying : Saying A B) where
       ap (λ bytes. items_of saying (lines_from old.place.line bytes) last) (append_assoc line (10 ∷ []) more)
       ∙ ap (λ lines. items_of saying lines last) (lines_from-line old.place.line line more ends.is_line.one)
       ∙ items_of-line (numbered old.place.line line) (old.place.line + 1) more last
-      ∙ ap (λ (place : Place). behind_line saying (numbered old.place.line line)
+      ∙ ap (λ (place : TextPlace). behind_line saying (numbered old.place.line line)
       (items_of saying (lines_from place.line more) last)) (sym ends.next)
 
   -- a line that says these items was taken
   gave_line : (old new : InputState) (number : ℕ) (line : List ℕ) (items : List A) → EndsLine old number line new
-      → ((rest : Items A) → behind_line saying (numbered old.place.line line) rest ≡ preceded items rest)
+      → ((rest : Items A) → behind_line saying (numbered old.place.line line) rest ≡ items_behind items rest)
       → Gave (lines_by saying) old items new
   gave_line old new number line items ends says =
       Took-map (took_line old new number line ends)
@@ -156,7 +156,7 @@ module _ {A B : Type 0} (saying : Saying A B) where
   Gave-end old new ends = (
     Took-map ends.took
         (λ used none more last. ap (λ bytes. lines_by saying old (bytes ++ more) last) none
-        ∙ ap (λ (place : Place). items_of saying (lines_from place.line more) last) (sym ends.place)),
+        ∙ ap (λ (place : TextPlace). items_of saying (lines_from place.line more) last) (sym ends.place)),
     ends.at_end,
     map_text (λ text rest. (text ≡ []) × (rest ≡ [])) (λ text. items_in saying old text ≡ only_fault None) old.text
         new.text (λ text rest none. ap (items_in saying old) none.0 ∙ rw (zero_fits old.bytes) refl) ends.text,

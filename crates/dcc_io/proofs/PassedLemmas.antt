@@ -1,23 +1,20 @@
 -- A word that is being read, and what ends it.
-use Rattle.std.proofs.Common.{zero, suc, ◌≡◌, ℕ, ◌+◌, ◌-◌, ◌<◌, ◌≤◌, List, [], ◌∷◌, ◌++◌, length, take, Bool, true}
-use Rattle.std.proofs.Common.{false, not, Option, None, Some, Err, refl, sym, ap, ◌∙◌, subst, cond, eqb, arith}
-use Rattle.std.proofs.Common.{append_assoc, length-append, ◌||◌, IfSome, IsSomeAnd}
-use Rattle.std.proofs.Math.Seq.{take-append_seam}
+use Rattle.std.proofs.Common.{◌≡◌, ℕ, ◌+◌, ◌-◌, ◌<◌, ◌≤◌, List, [], ◌∷◌, ◌++◌, Bool, true, false, not, None, Err}
+use Rattle.std.proofs.Common.{refl, sym, ap, ◌∙◌, subst, cond, eqb, arith, append_assoc, ◌||◌, IfSome}
 use Rattle.std.proofs.lemmas.List.{append-nil}
-use Rattle.std.specs.Io.KnownBytes.{Keeps}
 use Rattle.dcc_io.specs.declared.word.RunWord.{RunWord}
 use Rattle.dcc_io.specs.declared.fault.KeptFault.{KeptFault}
 use Rattle.dcc_io.specs.declared.fault.KeptFault.TheVariants.{Number, Line, Read, TooMuch}
-use Rattle.dcc_io.specs.Place.{Place, line_behind, lines_with, lines_through}
-use Rattle.dcc_io.specs.Failures.{one_more}
-use Rattle.dcc_io.specs.Told.{BeginsWith, IsAtEnd}
-use Rattle.dcc_io.specs.InputState.{InputState, all_lines, TakesByte, FailsToRead, HasMoreBytes, AnswersByte}
+use Rattle.dcc_io.specs.TextPlace.{TextPlace, line_behind}
+use Rattle.dcc_io.specs.ReaderState.{IsAtEnd}
+use Rattle.dcc_io.specs.InputState.{InputState, TakesByte, AnswersByte}
 use Rattle.dcc_io.specs.Words.{Word, ended_words, is_some_byte, is_gap, comments, Passes}
-use Rattle.dcc_io.specs.Spells.{Spells}
-use Rattle.dcc_io.specs.Took.{Uses, Took, FailsBehind, OverflowsBehind}
-use Rattle.dcc_io.specs.Passed.{Passed, IsBeforeWord, EndsWord, AnswersWord}
+use Rattle.dcc_io.specs.SpelledWords.{Spells}
+use Rattle.dcc_io.specs.Took.{Uses, Took}
+use Rattle.dcc_io.specs.PassedWords.{Passed, IsBeforeWord, EndsWord, AnswersWord}
 use Rattle.dcc_io.proofs.WordsLemmas.{behind, opened, opened-none, opened-word, opened-gap, ended}
-use Rattle.dcc_io.proofs.TookLemmas.{if_some_map, if_some_all, join_whole, Took-start, Took-map, Took-closed, Took-join}
+use Rattle.dcc_io.proofs.TookLemmas.{if_some_map, if_some_all, Took-start, Took-map, Took-closed, Took-join, took_byte}
+use Rattle.dcc_io.proofs.TookLemmas.{fails_to_read, has_too_many}
 
 -- these bytes end in the front of a word
 abbrev pub IsOpenBehind : InputState → InputState → List ℕ → List ℕ → Type 0
@@ -37,41 +34,6 @@ pub record Opens (old : InputState) (so_far : RunWord) (now : InputState) : Type
   pub halves : now.halves ≡ old.halves
   -- a text ends with a line feed, and so not within a word
   pub closed : IfSome now.text (λ rest. rest ≡ [] → word ≡ [])
-
--- a byte more leaves the number of all lines
-pub step_lines : (old new : InputState) (byte : ℕ) (rest : List ℕ)
-    → new.lines ≡ lines_with old.lines old.place.line rest → new.place.line ≡ line_behind old.place.line byte
-    → all_lines new rest ≡ all_lines old (byte ∷ rest)
-step_lines old new byte rest lines line =
-    ap (λ n. lines_through n new.place.line rest) lines
-    ∙ ap (λ n. lines_through (lines_with old.lines old.place.line rest) n rest) line
-
--- one byte was read
-pub took_byte : (old new : InputState) (byte : ℕ) → BeginsWith old.text byte new.text
-    → IfSome new.text (λ rest. new.lines ≡ lines_with old.lines old.place.line rest)
-    → new.place.line ≡ line_behind old.place.line byte → new.bytes + 1 ≡ old.bytes
-    → (new.bytes ≡ 0 → IsAtEnd new.text) → new.fault ≡ None → new.failures ≡ old.failures
-    → Took (λ used. used ≡ byte ∷ []) old new
-took_byte old new byte begins lines line bytes room fault failures = record {
-  text = go old.text new.text begins lines room;
-  bytes = omega (arith, bytes);
-  fault = fault;
-  failures = failures;
-}
-  where
-    go : (x y : Option (List ℕ)) → BeginsWith x byte y
-        → IfSome y (λ rest. new.lines ≡ lines_with old.lines old.place.line rest) → (new.bytes ≡ 0 → IsAtEnd y)
-        → IfSome x (λ text. IsSomeAnd y (λ rest. Uses (λ used. used ≡ byte ∷ []) old new text rest))
-    go None y taken with_rest end = tt
-    go (Some text) None taken with_rest end = absurd taken
-    go (Some text) (Some rest) taken with_rest end = record {
-      used = byte ∷ [];
-      whole = taken;
-      is = refl;
-      bytes = omega (arith, bytes);
-      room = λ some. end;
-      lines = step_lines old new byte rest with_rest line ∙ ap (λ (xs : List ℕ). all_lines old xs) (sym taken);
-    }
 
 abbrev no_word : List ℕ
 no_word = []
@@ -151,7 +113,7 @@ Opens-word old now new so_far more_far byte opens takes no_gap spells =
       spelled = spells opens.word opens.spelled;
       took = took_more old now new opens.word byte (opened new.place (opens.word ++ byte ∷ [])) opens.took takes
           (λ more. opened-word now.place opens.word byte more apart.0 apart.1
-          ∙ ap (λ (place : Place). opened place (opens.word ++ byte ∷ []) more) (sym takes.place));
+          ∙ ap (λ (place : TextPlace). opened place (opens.word ++ byte ∷ []) more) (sym takes.place));
       halves = takes.halves ∙ opens.halves;
       closed = if_some_map (λ rest. rest ≡ [] → byte ≡ 10) (λ rest. rest ≡ [] → opens.word ++ byte ∷ [] ≡ []) new.text
           (λ rest last none. let gap = line_feed_is_gap byte (last none) in
@@ -166,7 +128,7 @@ Passed-ended old now new so_far byte opens takes gap = record {
   took = took_more old now new opens.word byte
       (λ more. ended now.place.line opens.word ++ ended_words new.place more) opens.took takes
       (λ more. opened-gap now.place opens.word byte more gap
-      ∙ ap (λ (place : Place). ended now.place.line opens.word ++ ended_words place more) (sym takes.place));
+      ∙ ap (λ (place : TextPlace). ended now.place.line opens.word ++ ended_words place more) (sym takes.place));
   halves = takes.halves ∙ opens.halves;
 }
 
@@ -221,7 +183,8 @@ EndsWord-gap old now new so_far byte opens takes gap some = record {
   passed = subst (λ (words : List Word). Passed old words new) (ended-some now.place.line opens.word some)
       (Passed-ended old now new so_far byte opens takes gap);
   fewer = let before = opens.bytes in let fewer = takes.fewer in omega (arith, before, fewer);
-  behind = subst (λ (place : Place). now.place.line ≤ place.line) (sym takes.place) (line_grows now.place.line byte);
+  behind =
+      subst (λ (place : TextPlace). now.place.line ≤ place.line) (sym takes.place) (line_grows now.place.line byte);
 }
 
 -- the end
@@ -232,70 +195,6 @@ Passed-end old now so_far opens at_end = record {
       ∙ opened-none now.place more);
   halves = opens.halves;
 }
-
--- what holds of the text and its rest, after a byte was taken
-pub map_taken : (P Q : List ℕ → List ℕ → Type 0) (R : List ℕ → Type 0) (whole rest new : Option (List ℕ)) (byte : ℕ)
-    → ((text more : List ℕ) → P text (byte ∷ more) → R more → Q text more)
-    → IfSome whole (λ text. IsSomeAnd rest (λ more. P text more)) → BeginsWith rest byte new → IfSome new R
-    → IfSome whole (λ text. IsSomeAnd new (λ more. Q text more))
-map_taken P Q R None rest new byte each before taken fact = tt
-map_taken P Q R (Some text) None new byte each before taken fact = absurd before
-map_taken P Q R (Some text) (Some more) None byte each before taken fact = absurd taken
-map_taken P Q R (Some text) (Some more) (Some fewer) byte each before taken fact =
-    each text fewer (subst (λ (x : List ℕ). P text x) taken before) fact
-
--- what holds of the text and its rest, after nothing was taken
-pub map_kept : (P Q : List ℕ → List ℕ → Type 0) (whole rest new : Option (List ℕ))
-    → ((text more : List ℕ) → P text more → Q text more)
-    → IfSome whole (λ text. IsSomeAnd rest (λ more. P text more)) → Keeps rest new
-    → IfSome whole (λ text. IsSomeAnd new (λ more. Q text more))
-map_kept P Q None rest new each before kept = tt
-map_kept P Q (Some text) None new each before kept = absurd before
-map_kept P Q (Some text) (Some more) None each before kept = absurd kept
-map_kept P Q (Some text) (Some more) (Some same) each before kept =
-    each text same (subst (λ (x : List ℕ). P text x) (sym kept) before)
-
--- a read failed behind bytes that were read
-pub fails_to_read : (P Q : List ℕ → Type 0) (old now new : InputState) → Took P old now → FailsToRead now new
-    → ((used : List ℕ) → P used → Q used) → FailsBehind Q old new
-fails_to_read P Q old now new took fails each = (
-  fails.failures ∙ ap one_more took.failures,
-  fails.ahead,
-  map_kept (Uses P old now) (λ text rest. (used : List ℕ) × (text ≡ used ++ rest) × Q used) old.text now.text new.text
-      (λ text more uses. (uses.used, uses.whole, each uses.used uses.is)) took.text fails.text,
-)
-
--- how many bytes were used where one more would be too many
-pub count_used : (most left used : ℕ) (more : List ℕ) → left + used ≡ most → left ≤ 1 → left < length more
-    → (0 < used → left ≡ 0 → more ≡ []) → most - 1 ≡ used
-count_used most zero zero more total few some room = omega arith
-count_used most zero (suc used) more total few some room =
-    let none : length more ≡ 0 = ap length (room (omega arith) refl) in absurd (omega arith)
-count_used most (suc left) used more total few some room = omega arith
-
--- behind bytes that were read, more are left than may be taken
-pub has_too_many : (P Q : List ℕ → Type 0) (old now new : InputState) → Took P old now → HasMoreBytes now new
-    → ((used : List ℕ) → P used → Q used) → OverflowsBehind Q old new
-has_too_many P Q old now new took has_more each = (
-  has_more.failures ∙ took.failures,
-  join_whole (Uses P old now) (λ more. now.bytes < length more)
-      (λ text. (old.bytes < length text) × Q (take (old.bytes - 1) text)) old.text now.text over took.text
-      has_more.text,
-)
-  where
-    over : (text more : List ℕ) → Uses P old now text more → now.bytes < length more
-        → (old.bytes < length text) × Q (take (old.bytes - 1) text)
-    over text more uses longer =
-        let count = count_used old.bytes now.bytes (length uses.used) more uses.bytes has_more.bytes longer
-        uses.room in
-        let whole : length text ≡ length uses.used + length more =
-        ap length uses.whole ∙ length-append uses.used more in
-        let front : take (old.bytes - 1) text ≡ uses.used =
-        ap (λ n. take n text) count ∙ ap (take (length uses.used)) uses.whole
-        ∙ take-append_seam uses.used more in (
-          omega (arith, whole, uses.bytes, longer),
-          subst Q (sym front) (each uses.used uses.is),
-        )
 
 -- within a word or a gap no word has ended
 before_word : (old now : InputState) (word used : List ℕ) → IsOpenBehind old now word used → IsBeforeWord old used

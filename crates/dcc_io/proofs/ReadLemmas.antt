@@ -8,14 +8,14 @@ use Rattle.dcc_packet.specs.declared.fault.PacketFault.TheVariants as faults
 use Rattle.dcc_packet.specs.Words.{Word, words}
 use Rattle.dcc_io.specs.declared.fault.KeptFault.{KeptFault}
 use Rattle.dcc_io.specs.declared.fault.KeptFault.TheVariants.{Number, Line, Read, TooMuch}
-use Rattle.dcc_io.specs.Place.{Place}
+use Rattle.dcc_io.specs.TextPlace.{TextPlace}
 use Rattle.dcc_io.specs.InputState.{InputState}
 use Rattle.dcc_io.specs.Took.{Uses, Stops}
-use Rattle.dcc_io.specs.Lines.{is_good}
-use Rattle.dcc_io.specs.LineRead.{has_line_feed, IsOneLine, EndsLine, IsBadAt}
-use Rattle.dcc_io.specs.LineTaken.{TakesLine, Judges}
+use Rattle.dcc_io.specs.NumberedLines.{is_good}
+use Rattle.dcc_io.specs.Inner.NextLine.{has_line_feed, IsOneLine, EndsLine, IsBadAt}
+use Rattle.dcc_io.specs.Inner.RequiredLine.{TakesLine, Judges}
 use Rattle.dcc_io.specs.TextReader.{Text, Stop, Reader, read_on, ◌>>=◌, done, stop_at, first_line, behind_line}
-use Rattle.dcc_io.specs.TextReader.{judged, line_by}
+use Rattle.dcc_io.specs.TextReader.{line_verdict, line_by}
 use Rattle.dcc_io.specs.TextReader.Stop.{refused, cut, too_many}
 use Rattle.dcc_io.specs.TextRead.{at, answer_of, answer_in, answer_before_failure, GoesOn, Leads, Refuses, Answers}
 use Rattle.dcc_io.proofs.TookLemmas.{if_some_map, if_some_all, map_text, Took-start, Took-map, Took-join, Stops-map}
@@ -177,7 +177,7 @@ behind-goes_on (byte ∷ line) rest one =
 module _ {A : Type 0} (rule : List Word → Result A PacketFault) where
   -- a good line and its line feed are read by its rule, whatever follows
   line-given : (n : ℕ) (line more : List ℕ) → IsOneLine line
-      → line_by rule (record { line = n; bytes = line ++ 10 ∷ more }) ≡ judged n (rule (words line)) more
+      → line_by rule (record { line = n; bytes = line ++ 10 ∷ more }) ≡ line_verdict n (rule (words line)) more
   line-given n line more is_line =
       let first : first_line (line ++ 10 ∷ more) ≡ line =
       first-goes_on line (10 ∷ more) is_line.one ∙ append-nil line in
@@ -237,7 +237,7 @@ module _ {A : Type 0} (rule : List Word → Result A PacketFault) where
   )
   line-missed old new (Number n) h = absurd h
 
-  -- a line that was taken and judged
+  -- a line that was taken and line_verdict
   pub line-judged : ((x : A) → rule (words []) ≡ Ok x → ⊥)
       → (old mid new : InputState) (n : ℕ) (line : List ℕ) (result : Result A KeptFault) → EndsLine old n line mid
       → Judges mid n (rule (words line)) result new → Answers (line_by rule) old result new
@@ -245,7 +245,7 @@ module _ {A : Type 0} (rule : List Word → Result A PacketFault) where
     where
       -- what is said of the line, whatever follows it
       given : (more : List ℕ)
-          → line_by rule (at old ((line ++ 10 ∷ []) ++ more)) ≡ judged old.place.line (rule (words line)) more
+          → line_by rule (at old ((line ++ 10 ∷ []) ++ more)) ≡ line_verdict old.place.line (rule (words line)) more
       given more =
           ap (λ (bytes : List ℕ). line_by rule (at old bytes)) (append_assoc line (10 ∷ []) more)
           ∙ line-given old.place.line line more ends.is_line
@@ -259,8 +259,8 @@ module _ {A : Type 0} (rule : List Word → Result A PacketFault) where
       leads x is used (used_is, last) = record {
         goes_on =
             λ more. ap (λ (bytes : List ℕ). line_by rule (at old (bytes ++ more))) used_is ∙ given more
-            ∙ ap (λ read. judged old.place.line read more) is
-            ∙ ap (λ (place : Place). Ok (x, record { line = place.line; bytes = more })) (sym ends.next);
+            ∙ ap (λ read. line_verdict old.place.line read more) is
+            ∙ ap (λ (place : TextPlace). Ok (x, record { line = place.line; bytes = more })) (sym ends.next);
         last = λ some. last (some_bytes x line is);
         still = λ none.
             let lengths = ap length used_is ∙ length-append line (10 ∷ []) in absurd (omega (arith, none, lengths));
@@ -273,14 +273,14 @@ module _ {A : Type 0} (rule : List Word → Result A PacketFault) where
           within_limit-used old mid (λ bytes last. answer_of last (line_by rule (at old bytes)))
           (λ bytes last. Err (Line old.place.line why)) text rest uses
           (λ more last. ap (λ (bytes : List ℕ). answer_of last (line_by rule (at old (bytes ++ more)))) uses.is.0
-          ∙ ap (answer_of last) (given more ∙ ap (λ read. judged old.place.line read more) is))
+          ∙ ap (answer_of last) (given more ∙ ap (λ read. line_verdict old.place.line read more) is))
           ∙ same_cond (nat_le (length rest) mid.bytes) (Err (Line old.place.line why))
 
       go : (read : Result A PacketFault) → rule (words line) ≡ read → Judges mid n read result new
           → Answers (line_by rule) old result new
       go (Ok x) is h = rw (h.0, h.1) record {
         took = Took-map (took_line old mid n line ends) (leads x is);
-        in_comment = ap (λ (place : Place). place.in_comment) ends.next;
+        in_comment = ap (λ (place : TextPlace). place.in_comment) ends.next;
         halves = ends.halves;
       }
       go (Err why) is h =
@@ -294,7 +294,7 @@ module _ {A : Type 0} (rule : List Word → Result A PacketFault) where
             refl,
           )
 
--- what every value of a rule is, a judged one is
+-- what every value of a rule is, a line_verdict one is
 pub judged-sound : {A : Type 0} (P : A → Type 0) (old new : InputState) (n : ℕ) (read : Result A PacketFault)
     (result : Result A KeptFault) → Judges old n read result new → IfOk read P → IfOk result P
 judged-sound P old new n (Ok x) result judges sound = rw judges.0 sound

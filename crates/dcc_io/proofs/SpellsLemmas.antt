@@ -11,7 +11,7 @@ use Rattle.std.specs.Option.{option_map}
 use Rattle.dcc_io.specs.declared.digits.Digits.{Digits}
 use Rattle.dcc_io.specs.Words.{is_dash, is_mark, before_star, behind_star}
 use Rattle.dcc_io.specs.declared.word.RunWord.{RunWord}
-use Rattle.dcc_io.specs.Spells.{AreDigits, AreSomeDigits, Spells}
+use Rattle.dcc_io.specs.SpelledWords.{AreDigits, AreSomeDigits, Spells}
 
 pub digit_value-digit : (byte : ℕ) → 48 ≤ byte → byte ≤ 57 → digit_value byte ≡ byte - 48
 digit_value-digit byte low high = grind (arith, nat_tests)

@@ -1,15 +1,17 @@
 -- Bytes that were read of an input, one step after the other.
-use Rattle.std.proofs.Common.{zero, suc, ◌≡◌, ℕ, ◌+◌, ◌-◌, ◌<◌, List, [], ◌∷◌, ◌++◌, length, take, Bool, true, false}
-use Rattle.std.proofs.Common.{nat_le, Option, None, Some, refl, sym, ap, ◌∙◌, subst, arith, append_assoc}
+use Rattle.std.proofs.Common.{zero, suc, ◌≡◌, ℕ, ◌+◌, ◌-◌, ◌<◌, ◌≤◌, List, [], ◌∷◌, ◌++◌, length, take, Bool, true}
+use Rattle.std.proofs.Common.{false, nat_le, Option, None, Some, refl, sym, ap, ◌∙◌, subst, arith, append_assoc}
 use Rattle.std.proofs.Common.{length-append, cond, IfSome, IsSomeAnd}
-use Rattle.std.proofs.Math.Seq.{take-append-add}
+use Rattle.std.proofs.Math.Seq.{take-append-add, take-append_seam}
 use Rattle.std.proofs.lemmas.List.{append-nil}
 use Rattle.std.proofs.lemmas.Bool.Decides.{nat_tests}
+use Rattle.std.specs.Io.KnownBytes.{Keeps}
 use Rattle.dcc_io.specs.declared.fault.KeptFault.{KeptFault}
 use Rattle.dcc_io.specs.declared.fault.KeptFault.TheVariants.{Number, Line, Read, TooMuch}
+use Rattle.dcc_io.specs.TextPlace.{line_behind, lines_with, lines_through}
 use Rattle.dcc_io.specs.Failures.{one_more}
-use Rattle.dcc_io.specs.Told.{IsAtEnd}
-use Rattle.dcc_io.specs.InputState.{InputState}
+use Rattle.dcc_io.specs.ReaderState.{BeginsWith, IsAtEnd}
+use Rattle.dcc_io.specs.InputState.{InputState, all_lines, FailsToRead, HasMoreBytes}
 use Rattle.dcc_io.specs.Took.{Uses, Took, within_limit, FailsBehind, OverflowsBehind, Stops}
 
 -- a fact of the text, in other words
@@ -57,6 +59,28 @@ pub join_whole : (P : List ℕ → List ℕ → Type 0) (Q R : List ℕ → Type
 join_whole P Q R None mid each before behind = tt
 join_whole P Q R (Some text) None each before behind = absurd before
 join_whole P Q R (Some text) (Some between) each before behind = each text between before behind
+
+-- what holds of the text and its rest, after a byte was taken
+pub map_taken : (P Q : List ℕ → List ℕ → Type 0) (R : List ℕ → Type 0) (whole rest new : Option (List ℕ)) (byte : ℕ)
+    → ((text more : List ℕ) → P text (byte ∷ more) → R more → Q text more)
+    → IfSome whole (λ text. IsSomeAnd rest (λ more. P text more)) → BeginsWith rest byte new → IfSome new R
+    → IfSome whole (λ text. IsSomeAnd new (λ more. Q text more))
+map_taken P Q R None rest new byte each before taken fact = tt
+map_taken P Q R (Some text) None new byte each before taken fact = absurd before
+map_taken P Q R (Some text) (Some more) None byte each before taken fact = absurd taken
+map_taken P Q R (Some text) (Some more) (Some fewer) byte each before taken fact =
+    each text fewer (subst (λ (x : List ℕ). P text x) taken before) fact
+
+-- what holds of the text and its rest, after nothing was taken
+map_kept : (P Q : List ℕ → List ℕ → Type 0) (whole rest new : Option (List ℕ))
+    → ((text more : List ℕ) → P text more → Q text more)
+    → IfSome whole (λ text. IsSomeAnd rest (λ more. P text more)) → Keeps rest new
+    → IfSome whole (λ text. IsSomeAnd new (λ more. Q text more))
+map_kept P Q None rest new each before kept = tt
+map_kept P Q (Some text) None new each before kept = absurd before
+map_kept P Q (Some text) (Some more) None each before kept = absurd kept
+map_kept P Q (Some text) (Some more) (Some same) each before kept =
+    each text same (subst (λ (x : List ℕ). P text x) (sym kept) before)
 
 count_more : (most left used : ℕ) (rest : List ℕ) → left + used ≡ most → left < length rest
     → (0 < used → left ≡ 0 → rest ≡ []) → most - 1 ≡ used + (left - 1)
@@ -160,6 +184,83 @@ Took-closed {P = P} {Q = Q} {old = old} {new = new} K took closed at_end each = 
       room = uses.room;
       lines = uses.lines;
     }
+
+-- a byte more leaves the number of all lines
+step_lines : (old new : InputState) (byte : ℕ) (rest : List ℕ)
+    → new.lines ≡ lines_with old.lines old.place.line rest → new.place.line ≡ line_behind old.place.line byte
+    → all_lines new rest ≡ all_lines old (byte ∷ rest)
+step_lines old new byte rest lines line =
+    ap (λ n. lines_through n new.place.line rest) lines
+    ∙ ap (λ n. lines_through (lines_with old.lines old.place.line rest) n rest) line
+
+-- one byte was read
+pub took_byte : (old new : InputState) (byte : ℕ) → BeginsWith old.text byte new.text
+    → IfSome new.text (λ rest. new.lines ≡ lines_with old.lines old.place.line rest)
+    → new.place.line ≡ line_behind old.place.line byte → new.bytes + 1 ≡ old.bytes
+    → (new.bytes ≡ 0 → IsAtEnd new.text) → new.fault ≡ None → new.failures ≡ old.failures
+    → Took (λ used. used ≡ byte ∷ []) old new
+took_byte old new byte begins lines line bytes room fault failures = record {
+  text = go old.text new.text begins lines room;
+  bytes = omega (arith, bytes);
+  fault = fault;
+  failures = failures;
+}
+  where
+    go : (x y : Option (List ℕ)) → BeginsWith x byte y
+        → IfSome y (λ rest. new.lines ≡ lines_with old.lines old.place.line rest) → (new.bytes ≡ 0 → IsAtEnd y)
+        → IfSome x (λ text. IsSomeAnd y (λ rest. Uses (λ used. used ≡ byte ∷ []) old new text rest))
+    go None y taken with_rest end = tt
+    go (Some text) None taken with_rest end = absurd taken
+    go (Some text) (Some rest) taken with_rest end = record {
+      used = byte ∷ [];
+      whole = taken;
+      is = refl;
+      bytes = omega (arith, bytes);
+      room = λ some. end;
+      lines = step_lines old new byte rest with_rest line ∙ ap (λ (xs : List ℕ). all_lines old xs) (sym taken);
+    }
+
+-- a read failed behind bytes that were read
+pub fails_to_read : (P Q : List ℕ → Type 0) (old now new : InputState) → Took P old now → FailsToRead now new
+    → ((used : List ℕ) → P used → Q used) → FailsBehind Q old new
+fails_to_read P Q old now new took fails each = (
+  fails.failures ∙ ap one_more took.failures,
+  fails.ahead,
+  map_kept (Uses P old now) (λ text rest. (used : List ℕ) × (text ≡ used ++ rest) × Q used) old.text now.text new.text
+      (λ text more uses. (uses.used, uses.whole, each uses.used uses.is)) took.text fails.text,
+)
+
+-- how many bytes were used where one more would be too many
+count_used : (most left used : ℕ) (more : List ℕ) → left + used ≡ most → left ≤ 1 → left < length more
+    → (0 < used → left ≡ 0 → more ≡ []) → most - 1 ≡ used
+count_used most zero zero more total few some room = omega arith
+count_used most zero (suc used) more total few some room =
+    let none : length more ≡ 0 = ap length (room (omega arith) refl) in absurd (omega arith)
+count_used most (suc left) used more total few some room = omega arith
+
+-- behind bytes that were read, more are left than may be taken
+pub has_too_many : (P Q : List ℕ → Type 0) (old now new : InputState) → Took P old now → HasMoreBytes now new
+    → ((used : List ℕ) → P used → Q used) → OverflowsBehind Q old new
+has_too_many P Q old now new took has_more each = (
+  has_more.failures ∙ took.failures,
+  join_whole (Uses P old now) (λ more. now.bytes < length more)
+      (λ text. (old.bytes < length text) × Q (take (old.bytes - 1) text)) old.text now.text over took.text
+      has_more.text,
+)
+  where
+    over : (text more : List ℕ) → Uses P old now text more → now.bytes < length more
+        → (old.bytes < length text) × Q (take (old.bytes - 1) text)
+    over text more uses longer =
+        let count = count_used old.bytes now.bytes (length uses.used) more uses.bytes has_more.bytes longer
+        uses.room in
+        let whole : length text ≡ length uses.used + length more =
+        ap length uses.whole ∙ length-append uses.used more in
+        let front : take (old.bytes - 1) text ≡ uses.used =
+        ap (λ n. take n text) count ∙ ap (take (length uses.used)) uses.whole
+        ∙ take-append_seam uses.used more in (
+          omega (arith, whole, uses.bytes, longer),
+          subst Q (sym front) (each uses.used uses.is),
+        )
 
 room_of : (p q y z : List ℕ) (bytes left : ℕ) → y ≡ q ++ z → left + length q ≡ bytes
     → (0 < length p → bytes ≡ 0 → y ≡ []) → (0 < length q → left ≡ 0 → z ≡ [])

@@ -2,12 +2,12 @@
 use Rattle.std.proofs.Common.{◌≡◌, ℕ, ◌+◌, List, [], ◌∷◌, ◌++◌, Bool, true, false, cond, filter, refl, sym, ap}
 use Rattle.std.proofs.Common.{append_assoc, eqb, ◌||◌}
 use Rattle.std.proofs.lemmas.List.{append-nil}
-use Rattle.dcc_io.specs.Place.{Place, line_behind}
-use Rattle.dcc_io.specs.Words.{Word, is_gap, comments, uncommented, onto_first, pieces, but_last, has_bytes}
+use Rattle.dcc_io.specs.TextPlace.{TextPlace, line_behind}
+use Rattle.dcc_io.specs.Words.{Word, is_gap, comments, without_comments, onto_first, pieces, but_last, has_bytes}
 use Rattle.dcc_io.specs.Words.{ended_words}
 
 -- the place behind a byte
-abbrev pub behind : Place → ℕ → Place
+abbrev pub behind : TextPlace → ℕ → TextPlace
 behind place byte = record { line = line_behind place.line byte; in_comment = comments place.in_comment byte }
 
 abbrev pub onto_front : List ℕ → List Word → List Word
@@ -15,9 +15,9 @@ onto_front front [] = []
 onto_front front (word ∷ words) = record { line = word.line; bytes = front ++ word.bytes } ∷ words
 
 -- the ended words of a text that goes on a word
-abbrev pub opened : Place → List ℕ → List ℕ → List Word
+abbrev pub opened : TextPlace → List ℕ → List ℕ → List Word
 opened place front text =
-    filter has_bytes (but_last (onto_front front (pieces place.line (uncommented place.in_comment text))))
+    filter has_bytes (but_last (onto_front front (pieces place.line (without_comments place.in_comment text))))
 
 -- a word that has ended, unless it is empty
 abbrev pub ended : ℕ → List ℕ → List Word
@@ -34,10 +34,10 @@ onto_front-onto_first front byte [] = refl
 onto_front-onto_first front byte (word ∷ words) =
     ap (λ bytes. record { line = word.line; bytes = bytes } ∷ words) (sym (append_assoc front (byte ∷ []) word.bytes))
 
-pub opened-none : (place : Place) (text : List ℕ) → opened place [] text ≡ ended_words place text
+pub opened-none : (place : TextPlace) (text : List ℕ) → opened place [] text ≡ ended_words place text
 opened-none place text =
     ap (λ words. filter has_bytes (but_last words))
-    (onto_front-none (pieces place.line (uncommented place.in_comment text)))
+    (onto_front-none (pieces place.line (without_comments place.in_comment text)))
 
 last_false : (a b c d : Bool) → (a || (b || (c || d))) ≡ false → d ≡ false
 last_false false false false d none = none
@@ -58,13 +58,14 @@ comment_line in_comment byte line comment = go (eqb byte 10) comment
     go false h = refl
 
 -- a byte of a word
-pub opened-word : (place : Place) (front : List ℕ) (byte : ℕ) (text : List ℕ) → comments place.in_comment byte ≡ false
+pub opened-word : (place : TextPlace) (front : List ℕ) (byte : ℕ) (text : List ℕ)
+    → comments place.in_comment byte ≡ false
     → is_gap byte ≡ false
     → opened place front (byte ∷ text) ≡ opened (behind place byte) (front ++ byte ∷ []) text
 opened-word place front byte text no_comment no_gap =
     rw (no_comment, no_gap, eqb_line_feed byte no_gap)
     (ap (λ words. filter has_bytes (but_last words))
-    (onto_front-onto_first front byte (pieces place.line (uncommented false text))))
+    (onto_front-onto_first front byte (pieces place.line (without_comments false text))))
 
 some_pieces : (line : ℕ) (text : List ℕ) → (word : Word) × ((words : List Word) × (pieces line text ≡ word ∷ words))
 some_pieces line [] = (record { line = line; bytes = [] }, ([], refl))
@@ -97,14 +98,14 @@ shown_gap true byte h = refl
 shown_gap false byte h = h
 
 -- a gap, or a byte of a comment
-pub opened-gap : (place : Place) (front : List ℕ) (byte : ℕ) (text : List ℕ)
+pub opened-gap : (place : TextPlace) (front : List ℕ) (byte : ℕ) (text : List ℕ)
     → (comments place.in_comment byte || is_gap byte) ≡ true
     → opened place front (byte ∷ text) ≡ ended place.line front ++ ended_words (behind place byte) text
 opened-gap place front byte text gap =
     let shown = shown_gap (comments place.in_comment byte) byte gap in
     let line = line_of (comments place.in_comment byte) refl in
     rw (shown, line)
-    (closes place.line front (line_behind place.line byte) (uncommented (comments place.in_comment byte) text))
+    (closes place.line front (line_behind place.line byte) (without_comments (comments place.in_comment byte) text))
   where
     line_of : (c : Bool) → comments place.in_comment byte ≡ c
         → line_behind place.line (cond c 32 byte) ≡ line_behind place.line byte

@@ -7,32 +7,47 @@ use Rattle.std.proofs.Math.Seq.{take-append-add}
 use Rattle.std.proofs.lemmas.Bool.Decides.{nat_tests}
 use Rattle.std.specs.Io.KnownBytes.{Appends, Keeps}
 use Rattle.dcc_io.specs.Failures.{one_more, moves_on, HasRisen}
-use Rattle.dcc_io.specs.Written.{AppendsFront}
+use Rattle.dcc_io.specs.WriterState.{WriterState}
+use Rattle.dcc_io.specs.WrittenBytes.{AppendsFront}
 
-pub Appends-none : (before : Option (List ℕ)) → Appends before before []
-Appends-none None = tt
-Appends-none (Some xs) = sym (append-nil xs)
+pub Appends-none : (before : WriterState) → Appends before.contents before.contents []
+Appends-none before = go before.contents
+  where
+    go : (before : Option (List ℕ)) → Appends before before []
+    go None = tt
+    go (Some xs) = sym (append-nil xs)
 
-pub Appends-append : (before mid after : Option (List ℕ)) (xs ys : List ℕ) → Appends before mid xs
-    → Appends mid after ys → Appends before after (xs ++ ys)
-Appends-append None mid after xs ys first second = tt
-Appends-append (Some bs) None after xs ys first second = absurd first
-Appends-append (Some bs) (Some cs) None xs ys first second = absurd second
-Appends-append (Some bs) (Some cs) (Some ds) xs ys first second =
+added : (before mid after : Option (List ℕ)) (xs ys : List ℕ) → Appends before mid xs → Appends mid after ys
+    → Appends before after (xs ++ ys)
+added None mid after xs ys first second = tt
+added (Some bs) None after xs ys first second = absurd first
+added (Some bs) (Some cs) None xs ys first second = absurd second
+added (Some bs) (Some cs) (Some ds) xs ys first second =
     second ∙ ap (λ (zs : List ℕ). zs ++ ys) first ∙ append_assoc bs xs ys
 
-pub Appends-keeps : (before mid after : Option (List ℕ)) (xs : List ℕ) → Appends before mid xs → Keeps mid after
+pub Appends-append : (before mid after : WriterState) (xs ys : List ℕ) → Appends before.contents mid.contents xs
+    → Appends mid.contents after.contents ys → Appends before.contents after.contents (xs ++ ys)
+Appends-append before mid after xs ys first second =
+    added before.contents mid.contents after.contents xs ys first second
+
+kept : (before mid after : Option (List ℕ)) (xs : List ℕ) → Appends before mid xs → Keeps mid after
     → Appends before after xs
-Appends-keeps None mid after xs first second = tt
-Appends-keeps (Some bs) None after xs first second = absurd first
-Appends-keeps (Some bs) (Some cs) None xs first second = absurd second
-Appends-keeps (Some bs) (Some cs) (Some ds) xs first second = second ∙ first
+kept None mid after xs first second = tt
+kept (Some bs) None after xs first second = absurd first
+kept (Some bs) (Some cs) None xs first second = absurd second
+kept (Some bs) (Some cs) (Some ds) xs first second = second ∙ first
+
+pub Appends-keeps : (before mid after : WriterState) (xs : List ℕ) → Appends before.contents mid.contents xs
+    → Keeps mid.contents after.contents → Appends before.contents after.contents xs
+Appends-keeps before mid after xs first second =
+    kept before.contents mid.contents after.contents xs first second
 
 pub HasRisen-one_more : (n : ℕ) → HasRisen n (one_more n)
 HasRisen-one_more n = λ below. grind (arith, nat_tests)
 
-pub stops_writing : (before mid after : Option (List ℕ)) (bytes : List ℕ) (done : ℕ)
-    → Appends before mid (take done bytes) → Keeps mid after → AppendsFront before after bytes
+pub stops_writing : (before mid after : WriterState) (bytes : List ℕ) (done : ℕ)
+    → Appends before.contents mid.contents (take done bytes) → Keeps mid.contents after.contents
+    → AppendsFront before after bytes
 stops_writing before mid after bytes done first kept = record {
   front = take done bytes;
   rest = drop done bytes;
@@ -71,29 +86,31 @@ pub some_left : (bytes : List ℕ) (done : ℕ) → done < length bytes
     → 0 < length (take (length bytes - done) (drop done bytes))
 some_left bytes done more = simp (length-take, length-drop) (omega arith)
 
-pub goes_on_writing : (before mid after : Option (List ℕ)) (bytes : List ℕ) (done count : ℕ) → done ≤ length bytes
+pub goes_on_writing : (before mid after : WriterState) (bytes : List ℕ) (done count : ℕ) → done ≤ length bytes
     → count ≤ length (take (length bytes - done) (drop done bytes))
-    → Appends before mid (take done bytes)
-    → Appends mid after (take count (take (length bytes - done) (drop done bytes)))
-    → Appends before after (take (done + count) bytes)
+    → Appends before.contents mid.contents (take done bytes)
+    → Appends mid.contents after.contents (take count (take (length bytes - done) (drop done bytes)))
+    → Appends before.contents after.contents (take (done + count) bytes)
 goes_on_writing before mid after bytes done count within fits first second =
-    subst (λ (front : List ℕ). Appends before after front) (sym (next_taken bytes done count within fits))
+    subst (λ (front : List ℕ). Appends before.contents after.contents front)
+    (sym (next_taken bytes done count within fits))
     (Appends-append before mid after _ _ first second)
 
 -- a write that took no byte
-pub stops_at_none : (before mid after : Option (List ℕ)) (bytes : List ℕ) (done : ℕ)
-    → Appends before mid (take done bytes) → Appends mid after [] → AppendsFront before after bytes
+pub stops_at_none : (before mid after : WriterState) (bytes : List ℕ) (done : ℕ)
+    → Appends before.contents mid.contents (take done bytes) → Appends mid.contents after.contents []
+    → AppendsFront before after bytes
 stops_at_none before mid after bytes done first none = record {
   front = take done bytes;
   rest = drop done bytes;
   whole = sym (take-append-drop done bytes);
   written =
-      subst (λ (front : List ℕ). Appends before after front) (append-nil (take done bytes))
+      subst (λ (front : List ℕ). Appends before.contents after.contents front) (append-nil (take done bytes))
       (Appends-append before mid after (take done bytes) [] first none);
 }
 
 -- what was written, and a front of what comes
-pub front_behind : (before mid after : Option (List ℕ)) (bytes more : List ℕ) → Appends before mid bytes
+pub front_behind : (before mid after : WriterState) (bytes more : List ℕ) → Appends before.contents mid.contents bytes
     → AppendsFront mid after more → AppendsFront before after (bytes ++ more)
 front_behind before mid after bytes more first second = record {
   front = bytes ++ second.front;
@@ -103,7 +120,7 @@ front_behind before mid after bytes more first second = record {
 }
 
 -- a front of these bytes is one of more bytes too
-pub AppendsFront-more : (before after : Option (List ℕ)) (bytes more : List ℕ) → AppendsFront before after bytes
+pub AppendsFront-more : (before after : WriterState) (bytes more : List ℕ) → AppendsFront before after bytes
     → AppendsFront before after (bytes ++ more)
 AppendsFront-more before after bytes more front = record {
   front = front.front;

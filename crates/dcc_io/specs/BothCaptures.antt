@@ -18,8 +18,8 @@ pub record Both : Type 0 where
   pub fault : Option KeptFault
 
 -- nothing comes before this fault
-abbrev pub stopped : KeptFault → Both
-stopped fault = record { first = []; second = []; fault = Some fault }
+abbrev pub fault_alone : KeptFault → Both
+fault_alone fault = record { first = []; second = []; fault = Some fault }
 
 -- more halves in front of the first capture
 abbrev pub in_front : List ℕ → Both → Both
@@ -37,24 +37,24 @@ has_more_words line (word ∷ words) = word.line == line
 -- what comes behind the word `---` that begins this line
 abbrev pub behind_mark : ℕ → ℕ → List Word → Option KeptFault → Both
 behind_mark line most words last =
-    if has_more_words line words then stopped (Number line) else only_second (halves_of most words last)
+    if has_more_words line words then fault_alone (Number line) else only_second (halves_of most words last)
 
 -- a run of the first capture, where at most so many halves may be taken, and what comes behind it where so many are
 -- left
 abbrev pub counted_first : ℕ → Run → (ℕ → Both) → Both
 counted_first most run rest =
-    if nat_le run.n most then in_front (replicate run.n run.us) (rest (most - run.n)) else stopped TooMuch
+    if nat_le run.n most then in_front (replicate run.n run.us) (rest (most - run.n)) else fault_alone TooMuch
 
 -- a word of the first capture on this line that spells a run, or does not, and what comes behind it
 abbrev pub spelled_first : ℕ → ℕ → Option Run → (ℕ → Both) → Both
-spelled_first most line None rest = stopped (Number line)
+spelled_first most line None rest = fault_alone (Number line)
 spelled_first most line (Some run) rest = counted_first most run rest
 
 -- Both captures in these words, where at most so many halves may be taken. The word before them stands on the line
 -- `before`, 0 where there is none. Behind the last word comes this fault, or else the end: what lacks the line `---`
 -- there lacks it on the line `end`.
 abbrev pub both_of : ℕ → ℕ → ℕ → List Word → Option KeptFault → Both
-both_of before most end [] last = stopped (cut_by end last)
+both_of before most end [] last = fault_alone (cut_by end last)
 both_of before most end (word ∷ words) last =
     if is_mark word.bytes && not (word.line == before) then behind_mark word.line most words last
     else spelled_first most word.line (run_of word.bytes) (λ left. both_of word.line left end words last)

@@ -4,20 +4,20 @@ use Rattle.std.specs.Prelude.{length, replicate, IfSome, if◌then◌else◌}
 use Rattle.dcc_io.specs.declared.fault.KeptFault.{KeptFault}
 use Rattle.dcc_io.specs.declared.fault.KeptFault.TheVariants.{Number, Line, TooMuch}
 use Rattle.dcc_io.specs.declared.word.Run.{Run}
-use Rattle.dcc_io.specs.Told.{IsAtEnd}
+use Rattle.dcc_io.specs.ReaderState.{IsAtEnd}
 use Rattle.dcc_io.specs.InputState.{InputState}
-use Rattle.dcc_io.specs.Items.{Items, Reading, in_text, before_failure, preceded, only_fault, Gave, StopsAt}
+use Rattle.dcc_io.specs.Items.{Items, Reading, in_text, before_failure, items_behind, only_fault, Gave, StopsAt}
 use Rattle.dcc_io.specs.Words.{Word, ended_words, run_of}
 
 -- a run, where at most so many halves may be taken, and what comes behind it where so many are left
-abbrev pub counted : ℕ → Run → (ℕ → Items ℕ) → Items ℕ
-counted most run rest =
-    if nat_le run.n most then preceded (replicate run.n run.us) (rest (most - run.n)) else only_fault (Some TooMuch)
+abbrev pub run_within : ℕ → Run → (ℕ → Items ℕ) → Items ℕ
+run_within most run rest =
+    if nat_le run.n most then items_behind (replicate run.n run.us) (rest (most - run.n)) else only_fault (Some TooMuch)
 
 -- a word on this line that spells a run, or does not, and what comes behind it
 abbrev pub behind_word : ℕ → ℕ → Option Run → (ℕ → Items ℕ) → Items ℕ
 behind_word most line None rest = only_fault (Some (Number line))
-behind_word most line (Some run) rest = counted most run rest
+behind_word most line (Some run) rest = run_within most run rest
 
 -- the halves of these words, where at most so many may be taken, and the fault behind the last word
 abbrev pub halves_of : ℕ → List Word → Option KeptFault → Items ℕ
@@ -48,7 +48,7 @@ AnswersRun old (Ok None) new =
 AnswersRun old (Err (Line line fault)) new = ⊥
 AnswersRun old (Err fault) new = StopsAt captures old fault new × (new.fault ≡ Some fault)
 
--- a run is counted, unless fewer halves may be taken
+-- a run is run_within, unless fewer halves may be taken
 abbrev pub CountsRun : InputState → Run → Result (Option Run) KeptFault → InputState → Type 0
 CountsRun old run (Ok (Some taken)) new =
     (taken ≡ run) × (run.n ≤ old.halves) × (new ≡ record old { halves = old.halves - run.n })

@@ -10,7 +10,7 @@ use Rattle.dcc_packet.specs.declared.fault.PacketFault.TheVariants as faults
 use Rattle.dcc_packet.specs.Words.{Word, is_word}
 use Rattle.dcc_packet.specs.LineWords.{◌>>=◌, small_number, address, direction, cv_number, bit_state, board_number}
 use Rattle.dcc_packet.specs.LineWords.{output_number, hex_frame}
-use Rattle.dcc_packet.specs.Line.{taken, ended}
+use Rattle.dcc_packet.specs.Line.{word_and_rest, no_more_words}
 use Rattle.dcc_regs.specs.declared.register.Who.TheVariants as who
 use Rattle.dcc_regs.specs.declared.register.Speed.{Speed}
 use Rattle.dcc_regs.specs.declared.register.Speed.TheVariants as speeds
@@ -40,9 +40,9 @@ version_number word =
 -- dcc-decoders VERSION
 unfoldable pub version_line : List Word → Result Version PacketFault
 version_line line = do
-  key ← taken (keyword (codes "dcc-decoders")) line
-  version ← taken version_number key.1
-  end ← ended version.1
+  key ← word_and_rest (keyword (codes "dcc-decoders")) line
+  version ← word_and_rest version_number key.1
+  end ← no_more_words version.1
   Ok version.0
 
 abbrev pub some_address : Word → Result (Option Address) PacketFault
@@ -65,19 +65,19 @@ own_board word = do
 
 abbrev pub loco_head : List Word → Result Head PacketFault
 loco_head rest = do
-  address ← taken own_address rest
-  end ← ended address.1
+  address ← word_and_rest own_address rest
+  end ← no_more_words address.1
   Ok (heads.Decoder (who.Loco address.0))
 
 abbrev pub board_head : List Word → Result Head PacketFault
 board_head rest = do
-  board ← taken own_board rest
-  end ← ended board.1
+  board ← word_and_rest own_board rest
+  end ← no_more_words board.1
   Ok (heads.Decoder (who.Board board.0))
 
 abbrev pub end_head : List Word → Result Head PacketFault
 end_head rest = do
-  end ← ended rest
+  end ← no_more_words rest
   Ok heads.End
 
 abbrev pub head_after : Word → List Word → Result Head PacketFault
@@ -98,18 +98,18 @@ step_up_to last word = do
   n ← small_number word
   if nat_lt n 1 then Err faults.State else if nat_lt last n then Err faults.State else Ok n
 
-abbrev pub stepped : (ℕ → Speed) → ℕ → List Word → Result (Speed × List Word) PacketFault
-stepped step last rest = do
-  n ← taken (step_up_to last) rest
+abbrev pub speed_step : (ℕ → Speed) → ℕ → List Word → Result (Speed × List Word) PacketFault
+speed_step step last rest = do
+  n ← word_and_rest (step_up_to last) rest
   Ok (step n.0, n.1)
 
 abbrev pub speed_after : Word → List Word → Result (Speed × List Word) PacketFault
 speed_after word rest =
     if is_word word (codes "stop") then Ok (speeds.Stop, rest)
     else if is_word word (codes "emergency") then Ok (speeds.Emergency, rest)
-    else if is_word word (codes "14") then stepped (λ n. speeds.Step14 n) 14 rest
-    else if is_word word (codes "28") then stepped (λ n. speeds.Step28 n) 28 rest
-    else if is_word word (codes "126") then stepped (λ n. speeds.Step126 n) 126 rest
+    else if is_word word (codes "14") then speed_step (λ n. speeds.Step14 n) 14 rest
+    else if is_word word (codes "28") then speed_step (λ n. speeds.Step28 n) 28 rest
+    else if is_word word (codes "126") then speed_step (λ n. speeds.Step126 n) 126 rest
     else Err faults.Word
 
 -- stop, emergency, 14 STEP, 28 STEP or 126 STEP, and the words after it
@@ -120,10 +120,10 @@ speed_of (word ∷ rest) = speed_after word rest
 -- speed SPEED f|r
 unfoldable pub speed_line : List Word → Result (Speed × Bool) PacketFault
 speed_line line = do
-  key ← taken (keyword (codes "speed")) line
+  key ← word_and_rest (keyword (codes "speed")) line
   speed ← speed_of key.1
-  forward ← taken direction speed.1
-  end ← ended forward.1
+  forward ← word_and_rest direction speed.1
+  end ← no_more_words forward.1
   Ok (speed.0, forward.0)
 
 -- a function of a locomotive decoder, 0 to 68
@@ -144,7 +144,7 @@ functions_from least (word ∷ rest) = do
 -- on FUNCTION ..
 unfoldable pub functions_line : List Word → Result ℕ PacketFault
 functions_line line = do
-  key ← taken (keyword (codes "on")) line
+  key ← word_and_rest (keyword (codes "on")) line
   functions_from 0 key.1
 
 -- a binary state of a locomotive decoder, 1 to 127
@@ -165,7 +165,7 @@ states_from least (word ∷ rest) = do
 -- states STATE ..
 unfoldable pub states_line : List Word → Result ℕ PacketFault
 states_line line = do
-  key ← taken (keyword (codes "states")) line
+  key ← word_and_rest (keyword (codes "states")) line
   states_from 0 key.1
 
 abbrev pub framed_write : Option Address → Word → Result (Option Packet) PacketFault
@@ -181,18 +181,18 @@ pending_word active word = if is_word word (codes "none") then Ok None else fram
 -- pending PACKET
 unfoldable pub pending_line : Option Address → List Word → Result (Option Packet) PacketFault
 pending_line active line = do
-  key ← taken (keyword (codes "pending")) line
-  packet ← taken (pending_word active) key.1
-  end ← ended packet.1
+  key ← word_and_rest (keyword (codes "pending")) line
+  packet ← word_and_rest (pending_word active) key.1
+  end ← no_more_words packet.1
   Ok packet.0
 
 -- CV VALUE, the CV not below this one
 abbrev pub cv_words : ℕ → List Word → Result LocoLine PacketFault
 cv_words least rest = do
-  cv ← taken cv_number rest
+  cv ← word_and_rest cv_number rest
   ordered ← in_order least cv.0.number
-  value ← taken small_number cv.1
-  end ← ended value.1
+  value ← word_and_rest small_number cv.1
+  end ← no_more_words value.1
   Ok (behind.Cv cv.0 value.0)
 
 abbrev pub head_behind : Word → List Word → Result LocoLine PacketFault
@@ -220,27 +220,27 @@ outs_from least (word ∷ rest) = do
 -- out OUTPUT ..
 unfoldable pub outs_line : List Word → Result ℕ PacketFault
 outs_line line = do
-  key ← taken (keyword (codes "out")) line
+  key ← word_and_rest (keyword (codes "out")) line
   outs_from 0 key.1
 
 -- position SIDE SIDE SIDE SIDE
 unfoldable pub positions_line : List Word → Result (List Bool) PacketFault
 positions_line line = do
-  key ← taken (keyword (codes "position")) line
-  first ← taken bit_state key.1
-  second ← taken bit_state first.1
-  third ← taken bit_state second.1
-  fourth ← taken bit_state third.1
-  end ← ended fourth.1
+  key ← word_and_rest (keyword (codes "position")) line
+  first ← word_and_rest bit_state key.1
+  second ← word_and_rest bit_state first.1
+  third ← word_and_rest bit_state second.1
+  fourth ← word_and_rest bit_state third.1
+  end ← no_more_words fourth.1
   Ok (first.0 ∷ second.0 ∷ third.0 ∷ fourth.0 ∷ [])
 
 -- aspect ASPECT ASPECT ASPECT ASPECT
 unfoldable pub aspects_line : List Word → Result (List ℕ) PacketFault
 aspects_line line = do
-  key ← taken (keyword (codes "aspect")) line
-  first ← taken small_number key.1
-  second ← taken small_number first.1
-  third ← taken small_number second.1
-  fourth ← taken small_number third.1
-  end ← ended fourth.1
+  key ← word_and_rest (keyword (codes "aspect")) line
+  first ← word_and_rest small_number key.1
+  second ← word_and_rest small_number first.1
+  third ← word_and_rest small_number second.1
+  fourth ← word_and_rest small_number third.1
+  end ← no_more_words fourth.1
   Ok (first.0 ∷ second.0 ∷ third.0 ∷ fourth.0 ∷ [])

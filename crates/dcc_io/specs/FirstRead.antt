@@ -7,8 +7,8 @@ use Rattle.dcc_io.specs.declared.word.Run.{Run}
 use Rattle.dcc_io.specs.InputState.{InputState}
 use Rattle.dcc_io.specs.Words.{ended_words}
 use Rattle.dcc_io.specs.Took.{Uses, Took, Stops}
-use Rattle.dcc_io.specs.Passed.{Passed, AnswersWord}
-use Rattle.dcc_io.specs.BothCaptures.{Said, stopped, in_front, behind_mark, both_from, in_limit}
+use Rattle.dcc_io.specs.PassedWords.{Passed, AnswersWord}
+use Rattle.dcc_io.specs.BothCaptures.{Said, fault_alone, in_front, behind_mark, both_from, in_limit}
 
 -- behind these bytes this is said, whatever follows them
 abbrev pub SaysBehind : ℕ → InputState → Said → List ℕ → Type 0
@@ -45,8 +45,8 @@ pub record EndsFirst (before : ℕ) (old : InputState) (halves : List ℕ) (new 
 -- nothing more can be taken of the first capture before this fault
 abbrev pub StopsBoth : ℕ → InputState → KeptFault → InputState → Type 0
 StopsBoth before old fault new =
-    Stops (λ used. (end : ℕ) → both_from before old end used (Some Read) ≡ stopped Read)
-    (λ text. in_limit (both_from before old) old text ≡ stopped fault) old fault new
+    Stops (λ used. (end : ℕ) → both_from before old end used (Some Read) ≡ fault_alone Read)
+    (λ text. in_limit (both_from before old) old text ≡ fault_alone fault) old fault new
 
 -- the halves of the next run of the first capture, and its line, or none behind the line `---`, or a fault
 abbrev pub AnswersFirst : ℕ → InputState → Result (Option (ℕ × Run)) KeptFault → InputState → Type 0

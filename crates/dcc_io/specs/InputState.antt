@@ -5,9 +5,9 @@ use Rattle.std.specs.Option.{option_map}
 use Rattle.std.specs.Io.KnownBytes.{Keeps}
 use Rattle.dcc_io.specs.declared.fault.KeptFault.{KeptFault}
 use Rattle.dcc_io.specs.declared.fault.KeptFault.TheVariants.{Number, Line, Read, TooMuch}
-use Rattle.dcc_io.specs.Place.{Place, line_behind, lines_with, lines_through}
+use Rattle.dcc_io.specs.TextPlace.{TextPlace, line_behind, lines_with, lines_through}
 use Rattle.dcc_io.specs.Failures.{one_more}
-use Rattle.dcc_io.specs.Told.{BeginsWith, IsAtEnd}
+use Rattle.dcc_io.specs.ReaderState.{BeginsWith, IsAtEnd}
 
 -- what is still to come of an input
 pub record InputState : Type 0 where
@@ -15,7 +15,7 @@ pub record InputState : Type 0 where
   pub text : Option (List ℕ)
   -- the first of them, which were read and are not yet used
   pub ahead : List ℕ
-  pub place : Place
+  pub place : TextPlace
   -- how many lines were used, one that has begun too; the line feed that closes the text stands on none
   pub lines : ℕ
   -- how many halves may still be taken

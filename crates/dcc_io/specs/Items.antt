@@ -15,8 +15,8 @@ abbrev pub only_fault : {A : Type 0} → Option KeptFault → Items A
 only_fault fault = record { said = []; fault = fault }
 
 -- more items in front
-abbrev pub preceded : {A : Type 0} → List A → Items A → Items A
-preceded front items = record { said = front ++ items.said; fault = items.fault }
+abbrev pub items_behind : {A : Type 0} → List A → Items A → Items A
+items_behind front items = record { said = front ++ items.said; fault = items.fault }
 
 -- how items are read of these bytes of an input, with the fault behind them or none
 abbrev pub Reading : Type 0 → Type 0
@@ -33,7 +33,7 @@ before_failure reading input used = reading input used (Some kept.Read)
 -- these bytes say these items, and what follows them says the rest
 abbrev pub SayItems : {A : Type 0} → Reading A → InputState → List A → InputState → List ℕ → Type 0
 SayItems reading old items new used = (more : List ℕ) (last : Option KeptFault)
-    → reading old (used ++ more) last ≡ preceded items (reading new more last)
+    → reading old (used ++ more) last ≡ items_behind items (reading new more last)
 
 -- bytes were used, which say these items
 abbrev pub Gives : {A : Type 0} → Reading A → InputState → List A → InputState → List ℕ → List ℕ → Type 0

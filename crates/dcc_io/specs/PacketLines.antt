@@ -5,12 +5,12 @@ use Rattle.dcc_packet.specs.declared.fault.PacketFault.{PacketFault}
 use Rattle.dcc_packet.specs.declared.fault.PacketFault.TheVariants as faults
 use Rattle.std.specs.List.{list_all}
 use Rattle.dcc_packet.specs.Words.{Word, is_separator, words}
-use Rattle.dcc_packet.specs.Line.{said}
+use Rattle.dcc_packet.specs.Line.{frame_of_words}
 use Rattle.dcc_io.specs.declared.fault.KeptFault.{KeptFault}
 use Rattle.dcc_io.specs.declared.fault.KeptFault.TheVariants as kept
 use Rattle.dcc_io.specs.InputState.{InputState}
-use Rattle.dcc_io.specs.Lines.{NumberedLine, lines_from, is_good}
-use Rattle.dcc_io.specs.Items.{Items, Reading, in_text, before_failure, only_fault, preceded}
+use Rattle.dcc_io.specs.NumberedLines.{NumberedLine, lines_from, is_good}
+use Rattle.dcc_io.specs.Items.{Items, Reading, in_text, before_failure, only_fault, items_behind}
 
 -- a line whose first character is #
 abbrev pub is_comment_line : List ℕ → Bool
@@ -28,7 +28,7 @@ pub record Saying (A B : Type 0) : Type 0 where
 
 -- what a line's words say, and what comes behind the line
 abbrev pub behind_words : {A B : Type 0} → Saying A B → ℕ → Result B PacketFault → Items A → Items A
-behind_words saying number (Ok says) rest = preceded (saying.items says) rest
+behind_words saying number (Ok says) rest = items_behind (saying.items says) rest
 behind_words saying number (Err fault) rest = only_fault (Some (kept.Line number fault))
 
 -- a line that has ended, and what comes behind it
@@ -63,7 +63,7 @@ items_before_failure saying input used = before_failure (lines_by saying) input 
 
 -- the words of a packet line say one frame
 abbrev pub packet_words : Saying (List ℕ) (List ℕ)
-packet_words = record { said = said; items = λ frame. frame ∷ [] }
+packet_words = record { said = frame_of_words; items = λ frame. frame ∷ [] }
 
 -- the frames in an input with this text
 abbrev pub frames_in : InputState → List ℕ → Items (List ℕ)

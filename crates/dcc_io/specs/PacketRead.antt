@@ -7,7 +7,7 @@ use Rattle.dcc_packet.specs.Words.{words}
 use Rattle.dcc_io.specs.declared.text_line.TextLine.{TextLine}
 use Rattle.dcc_io.specs.declared.fault.KeptFault.{KeptFault}
 use Rattle.dcc_io.specs.declared.fault.KeptFault.TheVariants as kept
-use Rattle.dcc_io.specs.Told.{IsAtEnd}
+use Rattle.dcc_io.specs.ReaderState.{IsAtEnd}
 use Rattle.dcc_io.specs.InputState.{InputState}
 use Rattle.dcc_io.specs.Items.{Gave, StopsAt, only_fault}
 use Rattle.dcc_io.specs.PacketLines.{Saying, lines_by, items_in, packet_words}

@@ -5,13 +5,13 @@ use Rattle.dcc_packet.specs.declared.fault.PacketFault.TheVariants as faults
 use Rattle.dcc_packet.specs.Spelling.{spelling}
 use Rattle.dcc_packet.specs.Words.{Word, is_word}
 use Rattle.dcc_packet.specs.LineWords.{◌>>=◌, number}
-use Rattle.dcc_packet.specs.Line.{taken, ended, said}
+use Rattle.dcc_packet.specs.Line.{word_and_rest, no_more_words, frame_of_words}
 use Rattle.dcc_io.specs.declared.station_line.StationLine.{StationLine}
 use Rattle.dcc_io.specs.declared.station_line.StationLine.TheVariants as lines
 use Rattle.dcc_io.specs.Items.{Reading}
 use Rattle.dcc_io.specs.PacketLines.{Saying, lines_by}
 
--- what is asked of a station: to take the command with this frame, or to hand out one packet
+-- what is station_requests of a station: to take the command with this frame, or to hand out one packet
 pub data Asked : Type 0 where
   Command : List ℕ → Asked
   Next : Asked
@@ -25,8 +25,8 @@ send_count word = do
 -- the words after `send`
 unfoldable pub send : List Word → Result ℕ PacketFault
 send words = do
-  n ← taken send_count words
-  end ← ended n.1
+  n ← word_and_rest send_count words
+  end ← no_more_words n.1
   Ok n.0
 
 -- a packet line is one command
@@ -40,12 +40,13 @@ packets_of (Ok n) = Ok (replicate n Next)
 packets_of (Err fault) = Err fault
 
 -- what a line's words ask for: `send N`, or a packet line
-unfoldable pub asked : List Word → Result (List Asked) PacketFault
-asked [] = command_of (said [])
-asked (word ∷ rest) = if is_word word (codes "send") then packets_of (send rest) else command_of (said (word ∷ rest))
+unfoldable pub station_requests : List Word → Result (List Asked) PacketFault
+station_requests [] = command_of (frame_of_words [])
+station_requests (word ∷ rest) =
+    if is_word word (codes "send") then packets_of (send rest) else command_of (frame_of_words (word ∷ rest))
 
 abbrev pub station_words : Saying Asked (List Asked)
-station_words = record { said = asked; items = λ items. items }
+station_words = record { said = station_requests; items = λ items. items }
 
 abbrev pub station_lines : Reading Asked
 station_lines = lines_by station_words

@@ -3,7 +3,7 @@ use Rattle.std.specs.Prelude.{ℕ, ◌+◌, ◌==◌, List, [], ◌∷◌, Optio
 use Rattle.dcc_packet.specs.declared.fault.PacketFault.{PacketFault}
 use Rattle.dcc_packet.specs.declared.fault.PacketFault.TheVariants as faults
 use Rattle.dcc_packet.specs.Words.{Word, words}
-use Rattle.dcc_io.specs.Lines.{is_good}
+use Rattle.dcc_io.specs.NumberedLines.{is_good}
 
 -- a text from this line on
 pub record Text : Type 0 where
@@ -49,14 +49,14 @@ behind_line [] = None
 behind_line (byte ∷ text) = if byte == 10 then Some text else behind_line text
 
 -- what a rule says of the words of a line, and the text after it
-abbrev pub judged : {A : Type 0} → ℕ → Result A PacketFault → List ℕ → Result (A × Text) Stop
-judged n (Ok x) rest = Ok (x, record { line = n + 1; bytes = rest })
-judged n (Err fault) rest = Err (refused n fault)
+abbrev pub line_verdict : {A : Type 0} → ℕ → Result A PacketFault → List ℕ → Result (A × Text) Stop
+line_verdict n (Ok x) rest = Ok (x, record { line = n + 1; bytes = rest })
+line_verdict n (Err fault) rest = Err (refused n fault)
 
 abbrev pub ended_line : {A : Type 0} → (List Word → Result A PacketFault) → ℕ → List ℕ → Option (List ℕ)
     → Result (A × Text) Stop
 ended_line rule n line None = Err (cut n)
-ended_line rule n line (Some rest) = judged n (rule (words line)) rest
+ended_line rule n line (Some rest) = line_verdict n (rule (words line)) rest
 
 -- a line that is read by a rule
 abbrev pub line_by : {A : Type 0} → (List Word → Result A PacketFault) → Reader A

@@ -5,7 +5,7 @@ use Rattle.std.specs.List.{list_all}
 use Rattle.std.specs.Char.{is_ascii_digit}
 use Rattle.std.specs.Str.Parse.{digits_value}
 use Rattle.dcc_io.specs.declared.word.Run.{Run}
-use Rattle.dcc_io.specs.Place.{Place, line_behind}
+use Rattle.dcc_io.specs.TextPlace.{TextPlace, line_behind}
 
 -- a word and its line
 pub record Word : Type 0 where
@@ -21,10 +21,10 @@ unfoldable pub comments : Bool → ℕ → Bool
 comments in_comment byte = if byte == 10 then false else (in_comment || byte == 35)
 
 -- the text with a space for each byte of a comment
-abbrev pub uncommented : Bool → List ℕ → List ℕ
-uncommented in_comment [] = []
-uncommented in_comment (byte ∷ text) =
-    (if comments in_comment byte then 32 else byte) ∷ uncommented (comments in_comment byte) text
+abbrev pub without_comments : Bool → List ℕ → List ℕ
+without_comments in_comment [] = []
+without_comments in_comment (byte ∷ text) =
+    (if comments in_comment byte then 32 else byte) ∷ without_comments (comments in_comment byte) text
 
 abbrev pub onto_first : ℕ → List Word → List Word
 onto_first byte [] = []
@@ -50,8 +50,8 @@ abbrev pub has_bytes : Word → Bool
 has_bytes word = is_some_byte word.bytes
 
 -- the words that have ended in a text: behind its last gap more of a word may follow
-abbrev pub ended_words : Place → List ℕ → List Word
-ended_words place text = filter has_bytes (but_last (pieces place.line (uncommented place.in_comment text)))
+abbrev pub ended_words : TextPlace → List ℕ → List Word
+ended_words place text = filter has_bytes (but_last (pieces place.line (without_comments place.in_comment text)))
 
 -- a duration is 1 to 10 digits, and one above 65535 counts as that
 abbrev pub duration_of : List ℕ → Option ℕ
@@ -99,5 +99,5 @@ abbrev pub is_mark : List ℕ → Bool
 is_mark word = length word == 3 && list_all is_dash word
 
 -- these bytes hold these words, and lead from one place to the other, whatever follows them
-abbrev pub Passes : Place → List ℕ → List Word → Place → Type 0
+abbrev pub Passes : TextPlace → List ℕ → List Word → TextPlace → Type 0
 Passes from bytes words to = (more : List ℕ) → ended_words from (bytes ++ more) ≡ words ++ ended_words to more

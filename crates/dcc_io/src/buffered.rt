@@ -1,7 +1,7 @@
 //! A reader whose bytes are taken one at a time.
 ghost use Rattle.std.specs.Prelude.{◌≡◌, ◌≤◌, ◌↔◌, ℕ, IsTrue, List, [], length, take, drop, slice_range};
 ghost use Rattle.std.specs.Io.KnownBytes.{prepend_known, Consumes};
-ghost use Rattle.dcc_io.specs.Told.{Told, IsFront, AnswersNext, Fills, TakesFirst};
+ghost use Rattle.dcc_io.specs.ReaderState.{ReaderState, IsFront, AnswersNext, Fills, TakesFirst};
 
 use crate::stream::{Failed, Source};
 use std::marker::Model;
@@ -18,7 +18,7 @@ pub struct Buffered<R: Source> {
 }
 
 impl<R: Source> Model for Buffered<R> {
-    ghost Value = { Told };
+    ghost Value = { ReaderState };
 
     ghost view = { λ b. record {
       ahead = slice_range b.buffer b.start b.end;

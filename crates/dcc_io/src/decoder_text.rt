@@ -1,15 +1,17 @@
 //! Reading a decoder text.
+
+// (faults are handed on by `match`: behind `?` the checker knows of an error only that `From` made it)
 ghost use Rattle.std.specs.Prelude.{◌≡◌, ◌<◌, ◌^◌, ◌%◌, None, true, nat_le, IfOk};
 ghost use Rattle.dcc_regs.specs.Addresses.{is_active};
 ghost use Rattle.dcc_regs.specs.Loco.{is_speed, is_pending_for};
 ghost use Rattle.dcc_regs.specs.Possible.{is_decoder};
-ghost use Rattle.dcc_io.specs.LineTaken.{TakesLine, Judges};
+ghost use Rattle.dcc_io.specs.Inner.RequiredLine.{TakesLine, Judges};
 ghost use Rattle.dcc_io.specs.TextReader.{line_by};
 ghost use Rattle.dcc_io.specs.TextRead.{Answers};
 ghost use Rattle.dcc_io.specs.DecoderLines.{version_line, head_line, speed_line, functions_line, states_line};
 ghost use Rattle.dcc_io.specs.DecoderLines.{pending_line, loco_line, outs_line, positions_line, aspects_line};
 ghost use Rattle.dcc_io.specs.DecoderText.{board_lines, cvs_lines, decoder_lines, loco_lines, states_by};
-ghost use Rattle.dcc_io.specs.SoundLines.{IsPossibleHead, IsSoundLine, is_possible};
+ghost use Rattle.dcc_io.specs.PossibleLines.{IsPossibleHead, IsSoundLine, is_possible};
 
 use crate::decoder_line::{Head, LocoLine, Version};
 use crate::decoder_words::{

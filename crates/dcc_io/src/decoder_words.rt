@@ -12,9 +12,9 @@ ghost use Rattle.dcc_io.specs.DecoderLines.{speed_of, speed_after, speed_line, f
 ghost use Rattle.dcc_io.specs.DecoderLines.{functions_line, binary_state, states_from, states_line, pending_word};
 ghost use Rattle.dcc_io.specs.DecoderLines.{pending_line, cv_words, loco_line_after, loco_line, outs_from, outs_line};
 ghost use Rattle.dcc_io.specs.DecoderLines.{positions_line, aspects_line};
-ghost use Rattle.dcc_io.specs.DecoderWords.{TakesKeyword, TakesSpeed};
+ghost use Rattle.dcc_io.specs.Inner.DecoderWords.{TakesKeyword, TakesSpeed};
 ghost use Rattle.dcc_io.specs.PendingWrite.{pending_write};
-ghost use Rattle.dcc_io.specs.SoundLines.{IsPossibleHead, IsSoundLine};
+ghost use Rattle.dcc_io.specs.PossibleLines.{IsPossibleHead, IsSoundLine};
 
 use crate::decoder_line::{Head, LocoLine, Version};
 use dcc_packet::line_word::{

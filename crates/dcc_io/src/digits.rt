@@ -1,7 +1,7 @@
 //! A number of a capture, taken byte by byte.
 ghost use Rattle.std.specs.Prelude.{◌≡◌, ◌<◌, ◌≤◌, ◌+◌, ◌*◌, min, ℕ, List, [], ◌∷◌, ◌++◌, length};
 ghost use Rattle.dcc_io.specs.Words.{count_of, duration_of};
-ghost use Rattle.dcc_io.specs.Spells.{AreDigits};
+ghost use Rattle.dcc_io.specs.SpelledWords.{AreDigits};
 
 const LONGEST_DURATION: u8 = 10;
 

@@ -1,6 +1,6 @@
 //! Why a call of the program gave up.
 ghost use Rattle.std.specs.Prelude.{◌≡◌};
-ghost use Rattle.dcc_io.specs.Faults.{number_of, as_tool_fault};
+ghost use Rattle.dcc_io.specs.Faults.{tool_fault_number, as_tool_fault};
 
 use dcc_packet::PacketFault;
 use thiserror::Error;
@@ -56,7 +56,7 @@ pub enum ToolFault {
 impl ToolFault {
     /// The number behind the letter U: 1 for a wrong command line, to 7 for too much.
     pub fn number(&self) -> u8
-        ensures { result ≡ number_of self.now }
+        ensures { result ≡ tool_fault_number self.now }
     {
         match self {
             ToolFault::Usage(_) => 1,

@@ -1,10 +1,12 @@
 //! The runs of the first of two captures in one input.
+
+// (faults are handed on by `match`: behind `?` the checker knows of an error only that `From` made it)
 ghost use Rattle.std.specs.Prelude.{◌≡◌, ◌==◌, ◌&&◌, not, ℕ, List, None};
 ghost use Rattle.dcc_io.specs.Words.{is_mark};
-ghost use Rattle.dcc_io.specs.Spells.{Spells};
+ghost use Rattle.dcc_io.specs.SpelledWords.{Spells};
 ghost use Rattle.dcc_io.specs.KeptAnswers.{AnswersKept};
 ghost use Rattle.dcc_io.specs.FirstRead.{AnswersFirst, EndsLine};
-ghost use Rattle.dcc_io.specs.FirstSteps.{CountsWord, EndsMark};
+ghost use Rattle.dcc_io.specs.Inner.FirstSteps.{CountsWord, EndsMark};
 
 use crate::fault::KeptFault;
 use crate::input::Input;

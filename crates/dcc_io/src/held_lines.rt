@@ -1,6 +1,6 @@
 //! Lines that are finished and not yet written.
 ghost use Rattle.std.specs.Prelude.{◌≡◌, ◌≤◌, ◌++◌, [], ◌↔◌, IsTrue, OnOk, length};
-ghost use Rattle.dcc_io.specs.Written.{Writes};
+ghost use Rattle.dcc_io.specs.WrittenBytes.{Writes};
 ghost use Rattle.dcc_io.specs.Held.{HoldsOrFails};
 
 use crate::stream::{Failed, Sink};
@@ -45,8 +45,8 @@ impl HeldLines {
     /// line is not held.
     pub fn hold<W: Sink>(&mut self, line: &[u8], writer: &mut W) -> Result<(), Failed>
         requires { length line.now ≤ 4096 }
-        ensures { HoldsOrFails (W.contents writer.old) (W.failures writer.old) (self.old ++ line.now) result self.new
-            (W.contents writer.new) (W.failures writer.new) }
+        ensures { HoldsOrFails (W.state writer.old) (self.old ++ line.now) result self.new
+            (W.state writer.new) }
     {
         if self.lines.remaining_capacity() < line.len() {
             match self.write_out(writer) {
@@ -60,8 +60,7 @@ impl HeldLines {
 
     /// Writes all that is held, and then holds nothing. Where a write fails, a front of it was written.
     pub fn write_out<W: Sink>(&mut self, writer: &mut W) -> Result<(), Failed>
-        ensures writes { Writes (W.contents writer.old) (W.failures writer.old) self.old result (W.contents writer.new)
-            (W.failures writer.new) }
+        ensures writes { Writes (W.state writer.old) self.old result (W.state writer.new) }
         ensures empty { OnOk result (self.new ≡ []) }
     {
         match write_all(writer, self.lines.as_slice()) {

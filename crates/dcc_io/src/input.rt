@@ -1,14 +1,16 @@
 //! What a call of the program reads from.
+
+// (faults are handed on by `match`: behind `?` the checker knows of an error only that `From` made it)
 ghost use Rattle.std.specs.Prelude.{◌≡◌, ◌≢◌, ◌+◌, ◌<◌, ◌≤◌, ◌^◌, ◌∷◌, ℕ, List, [], length, take, drop, None, Some};
 ghost use Rattle.std.specs.Prelude.{true, false, IsTrue, IfSome, IfNone, if◌then◌else◌, ◌||◌};
-ghost use Rattle.dcc_io.specs.Told.{IsFront};
+ghost use Rattle.dcc_io.specs.ReaderState.{IsFront};
 ghost use Rattle.dcc_io.specs.Words.{comments, is_gap, ended_words};
-ghost use Rattle.dcc_io.specs.Front.{BeginsWithWord, HasLineFeedAt, IsFrontWord};
-ghost use Rattle.dcc_io.specs.Passed.{AnswersWord, EndsWord, Passed};
+ghost use Rattle.dcc_io.specs.Inner.FrontWords.{BeginsWithWord, HasLineFeedAt, IsFrontWord};
+ghost use Rattle.dcc_io.specs.PassedWords.{AnswersWord, EndsWord, Passed};
 ghost use Rattle.dcc_io.specs.KeptAnswers.{AnswersKept};
-ghost use Rattle.dcc_io.specs.LineRead.{AnswersLine, EndsLine};
+ghost use Rattle.dcc_io.specs.Inner.NextLine.{AnswersLine, EndsLine};
 ghost use Rattle.dcc_io.specs.PacketRead.{AnswersPacket, ReadsPacket};
-ghost use Rattle.dcc_io.specs.FrontLine.{IsFrontLine};
+ghost use Rattle.dcc_io.specs.Inner.FrontLine.{IsFrontLine};
 ghost use Rattle.dcc_io.specs.Capture.{AnswersRun, CountsRun};
 ghost use Rattle.dcc_io.specs.FirstRead.{AnswersFirst};
 ghost use Rattle.dcc_io.specs.InputState.{InputState, closed_text, closing, AnswersByte, HasCause, fresh};
@@ -18,7 +20,7 @@ use crate::fault::KeptFault;
 use crate::stream::Source;
 use crate::text_line::{TextLine, front_line};
 use crate::word::{
-    FrontWord, Run, RunWord, begins_with_line_feed, front_word, is_separator, short_front_word,
+    FrontWord, Run, RunWord, begins_with_line_feed, front_word, is_gap, short_front_word,
     whole_word,
 };
 use dcc_packet::{Packet, PacketFault};
@@ -186,7 +188,7 @@ impl<R: Source> Input<R> {
     {
         let comment = is_comment(self.in_comment, byte);
         self.in_comment = comment;
-        comment || is_separator(byte)
+        comment || is_gap(byte)
     }
 
     /// The next word and its line, or none at the end.
@@ -561,7 +563,7 @@ fn has_ended_word(bytes: &[u8]) -> bool
 fn ends_word(byte: u8) -> bool
     ensures { result ≡ (comments false byte || is_gap byte) }
 {
-    is_comment(false, byte) || is_separator(byte)
+    is_comment(false, byte) || is_gap(byte)
 }
 
 #[tactic(auto, unfolding(crate::specs::Words::comments))]

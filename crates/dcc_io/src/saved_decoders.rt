@@ -1,9 +1,11 @@
 //! The decoders that a decoder text saves.
+
+// (faults are handed on by `match`: behind `?` the checker knows of an error only that `From` made it)
 ghost use Rattle.std.specs.Prelude.{◌≡◌, ◌≤◌, [], None, Ok, IfSome, IfOk, MatchResult, All, vec_capacity, true};
 ghost use Rattle.dcc_io.specs.Faults.{as_tool_fault};
 ghost use Rattle.dcc_io.specs.InputState.{HasCause};
 ghost use Rattle.dcc_io.specs.DecoderText.{decoder_text, decoders_from};
-ghost use Rattle.dcc_io.specs.SoundLines.{IsPossibleHead, is_possible};
+ghost use Rattle.dcc_io.specs.PossibleLines.{IsPossibleHead, is_possible};
 ghost use Rattle.dcc_io.specs.TextRead.{Answers, UsedWholeLines};
 ghost use Rattle.dcc_io.specs.TextReadOrNoMemory.{ReadFails};
 

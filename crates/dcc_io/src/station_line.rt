@@ -1,7 +1,10 @@
 //! The lines that a station is driven by.
+
+// (faults are handed on by `match`: behind `?` the checker knows of an error only that `From` made it)
 ghost use Rattle.std.specs.Prelude.{◌≡◌, None, IfSome, IfNone};
 ghost use Rattle.dcc_packet.specs.Words.{words};
-ghost use Rattle.dcc_io.specs.StationLines.{asked, asked_by, asked_or_fault, send, send_count, station_words};
+ghost use Rattle.dcc_io.specs.StationLines.{station_requests, asked_by, asked_or_fault, send, send_count};
+ghost use Rattle.dcc_io.specs.StationLines.{station_words};
 ghost use Rattle.dcc_io.specs.KeptAnswers.{AnswersKept};
 ghost use Rattle.dcc_io.specs.PacketRead.{AnswersSaid, ReadsSaid};
 
@@ -25,9 +28,9 @@ pub enum StationLine {
 impl StationLine {
     /// `send N` with N from 1 to 1000, or a packet line. The first fault of the words from left to right decides: P11
     /// for a wrong N, P10 for a word too many.
-    #[tactic(auto, unfolding(crate::specs::StationLines::asked))]
+    #[tactic(auto, unfolding(crate::specs::StationLines::station_requests))]
     fn from_line(line: &str) -> Result<StationLine, PacketFault>
-        ensures { asked_or_fault result ≡ asked (words line.now) }
+        ensures { asked_or_fault result ≡ station_requests (words line.now) }
     {
         let mut words = Words::new(line.as_bytes());
         match words.next() {

@@ -2,6 +2,7 @@
 ghost use Rattle.std.specs.Prelude.{◌≡◌, ◌≤◌, ℕ, List, Option, IfOk, length};
 ghost use Rattle.std.specs.Io.KnownBytes.{ReadConsumes, WriteAppends};
 ghost use Rattle.dcc_io.specs.Failures.{one_more, after_read, after_write};
+ghost use Rattle.dcc_io.specs.WriterState.{WriterState};
 
 use std::io;
 
@@ -28,17 +29,14 @@ pub trait Source {
 ///
 /// Nobody flushes it: a byte that a write takes is to be on its way.
 pub trait Sink {
-    // The bytes that were written, where they are told.
-    ghost contents: { Self → Option (List ℕ) };
-
-    // How many writes have failed, or taken none of the bytes that they were handed.
-    ghost failures: { Self → ℕ };
+    // What is known of it: the bytes that were written, and how many writes have failed or taken no byte.
+    ghost state: { Self → WriterState };
 
     /// Takes bytes from the front, and answers how many.
     fn write(&mut self, bytes: &[u8]) -> Result<usize, Failed>
         ensures bound { IfOk result (λ n. n ≤ length bytes.now) }
-        ensures bytes { WriteAppends (contents self.old) (contents self.new) result bytes.now }
-        ensures failures { failures self.new ≡ after_write (failures self.old) result bytes.now };
+        ensures bytes { WriteAppends (state self.old).contents (state self.new).contents result bytes.now }
+        ensures failures { (state self.new).failures ≡ after_write (state self.old).failures result bytes.now };
 }
 
 /// A reader or writer of the standard library, with a count of its failures.
@@ -90,9 +88,7 @@ impl<R: io::Read> Source for Counted<R> {
 // Standard output holds nothing back, since each write of it is one of the system. So there is
 // nothing to flush, and no loss that comes to light behind the last write.
 impl<W: io::Write> Sink for Counted<W> {
-    ghost contents = { λ counted. W.contents counted.inner };
-
-    ghost failures = { λ counted. counted.failures };
+    ghost state = { λ counted. record { contents = W.contents counted.inner; failures = counted.failures } };
 
     fn write(&mut self, bytes: &[u8]) -> Result<usize, Failed> {
         match self.inner.write(bytes) {

@@ -17,21 +17,21 @@ pub fn append<const N: usize>(line: &mut ArrayVec<u8, N>, bytes: &[u8])
     let _ = line.try_extend_from_slice(bytes);
 }
 
-#[tactic(auto, using(crate::proofs::ListingLemmas::decimal_is_short))]
+#[tactic(auto, using(crate::proofs::DecimalLemmas::decimal_is_short))]
 /// Adds a number in decimal digits.
 pub fn append_decimal<const N: usize>(line: &mut ArrayVec<u8, N>, number: u32)
     requires { array_vec_len line.old + length (decimal number) ≤ N }
     ensures items { line.new.items ≡ line.old.items ++ decimal number }
     ensures len { array_vec_len line.new ≡ array_vec_len line.old + length (decimal number) }
 {
-    let mut digits = Digits::new();
+    let mut digits = DecimalDigits::new();
     put_digits(&mut digits, number);
     append(line, digits.as_slice());
 }
 
-type Digits = ArrayVec<u8, 10>;
+type DecimalDigits = ArrayVec<u8, 10>;
 
-fn put_digits(digits: &mut Digits, number: u32)
+fn put_digits(digits: &mut DecimalDigits, number: u32)
     requires { array_vec_len digits.old + length (decimal number) ≤ 10 }
     ensures items { digits.new.items ≡ digits.old.items ++ decimal number }
     ensures len { array_vec_len digits.new ≡ array_vec_len digits.old + length (decimal number) }

@@ -5,7 +5,7 @@ ghost use Rattle.std.specs.List.{list_all};
 ghost use Rattle.dcc_packet.specs.Words.{is_separator};
 ghost use Rattle.arrayvec.specs.ArrayString.{array_string_len};
 ghost use Rattle.dcc_io.specs.PacketLines.{is_comment_line, is_skipped};
-ghost use Rattle.dcc_io.specs.FrontLine.{IsFrontLine, IsEndedLine};
+ghost use Rattle.dcc_io.specs.Inner.FrontLine.{IsFrontLine, IsEndedLine};
 
 use arrayvec::ArrayString;
 use std::str;
@@ -88,10 +88,10 @@ fn ended_line_len(bytes: &[u8]) -> Option<usize>
 fn is_skipped(bytes: &[u8]) -> bool
     ensures { result ≡ is_skipped bytes.now }
 {
-    is_comment(bytes) || is_blank(bytes)
+    is_comment_line(bytes) || is_blank(bytes)
 }
 
-fn is_comment(bytes: &[u8]) -> bool
+fn is_comment_line(bytes: &[u8]) -> bool
     ensures { result ≡ is_comment_line bytes.now }
 {
     matches!(bytes, [b'#', ..])

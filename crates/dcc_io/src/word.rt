@@ -2,7 +2,7 @@
 ghost use Rattle.std.specs.Prelude.{◌≡◌, ◌↔◌, ◌<◌, ◌≤◌, min, ℕ, List, [], ◌∷◌, ◌++◌, not, true, ◌==◌, ◌&&◌, IfSome};
 ghost use Rattle.std.specs.Prelude.{IsTrue};
 ghost use Rattle.dcc_io.specs.Words.{is_gap, is_mark, is_some_byte, run_of};
-ghost use Rattle.dcc_io.specs.Front.{HasLineFeedAt, IsFrontWord, IsWholeWord, EndedWord};
+ghost use Rattle.dcc_io.specs.Inner.FrontWords.{HasLineFeedAt, IsFrontWord, IsWholeWord, EndedWord};
 
 use crate::digits::Digits;
 
@@ -29,7 +29,7 @@ pub struct RunWord {
 }
 
 impl RunWord {
-    ghost use Rattle.dcc_io.specs.Spells.{Spells};
+    ghost use Rattle.dcc_io.specs.SpelledWords.{Spells};
 
     /// A word of no bytes.
     pub fn new() -> RunWord
@@ -165,7 +165,7 @@ pub fn front_word(bytes: &[u8]) -> Option<FrontWord>
 fn ended_word(number: u32, len: usize, behind: u8) -> Option<FrontWord>
     ensures { IfSome result (λ front. EndedWord number len behind front) }
 {
-    if len == 0 || len > 10 || !is_separator(behind) {
+    if len == 0 || len > 10 || !is_gap(behind) {
         return None;
     }
     Some(FrontWord {
@@ -193,7 +193,7 @@ pub fn whole_word(bytes: &[u8]) -> Option<WholeWord>
 {
     let mut word = RunWord::new();
     for (len, byte) in bytes.iter().enumerate() {
-        if is_separator(*byte) {
+        if is_gap(*byte) {
             if len == 0 {
                 return None;
             }
@@ -223,7 +223,7 @@ pub fn begins_with_line_feed(bytes: &[u8]) -> bool
 /// Whether a byte is a gap between words: a space, a tab, CR or LF.
 #[tactic(auto, unfolding(crate::specs::Words::is_gap))]
 #[inline(always)]
-pub fn is_separator(byte: u8) -> bool
+pub fn is_gap(byte: u8) -> bool
     ensures { result ≡ is_gap byte }
 {
     byte == b' ' || byte == b'\t' || byte == b'\r' || byte == b'\n'

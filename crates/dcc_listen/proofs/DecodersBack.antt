@@ -5,12 +5,12 @@ use Rattle.std.proofs.lemmas.List.{append-nil}
 use Rattle.dcc_packet.specs.declared.accessory.Board.{Board}
 use Rattle.dcc_packet.specs.declared.address.Address.{Address}
 use Rattle.dcc_packet.specs.declared.packet.Packet.{Packet}
-use Rattle.dcc_packet.specs.Written.{spaced}
+use Rattle.dcc_packet.specs.Written.{spaced_words}
 use Rattle.dcc_regs.specs.declared.register.Register.TheVariants as registers
 use Rattle.dcc_regs.specs.declared.register.Speed.{Speed}
 use Rattle.dcc_regs.specs.declared.register.Who.{Who}
 use Rattle.dcc_regs.specs.declared.register.Who.TheVariants as who
-use Rattle.dcc_regs.specs.Loco.{holds_one, cv_of}
+use Rattle.dcc_regs.specs.Loco.{holds_one, cv_held}
 use Rattle.dcc_regs.specs.Possible.{IsPossible}
 use Rattle.dcc_regs.specs.Result.{RegisterMap}
 use Rattle.dcc_io.specs.declared.saved.Saved.{Saved}
@@ -24,10 +24,10 @@ use Rattle.dcc_io.specs.DecoderLines.{positions_line, aspects_line}
 use Rattle.dcc_io.specs.DecoderText.{decoder_lines, states_by, cvs_lines, loco_lines, board_lines}
 use Rattle.dcc_listen.specs.FleetText.{own_address_word, cvs_text, speed_held, forward_held, pending_held}
 use Rattle.dcc_listen.specs.FleetText.{loco_address_line, board_line}
-use Rattle.dcc_listen.specs.FleetText.{speed_line as speed_bytes, functions_line as functions_bytes}
-use Rattle.dcc_listen.specs.FleetText.{states_line as states_bytes, pending_line as pending_bytes}
-use Rattle.dcc_listen.specs.FleetText.{outs_line as outs_bytes, positions_line as positions_bytes}
-use Rattle.dcc_listen.specs.FleetText.{aspects_line as aspects_bytes}
+use Rattle.dcc_listen.specs.FleetText.{written_speed as speed_bytes, written_functions as functions_bytes}
+use Rattle.dcc_listen.specs.FleetText.{written_states as states_bytes, written_pending as pending_bytes}
+use Rattle.dcc_listen.specs.FleetText.{written_outs as outs_bytes, written_positions as positions_bytes}
+use Rattle.dcc_listen.specs.FleetText.{written_aspects as aspects_bytes}
 use Rattle.dcc_listen.specs.ReadBack.{Saves}
 use Rattle.dcc_io.specs.TextReader.{line_by}
 use Rattle.dcc_listen.proofs.BoardMapsBack.{four_of, sides_of, positions_of, aspects_of, board_state, sides_are}
@@ -51,7 +51,7 @@ pub loco_begins : (address : Option Address) (text : List ℕ) (m : RegisterMap)
     → BeginsWith (loco_address_line address ++ text) (heads.Decoder (who.Loco address)) text
 loco_begins address text m possible =
     let line : List ℕ = codes "loco " ++ own_address_word address in
-    let is : line ≡ codes "loco" ++ spaced (own_address_word address ∷ []) =
+    let is : line ≡ codes "loco" ++ spaced_words (own_address_word address ∷ []) =
     ap (λ (xs : List ℕ). codes "loco " ++ xs) (sym (append-nil (own_address_word address))) in
     let token = keyword_token (codes "loco") (omega arith) refl refl (omega arith) in
     record {
@@ -69,7 +69,7 @@ pub board_begins : (board : Board) (text : List ℕ) (m : RegisterMap) → IsPos
 board_begins board text m possible =
     let range = board.in_range in
     let line : List ℕ = codes "board " ++ decimal board.number in
-    let is : line ≡ codes "board" ++ spaced (decimal board.number ∷ []) =
+    let is : line ≡ codes "board" ++ spaced_words (decimal board.number ∷ []) =
     ap (λ (xs : List ℕ). codes "board " ++ xs) (sym (append-nil (decimal board.number))) in
     let token = keyword_token (codes "board") (omega arith) refl refl (omega arith) in
     let number = decimal_token board.number (omega (arith, range)) in
@@ -95,12 +95,12 @@ end_begins text =
     }
 
 -- a decoder that its lines save, and the first line behind them
-pub record GivesDecoder (member : Who × RegisterMap) (n : ℕ) (bytes : List ℕ) (head : Head) (rest : List ℕ) : Type 0
+pub record GivesDecoder (decoder : Who × RegisterMap) (n : ℕ) (bytes : List ℕ) (head : Head) (rest : List ℕ) : Type 0
   where
     pub state : Saved
     pub line : ℕ
-    pub reads : decoder_lines versions.Two member.0 (at n bytes) ≡ Ok ((state, head), at line rest)
-    pub saves : Saves state member
+    pub reads : decoder_lines versions.Two decoder.0 (at n bytes) ≡ Ok ((state, head), at line rest)
+    pub saves : Saves state decoder
 
 pub board_given : (board : Board) (m : RegisterMap) (n : ℕ) (bytes : List ℕ) (head : Head) (rest : List ℕ)
     → IsPossible (who.Board board) m → BeginsWith bytes head rest
@@ -138,19 +138,19 @@ pub loco_given : (address : Option Address) (m : RegisterMap) (n : ℕ) (bytes :
     → IsPossible (who.Loco address) m → BeginsWith bytes head rest
     → GivesDecoder (who.Loco address, m) n
     (speed_bytes m
-    ++ (functions_bytes m ++ (states_bytes m ++ (pending_bytes m ++ (cvs_text (cv_of m) 1024 ++ bytes))))) head
+    ++ (functions_bytes m ++ (states_bytes m ++ (pending_bytes m ++ (cvs_text (cv_held m) 1024 ++ bytes))))) head
     rest
 unfolding loco_lines
 loco_given address m n bytes head rest possible begins =
     let speed : Speed = speed_held (m registers.Speed) in
     let pending : Option Packet = pending_held (m registers.Pending) in
-    let cvs_and : List ℕ = cvs_text (cv_of m) 1024 ++ bytes in
+    let cvs_and : List ℕ = cvs_text (cv_held m) 1024 ++ bytes in
     let pending_and : List ℕ = pending_bytes m ++ cvs_and in
     let states_and : List ℕ = states_bytes m ++ pending_and in
     let functions = functions_read (λ k. holds_one (m (registers.Function k))) 69 (n + 1) states_and (omega arith) in
     let states = states_read (λ k. holds_one (m (registers.State k))) (n + 1 + 1) pending_and
     (no_state_0 address (m (registers.State 0)) (possible.registers (registers.State 0))) in
-    let cvs = all_cvs (cv_of m) (λ k. byte_small (λ place. holds_one (m (registers.CvBit k place)))) bytes head rest
+    let cvs = all_cvs (cv_held m) (λ k. byte_small (λ place. holds_one (m (registers.CvBit k place)))) bytes head rest
     begins.behind_cv (n + 1 + 1 + 1 + 1) in
     let state : Saved = saved.Loco (loco_state address m functions.value states.value cvs.given) in
     let line : ℕ = cvs.behind_line in

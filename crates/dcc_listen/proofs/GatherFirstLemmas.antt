@@ -16,12 +16,12 @@ use Rattle.dcc_io.specs.declared.fault.ToolFault.{ToolFault}
 use Rattle.dcc_io.specs.declared.fault.ToolFault.TheVariants as told
 use Rattle.dcc_io.specs.Faults.{as_tool_fault}
 use Rattle.dcc_io.specs.Failures.{one_more, HasRisen}
-use Rattle.dcc_io.specs.InputState.{InputState, all_lines, HasCause}
+use Rattle.dcc_io.specs.InputState.{InputState, all_lines}
 use Rattle.dcc_io.specs.Words.{ended_words}
 use Rattle.dcc_io.specs.Items.{EndsWith, ReadsUpTo}
 use Rattle.dcc_io.specs.Capture.{captures, halves_of, capture_in, capture_before_failure}
 use Rattle.dcc_listen.specs.Gathered.{Gathered, GatherFails, StopsGathering}
-use Rattle.dcc_io.specs.BothCaptures.{Both, Said, stopped, in_front, only_second, both_from, in_limit}
+use Rattle.dcc_io.specs.BothCaptures.{Both, Said, fault_alone, in_front, only_second, both_from, in_limit}
 use Rattle.dcc_io.specs.FirstRead.{LeadsIn, Leads, first_so_far, first_is, AnswersFirst}
 use Rattle.dcc_listen.specs.GatheredBoth.{both_in, both_before_failure, GatheredFirst, HoldBoth, GatheredBoth}
 use Rattle.dcc_listen.specs.GatheredBoth.{ReadsBothUpTo, StopsBothAt, BothFail}
@@ -93,11 +93,6 @@ gathers_first start now new before framer packets fault so_far answer = record {
   };
 }
 
-pub few_first : (start now : InputState) (before : ℕ) (framer : Framer) (packets : List Packet) (most : ℕ)
-    → GatheringFirst start now before framer packets → most ≡ start.halves → length packets ≤ most
-few_first start now before framer packets most so_far e =
-    let a = so_far.left in let b = so_far.few in omega (arith, a, b, e)
-
 front_in_limit : (halves : List ℕ) (before : ℕ) (now : InputState) (text : List ℕ)
     → in_limit (first_so_far halves before now) now text ≡ in_front halves (in_limit (both_from before now) now text)
 front_in_limit halves before now text = go (nat_le (length text) now.bytes)
@@ -114,13 +109,13 @@ front_in_limit halves before now text = go (nat_le (length text) now.bytes)
 -- what stops the first capture stops both
 stopped_behind : (start now : InputState) (before : ℕ) (halves : List ℕ) (fault : KeptFault)
     → Leads 0 start now (first_so_far halves before now)
-    → IfSome now.text (λ text. in_limit (both_from before now) now text ≡ stopped fault)
+    → IfSome now.text (λ text. in_limit (both_from before now) now text ≡ fault_alone fault)
     → IfSome start.text (λ text. (both_in start text).fault ≡ Some fault)
 stopped_behind start now before halves fault leads stops = go start.text now.text leads.text stops
   where
     go : (x y : Option (List ℕ))
         → IfSome x (λ text. IsSomeAnd y (λ rest. LeadsIn 0 start now (first_so_far halves before now) text rest))
-        → IfSome y (λ text. in_limit (both_from before now) now text ≡ stopped fault)
+        → IfSome y (λ text. in_limit (both_from before now) now text ≡ fault_alone fault)
         → IfSome x (λ text. (both_in start text).fault ≡ Some fault)
     go None y p q = tt
     go (Some x) None p q = absurd p
@@ -179,7 +174,7 @@ first_stops start now new before framer packets Read none so_far answer = inr (
         → IfSome y
         (λ text. IsSomeAnd z
         (λ rest. (used : List ℕ) × (text ≡ used ++ rest)
-        × ((end : ℕ) → both_from before now end used (Some Read) ≡ stopped Read)))
+        × ((end : ℕ) → both_from before now end used (Some Read) ≡ fault_alone Read)))
         → IfSome x
         (λ text. IsSomeAnd z
         (λ rest. (used : List ℕ) × (text ≡ used ++ rest)
@@ -192,13 +187,6 @@ first_stops start now new before framer packets Read none so_far answer = inr (
       p.whole ∙ ap (λ (rest : List ℕ). p.used ++ rest) q.1 ∙ sym (append_assoc p.used q.0 z),
       ap (λ (both : Both). both.fault) (p.is 0 q.0 (Some Read) ∙ ap (in_front so_far.halves) (q.2 0)),
     )
-
-pub kept_before : (input : InputState) (fault : KeptFault) → input.fault ≡ Some fault
-    → HasCause input.fault input.failures → BothFail input (as_tool_fault fault) input
-kept_before input (Number line) e cause = inl (e, cause, refl)
-kept_before input (Line line fault) e cause = inl (e, cause, refl)
-kept_before input Read e cause = inl (e, cause, refl)
-kept_before input TooMuch e cause = inl (e, cause, refl)
 
 take_none : (n : ℕ) (text : List ℕ) → text ≡ [] → take n text ≡ []
 take_none zero text none = refl

@@ -1,5 +1,5 @@
 -- How the packets of a capture are gathered.
-use Rattle.std.proofs.Common.{◌≡◌, ℕ, ◌+◌, ◌-◌, ◌<◌, ◌≤◌, List, [], ◌++◌, length, replicate, None, Some, Ok, Err, inl}
+use Rattle.std.proofs.Common.{◌≡◌, ℕ, ◌+◌, ◌-◌, ◌<◌, ◌≤◌, List, [], ◌++◌, length, replicate, None, Ok, Err}
 use Rattle.std.proofs.Common.{inr, refl, sym, ◌∙◌, subst, arith, length-append}
 use Rattle.std.proofs.lemmas.List.{length-replicate}
 use Rattle.dcc_wire.specs.declared.framer.Framer.{Framer}
@@ -10,14 +10,14 @@ use Rattle.dcc_order.specs.Hearing.{ArePackets, AreSpelled, frames_of}
 use Rattle.dcc_order.proofs.HearingLemmas.{packets_more, no_packets}
 use Rattle.dcc_io.specs.declared.word.Run.{Run}
 use Rattle.dcc_io.specs.declared.fault.KeptFault.{KeptFault}
-use Rattle.dcc_io.specs.declared.fault.KeptFault.TheVariants.{Number, Line, Read, TooMuch}
 use Rattle.dcc_io.specs.Faults.{as_tool_fault}
-use Rattle.dcc_io.specs.InputState.{InputState, HasCause}
+use Rattle.dcc_io.specs.InputState.{InputState}
 use Rattle.dcc_io.specs.Capture.{captures, GaveHalves, AnswersRun}
-use Rattle.dcc_listen.specs.Gathered.{Gathered, GatherFails}
-use Rattle.dcc_listen.specs.Taking.{Gathering, ReadsOn}
+use Rattle.dcc_listen.specs.Gathered.{Gathered, GatherFails, StopsGathering}
+use Rattle.dcc_listen.specs.Taking.{Gathering}
+use Rattle.dcc_io.proofs.CallLemmas.{gives_up}
 use Rattle.dcc_io.proofs.ItemsLemmas.{Gave-append, up_to_fault, reads_up_to, uses_all_lines}
-use Rattle.dcc_listen.proofs.ShowLemmas.{Answers, GaveHalves-none, GaveHalves-append}
+use Rattle.dcc_listen.proofs.ShowLemmas.{Answers, GaveHalves-none, GaveHalves-append, stops_at_run_fault}
 
 pub Gathering-start : (input : InputState) (framer : Framer) → input.fault ≡ None → StandsFor framer []
     → Gathering input input framer []
@@ -63,41 +63,17 @@ gathers_all start now new framer packets fault so_far answer =
       fault = all.items.fault;
     }
 
-pub few_packets : (start now : InputState) (framer : Framer) (packets : List Packet) (most : ℕ)
-    → Gathering start now framer packets → most ≡ start.halves → length packets ≤ most
-few_packets start now framer packets most so_far e =
-    let a = so_far.gave.left in let b = so_far.few in omega (arith, a, b, e)
-
 pub gather_stops : (start now new : InputState) (framer : Framer) (packets : List Packet) (fault : KeptFault)
     → start.fault ≡ None → Gathering start now framer packets → AnswersRun now (Err fault) new
     → GatherFails start (as_tool_fault fault) new
-gather_stops start now new framer packets (Number line) none so_far answer =
-    inr (
+gather_stops start now new framer packets fault none so_far answer =
+    let stops = stops_at_run_fault now new fault answer in
+    gives_up (λ kept. StopsGathering start kept new) _ _ fault
+    (inr (
       none,
-      answer.1,
-      reads_up_to captures start now new (Number line) so_far.halves (λ halves. Unit {0}) so_far.gave.items
-          answer.0 tt,
-    )
-gather_stops start now new framer packets (Line line fault) none so_far answer = absurd answer
-gather_stops start now new framer packets Read none so_far answer =
-    inr (
-      none,
-      answer.1,
-      reads_up_to captures start now new Read so_far.halves (λ halves. Unit {0}) so_far.gave.items answer.0 tt,
-    )
-gather_stops start now new framer packets TooMuch none so_far answer =
-    inr (
-      none,
-      answer.1,
-      reads_up_to captures start now new TooMuch so_far.halves (λ halves. Unit {0}) so_far.gave.items answer.0 tt,
-    )
-
-pub kept_already : (input : InputState) (fault : KeptFault) → input.fault ≡ Some fault
-    → HasCause input.fault input.failures → GatherFails input (as_tool_fault fault) input
-kept_already input (Number line) e cause = inl (e, cause, refl)
-kept_already input (Line line fault) e cause = inl (e, cause, refl)
-kept_already input Read e cause = inl (e, cause, refl)
-kept_already input TooMuch e cause = inl (e, cause, refl)
+      stops.1,
+      reads_up_to captures start now new fault so_far.halves (λ halves. Unit {0}) so_far.gave.items stops.0 tt,
+    ))
 
 -- more was read, and it showed no packet or one
 pub Gathering-shown : (start now new : InputState) (framer next : Framer) (packets : List Packet) (run : Run)
@@ -108,11 +84,3 @@ pub Gathering-shown : (start now new : InputState) (framer next : Framer) (packe
 Gathering-shown start now new framer next packets run answer so_far shown gave some stands answers spelled one =
     Gathering-run start now new framer next packets (packets ++ shown) run answer so_far shown gave some stands answers
     spelled refl one
-
-pub reads_on : (start now : InputState) (framer : Framer) (packets : List Packet) → start.fault ≡ None
-    → Gathering start now framer packets → ReadsOn start now
-reads_on start now framer packets none so_far =
-    record { none_kept = none; fault = so_far.gave.items.fault; failures = so_far.gave.items.failures }
-
-pub all_read_on : (start now : InputState) (packets : List Packet) → Gathered start packets now → ReadsOn start now
-all_read_on start now packets all = record { none_kept = all.none_kept; fault = all.fault; failures = all.hold.1 }

@@ -11,9 +11,8 @@ use Rattle.dcc_order.specs.Verdicts.{IsVerdict}
 use Rattle.dcc_io.specs.InputState.{InputState}
 use Rattle.dcc_listen.specs.Compared.{Compared}
 use Rattle.dcc_listen.specs.Gathered.{Gathered}
-use Rattle.dcc_listen.specs.InStep.{SideRead, ReadBeside, ReadInStep}
-use Rattle.dcc_listen.specs.Taking.{Gathering, ReadsOn, TakesPacket}
-use Rattle.dcc_listen.proofs.GatherLemmas.{reads_on, all_read_on}
+use Rattle.dcc_listen.specs.Inner.InStep.{SideRead, ReadBeside, ReadInStep}
+use Rattle.dcc_listen.specs.Taking.{Gathering, TakesPacket}
 use Rattle.dcc_wire.specs.declared.framer.Framer.{Framer}
 use Rattle.dcc_order.specs.GivenLists.{MayFollow, Lists, with_item}
 use Rattle.dcc_order.specs.Comparisons.{StandsFor}
@@ -63,12 +62,6 @@ rest_behind ended flag start now packets is going all = record {
   may = subst (λ e. MayFollow e all.0) (sym (is ∙ going)) tt;
   all = all.1;
 }
-
--- a side of which no fault was met
-pub side_reads_on : (flag : Bool) (start now : InputState) (framer : Framer) (packets : List Packet)
-    → start.fault ≡ None → SideRead flag start now framer packets → ReadsOn start now
-side_reads_on false start now framer packets none read = reads_on start now framer packets none read
-side_reads_on true start now framer packets none read = all_read_on start now packets read
 
 -- what a verdict on the packets of the two captures of an input says
 pub compared_both : AlikeIsTheVerdict → AlikeListsLeaveTheSame

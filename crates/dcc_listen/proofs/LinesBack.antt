@@ -8,9 +8,9 @@ use Rattle.std.proofs.lemmas.List.Folds.{list_all-append}
 use Rattle.dcc_packet.specs.declared.fault.PacketFault.{PacketFault}
 use Rattle.dcc_packet.specs.declared.fault.PacketFault.TheVariants as faults
 use Rattle.dcc_packet.specs.Words.{Word, words}
-use Rattle.dcc_packet.specs.Written.{spaced}
+use Rattle.dcc_packet.specs.Written.{spaced_words}
 use Rattle.dcc_packet.proofs.WrittenWords.{IsWord, not_true, words_spaced}
-use Rattle.dcc_io.specs.Lines.{is_good}
+use Rattle.dcc_io.specs.NumberedLines.{is_good}
 use Rattle.dcc_io.specs.TextReader.{Text, Stop, Reader, ◌>>=◌, read_on, first_line, behind_line, ended_line, line_by}
 use Rattle.dcc_io.specs.TextReader.Stop.{refused}
 
@@ -53,22 +53,22 @@ pub append_plain : (xs ys : List ℕ) → list_all is_plain xs ≡ true → list
 append_plain xs ys first second =
     list_all-append is_plain xs ys ∙ both (list_all is_plain xs) (list_all is_plain ys) first second
 
-pub spaced_plain : (ws : List Word) → AllByRecursion IsToken ws → list_all is_plain (spaced ws) ≡ true
+pub spaced_plain : (ws : List Word) → AllByRecursion IsToken ws → list_all is_plain (spaced_words ws) ≡ true
 spaced_plain [] h = refl
-spaced_plain (w ∷ ws) h = append_plain w (spaced ws) h.0.plain (spaced_plain ws h.1)
+spaced_plain (w ∷ ws) h = append_plain w (spaced_words ws) h.0.plain (spaced_plain ws h.1)
 
 all_words : (ws : List Word) → AllByRecursion IsToken ws → AllByRecursion IsWord ws
 all_words [] h = tt
 all_words (w ∷ ws) h = (h.0.word_is, all_words ws h.1)
 
-spaced_short : (ws : List Word) → AllByRecursion IsToken ws → length (spaced ws) ≤ 13 * length ws
+spaced_short : (ws : List Word) → AllByRecursion IsToken ws → length (spaced_words ws) ≤ 13 * length ws
 spaced_short [] h = omega arith
-spaced_short (w ∷ ws) h = omega (arith, h.0.short, spaced_short ws h.1, length-append w (spaced ws))
+spaced_short (w ∷ ws) h = omega (arith, h.0.short, spaced_short ws h.1, length-append w (spaced_words ws))
 
-short_line : (line : List ℕ) (word : Word) (ws : List Word) → line ≡ word ++ spaced ws → IsToken word
+short_line : (line : List ℕ) (word : Word) (ws : List Word) → line ≡ word ++ spaced_words ws → IsToken word
     → AllByRecursion IsToken ws → length ws ≤ 38 → length line ≤ 512
 short_line line word ws is token tokens few =
-    omega (arith, ap length is, token.short, spaced_short ws tokens, few, length-append word (spaced ws))
+    omega (arith, ap length is, token.short, spaced_short ws tokens, few, length-append word (spaced_words ws))
 
 -- a text at this line
 abbrev pub at : ℕ → List ℕ → Text
@@ -82,11 +82,12 @@ good_is_read rule x n line rest first behind is_first is_behind good says = rw (
 -- the words of a line, by which its rule gives this value
 pub line_back : {A : Type 0} (rule : List Word → Result A PacketFault) (x : A) (n : ℕ) (line : List ℕ) (word : Word)
     (ws : List Word) (rest : List ℕ)
-    → line ≡ word ++ spaced ws → IsToken word → AllByRecursion IsToken ws → length line ≤ 512 → rule (word ∷ ws) ≡ Ok x
+    → line ≡ word ++ spaced_words ws → IsToken word → AllByRecursion IsToken ws → length line ≤ 512
+    → rule (word ∷ ws) ≡ Ok x
     → line_by rule (at n (line ++ 10 ∷ rest)) ≡ Ok (x, at (n + 1) rest)
 line_back rule x n line word ws rest is token tokens short says =
     let plain : list_all is_plain line ≡ true =
-    ap (list_all is_plain) is ∙ append_plain word (spaced ws) token.plain (spaced_plain ws tokens) in
+    ap (list_all is_plain) is ∙ append_plain word (spaced_words ws) token.plain (spaced_plain ws tokens) in
     let good : is_good line ≡ true =
     both (nat_le (length line) 512) (list_all is_ascii line) (le-leb (length line) 512 short)
     (plain_is_ascii line plain) in
@@ -97,7 +98,8 @@ line_back rule x n line word ws rest is token tokens short says =
 -- a line of a few words
 pub few_back : {A : Type 0} (rule : List Word → Result A PacketFault) (x : A) (n : ℕ) (line : List ℕ) (word : Word)
     (ws : List Word) (rest : List ℕ)
-    → line ≡ word ++ spaced ws → IsToken word → AllByRecursion IsToken ws → length ws ≤ 38 → rule (word ∷ ws) ≡ Ok x
+    → line ≡ word ++ spaced_words ws → IsToken word → AllByRecursion IsToken ws → length ws ≤ 38
+    → rule (word ∷ ws) ≡ Ok x
     → line_by rule (at n (line ++ 10 ∷ rest)) ≡ Ok (x, at (n + 1) rest)
 few_back rule x n line word ws rest is token tokens few says =
     line_back rule x n line word ws rest is token tokens (short_line line word ws is token tokens few) says

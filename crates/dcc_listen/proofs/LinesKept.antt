@@ -19,9 +19,10 @@ use Rattle.dcc_io.specs.declared.decoder_line.Version.{Version}
 use Rattle.dcc_io.specs.declared.decoder_line.Version.TheVariants as versions
 use Rattle.dcc_io.specs.DecoderText.{states_by, behind_loco_line, cvs_from, cvs_lines, loco_lines, board_lines}
 use Rattle.dcc_io.specs.DecoderText.{decoder_lines, decoders_from, decoder_text}
-use Rattle.dcc_io.specs.Lines.{is_good}
+use Rattle.dcc_io.specs.NumberedLines.{is_good}
 use Rattle.dcc_listen.specs.ReadBack.{line_feeds}
-use Rattle.dcc_io.specs.TextReader.{Text, Stop, Reader, ◌>>=◌, read_on, judged, first_line, behind_line, ended_line}
+use Rattle.dcc_io.specs.TextReader.{Text, Stop, Reader, ◌>>=◌, read_on, line_verdict, first_line, behind_line}
+use Rattle.dcc_io.specs.TextReader.{ended_line}
 use Rattle.dcc_io.specs.TextReader.{line_by}
 use Rattle.dcc_io.specs.TextReader.Stop.{refused}
 use Rattle.dcc_io.proofs.DecoderTextLemmas.{behind_board_head, behind_aspects, behind_positions, behind_outs}
@@ -55,7 +56,7 @@ feed_of [] = tt
 feed_of (byte ∷ bytes) = has_feed byte bytes (behind_line bytes) (eqb byte 10) refl (feed_of bytes)
 
 judged_keeps : {A : Type 0} (n : ℕ) (result : Result A PacketFault) (bytes rest : List ℕ)
-    → line_feeds bytes ≡ 1 + line_feeds rest → IsKept (n + line_feeds bytes) (judged n result rest)
+    → line_feeds bytes ≡ 1 + line_feeds rest → IsKept (n + line_feeds bytes) (line_verdict n result rest)
 judged_keeps n (Ok x) bytes rest h = omega (arith, h)
 judged_keeps n (Err fault) bytes rest h = tt
 

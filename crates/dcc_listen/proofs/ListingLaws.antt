@@ -6,11 +6,11 @@ use Rattle.dcc_wire.specs.declared.fault.Seen.{Seen}
 use Rattle.dcc_wire.specs.declared.fault.Seen.TheVariants.{Nothing, Packet, Refused}
 use Rattle.dcc_wire.specs.declared.fault.Fault.{Fault}
 use Rattle.dcc_wire.specs.declared.frame.Frame.{Frame}
-use Rattle.dcc_wire.specs.Framing.{reported}
+use Rattle.dcc_wire.specs.Framing.{report_at}
 use Rattle.dcc_packet.specs.Written.{written_line}
 use Rattle.dcc_packet.proofs.OneSpelling.{one_packet}
 use Rattle.dcc_listen.specs.FrameText.{IsFrameText}
-use Rattle.dcc_listen.specs.Listing.{IsOutcomeText, IsLine, IsListing, numbered, outcome_text, listing}
+use Rattle.dcc_listen.specs.Listing.{IsOutcomeText, IsLine, IsListing, numbered_text, outcome_text, listing}
 use Rattle.dcc_listen.specs.ListingLaws.{OneListing, ListsInHex}
 
 -- the listings of outcomes and of later ones, one behind the other
@@ -34,8 +34,8 @@ IsListing-one words place outcome line is_line = (line, [], is_line, refl, sym (
 -- what a half showed is listed by its line
 pub IsListing-reported : (words : Bool) (place half : ℕ) (outcome : Seen) (line : List ℕ)
     → ((frame : Frame) × (outcome ≡ Packet frame)) ⊎ ((fault : Fault) × (outcome ≡ Refused fault))
-    → half ≡ place + 1 → IsLine words half outcome line → IsListing words (reported place outcome) line
-unfolding reported
+    → half ≡ place + 1 → IsLine words half outcome line → IsListing words (report_at place outcome) line
+unfolding report_at
 IsListing-reported words place half Nothing line (inl shown) same is_line = let e = shown.1 in cc
 IsListing-reported words place half Nothing line (inr shown) same is_line = let e = shown.1 in cc
 IsListing-reported words place half (Packet frame) line shown same is_line =
@@ -58,7 +58,7 @@ one_outcome_text words (Refused fault) one other first second = first ∙ sym se
 one_line : (words : Bool) (half : ℕ) (outcome : Seen) (one other : List ℕ) → IsLine words half outcome one
     → IsLine words half outcome other → one ≡ other
 one_line words half outcome one other first second =
-    first.2 ∙ ap (numbered half) (one_outcome_text words outcome first.0 second.0 first.1 second.1) ∙ sym second.2
+    first.2 ∙ ap (numbered_text half) (one_outcome_text words outcome first.0 second.0 first.1 second.1) ∙ sym second.2
 
 pub one_listing : OneListing
 one_listing words [] one other first second = first ∙ sym second
@@ -76,7 +76,7 @@ outcome_in_hex (Refused fault) = refl
 listing_in_hex : (outcomes : List (ℕ × Seen)) → IsListing false outcomes (listing outcomes)
 listing_in_hex [] = refl
 listing_in_hex (found ∷ more) = (
-  numbered (found.0 + 1) (outcome_text found.1),
+  numbered_text (found.0 + 1) (outcome_text found.1),
   listing more,
   (outcome_text found.1, outcome_in_hex found.1, refl),
   listing_in_hex more,

@@ -11,7 +11,7 @@ use Rattle.dcc_regs.specs.declared.register.Value.{Value}
 use Rattle.dcc_regs.specs.declared.register.Value.TheVariants as values
 use Rattle.dcc_regs.specs.declared.register.Who.TheVariants as who
 use Rattle.dcc_packet.specs.Bits.{is_one, byte_of}
-use Rattle.dcc_regs.specs.Loco.{is_function, is_cv_bit, is_speed, is_pending_for, holds_one, cv_of, loco_registers}
+use Rattle.dcc_regs.specs.Loco.{is_function, is_cv_bit, is_speed, is_pending_for, holds_one, cv_held, loco_registers}
 use Rattle.dcc_regs.specs.States.{is_binary_state}
 use Rattle.dcc_regs.specs.LocoState.{content as loco_content}
 use Rattle.dcc_regs.specs.Possible.{may_hold, IsPossible}
@@ -197,7 +197,7 @@ loco_state address m functions states cvs =
 module _ (address : Option Address) (m : RegisterMap) (possible : IsPossible (who.Loco address) m) (functions : ℕ)
     (bits : (j : ℕ) → j < 69 → is_one functions j ≡ holds_one (m (registers.Function j)))
     (states : ℕ) (states_bits : (j : ℕ) → j < 128 → is_one states j ≡ holds_one (m (registers.State j)))
-    (cvs : List ℕ) (each : (i : ℕ) → i < 1024 → slice_index cvs i ≡ cv_of m (suc i)) where
+    (cvs : List ℕ) (each : (i : ℕ) → i < 1024 → slice_index cvs i ≡ cv_held m (suc i)) where
   same_cv_bit : (cv place : ℕ) → is_cv_bit cv place ≡ true
       → is_one (slice_index cvs (cv - 1)) place ≡ holds_one (m (registers.CvBit cv place))
   same_cv_bit cv place there =
@@ -205,7 +205,7 @@ module _ (address : Option Address) (m : RegisterMap) (possible : IsPossible (wh
       let low = leb-true 1 cv parts.0 in
       let high = leb-true cv 1024 parts.1 in
       let next : suc (cv - 1) ≡ cv = omega (arith, low) in
-      ap (λ n. is_one n place) (each (cv - 1) (omega (arith, low, high)) ∙ ap (cv_of m) next)
+      ap (λ n. is_one n place) (each (cv - 1) (omega (arith, low, high)) ∙ ap (cv_held m) next)
       ∙ bit_byte (λ k. holds_one (m (registers.CvBit cv k))) place (leb-true place 7 parts.2)
 
   pub same_loco : SameRegisters (loco_registers (loco_content (loco_state address m functions states cvs))) m

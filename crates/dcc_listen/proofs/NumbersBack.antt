@@ -9,7 +9,7 @@ use Rattle.std.proofs.lemmas.Bool.{le-ltb, ltb-true}
 use Rattle.std.proofs.lemmas.Fmt.{length-decimal-le}
 use Rattle.std.proofs.lemmas.Nat.Bits.{bit_at_lowest, bit_at-suc}
 use Rattle.std.proofs.lemmas.List.{append-nil}
-use Rattle.dcc_packet.specs.Written.{spaced}
+use Rattle.dcc_packet.specs.Written.{spaced_words}
 use Rattle.dcc_packet.proofs.Decimal.{short}
 use Rattle.dcc_packet.proofs.WordsBack.{small_number-decimal, output_back}
 use Rattle.dcc_packet.specs.Bits.{is_one}
@@ -33,7 +33,8 @@ value_of on k (suc c) p = if on k then p + value_of on (suc k) c (2 * p) else va
 later : (k c : ℕ) → k + suc c ≡ suc k + c
 later k c = omega arith
 
-numbers_split : (on : ℕ → Bool) (k c : ℕ) → numbers_below on (k + c) ≡ numbers_below on k ++ spaced (on_words on k c)
+numbers_split : (on : ℕ → Bool) (k c : ℕ)
+    → numbers_below on (k + c) ≡ numbers_below on k ++ spaced_words (on_words on k c)
 unfolding numbers_below
 numbers_split on k zero = ap (numbers_below on) (none k) ∙ sym (append-nil (numbers_below on k))
   where
@@ -42,28 +43,28 @@ numbers_split on k zero = ap (numbers_below on) (none k) ∙ sym (append-nil (nu
 numbers_split on k (suc c) = ap (numbers_below on) (later k c) ∙ numbers_split on (suc k) c ∙ go (on k) refl
   where
     go : (b : Bool) → on k ≡ b
-        → numbers_below on (suc k) ++ spaced (on_words on (suc k) c) ≡ numbers_below on k
-        ++ spaced (on_words on k (suc c))
-    go true is = rw is (append_assoc (numbers_below on k) (behind_space k) (spaced (on_words on (suc k) c)))
+        → numbers_below on (suc k) ++ spaced_words (on_words on (suc k) c) ≡ numbers_below on k
+        ++ spaced_words (on_words on k (suc c))
+    go true is = rw is (append_assoc (numbers_below on k) (behind_space k) (spaced_words (on_words on (suc k) c)))
     go false is =
-        rw is (ap (λ (bytes : List ℕ). bytes ++ spaced (on_words on (suc k) c)) (append-nil (numbers_below on k)))
+        rw is (ap (λ (bytes : List ℕ). bytes ++ spaced_words (on_words on (suc k) c)) (append-nil (numbers_below on k)))
 
-pub numbers_are : (on : ℕ → Bool) (c : ℕ) → numbers_below on c ≡ spaced (on_words on 0 c)
+pub numbers_are : (on : ℕ → Bool) (c : ℕ) → numbers_below on c ≡ spaced_words (on_words on 0 c)
 unfolding numbers_below
 numbers_are on c = ap (numbers_below on) (from_none c) ∙ numbers_split on 0 c
   where
     from_none : (n : ℕ) → n ≡ 0 + n
     from_none n = omega arith
 
-pub ons_short : (on : ℕ → Bool) (k c : ℕ) → k + c ≤ 100 → length (spaced (on_words on k c)) ≤ 6 * c
+pub ons_short : (on : ℕ → Bool) (k c : ℕ) → k + c ≤ 100 → length (spaced_words (on_words on k c)) ≤ 6 * c
 ons_short on k zero h = omega arith
 ons_short on k (suc c) h = go (ons_short on (suc k) c (omega (arith, h))) (on k) refl
   where
-    go : length (spaced (on_words on (suc k) c)) ≤ 6 * c → (b : Bool) → on k ≡ b
-        → length (spaced (on_words on k (suc c))) ≤ 6 * suc c
+    go : length (spaced_words (on_words on (suc k) c)) ≤ 6 * c → (b : Bool) → on k ≡ b
+        → length (spaced_words (on_words on k (suc c))) ≤ 6 * suc c
     go rest true is =
         rw is (omega
-        (arith, rest, short k (omega (arith, h)), length-append (decimal k) (spaced (on_words on (suc k) c))))
+        (arith, rest, short k (omega (arith, h)), length-append (decimal k) (spaced_words (on_words on (suc k) c))))
     go rest false is = rw is (omega (arith, rest))
 
 -- a space and the digits of a number below 1000, as many as it can have
@@ -84,19 +85,23 @@ digits_fit k few = go (nat_lt k 100) refl
     go false is =
         let three = length-decimal-le 3 k (omega arith) (omega arith) (omega (arith, few)) in omega (arith, three)
 
-ons_fit : (on : ℕ → Bool) (k c : ℕ) → k + c ≤ 1000 → length (spaced (on_words on k c)) ≤ widths k c
+ons_fit : (on : ℕ → Bool) (k c : ℕ) → k + c ≤ 1000 → length (spaced_words (on_words on k c)) ≤ widths k c
 ons_fit on k zero h = omega arith
 ons_fit on k (suc c) h = go (ons_fit on (suc k) c (omega (arith, h))) (on k) refl
   where
-    go : length (spaced (on_words on (suc k) c)) ≤ widths (suc k) c → (b : Bool) → on k ≡ b
-        → length (spaced (on_words on k (suc c))) ≤ widths k (suc c)
+    go : length (spaced_words (on_words on (suc k) c)) ≤ widths (suc k) c → (b : Bool) → on k ≡ b
+        → length (spaced_words (on_words on k (suc c))) ≤ widths k (suc c)
     go rest true is =
-        rw is (omega
-        (arith, rest, digits_fit k (omega (arith, h)), length-append (decimal k) (spaced (on_words on (suc k) c))))
+        rw is (omega (
+          arith,
+          rest,
+          digits_fit k (omega (arith, h)),
+          length-append (decimal k) (spaced_words (on_words on (suc k) c)),
+        ))
     go rest false is = rw is (omega (arith, rest))
 
 -- all binary states stand in one line
-pub states_short : (on : ℕ → Bool) → length (spaced (on_words on 0 128)) ≤ 412
+pub states_short : (on : ℕ → Bool) → length (spaced_words (on_words on 0 128)) ≤ 412
 states_short on = ons_fit on 0 128 (omega arith)
 
 -- the value is read

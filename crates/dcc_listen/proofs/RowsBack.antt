@@ -11,7 +11,7 @@ use Rattle.dcc_packet.specs.declared.address.Address.{Address}
 use Rattle.dcc_packet.specs.declared.packet.Packet.{Packet}
 use Rattle.dcc_packet.specs.declared.fault.PacketFault.{PacketFault}
 use Rattle.dcc_packet.specs.Words.{Word}
-use Rattle.dcc_packet.specs.Written.{spaced, direction_word, state_word}
+use Rattle.dcc_packet.specs.Written.{spaced_words, direction_word, state_word}
 use Rattle.dcc_regs.specs.declared.register.Speed.{Speed}
 use Rattle.dcc_regs.specs.declared.register.Speed.TheVariants.{Stop, Emergency, Step14, Step28, Step126}
 use Rattle.dcc_packet.specs.Bits.{is_one}
@@ -120,7 +120,8 @@ outs_read on c n text few = record {
 
 -- the speed
 speed_line_is : (speed : Speed) (word : Word)
-    → (codes "speed " ++ speed_text speed) ++ (32 ∷ word) ≡ codes "speed" ++ spaced (speed_words speed (word ∷ []))
+    → (codes "speed " ++ speed_text speed) ++ (32 ∷ word) ≡ codes "speed"
+    ++ spaced_words (speed_words speed (word ∷ []))
 speed_line_is Stop word = ap (λ (xs : List ℕ). codes "speed stop " ++ xs) (sym (append-nil word))
 speed_line_is Emergency word = ap (λ (xs : List ℕ). codes "speed emergency " ++ xs) (sym (append-nil word))
 speed_line_is (Step14 n) word =
@@ -192,7 +193,7 @@ pending_read active pending n text h =
 -- four numbers
 four_are : (word : Word) (a b c d text : List ℕ)
     → (word ++ ((32 ∷ a) ++ ((32 ∷ b) ++ ((32 ∷ c) ++ ((32 ∷ d) ++ codes "\n")))))
-    ++ text ≡ (word ++ spaced (a ∷ b ∷ c ∷ d ∷ [])) ++ 10 ∷ text
+    ++ text ≡ (word ++ spaced_words (a ∷ b ∷ c ∷ d ∷ [])) ++ 10 ∷ text
 four_are word a b c d text = simp (append_assoc, append-nil) refl
 
 pub aspects_read : (numbers : ℕ → ℕ) (n : ℕ) (text : List ℕ) → ((k : ℕ) → k ≤ 3 → numbers k < 256)
@@ -207,7 +208,7 @@ aspects_read numbers n text small =
     ap (λ (bytes : List ℕ). line_by aspects_line (at n bytes))
     (four_are (codes "aspect") (decimal (numbers 0)) (decimal (numbers 1)) (decimal (numbers 2))
     (decimal (numbers 3)) text)
-    ∙ few_back aspects_line (numbers 0 ∷ numbers 1 ∷ numbers 2 ∷ numbers 3 ∷ []) n (codes "aspect" ++ spaced ws)
+    ∙ few_back aspects_line (numbers 0 ∷ numbers 1 ∷ numbers 2 ∷ numbers 3 ∷ []) n (codes "aspect" ++ spaced_words ws)
     (codes "aspect") ws text refl
     (keyword_token (codes "aspect") (omega arith) refl refl (omega arith)) (
       decimal_token (numbers 0) (omega (arith, a)),
@@ -228,7 +229,8 @@ side_word true = decimal_digit 1 (omega arith)
 side_word false = decimal_digit 0 (omega arith)
 
 same_line : (a b c d e f g h : Word) (text : List ℕ) → a ≡ e → b ≡ f → c ≡ g → d ≡ h
-    → (codes "position" ++ spaced (a ∷ b ∷ c ∷ d ∷ [])) ++ 10 ∷ text ≡ (codes "position" ++ spaced (e ∷ f ∷ g ∷ h ∷ []))
+    → (codes "position" ++ spaced_words (a ∷ b ∷ c ∷ d ∷ []))
+    ++ 10 ∷ text ≡ (codes "position" ++ spaced_words (e ∷ f ∷ g ∷ h ∷ []))
     ++ 10 ∷ text
 same_line a b c d e f g h text one two three four = rw (one, two, three, four) refl
 
@@ -247,7 +249,7 @@ positions_read numbers sides n text are =
     ∙ same_line (decimal (numbers 0)) (decimal (numbers 1)) (decimal (numbers 2)) (decimal (numbers 3))
     (state_word (sides 0)) (state_word (sides 1)) (state_word (sides 2)) (state_word (sides 3)) text
     (word 0 (omega arith)) (word 1 (omega arith)) (word 2 (omega arith)) (word 3 (omega arith)))
-    ∙ few_back positions_line (sides 0 ∷ sides 1 ∷ sides 2 ∷ sides 3 ∷ []) n (codes "position" ++ spaced ws)
+    ∙ few_back positions_line (sides 0 ∷ sides 1 ∷ sides 2 ∷ sides 3 ∷ []) n (codes "position" ++ spaced_words ws)
     (codes "position") ws text refl
     (keyword_token (codes "position") (omega arith) refl refl (omega arith))
     (state_token (sides 0), (state_token (sides 1), (state_token (sides 2), (state_token (sides 3), tt)))) (omega arith)

@@ -1,17 +1,9 @@
 -- Lines that are put together piece by piece.
-use Rattle.std.proofs.Common.{suc, ◌≡◌, ℕ, ◌+◌, Bool, true, false, eqb, List, [], ◌∷◌, ◌++◌, if◌then◌else◌, refl, sym}
+use Rattle.std.proofs.Common.{suc, ◌≡◌, ℕ, ◌+◌, Bool, true, false, eqb, List, [], ◌++◌, if◌then◌else◌, refl, sym}
 use Rattle.std.proofs.Common.{ap, ◌∙◌, arith, append_assoc}
 use Rattle.std.proofs.lemmas.List.{append-nil}
 use Rattle.dcc_io.specs.Spaced.{behind_space}
 use Rattle.dcc_listen.specs.FleetText.{numbers_below, cv_line, cvs_text}
-
--- pieces behind a front, and the line feed
-pub ended_row : (pieces : ℕ → List ℕ) (old front before after : List ℕ) (n last : ℕ) → n ≡ last
-    → before ≡ old ++ (front ++ pieces n) → after ≡ before ++ 10 ∷ []
-    → after ≡ old ++ ((front ++ pieces last) ++ 10 ∷ [])
-ended_row pieces old front before after n last is_last so_far ends =
-    ends ∙ ap (λ (bytes : List ℕ). bytes ++ 10 ∷ []) so_far ∙ append_assoc old (front ++ pieces n) (10 ∷ [])
-    ∙ ap (λ k. old ++ ((front ++ pieces k) ++ 10 ∷ [])) is_last
 
 next : (n : ℕ) → n + 1 ≡ suc n
 next n = omega arith

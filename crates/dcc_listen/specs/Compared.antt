@@ -1,5 +1,5 @@
 -- What `same` reads and writes.
-use Rattle.std.specs.Prelude.{◌≡◌, ◌⊎◌, ◌↔◌, ℕ, List, Option, Result, Ok, Err}
+use Rattle.std.specs.Prelude.{◌≡◌, ◌⊎◌, ◌↔◌, List, Result}
 use Rattle.std.specs.Io.KnownBytes.{Appends}
 use Rattle.dcc_packet.specs.declared.packet.Packet.{Packet}
 use Rattle.dcc_regs.specs.declared.register.Who.{Who}
@@ -9,13 +9,15 @@ use Rattle.dcc_order.specs.AlikeLists.{AlikeFor}
 use Rattle.dcc_order.specs.Laws.{LeaveTheSame}
 use Rattle.dcc_order.specs.Verdicts.{IsVerdict}
 use Rattle.dcc_io.specs.declared.fault.ToolFault.{ToolFault}
-use Rattle.dcc_io.specs.declared.fault.ToolFault.TheVariants.{Usage, Number, Line, Read, Write, NoMemory, TooMuch}
-use Rattle.dcc_io.specs.Failures.{HasRisen}
+use Rattle.dcc_io.specs.declared.fault.ToolFault.TheVariants.{NoMemory}
+use Rattle.dcc_io.specs.Calls.{EndsCall}
+use Rattle.dcc_io.specs.Faults.{as_tool_fault}
 use Rattle.dcc_listen.specs.Gathered.{Gathered, GatherFails}
 use Rattle.dcc_listen.specs.Taking.{ReadsOn}
 use Rattle.dcc_io.specs.InputState.{InputState}
 use Rattle.dcc_listen.specs.VerdictLine.{verdict_line}
-use Rattle.dcc_io.specs.Written.{AppendsFront}
+use Rattle.dcc_io.specs.WriterState.{WriterState}
+use Rattle.dcc_io.specs.WrittenBytes.{AppendsFront}
 
 -- two captures were read to their ends, and this is the verdict on their packets. Where it is Alike, and only there,
 -- they are alike for the decoder, and then they leave it the same in each register, whatever it held at the start
@@ -37,28 +39,14 @@ abbrev pub OneFails : InputState → InputState → ToolFault → InputState →
 OneFails left right fault left' right' =
     (GatherFails left fault left' × ReadsSome right right') ⊎ (ReadsSome left left' × GatherFails right fault right')
 
--- a capture's fault is answered where it stands, or there is no memory, and then nothing is written
-abbrev pub StopsComparing : InputState → InputState → Option (List ℕ) → ℕ → ToolFault → InputState → InputState
-    → Option (List ℕ) → ℕ → Type 0
-StopsComparing left right before writes fault left' right' after now =
-    OneFails left right fault left' right' × (after ≡ before) × (now ≡ writes)
-
 -- Both captures are read to their ends before anything is written. A fault comes only where its cause stands.
-abbrev pub Compares : Who → InputState → InputState → Option (List ℕ) → ℕ → Result Verdict ToolFault → InputState
-    → InputState → Option (List ℕ) → ℕ → Type 0
-Compares who left right before writes (Ok verdict) left' right' after now =
-    Compared who left right left' right' verdict × Appends before after (verdict_line verdict) × (now ≡ writes)
-Compares who left right before writes (Err (Number line)) left' right' after now =
-    StopsComparing left right before writes (Number line) left' right' after now
-Compares who left right before writes (Err (Line line fault)) left' right' after now =
-    StopsComparing left right before writes (Line line fault) left' right' after now
-Compares who left right before writes (Err Read) left' right' after now =
-    StopsComparing left right before writes Read left' right' after now
-Compares who left right before writes (Err TooMuch) left' right' after now =
-    StopsComparing left right before writes TooMuch left' right' after now
-Compares who left right before writes (Err NoMemory) left' right' after now =
-    StopsComparing left right before writes NoMemory left' right' after now
-Compares who left right before writes (Err Write) left' right' after now =
-    (verdict : Verdict) × Compared who left right left' right' verdict
-    × AppendsFront before after (verdict_line verdict) × HasRisen writes now
-Compares who left right before writes (Err (Usage usage)) left' right' after now = ⊥
+abbrev pub Compares : Who → InputState → InputState → WriterState → Result Verdict ToolFault → InputState → InputState
+    → WriterState → Type 0
+Compares who left right before result left' right' after =
+    EndsCall
+    (λ verdict. Compared who left right left' right' verdict
+    × Appends before.contents after.contents (verdict_line verdict))
+    (λ fault. OneFails left right (as_tool_fault fault) left' right' × (after ≡ before))
+    ((verdict : Verdict) × Compared who left right left' right' verdict
+    × AppendsFront before after (verdict_line verdict))
+    (OneFails left right NoMemory left' right' × (after ≡ before)) before result after

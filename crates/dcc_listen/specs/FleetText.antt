@@ -1,4 +1,4 @@
--- The decoder text that is written for a fleet, from what each member is and what its registers hold.
+-- The decoder text that is written for a fleet, from who each decoder is and what its registers hold.
 use Rattle.std.specs.Prelude.{zero, suc, ℕ, ◌==◌, Bool, true, List, [], ◌∷◌, ◌++◌, codes, Option, None, Some}
 use Rattle.std.specs.Prelude.{if◌then◌else◌}
 use Rattle.std.specs.List.{flat_map}
@@ -16,7 +16,7 @@ use Rattle.dcc_regs.specs.declared.register.Speed.TheVariants.{Stop, Emergency, 
 use Rattle.dcc_regs.specs.declared.register.Register.TheVariants as registers
 use Rattle.dcc_regs.specs.declared.register.Value.{Value}
 use Rattle.dcc_regs.specs.declared.register.Value.TheVariants as values
-use Rattle.dcc_regs.specs.Loco.{holds_one, cv_of}
+use Rattle.dcc_regs.specs.Loco.{holds_one, cv_held}
 use Rattle.dcc_regs.specs.Result.{RegisterMap}
 use Rattle.dcc_io.specs.Spaced.{behind_space}
 
@@ -70,53 +70,53 @@ cvs_text cvs (suc n) = cvs_text cvs n ++ (if cvs (suc n) == 0 then [] else cv_li
 abbrev pub loco_address_line : Option Address → List ℕ
 loco_address_line address = (codes "loco " ++ own_address_word address) ++ codes "\n"
 
-abbrev pub speed_line : RegisterMap → List ℕ
-speed_line m =
+abbrev pub written_speed : RegisterMap → List ℕ
+written_speed m =
     (codes "speed " ++ speed_text (speed_held (m registers.Speed)))
     ++ (32 ∷ direction_word (forward_held (m registers.Direction)) ++ codes "\n")
 
-abbrev pub functions_line : RegisterMap → List ℕ
-functions_line m = (codes "on" ++ numbers_below (λ n. holds_one (m (registers.Function n))) 69) ++ codes "\n"
+abbrev pub written_functions : RegisterMap → List ℕ
+written_functions m = (codes "on" ++ numbers_below (λ n. holds_one (m (registers.Function n))) 69) ++ codes "\n"
 
-abbrev pub states_line : RegisterMap → List ℕ
-states_line m = (codes "states" ++ numbers_below (λ n. holds_one (m (registers.State n))) 128) ++ codes "\n"
+abbrev pub written_states : RegisterMap → List ℕ
+written_states m = (codes "states" ++ numbers_below (λ n. holds_one (m (registers.State n))) 128) ++ codes "\n"
 
-abbrev pub pending_line : RegisterMap → List ℕ
-pending_line m = (codes "pending " ++ pending_text (pending_held (m registers.Pending))) ++ codes "\n"
+abbrev pub written_pending : RegisterMap → List ℕ
+written_pending m = (codes "pending " ++ pending_text (pending_held (m registers.Pending))) ++ codes "\n"
 
 abbrev pub loco_front : Option Address → RegisterMap → List ℕ
 loco_front address m =
-    loco_address_line address ++ (speed_line m ++ (functions_line m ++ (states_line m ++ pending_line m)))
+    loco_address_line address ++ (written_speed m ++ (written_functions m ++ (written_states m ++ written_pending m)))
 
 -- the lines of an accessory decoder
 abbrev pub board_line : Board → List ℕ
 board_line board = (codes "board" ++ behind_space board.number) ++ codes "\n"
 
-abbrev pub outs_line : RegisterMap → List ℕ
-outs_line m = (codes "out" ++ numbers_below (λ n. holds_one (m (registers.Out n))) 8) ++ codes "\n"
+abbrev pub written_outs : RegisterMap → List ℕ
+written_outs m = (codes "out" ++ numbers_below (λ n. holds_one (m (registers.Out n))) 8) ++ codes "\n"
 
 abbrev pub four_numbers : (ℕ → ℕ) → List ℕ
 four_numbers numbers =
     behind_space (numbers 0)
     ++ (behind_space (numbers 1) ++ (behind_space (numbers 2) ++ (behind_space (numbers 3) ++ codes "\n")))
 
-abbrev pub positions_line : RegisterMap → List ℕ
-positions_line m = codes "position" ++ four_numbers (λ n. number_held (m (registers.Position n)))
+abbrev pub written_positions : RegisterMap → List ℕ
+written_positions m = codes "position" ++ four_numbers (λ n. number_held (m (registers.Position n)))
 
-abbrev pub aspects_line : RegisterMap → List ℕ
-aspects_line m = codes "aspect" ++ four_numbers (λ n. number_held (m (registers.Aspect n)))
+abbrev pub written_aspects : RegisterMap → List ℕ
+written_aspects m = codes "aspect" ++ four_numbers (λ n. number_held (m (registers.Aspect n)))
 
 abbrev pub board_text : Board → RegisterMap → List ℕ
-board_text board m = board_line board ++ (outs_line m ++ (positions_line m ++ aspects_line m))
+board_text board m = board_line board ++ (written_outs m ++ (written_positions m ++ written_aspects m))
 
 -- the lines of a decoder
-abbrev pub decoder_text : Who → RegisterMap → List ℕ
-decoder_text (who.Loco address) m = loco_front address m ++ cvs_text (cv_of m) 1024
-decoder_text (who.Board board) m = board_text board m
+abbrev pub written_decoder : Who → RegisterMap → List ℕ
+written_decoder (who.Loco address) m = loco_front address m ++ cvs_text (cv_held m) 1024
+written_decoder (who.Board board) m = board_text board m
 
-abbrev pub member_text : Who × RegisterMap → List ℕ
-member_text member = decoder_text member.0 member.1
+abbrev pub text_of : Who × RegisterMap → List ℕ
+text_of decoder = written_decoder decoder.0 decoder.1
 
--- the text of a fleet, from its members
+-- the text of a fleet, from its decoders
 abbrev pub fleet_text : List (Who × RegisterMap) → List ℕ
-fleet_text members = codes "dcc-decoders 2\n" ++ (flat_map member_text members ++ codes "end\n")
+fleet_text fleet = codes "dcc-decoders 2\n" ++ (flat_map text_of fleet ++ codes "end\n")

@@ -3,10 +3,9 @@ use Rattle.std.specs.Prelude.{◌≡◌, ◌⊎◌, List, None, Some}
 use Rattle.dcc_packet.specs.declared.packet.Packet.{Packet}
 use Rattle.dcc_order.specs.Hearing.{ArePackets}
 use Rattle.dcc_io.specs.declared.fault.KeptFault.{KeptFault}
-use Rattle.dcc_io.specs.declared.fault.KeptFault.TheVariants as kept
 use Rattle.dcc_io.specs.declared.fault.ToolFault.{ToolFault}
-use Rattle.dcc_io.specs.declared.fault.ToolFault.TheVariants.{Usage, Number, Line, Read, Write, NoMemory, TooMuch}
-use Rattle.dcc_io.specs.Told.{IsAtEnd}
+use Rattle.dcc_io.specs.Faults.{GivesUp}
+use Rattle.dcc_io.specs.ReaderState.{IsAtEnd}
 use Rattle.dcc_io.specs.InputState.{InputState, UsesAllLines, HasCause}
 use Rattle.dcc_io.specs.Items.{ReadsUpTo}
 use Rattle.dcc_io.specs.Capture.{captures}
@@ -27,10 +26,5 @@ StopsGathering old fault new =
 
 -- why the packets of a capture were not read: its fault, or want of memory
 abbrev pub GatherFails : InputState → ToolFault → InputState → Type 0
-GatherFails old (Number line) new = StopsGathering old (kept.Number line) new
-GatherFails old (Line line fault) new = StopsGathering old (kept.Line line fault) new
-GatherFails old Read new = StopsGathering old kept.Read new
-GatherFails old TooMuch new = StopsGathering old kept.TooMuch new
-GatherFails old NoMemory new = (old.fault ≡ None) × (new.fault ≡ None)
-GatherFails old Write new = ⊥
-GatherFails old (Usage usage) new = ⊥
+GatherFails old fault new =
+    GivesUp (λ kept. StopsGathering old kept new) ⊥ ((old.fault ≡ None) × (new.fault ≡ None)) fault

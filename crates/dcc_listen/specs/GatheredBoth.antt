@@ -5,9 +5,9 @@ use Rattle.dcc_order.specs.Hearing.{ArePackets}
 use Rattle.dcc_io.specs.declared.fault.KeptFault.{KeptFault}
 use Rattle.dcc_io.specs.declared.fault.KeptFault.TheVariants as kept
 use Rattle.dcc_io.specs.declared.fault.ToolFault.{ToolFault}
-use Rattle.dcc_io.specs.declared.fault.ToolFault.TheVariants.{Usage, Number, Line, Read, Write, NoMemory, TooMuch}
+use Rattle.dcc_io.specs.Faults.{GivesUp}
 use Rattle.dcc_io.specs.Failures.{HasRisen}
-use Rattle.dcc_io.specs.Told.{IsAtEnd}
+use Rattle.dcc_io.specs.ReaderState.{IsAtEnd}
 use Rattle.dcc_io.specs.InputState.{InputState, UsesAllLines, HasCause}
 use Rattle.dcc_io.specs.BothCaptures.{Both, both_from, in_limit}
 use Rattle.dcc_io.specs.FirstRead.{EndsFirst}
@@ -62,10 +62,5 @@ StopsBothAt old fault new =
 
 -- why the packets of both captures were not read: a fault, or want of memory
 abbrev pub BothFail : InputState → ToolFault → InputState → Type 0
-BothFail old (Number line) new = StopsBothAt old (kept.Number line) new
-BothFail old (Line line fault) new = StopsBothAt old (kept.Line line fault) new
-BothFail old Read new = StopsBothAt old kept.Read new
-BothFail old TooMuch new = StopsBothAt old kept.TooMuch new
-BothFail old NoMemory new = (old.fault ≡ None) × (new.fault ≡ None)
-BothFail old Write new = ⊥
-BothFail old (Usage usage) new = ⊥
+BothFail old fault new =
+    GivesUp (λ kept. StopsBothAt old kept new) ⊥ ((old.fault ≡ None) × (new.fault ≡ None)) fault

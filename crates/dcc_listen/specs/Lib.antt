@@ -1,5 +1,4 @@
 pub mod FrameText
-pub mod Held
 pub mod Listing
 pub mod ListingLaws
 pub mod Gathered
@@ -12,4 +11,4 @@ pub mod GatheredBoth
 pub mod ComparedBoth
 pub mod ReadBack
 pub mod Taking
-pub mod InStep
+pub mod Inner

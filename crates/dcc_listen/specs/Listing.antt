@@ -22,12 +22,12 @@ IsOutcomeText words (Packet frame) text = IsFrameText words frame text
 IsOutcomeText words (Refused fault) text = text ≡ refusal_text fault
 
 -- the number of a half, counted from 1, and a text
-abbrev pub numbered : ℕ → List ℕ → List ℕ
-numbered half text = decimal half ++ (codes " " ++ (text ++ codes "\n"))
+abbrev pub numbered_text : ℕ → List ℕ → List ℕ
+numbered_text half text = decimal half ++ (codes " " ++ (text ++ codes "\n"))
 
 -- the line of an outcome that this half showed
 abbrev pub IsLine : Bool → ℕ → Seen → List ℕ → Type 0
-IsLine words half outcome line = (text : List ℕ) × IsOutcomeText words outcome text × (line ≡ numbered half text)
+IsLine words half outcome line = (text : List ℕ) × IsOutcomeText words outcome text × (line ≡ numbered_text half text)
 
 -- a line for each outcome, whose place counts from 0
 abbrev pub IsListing : Bool → List (ℕ × Seen) → List ℕ → Type 0
@@ -44,4 +44,4 @@ outcome_text (Refused fault) = refusal_text fault
 
 -- the listing without words
 abbrev pub listing : List (ℕ × Seen) → List ℕ
-listing outcomes = flat_map (λ found. numbered (found.0 + 1) (outcome_text found.1)) outcomes
+listing outcomes = flat_map (λ found. numbered_text (found.0 + 1) (outcome_text found.1)) outcomes

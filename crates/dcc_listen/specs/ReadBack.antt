@@ -31,28 +31,28 @@ Saves (saved.Board state) (who.Loco address, m) = ⊥
 -- one state for each decoder, in order
 abbrev pub SavesEach : List Saved → List (Who × RegisterMap) → Type 0
 SavesEach [] [] = Unit {0}
-SavesEach (one ∷ more) (member ∷ members) = Saves one member × SavesEach more members
-SavesEach [] (member ∷ members) = ⊥
+SavesEach (one ∷ more) (decoder ∷ fleet) = Saves one decoder × SavesEach more fleet
+SavesEach [] (decoder ∷ fleet) = ⊥
 SavesEach (one ∷ more) [] = ⊥
 
-abbrev pub IsPossibleMember : Who × RegisterMap → Type 0
-IsPossibleMember member = IsPossible member.0 member.1
+abbrev pub IsPossibleDecoder : Who × RegisterMap → Type 0
+IsPossibleDecoder decoder = IsPossible decoder.0 decoder.1
 
 -- the line feeds of a text
 abbrev pub line_feeds : List ℕ → ℕ
 line_feeds [] = 0
 line_feeds (byte ∷ bytes) = if byte == 10 then 1 + line_feeds bytes else line_feeds bytes
 
--- the text of these members is read as a state of each, and what follows it is left
-pub record ReadsBack (members : List (Who × RegisterMap)) (line : ℕ) (rest : List ℕ) : Type 0 where
+-- the text of this fleet is read as a state of each, and what follows it is left
+pub record ReadsBack (fleet : List (Who × RegisterMap)) (line : ℕ) (rest : List ℕ) : Type 0 where
   pub states : List Saved
   pub behind : ℕ
-  pub reads : decoder_text (record { line = line; bytes = fleet_text members ++ rest }) ≡ Ok
+  pub reads : decoder_text (record { line = line; bytes = fleet_text fleet ++ rest }) ≡ Ok
       (states, record { line = behind; bytes = rest })
-  pub saves : SavesEach states members
-  pub lines : behind ≡ line + line_feeds (fleet_text members)
+  pub saves : SavesEach states fleet
+  pub lines : behind ≡ line + line_feeds (fleet_text fleet)
 
 -- at most 64 decoders, each of which may be, are read back, wherever their text stands
 abbrev pub FleetsAreReadBack : Type 0
-FleetsAreReadBack = (members : List (Who × RegisterMap)) (line : ℕ) (rest : List ℕ)
-    → length members ≤ 64 → AllByRecursion IsPossibleMember members → ReadsBack members line rest
+FleetsAreReadBack = (fleet : List (Who × RegisterMap)) (line : ℕ) (rest : List ℕ)
+    → length fleet ≤ 64 → AllByRecursion IsPossibleDecoder fleet → ReadsBack fleet line rest

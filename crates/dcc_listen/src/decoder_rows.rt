@@ -2,12 +2,14 @@
 ghost use Rattle.std.specs.Prelude.{◌≡◌, ◌+◌, ◌≤◌, ◌++◌, ◌∷◌, codes, if◌then◌else◌};
 ghost use Rattle.arrayvec.specs.ArrayVec.{array_vec_len};
 ghost use Rattle.dcc_packet.specs.Written.{address_word, direction_word};
-ghost use Rattle.dcc_regs.specs.Loco.{holds_one as is_on_value, cv_of};
+ghost use Rattle.dcc_regs.specs.Loco.{holds_one as is_on_value, cv_held};
 ghost use Rattle.dcc_io.specs.Spaced.{behind_space};
 ghost use Rattle.dcc_listen.specs.FleetText.{speed_held, forward_held, pending_held, number_held, numbers_below};
 ghost use Rattle.dcc_listen.specs.FleetText.{own_address_word, speed_text, pending_text, cv_line, loco_address_line};
-ghost use Rattle.dcc_listen.specs.FleetText.{speed_line, functions_line, states_line, pending_line, loco_front};
-ghost use Rattle.dcc_listen.specs.FleetText.{board_line, outs_line, four_numbers, positions_line, aspects_line};
+ghost use Rattle.dcc_listen.specs.FleetText.{written_speed, written_functions, written_states, written_pending};
+ghost use Rattle.dcc_listen.specs.FleetText.{loco_front};
+ghost use Rattle.dcc_listen.specs.FleetText.{board_line, written_outs, four_numbers, written_positions};
+ghost use Rattle.dcc_listen.specs.FleetText.{written_aspects};
 ghost use Rattle.dcc_listen.specs.FleetText.{board_text};
 
 use arrayvec::ArrayVec;
@@ -19,7 +21,7 @@ use dcc_regs::{Decoder, Register, Speed, Value};
 pub(crate) type Rows = ArrayVec<u8, 4096>;
 
 /// Adds a space and a number.
-#[tactic(auto, using(dcc_io::proofs::ListingLemmas::decimal_is_short))]
+#[tactic(auto, using(dcc_io::proofs::DecimalLemmas::decimal_is_short))]
 fn append_number(rows: &mut Rows, number: u32)
     requires { array_vec_len rows.old + 11 ≤ 4096 }
     ensures items { rows.new.items ≡ rows.old.items ++ behind_space number }
@@ -30,7 +32,7 @@ fn append_number(rows: &mut Rows, number: u32)
 }
 
 /// Adds an address.
-#[tactic(auto, using(dcc_io::proofs::ListingLemmas::decimal_is_short))]
+#[tactic(auto, using(dcc_io::proofs::DecimalLemmas::decimal_is_short))]
 fn append_own_address(rows: &mut Rows, address: &Option<Address>)
     requires { array_vec_len rows.old + 12 ≤ 4096 }
     ensures items { rows.new.items ≡ rows.old.items ++ own_address_word address.now }
@@ -137,7 +139,7 @@ fn is_on(value: Option<Value>) -> bool
 
 fn append_speed_line(rows: &mut Rows, decoder: &dyn Decoder)
     requires { array_vec_len rows.old + 24 ≤ 4096 }
-    ensures items { rows.new.items ≡ rows.old.items ++ speed_line (registers decoder.now) }
+    ensures items { rows.new.items ≡ rows.old.items ++ written_speed (registers decoder.now) }
     ensures len { array_vec_len rows.new ≤ array_vec_len rows.old + 24 }
 {
     append(rows, b"speed ");
@@ -152,7 +154,7 @@ fn append_speed_line(rows: &mut Rows, decoder: &dyn Decoder)
 
 fn append_functions(rows: &mut Rows, decoder: &dyn Decoder)
     requires { array_vec_len rows.old + 800 ≤ 4096 }
-    ensures items { rows.new.items ≡ rows.old.items ++ functions_line (registers decoder.now) }
+    ensures items { rows.new.items ≡ rows.old.items ++ written_functions (registers decoder.now) }
     ensures len { array_vec_len rows.new ≤ array_vec_len rows.old + 800 }
 {
     append(rows, b"on");
@@ -166,7 +168,7 @@ fn append_functions(rows: &mut Rows, decoder: &dyn Decoder)
 
 fn append_states(rows: &mut Rows, decoder: &dyn Decoder)
     requires { array_vec_len rows.old + 1420 ≤ 4096 }
-    ensures items { rows.new.items ≡ rows.old.items ++ states_line (registers decoder.now) }
+    ensures items { rows.new.items ≡ rows.old.items ++ written_states (registers decoder.now) }
     ensures len { array_vec_len rows.new ≤ array_vec_len rows.old + 1420 }
 {
     append(rows, b"states");
@@ -180,7 +182,7 @@ fn append_states(rows: &mut Rows, decoder: &dyn Decoder)
 
 fn append_outs(rows: &mut Rows, decoder: &dyn Decoder)
     requires { array_vec_len rows.old + 100 ≤ 4096 }
-    ensures items { rows.new.items ≡ rows.old.items ++ outs_line (registers decoder.now) }
+    ensures items { rows.new.items ≡ rows.old.items ++ written_outs (registers decoder.now) }
     ensures len { array_vec_len rows.new ≤ array_vec_len rows.old + 100 }
 {
     append(rows, b"out");
@@ -204,7 +206,7 @@ fn append_address_line(rows: &mut Rows, address: &Option<Address>)
 
 fn append_pending_line(rows: &mut Rows, decoder: &dyn Decoder)
     requires { array_vec_len rows.old + 21 ≤ 4096 }
-    ensures items { rows.new.items ≡ rows.old.items ++ pending_line (registers decoder.now) }
+    ensures items { rows.new.items ≡ rows.old.items ++ written_pending (registers decoder.now) }
     ensures len { array_vec_len rows.new ≤ array_vec_len rows.old + 21 }
 {
     append(rows, b"pending ");
@@ -227,7 +229,7 @@ pub(crate) fn loco_front(address: &Option<Address>, decoder: &dyn Decoder) -> Ro
 
 /// The value of a CV, bit by bit.
 pub(crate) fn cv_value(decoder: &dyn Decoder, cv: u16) -> u8
-    ensures { result ≡ cv_of (registers decoder.now) cv }
+    ensures { result ≡ cv_held (registers decoder.now) cv }
 {
     cv_bit(decoder, cv, 0, 1)
         + cv_bit(decoder, cv, 1, 2)
@@ -265,7 +267,7 @@ pub(crate) fn cv_line(cv: u16, value: u8) -> Rows
 
 fn append_position_line(rows: &mut Rows, decoder: &dyn Decoder)
     requires { array_vec_len rows.old + 60 ≤ 4096 }
-    ensures items { rows.new.items ≡ rows.old.items ++ positions_line (registers decoder.now) }
+    ensures items { rows.new.items ≡ rows.old.items ++ written_positions (registers decoder.now) }
     ensures len { array_vec_len rows.new ≤ array_vec_len rows.old + 60 }
 {
     append(rows, b"position");
@@ -290,7 +292,7 @@ fn append_position_line(rows: &mut Rows, decoder: &dyn Decoder)
 
 fn append_aspect_line(rows: &mut Rows, decoder: &dyn Decoder)
     requires { array_vec_len rows.old + 60 ≤ 4096 }
-    ensures items { rows.new.items ≡ rows.old.items ++ aspects_line (registers decoder.now) }
+    ensures items { rows.new.items ≡ rows.old.items ++ written_aspects (registers decoder.now) }
     ensures len { array_vec_len rows.new ≤ array_vec_len rows.old + 60 }
 {
     append(rows, b"aspect");

@@ -1,8 +1,8 @@
 //! The decoder text of a fleet.
 ghost use Rattle.std.specs.Prelude.{◌≡◌, map};
-ghost use Rattle.dcc_regs.specs.Loco.{cv_of};
-ghost use Rattle.dcc_io.specs.Written.{Writes};
-ghost use Rattle.dcc_listen.specs.FleetText.{cvs_text, decoder_text, fleet_text};
+ghost use Rattle.dcc_regs.specs.Loco.{cv_held};
+ghost use Rattle.dcc_io.specs.WrittenBytes.{Writes};
+ghost use Rattle.dcc_listen.specs.FleetText.{cvs_text, written_decoder, fleet_text};
 
 use crate::decoder_rows::{board_rows, cv_line, cv_value, loco_front};
 use dcc_io::{Failed, Sink, write_all};
@@ -13,9 +13,9 @@ pub(crate) fn write_fleet<W: Sink>(
     decoders: &[Box<dyn Decoder>],
     writer: &mut W,
 ) -> Result<(), Failed>
-    ensures { Writes (W.contents writer.old) (W.failures writer.old)
+    ensures { Writes (W.state writer.old)
         (fleet_text (map (λ decoder. (who decoder, registers decoder)) decoders.now)) result
-        (W.contents writer.new) (W.failures writer.new) }
+        (W.state writer.new) }
 {
     match write_all(writer, b"dcc-decoders 2\n") {
         Ok(()) => (),
@@ -32,9 +32,9 @@ pub(crate) fn write_fleet<W: Sink>(
 
 /// Writes the lines of a decoder.
 fn write_decoder<W: Sink>(decoder: &dyn Decoder, writer: &mut W) -> Result<(), Failed>
-    ensures { Writes (W.contents writer.old) (W.failures writer.old)
-        (decoder_text (who decoder.now) (registers decoder.now)) result
-        (W.contents writer.new) (W.failures writer.new) }
+    ensures { Writes (W.state writer.old)
+        (written_decoder (who decoder.now) (registers decoder.now)) result
+        (W.state writer.new) }
 {
     match decoder.who() {
         Who::Loco(address) => {
@@ -49,9 +49,9 @@ fn write_decoder<W: Sink>(decoder: &dyn Decoder, writer: &mut W) -> Result<(), F
 
 /// Writes the lines of the CVs that are not 0.
 fn write_cvs<W: Sink>(decoder: &dyn Decoder, writer: &mut W) -> Result<(), Failed>
-    ensures { Writes (W.contents writer.old) (W.failures writer.old) (cvs_text (cv_of (registers decoder.now)) 1024)
+    ensures { Writes (W.state writer.old) (cvs_text (cv_held (registers decoder.now)) 1024)
         result
-        (W.contents writer.new) (W.failures writer.new) }
+        (W.state writer.new) }
 {
     for n in 0..1024u16 {
         let value = cv_value(decoder, n + 1);

@@ -10,7 +10,7 @@ use dcc_wire::{Fault, Frame, Seen};
 
 /// The line of an outcome that this half showed, counted from 1. With words a packet has its line in
 /// place of its hex.
-#[tactic(auto, using(dcc_io::proofs::ListingLemmas::decimal_is_short))]
+#[tactic(auto, using(dcc_io::proofs::DecimalLemmas::decimal_is_short))]
 pub fn outcome_line(half: u32, outcome: &Seen, words: bool) -> Line
     ensures { IsLine words half outcome.now result.items }
 {

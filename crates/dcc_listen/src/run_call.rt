@@ -13,7 +13,7 @@ use dcc_wire::Framer;
 
 /// Plays a capture to a fleet, and writes the decoder text of the fleet afterwards.
 ///
-/// Each member hears each packet of the capture (NMRA S-9.2, RCN-211). The text is written once the
+/// Each decoder hears each packet of the capture (NMRA S-9.2, RCN-211). The text is written once the
 /// whole capture was heard: at U2, U4 and U7 the packets before the fault were heard, nothing is
 /// written, and the input keeps the fault. At U5 a front of the text is written.
 pub fn run<R: Source, W: Sink>(
@@ -29,9 +29,8 @@ pub fn run<R: Source, W: Sink>(
 
     // Else the fleet hears the capture, up to the first fault, and its text is written if there is none.
     ensures runs { input.old.fault ≡ None
-        → Runs (map (λ decoder. (who decoder, registers decoder)) decoders.old) input.old (W.contents writer.old)
-        (W.failures writer.old) result
-        (map (λ decoder. (who decoder, registers decoder)) decoders.new) input.new (W.contents writer.new) (W.failures writer.new) }
+        → Runs (map (λ decoder. (who decoder, registers decoder)) decoders.old) input.old (W.state writer.old) result
+        (map (λ decoder. (who decoder, registers decoder)) decoders.new) input.new (W.state writer.new) }
 {
     if let Some(fault) = input.fault() {
         return Err(fault.told());

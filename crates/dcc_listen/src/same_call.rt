@@ -4,7 +4,7 @@ ghost use Rattle.dcc_io.specs.Faults.{as_tool_fault};
 ghost use Rattle.dcc_io.specs.InputState.{HasCause};
 ghost use Rattle.dcc_listen.specs.Compared.{Compares};
 ghost use Rattle.dcc_listen.specs.VerdictLine.{verdict_line as line_of};
-ghost use Rattle.dcc_io.specs.Written.{Writes};
+ghost use Rattle.dcc_io.specs.WrittenBytes.{Writes};
 
 use crate::in_step::compare_in_step;
 use crate::verdict_line::verdict_line;
@@ -36,8 +36,8 @@ pub fn same<L: Source, R: Source, W: Sink>(
     ensures cause_second { HasCause right.old.fault right.old.failures }
 
     // Else both captures are read, up to the first fault, and the verdict is written if there is none.
-    ensures compares { Compares who left.old right.old (W.contents writer.old) (W.failures writer.old) result
-        left.new right.new (W.contents writer.new) (W.failures writer.new) }
+    ensures compares { Compares who left.old right.old (W.state writer.old) result
+        left.new right.new (W.state writer.new) }
 {
     let left_fault = left.fault();
     let right_fault = right.fault();
@@ -50,10 +50,7 @@ pub fn same<L: Source, R: Source, W: Sink>(
     // (what Alike says of two lists)
     alike_is_the_verdict();
     alike_lists_leave_the_same();
-    let verdict = match compare_in_step(alloc, left, right, who) {
-        Ok(verdict) => verdict,
-        Err(fault) => return Err(fault),
-    };
+    let verdict = compare_in_step(alloc, left, right, who)?;
     match write_verdict(writer, verdict) {
         Ok(()) => Ok(verdict),
         Err(_) => Err(ToolFault::Write),
@@ -62,8 +59,7 @@ pub fn same<L: Source, R: Source, W: Sink>(
 
 /// Writes the line of a verdict.
 pub(crate) fn write_verdict<W: Sink>(writer: &mut W, verdict: Verdict) -> Result<(), Failed>
-    ensures { Writes (W.contents writer.old) (W.failures writer.old) (line_of verdict) result (W.contents writer.new)
-        (W.failures writer.new) }
+    ensures { Writes (W.state writer.old) (line_of verdict) result (W.state writer.new) }
 {
     write_all(writer, verdict_line(verdict).as_slice())
 }

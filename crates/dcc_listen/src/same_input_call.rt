@@ -34,8 +34,8 @@ pub fn same_input<R: Source, W: Sink>(
     ensures cause { HasCause input.old.fault input.old.failures }
 
     // Else both captures are read, up to the first fault, and the verdict is written if there is none.
-    ensures compares { ComparesBoth who input.old (W.contents writer.old) (W.failures writer.old) result
-        input.new (W.contents writer.new) (W.failures writer.new) }
+    ensures compares { ComparesBoth who input.old (W.state writer.old) result
+        input.new (W.state writer.new) }
 {
     if let Some(fault) = input.fault() {
         return Err(fault.told());
@@ -43,10 +43,7 @@ pub fn same_input<R: Source, W: Sink>(
     // (what Alike says of two lists)
     alike_is_the_verdict();
     alike_lists_leave_the_same();
-    let verdict = match compare_both(alloc, input, who) {
-        Ok(verdict) => verdict,
-        Err(fault) => return Err(fault),
-    };
+    let verdict = compare_both(alloc, input, who)?;
     match write_verdict(writer, verdict) {
         Ok(()) => Ok(verdict),
         Err(_) => Err(ToolFault::Write),
@@ -65,12 +62,6 @@ fn compare_both<R: Source>(
         × IsVerdict who packets others verdict) }
     ensures fails { IfErr result (λ fault. BothFail input.old fault input.new) }
 {
-    let packets = match gather_first(alloc, input) {
-        Ok(packets) => packets,
-        Err(fault) => return Err(fault),
-    };
-    match compare_beside(alloc, packets.as_slice(), input, who) {
-        Ok(verdict) => Ok(verdict),
-        Err(fault) => Err(fault),
-    }
+    let packets = gather_first(alloc, input)?;
+    compare_beside(alloc, packets.as_slice(), input, who)
 }

@@ -1,8 +1,8 @@
 //! The listing of a capture.
 ghost use Rattle.std.specs.Prelude.{◌≡◌, ◌≢◌, ◌<◌, ◌+◌, ◌++◌, ◌⊎◌, ℕ, List, [], None, IfSome, OnOk};
-ghost use Rattle.dcc_wire.specs.Framing.{reported};
+ghost use Rattle.dcc_wire.specs.Framing.{report_at};
 ghost use Rattle.dcc_io.specs.Held.{HoldsOrFails};
-ghost use Rattle.dcc_listen.specs.Held.{HoldsListing, TakesRun, WritesRest};
+ghost use Rattle.dcc_listen.specs.Inner.Held.{HoldsListing, TakesRun, WritesRest};
 ghost use Rattle.dcc_io.specs.Faults.{as_tool_fault};
 ghost use Rattle.dcc_io.specs.InputState.{HasCause};
 ghost use Rattle.dcc_io.specs.Words.{ended_words};
@@ -35,8 +35,8 @@ pub fn show<R: Source, W: Sink>(
 
     // Else the listing of the capture is written, up to the first fault.
     ensures shows { input.old.fault ≡ None
-        → Shows words input.old (W.contents writer.old) (W.failures writer.old) result
-        input.new (W.contents writer.new) (W.failures writer.new) }
+        → Shows words input.old (W.state writer.old) result
+        input.new (W.state writer.new) }
 {
     if let Some(fault) = input.fault() {
         return Err(fault.told());
@@ -78,8 +78,8 @@ fn next_run<R: Source, W: Sink>(
     writer: &mut W,
 ) -> Result<Result<Option<Run>, KeptFault>, Failed>
     requires { input.old.fault ≡ None }
-    ensures { TakesRun input.old (W.contents writer.old) (W.failures writer.old) held.old result input.new held.new
-        (W.contents writer.new) (W.failures writer.new) }
+    ensures { TakesRun input.old (W.state writer.old) held.old result input.new held.new
+        (W.state writer.new) }
 {
     match write_before_read(held, input, writer) {
         Ok(()) => Ok(read_run(input)),
@@ -94,8 +94,8 @@ fn write_before_read<R: Source, W: Sink>(
     input: &Input<R>,
     writer: &mut W,
 ) -> Result<(), Failed>
-    ensures holds { HoldsOrFails (W.contents writer.old) (W.failures writer.old) held.old result held.new
-        (W.contents writer.new) (W.failures writer.new) }
+    ensures holds { HoldsOrFails (W.state writer.old) held.old result held.new
+        (W.state writer.new) }
     ensures waits { OnOk result ((held.new ≡ []) ⊎ (ended_words input.now.place input.now.ahead ≢ [])) }
 {
     if held.is_empty() || input.has_word_at_hand() {
@@ -106,7 +106,7 @@ fn write_before_read<R: Source, W: Sink>(
 
 /// Holds the line of what this half showed, if anything.
 #[inline(always)]
-#[tactic(auto, unfolding(dcc_wire::specs::Framing::reported))]
+#[tactic(auto, unfolding(dcc_wire::specs::Framing::report_at))]
 fn hold_seen<W: Sink>(
     held: &mut HeldLines,
     half: u32,
@@ -116,8 +116,8 @@ fn hold_seen<W: Sink>(
 ) -> Result<(), Failed>
     requires { 0 < half }
     ensures { (place : ℕ) → half ≡ place + 1
-        → HoldsListing words (reported place seen.now) (W.contents writer.old) (W.failures writer.old)
-        held.old result held.new (W.contents writer.new) (W.failures writer.new) }
+        → HoldsListing words (report_at place seen.now) (W.state writer.old)
+        held.old result held.new (W.state writer.new) }
 {
     match seen {
         Seen::Nothing => Ok(()),
@@ -135,8 +135,8 @@ fn hold_outcome<W: Sink>(
     writer: &mut W,
 ) -> Result<(), Failed>
     ensures { (text : List ℕ) × IsLine words half seen.now text
-        × HoldsOrFails (W.contents writer.old) (W.failures writer.old) (held.old ++ text) result held.new
-        (W.contents writer.new) (W.failures writer.new) }
+        × HoldsOrFails (W.state writer.old) (held.old ++ text) result held.new
+        (W.state writer.new) }
 {
     held.hold(outcome_line(half, seen, words).as_slice(), writer)
 }
@@ -147,8 +147,8 @@ fn write_rest<W: Sink>(
     writer: &mut W,
     answer: Result<(), ToolFault>,
 ) -> Result<(), ToolFault>
-    ensures { WritesRest (W.contents writer.old) (W.failures writer.old) held.old answer result
-        (W.contents writer.new) (W.failures writer.new) }
+    ensures { WritesRest (W.state writer.old) held.old answer result
+        (W.state writer.new) }
 {
     match held.write_out(writer) {
         Ok(()) => answer,

@@ -23,16 +23,15 @@ pub(crate) fn next_packet<R: Source>(
     ensures bytes { IfOk result (λ item. input.new.bytes + length (option_to_list item) ≤ input.old.bytes) }
 {
     'runs: loop {
-        match next_run(input) {
-            Ok(Some(run)) => {
+        match next_run(input)? {
+            Some(run) => {
                 let shown = framer.push_run(run.us, run.n);
                 match packet_in(&shown.seen) {
                     Some(packet) => return Ok(Some(packet)),
                     None => (),
                 }
             }
-            Ok(None) => return Ok(None),
-            Err(fault) => return Err(fault),
+            None => return Ok(None),
         }
     }
 }
@@ -58,10 +57,9 @@ pub(crate) fn pass_rest<R: Source>(
         → Gathering start input.old framer.old packets → PassesRest start packets result input.new }
 {
     'packets: loop {
-        match next_packet(input, framer) {
-            Ok(Some(_)) => (),
-            Ok(None) => return Ok(()),
-            Err(fault) => return Err(fault),
+        match next_packet(input, framer)? {
+            Some(_) => (),
+            None => return Ok(()),
         }
     }
 }

@@ -6,7 +6,7 @@ use dcc_io::{Line, append, append_decimal};
 use dcc_order::Verdict;
 
 /// `alike`, `writes`, `members k` or `order k`.
-#[tactic(auto, using(dcc_io::proofs::ListingLemmas::decimal_is_short))]
+#[tactic(auto, using(dcc_io::proofs::DecimalLemmas::decimal_is_short))]
 pub(crate) fn verdict_line(verdict: Verdict) -> Line
     ensures { result.items ≡ verdict_line verdict }
 {

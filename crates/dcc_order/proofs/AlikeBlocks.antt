@@ -17,13 +17,14 @@ use Rattle.dcc_regs.specs.declared.register.SpeedMode.{SpeedMode}
 use Rattle.dcc_regs.specs.Heard.{hears}
 use Rattle.dcc_regs.specs.Sets.{sets}
 use Rattle.dcc_regs.specs.Conflict.{Conflict}
-use Rattle.dcc_regs.specs.Setting.{overwritten, mode_in}
+use Rattle.dcc_regs.specs.Setting.{value_over, mode_in}
 use Rattle.dcc_regs.specs.Result.{is_pending, left_pending}
 use Rattle.dcc_packet.proofs.SameFrames.{Decides-same, same-refl}
 use Rattle.dcc_regs.proofs.SameValues.{same_value, Decides-same_value}
-use Rattle.dcc_regs.proofs.Stepping.{overwritten-none}
-use Rattle.dcc_regs.proofs.Runs.{State, step, run, same_state, later_of, last_set, sets_bit, overwritten-overwritten}
-use Rattle.dcc_order.specs.AlikeLists.{unrepeated, turns, SameMembers, AlikeBlocks}
+use Rattle.dcc_regs.proofs.RegisterStep.{overwritten-none}
+use Rattle.dcc_regs.proofs.ResultByParts.{State, step, run, same_state, later_of, last_set, sets_bit}
+use Rattle.dcc_regs.proofs.ResultByParts.{overwritten-overwritten}
+use Rattle.dcc_order.specs.AlikeLists.{without_repeats, turns, SameMembers, AlikeBlocks}
 
 -- the last packet of a list
 abbrev pub last_of : List Packet → Option Packet
@@ -46,24 +47,25 @@ some_first a b None = refl
 some_first a b (Some x) = refl
 
 last_unrepeated_from : (before : Option Packet) (l : List Packet)
-    → later_of before (last_of (unrepeated before l)) ≡ later_of before (last_of l)
+    → later_of before (last_of (without_repeats before l)) ≡ later_of before (last_of l)
 last_unrepeated_from before [] = refl
 last_unrepeated_from None (p ∷ l) = ap (later_of None) (last_unrepeated_from (Some p) l)
 last_unrepeated_from (Some b) (p ∷ l) = by_case (same b p) refl (last_unrepeated_from (Some p) l)
   where
     by_case : (t : Bool) → same b p ≡ t
-        → later_of (Some p) (last_of (unrepeated (Some p) l)) ≡ later_of (Some p) (last_of l) →
-        later_of (Some b) (last_of (cond t (unrepeated (Some p) l) (p ∷ unrepeated (Some p) l))) ≡ later_of (Some b)
+        → later_of (Some p) (last_of (without_repeats (Some p) l)) ≡ later_of (Some p) (last_of l) →
+        later_of (Some b) (last_of (cond t (without_repeats (Some p) l) (p ∷ without_repeats (Some p) l))) ≡ later_of
+        (Some b)
         (later_of (Some p) (last_of l))
     by_case true e rest =
-        ap (λ z. later_of (Some z) (last_of (unrepeated (Some p) l))) ((Decides-same b p).0 e) ∙ rest
+        ap (λ z. later_of (Some z) (last_of (without_repeats (Some p) l))) ((Decides-same b p).0 e) ∙ rest
         ∙ sym (some_first b p (last_of l))
     by_case false e rest = ap (later_of (Some b)) rest
 
 -- a packet that is left out is not the last of its kind
-last_unrepeated : (l : List Packet) → last_of (unrepeated None l) ≡ last_of l
+last_unrepeated : (l : List Packet) → last_of (without_repeats None l) ≡ last_of l
 last_unrepeated l =
-    sym (none_first (last_of (unrepeated None l))) ∙ last_unrepeated_from None l ∙ none_first (last_of l)
+    sym (none_first (last_of (without_repeats None l))) ∙ last_unrepeated_from None l ∙ none_first (last_of l)
 
 contains_head : (x : Packet) (l : List Packet) → Contains (x ∷ l) x
 contains_head x l = Contains-append_left (x ∷ []) l x (Contains-push [] x)
@@ -245,23 +247,23 @@ run_block_bits : (who : Who) (s : State) (l : List Packet) → AllByRecursion (I
 run_block_bits who s [] all r = refl
 run_block_bits who s (p ∷ l) all r =
     run_block_bits who (step s p) l all.1 r
-    ∙ ap (λ t. cond (t && is_pending s.pending p) (overwritten (s.bits r) (sets_bit p r)) (s.bits r)) all.0.1
+    ∙ ap (λ t. cond (t && is_pending s.pending p) (value_over (s.bits r) (sets_bit p r)) (s.bits r)) all.0.1
 
 -- a block that is not empty leaves nothing pending, where there is such a register
 run_block_pending : (who : Who) (s : State) (p : Packet) (l : List Packet) → AllByRecursion (InBlock who) (p ∷ l)
-    → (run s (p ∷ l)).pending ≡ overwritten s.pending (Some (PendingValue None))
-run_block_pending who s p [] all = ap (λ t. overwritten s.pending (Some (PendingValue (cond t (Some p) None)))) all.0.1
+    → (run s (p ∷ l)).pending ≡ value_over s.pending (Some (PendingValue None))
+run_block_pending who s p [] all = ap (λ t. value_over s.pending (Some (PendingValue (cond t (Some p) None)))) all.0.1
 run_block_pending who s p (q ∷ l) all =
     run_block_pending who (step s p) q l all.1
     ∙ overwritten-overwritten s.pending (Some (PendingValue (left_pending p))) (Some (PendingValue None))
 
 -- a block sets the plain registers in the mode in which it began
 run_block_plain : (who : Who) (s : State) (l : List Packet) → AllByRecursion (InBlock who) l → (r : Register) →
-    (run s l).plain r ≡ overwritten (s.plain r) (last_set (λ p. sets (mode_in s.bits) p r) l)
+    (run s l).plain r ≡ value_over (s.plain r) (last_set (λ p. sets (mode_in s.bits) p r) l)
 run_block_plain who s [] all r = sym (overwritten-none (s.plain r))
 run_block_plain who s (p ∷ l) all r =
     run_block_plain who (step s p) l all.1 r
-    ∙ ap (λ mode. overwritten (overwritten (s.plain r) (sets (mode_in s.bits) p r)) (last_set (λ q. sets mode q r) l))
+    ∙ ap (λ mode. value_over (value_over (s.plain r) (sets (mode_in s.bits) p r)) (last_set (λ q. sets mode q r) l))
     (ap mode_in (λ i q. run_block_bits who s (p ∷ []) (all.0, tt) q i))
     ∙ overwritten-overwritten (s.plain r) (sets (mode_in s.bits) p r) (last_set (λ q. sets (mode_in s.bits) q r) l)
 
@@ -281,5 +283,5 @@ alike_blocks who s left right lefts rights alike = same_state (run s left) (run 
     (block_pending who s left right lefts rights alike.members)
     (λ r. run_block_bits who s left lefts r ∙ sym (run_block_bits who s right rights r))
     (λ r. run_block_plain who s left lefts r
-    ∙ ap (overwritten (s.plain r)) (same_last_set who (mode_in s.bits) r left right lefts rights alike)
+    ∙ ap (value_over (s.plain r)) (same_last_set who (mode_in s.bits) r left right lefts rights alike)
     ∙ sym (run_block_plain who s right rights r))

@@ -9,15 +9,16 @@ use Rattle.dcc_regs.specs.declared.register.Who.{Who}
 use Rattle.dcc_packet.specs.SamePacket.{same}
 use Rattle.dcc_regs.specs.Writes.{is_own_write}
 use Rattle.dcc_regs.specs.Heard.{hears, heard}
-use Rattle.dcc_regs.specs.Setting.{overwritten, mode_in}
+use Rattle.dcc_regs.specs.Setting.{value_over, mode_in}
 use Rattle.dcc_regs.specs.Result.{is_pending, left_pending}
 use Rattle.dcc_regs.specs.declared.register.Value.TheVariants.{Pending as PendingValue}
 use Rattle.dcc_packet.proofs.SameFrames.{Decides-same}
 use Rattle.dcc_regs.proofs.OwnWrites.{sets-own_write}
-use Rattle.dcc_regs.proofs.Stepping.{overwritten-none}
-use Rattle.dcc_regs.proofs.Runs.{State, step, run, start, read, after-run, run-append, same_state, sets_bit}
-use Rattle.dcc_regs.proofs.Runs.{overwritten-twice}
-use Rattle.dcc_order.specs.AlikeLists.{begins_with_two, capped, Cut, LastBlock, Block, in_first_block, cut, cut_for}
+use Rattle.dcc_regs.proofs.RegisterStep.{overwritten-none}
+use Rattle.dcc_regs.proofs.ResultByParts.{State, step, run, start, read, after-run, run-append, same_state, sets_bit}
+use Rattle.dcc_regs.proofs.ResultByParts.{overwritten-twice}
+use Rattle.dcc_order.specs.AlikeLists.{begins_with_two, without_third_copies, Cut, LastBlock, Block, in_first_block}
+use Rattle.dcc_order.specs.AlikeLists.{cut, cut_for}
 use Rattle.dcc_order.specs.AlikeLists.{AlikeCuts}
 use Rattle.dcc_order.specs.Laws.{AlikeListsLeaveTheSame, AlikeListsAgreeAfterEachBlock, through_block}
 use Rattle.std.proofs.Common.{ℕ, zero, suc}
@@ -84,20 +85,20 @@ both_true false b e = cc
 third_copy : (s : State) (p : Packet) → is_own_write p ≡ true → step (step (step s p) p) p ≡ step (step s p) p
 third_copy s p write = same_state (step (step (step s p) p) p) (step (step s p) p) pending_again
     (λ r. ap
-    (λ v. cond (is_own_write p && is_pending v p) (overwritten ((step (step s p) p).bits r) (sets_bit p r))
+    (λ v. cond (is_own_write p && is_pending v p) (value_over ((step (step s p) p).bits r) (sets_bit p r))
     ((step (step s p) p).bits r)) (overwritten-twice s.pending (Some (PendingValue (left_pending p))))
     ∙ written_again (is_own_write p && is_pending (step s p).pending p) ((step s p).bits r) (sets_bit p r))
-    (λ r. ap (overwritten ((step (step s p) p).plain r)) (sets-own_write (mode_in (step (step s p) p).bits) p r write)
+    (λ r. ap (value_over ((step (step s p) p).plain r)) (sets-own_write (mode_in (step (step s p) p).bits) p r write)
     ∙ overwritten-none ((step (step s p) p).plain r))
   where
     -- a register that has it stays, and one that a decoder does not have stays none
     pending_again : (step (step (step s p) p) p).pending ≡ (step (step s p) p).pending
     pending_again =
-        overwritten-twice (overwritten s.pending (Some (PendingValue (left_pending p))))
+        overwritten-twice (value_over s.pending (Some (PendingValue (left_pending p))))
         (Some (PendingValue (left_pending p)))
 
     written_again : (t : Bool) (v o : Option Value)
-        → cond t (overwritten (cond t (overwritten v o) v) o) (cond t (overwritten v o) v) ≡ cond t (overwritten v o) v
+        → cond t (value_over (cond t (value_over v o) v) o) (cond t (value_over v o) v) ≡ cond t (value_over v o) v
     written_again true v o = overwritten-twice v o
     written_again false v o = refl
 
@@ -115,32 +116,35 @@ left_out s p (q ∷ r ∷ l) write two =
     ∙ ap (λ x. run (step (step (step s p) p) x) l) second
     ∙ ap (λ x. run (step (step (step s p) x) r) l) first
 
-run-capped : (s : State) (l : List Packet) → run s (capped l) ≡ run s l
+run-capped : (s : State) (l : List Packet) → run s (without_third_copies l) ≡ run s l
 run-capped s [] = refl
 run-capped s (p ∷ l) = by_case (is_own_write p && begins_with_two l p) refl (run-capped s l) (run-capped (step s p) l)
   where
-    by_case : (t : Bool) → (is_own_write p && begins_with_two l p) ≡ t → run s (capped l) ≡ run s l
-        → run (step s p) (capped l) ≡ run (step s p) l → run s (cond t (capped l) (p ∷ capped l)) ≡ run (step s p) l
+    by_case : (t : Bool) → (is_own_write p && begins_with_two l p) ≡ t → run s (without_third_copies l) ≡ run s l
+        → run (step s p) (without_third_copies l) ≡ run (step s p) l
+        → run s (cond t (without_third_copies l) (p ∷ without_third_copies l)) ≡ run (step s p) l
     by_case true e here rest =
         here ∙ left_out s p l (both_true (is_own_write p) (begins_with_two l p) e).0
         (both_true (is_own_write p) (begins_with_two l p) e).1
     by_case false e here rest = rest
 
-all_capped : (P : Packet → Type 0) (l : List Packet) → AllByRecursion P l → AllByRecursion P (capped l)
+all_capped : (P : Packet → Type 0) (l : List Packet) → AllByRecursion P l → AllByRecursion P (without_third_copies l)
 all_capped P [] all = tt
 all_capped P (p ∷ l) all = by_case (is_own_write p && begins_with_two l p) (all_capped P l all.1)
   where
-    by_case : (t : Bool) → AllByRecursion P (capped l) → AllByRecursion P (cond t (capped l) (p ∷ capped l))
+    by_case : (t : Bool) → AllByRecursion P (without_third_copies l)
+        → AllByRecursion P (cond t (without_third_copies l) (p ∷ without_third_copies l))
     by_case true rest = rest
     by_case false rest = (all.0, rest)
 
-all_heard : (who : Who) (l : List Packet) → AllByRecursion (λ p. hears who p ≡ true) (capped (heard who l))
+all_heard : (who : Who) (l : List Packet)
+    → AllByRecursion (λ p. hears who p ≡ true) (without_third_copies (heard who l))
 all_heard who l =
     all_capped (λ p. hears who p ≡ true) (heard who l)
     (recursion_from_All (λ p. hears who p ≡ true) (heard who l) (filter_passes (hears who) l))
 
 run-cut_for : (who : Who) (s : State) (l : List Packet) → run s (flat (cut_for who l)) ≡ run s (heard who l)
-run-cut_for who s l = ap (run s) (flat-cut (capped (heard who l))) ∙ run-capped s (heard who l)
+run-cut_for who s l = ap (run s) (flat-cut (without_third_copies (heard who l))) ∙ run-capped s (heard who l)
 
 pub alike_lists : AlikeListsLeaveTheSame
 alike_lists who left right alike m r =
@@ -148,8 +152,8 @@ alike_lists who left right alike m r =
     ∙ ap (λ s. read s r) (
     sym (run-cut_for who (start m) left)
     ∙ alike_cuts who (start m) (cut_for who left) (cut_for who right)
-    (well_cut who (capped (heard who left)) (all_heard who left))
-    (well_cut who (capped (heard who right)) (all_heard who right)) alike
+    (well_cut who (without_third_copies (heard who left)) (all_heard who left))
+    (well_cut who (without_third_copies (heard who right)) (all_heard who right)) alike
     ∙ run-cut_for who (start m) right)
     ∙ sym (after-run m (heard who right) r)
 
@@ -172,6 +176,6 @@ pub alike_after_each_block : AlikeListsAgreeAfterEachBlock
 alike_after_each_block who left right alike k m cv place =
     after-run m (through_block k (cut_for who left)) (CvBit cv place)
     ∙ ap (λ s. read s (CvBit cv place)) (alike_through who (start m) k (cut_for who left) (cut_for who right)
-    (well_cut who (capped (heard who left)) (all_heard who left))
-    (well_cut who (capped (heard who right)) (all_heard who right)) alike)
+    (well_cut who (without_third_copies (heard who left)) (all_heard who left))
+    (well_cut who (without_third_copies (heard who right)) (all_heard who right)) alike)
     ∙ sym (after-run m (through_block k (cut_for who right)) (CvBit cv place))

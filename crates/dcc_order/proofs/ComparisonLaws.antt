@@ -20,14 +20,15 @@ use Rattle.dcc_order.specs.declared.verdict.Verdict.{Verdict}
 use Rattle.dcc_order.specs.declared.verdict.Verdict.TheVariants.{Members}
 use Rattle.dcc_order.specs.declared.wants.Wants.{Wants}
 use Rattle.dcc_order.specs.declared.wants.Wants.TheVariants.{Left, Right, Done}
-use Rattle.dcc_order.specs.AlikeLists.{Cut, LastBlock, Block, cut, capped, in_first_block, cut_for, AlikeBlocks}
+use Rattle.dcc_order.specs.AlikeLists.{Cut, LastBlock, Block, cut, without_third_copies, in_first_block, cut_for}
+use Rattle.dcc_order.specs.AlikeLists.{AlikeBlocks}
 use Rattle.dcc_order.specs.OneMore.{ends_with_two, cut_more}
 use Rattle.dcc_order.specs.GivenLists.{Lists, no_lists, IsVerdictOfAll, writes_in, block_len, open_blocks_len}
 use Rattle.dcc_order.specs.GivenLists.{most_held}
 use Rattle.dcc_order.specs.Held.{nothing_held}
 use Rattle.dcc_order.specs.Comparisons.{StandsFor, GoesOn, WantsLeft, WantsRight, Stage, AlikeUpTo, open_cut}
 use Rattle.dcc_order.specs.Comparisons.{EndAlike, IsVerdictAtEnds, last_heard, heard_next, nothing_heard}
-use Rattle.dcc_order.specs.ComparisonSteps.{heard_left, heard_right, joined_left, closed_left, begun_block}
+use Rattle.dcc_order.specs.Inner.ComparisonSteps.{heard_left, heard_right, joined_left, closed_left, begun_block}
 use Rattle.dcc_order.proofs.AlikeBlocks.{true_is_not_false}
 use Rattle.dcc_order.proofs.CutTests.{length-capped, length-kept}
 use Rattle.dcc_order.proofs.OneMorePacket.{one_more_packet}
@@ -162,7 +163,7 @@ writes_within (p ∷ l) = by_case (is_own_write p) (writes_within l)
 
 writes_given : (who : Who) (l : List Packet) → writes_in (cut_for who l) ≤ length l
 writes_given who l =
-    let few = writes_within (capped (heard who l)) in
+    let few = writes_within (without_third_copies (heard who l)) in
     let kept = length-capped (heard who l) in
     let all = length-kept (hears who) l in
     omega (arith, few, kept, all)
@@ -239,7 +240,8 @@ module _ (c : Comparison) (lists : Lists) (p : Packet) (s : StandsFor c lists) w
               };
               left_open = w.left_open;
               right_open = w.right_open;
-              up_to = subst (λ x. AlikeUpTo c.block x (cut_for c.who lists.right) (LastBlock c.held.first) (LastBlock []))
+              up_to = subst
+                  (λ x. AlikeUpTo c.block x (cut_for c.who lists.right) (LastBlock c.held.first) (LastBlock []))
                   (sym (cut_unheard c.who lists.left p unheard)) w.up_to;
               none_yet = w.none_yet;
             } in w);
@@ -274,7 +276,8 @@ module _ (c : Comparison) (lists : Lists) (p : Packet) (s : StandsFor c lists) w
               };
               left_open = w.left_open;
               right_open = w.right_open;
-              up_to = subst (λ x. AlikeUpTo c.block x (cut_for c.who lists.right) (LastBlock c.held.first) (LastBlock []))
+              up_to = subst
+                  (λ x. AlikeUpTo c.block x (cut_for c.who lists.right) (LastBlock c.held.first) (LastBlock []))
                   (sym (cut_left_out c.who lists.left p hears_it own (twice_left w true twice))) w.up_to;
               none_yet = w.none_yet;
             } in w);
@@ -299,7 +302,8 @@ module _ (c : Comparison) (lists : Lists) (p : Packet) (s : StandsFor c lists) w
               left_open = w.left_open;
               right_open = w.right_open;
               up_to = subst
-                  (λ x. AlikeUpTo c.block x (cut_for c.who lists.right) (LastBlock (c.held.first ++ p ∷ [])) (LastBlock []))
+                  (λ x. AlikeUpTo c.block x (cut_for c.who lists.right) (LastBlock (c.held.first ++ p ∷ []))
+                  (LastBlock []))
                   (sym (cut_joined c.who lists.left p hears_it own))
                   (subst (λ t. AlikeUpTo c.block (cut_more (cut_for c.who lists.left) p) (cut_for c.who lists.right)
                   (cond t (Block c.held.first p (LastBlock [])) (LastBlock (c.held.first ++ p ∷ [])))

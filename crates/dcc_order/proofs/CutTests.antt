@@ -6,7 +6,8 @@ use Rattle.dcc_packet.specs.declared.packet.Packet.{Packet}
 use Rattle.dcc_regs.specs.Writes.{is_own_write}
 use Rattle.dcc_order.specs.declared.verdict.Verdict.{Verdict}
 use Rattle.dcc_order.specs.declared.verdict.Verdict.TheVariants.{Alike, Writes, Members, Order}
-use Rattle.dcc_order.specs.AlikeLists.{Cut, LastBlock, Block, cut, cut_by, SameMembers, SameOrder, AlikeCuts, capped}
+use Rattle.dcc_order.specs.AlikeLists.{Cut, LastBlock, Block, cut, cut_by, SameMembers, SameOrder, AlikeCuts}
+use Rattle.dcc_order.specs.AlikeLists.{without_third_copies}
 use Rattle.dcc_order.specs.AlikeLists.{begins_with_two}
 use Rattle.dcc_order.specs.Verdicts.{IsVerdictFrom}
 
@@ -90,12 +91,13 @@ verdict_of_alike k (Block left w x) (Block right u y) verdict alike v = elim v [
   | inr (inr (m, o, inr good)) ↦ verdict_of_alike (k + 1) x y verdict alike.2 good.1
 ]
 
--- what a decoder hears of a list, capped, is no longer than the list
-pub length-capped : (l : List Packet) → length (capped l) ≤ length l
+-- what a decoder hears of a list, without_third_copies, is no longer than the list
+pub length-capped : (l : List Packet) → length (without_third_copies l) ≤ length l
 length-capped [] = omega arith
 length-capped (p ∷ l) = by_case (is_own_write p && begins_with_two l p) (length-capped l)
   where
-    by_case : (t : Bool) → length (capped l) ≤ length l → length (cond t (capped l) (p ∷ capped l)) ≤ suc (length l)
+    by_case : (t : Bool) → length (without_third_copies l) ≤ length l
+        → length (cond t (without_third_copies l) (p ∷ without_third_copies l)) ≤ suc (length l)
     by_case true h = omega arith
     by_case false h = omega arith
 

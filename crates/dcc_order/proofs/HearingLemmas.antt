@@ -3,7 +3,7 @@ use Rattle.std.proofs.Common.{◌≡◌, ℕ, List, [], ◌∷◌, ◌++◌, map
 use Rattle.std.proofs.lemmas.List.{map-append}
 use Rattle.dcc_wire.specs.declared.fault.Seen.{Seen}
 use Rattle.dcc_wire.specs.declared.fault.Seen.TheVariants.{Nothing, Packet as PacketSeen, Refused}
-use Rattle.dcc_wire.specs.Framing.{seen, reported}
+use Rattle.dcc_wire.specs.Framing.{seen, report_at}
 use Rattle.dcc_wire.proofs.SeenLemmas.{seen-none}
 use Rattle.dcc_packet.specs.declared.packet.Packet.{Packet}
 use Rattle.dcc_packet.specs.Spelling.{spelling}
@@ -20,25 +20,25 @@ frames_in-append (at ∷ later) b =
     ap (λ frames. frames_of at.1 ++ frames) (frames_in-append later b)
     ∙ sym (append_assoc (frames_of at.1) (frames_in later) (frames_in b))
 
-frames_in-reported : (place : ℕ) (answer : Seen) → frames_in (reported place answer) ≡ frames_of answer
-unfolding reported
+frames_in-reported : (place : ℕ) (answer : Seen) → frames_in (report_at place answer) ≡ frames_of answer
+unfolding report_at
 frames_in-reported place Nothing = refl
 frames_in-reported place (PacketSeen frame) = refl
 frames_in-reported place (Refused fault) = refl
 
 -- a half more adds the packets that it shows
 pub packets_more : (halves more : List ℕ) (answer : Seen) (place : ℕ) (packets shown : List Packet)
-    → seen more ≡ seen halves ++ reported place answer
+    → seen more ≡ seen halves ++ report_at place answer
     → ArePackets packets halves → AreSpelled shown (frames_of answer) → ArePackets (packets ++ shown) more
 packets_more halves more answer place packets shown e before now =
     map-append spelling packets shown
     ∙ ap (λ frames. frames ++ map spelling shown) before
     ∙ ap (λ frames. frames_in (seen halves) ++ frames) (now ∙ sym (frames_in-reported place answer))
-    ∙ sym (frames_in-append (seen halves) (reported place answer))
+    ∙ sym (frames_in-append (seen halves) (report_at place answer))
     ∙ ap frames_in (sym e)
 
 pub heard_half : {who who' who'' : Who} {m m' m'' : RegisterMap} (halves more : List ℕ) (answer : Seen) (place : ℕ)
-    (shown : List Packet) → seen more ≡ seen halves ++ reported place answer
+    (shown : List Packet) → seen more ≡ seen halves ++ report_at place answer
     → AreSpelled shown (frames_of answer) → HasHeardHalves halves who m who' m' → HasHeard shown who' m' who'' m''
     → HasHeardHalves more who m who'' m''
 heard_half halves more answer place shown e spelled before now = record {

@@ -10,7 +10,7 @@ use Rattle.dcc_order.specs.declared.places.Place.{Place}
 use Rattle.dcc_order.specs.AlikeLists.{SameMembers, SameOrder}
 use Rattle.dcc_order.specs.Held.{Held}
 use Rattle.dcc_order.specs.HeldPlaces.{AreHeld, held_at, members_at, numbers_at, packets_of, Numbered, NumberedAlike}
-use Rattle.dcc_order.specs.Members.{number_of, EachOnce, AreMembers}
+use Rattle.dcc_order.specs.Members.{member_number, EachOnce, AreMembers}
 use Rattle.dcc_order.specs.Turns.{turns_of}
 use Rattle.dcc_order.proofs.MemberLaws.{number-within, stands_at, known_member, new_member, get-push_old, get-push_new}
 use Rattle.dcc_order.proofs.OrderLaws.{CountedAlike, order_from_counts, counts_from_order}
@@ -51,10 +51,10 @@ pub record Kept (members : List Packet) (ns others : List ℕ) : Type 0 where
   pub first_numbered : Numbered members ns
   pub second_numbered : Numbered members others
 
-packets_known : (members : List Packet) (ns : List ℕ) (x : Packet) → number_of members x < length members
-    → packets_of members (ns ++ number_of members x ∷ []) ≡ packets_of members ns ++ x ∷ []
+packets_known : (members : List Packet) (ns : List ℕ) (x : Packet) → member_number members x < length members
+    → packets_of members (ns ++ member_number members x ∷ []) ≡ packets_of members ns ++ x ∷ []
 packets_known members ns x inside =
-    packets-push members ns (number_of members x)
+    packets-push members ns (member_number members x)
     ∙ ap (λ p. packets_of members ns ++ p ∷ []) (sym (stands_at members x Idle inside))
 
 packets_new : (members : List Packet) (ns : List ℕ) (x : Packet) → Numbered members ns
@@ -65,18 +65,18 @@ packets_new members ns x all =
     ∙ ap (λ p. packets_of members ns ++ p ∷ []) (get-push_new members x Idle (length members) refl)
 
 kept_known : (members : List Packet) (ns others : List ℕ) (x : Packet) → Kept members ns others
-    → number_of members x < length members →
-    Kept members (ns ++ number_of members x ∷ []) others
+    → member_number members x < length members →
+    Kept members (ns ++ member_number members x ∷ []) others
 kept_known members ns others x kept inside = record {
   members_of =
       subst (AreMembers members) (sym (packets_known members ns x inside))
       (known_member members (packets_of members ns) x kept.members_of inside);
-  first_numbered = numbered_push members ns (number_of members x) kept.first_numbered inside;
+  first_numbered = numbered_push members ns (member_number members x) kept.first_numbered inside;
   second_numbered = kept.second_numbered;
 }
 
 kept_new : (members : List Packet) (ns others : List ℕ) (x : Packet) → Kept members ns others
-    → number_of members x ≡ length members →
+    → member_number members x ≡ length members →
     Kept (members ++ x ∷ []) (ns ++ length members ∷ []) others
 kept_new members ns others x kept none = record {
   members_of =
@@ -140,13 +140,13 @@ module _ (places : List Place) (count : ℕ) (others : List ℕ) (held : AreHeld
   more_numbers n = map-append (λ place. place.number) places (place n ∷ [])
 
   -- a number that is not how many there are
-  pub is_known : (number_of members x ≡ count → ⊥) → number_of members x < length members
+  pub is_known : (member_number members x ≡ count → ⊥) → member_number members x < length members
   is_known apart =
       let within = number-within members x in
       let size = count_of places count held.within in
       omega (arith, apart, within, size)
 
-  pub is_new : number_of members x ≡ count → number_of members x ≡ length members
+  pub is_new : member_number members x ≡ count → member_number members x ≡ length members
   is_new e = e ∙ sym (count_of places count held.within)
 
   -- the members stay where a known packet comes
@@ -154,19 +154,19 @@ module _ (places : List Place) (count : ℕ) (others : List ℕ) (held : AreHeld
   known_members n = ap (map (λ place. place.member)) (same_front n)
 
   -- a packet that is no member is not in the first block
-  pub is_foreign : number_of members x ≡ count → Contains (held_at places count others).first x → ⊥
+  pub is_foreign : member_number members x ≡ count → Contains (held_at places count others).first x → ⊥
   is_foreign e h =
       let m = (held.members.same_set x).1 h in
-      let place : number_of members x ≡ m.0 = ap (number_of members) (sym m.2) ∙ held.members.once m.0 x m.1 in
+      let place : member_number members x ≡ m.0 = ap (member_number members) (sym m.2) ∙ held.members.once m.0 x m.1 in
       let size = count_of places count held.within in
       let low : m.0 < length members = m.1 in
       omega (arith, place, size, low, e)
 
   -- a packet that is a member already
-  pub known_held : number_of members x < length members
-      → AreHeld (places ++ place (number_of members x) ∷ []) count others
+  pub known_held : member_number members x < length members
+      → AreHeld (places ++ place (member_number members x) ∷ []) count others
   known_held inside =
-      let n = number_of members x in
+      let n = member_number members x in
       held_of (places ++ place n ∷ []) count others
       (let more = longer n in let has = held.within in omega (arith, more, has))
       (subst (λ front. Kept (map (λ place. place.member) front) (numbers_at (places ++ place n ∷ [])) others)
@@ -174,13 +174,17 @@ module _ (places : List Place) (count : ℕ) (others : List ℕ) (held : AreHeld
       (subst (λ ns. Kept members ns others) (sym (more_numbers n))
       (kept_known members (numbers_at places) others x (kept_of places count others held) inside)))
 
-  pub known_view : number_of members x < length members
-      → held_at (places ++ place (number_of members x) ∷ []) count others ≡ record (held_at places count others)
+  pub known_view : member_number members x < length members
+      → held_at (places ++ place (member_number members x) ∷ []) count others ≡ record (held_at places count others)
       { first = (held_at places count others).first ++ x ∷ [] }
   known_view inside =
-      let n = number_of members x in
+      let n = member_number members x in
       ap (λ front.
-      let v : Held = record { first = packets_of (map (λ place. place.member) front) (numbers_at (places ++ place n ∷ [])); second = packets_of (map (λ place. place.member) front) others } in
+      let v : Held =
+      record {
+        first = packets_of (map (λ place. place.member) front) (numbers_at (places ++ place n ∷ []));
+        second = packets_of (map (λ place. place.member) front) others;
+      } in
       v) (same_front n)
       ∙ ap (λ ns. let v : Held = record { first = packets_of members ns; second = packets_of members others } in v)
       (more_numbers n)
@@ -213,11 +217,12 @@ module _ (places : List Place) (count : ℕ) (others : List ℕ) (held : AreHeld
       ∙ more_numbers count
       ∙ ap (λ n. numbers_at places ++ n ∷ []) (sym (count_of places count held.within))
 
-  pub new_held : (d : Place) → number_of members x ≡ length members → AreHeld (now d) (suc count) others
+  pub new_held : (d : Place) → member_number members x ≡ length members → AreHeld (now d) (suc count) others
   new_held d none =
       held_of (now d) (suc count) others
       (let more = longer count in let has = held.within in
-      let same_length = length-set_place (places ++ place count ∷ []) count (record (get_or (places ++ place count ∷ []) count d) { member = x }) in
+      let same_length = length-set_place (places ++ place count ∷ []) count
+      (record (get_or (places ++ place count ∷ []) count d) { member = x }) in
       omega (arith, more, has, same_length))
       (subst (λ ms. Kept ms (numbers_at (now d)) others) (sym (new_members d))
       (subst (λ ns. Kept (members ++ x ∷ []) ns others) (sym (new_numbers d))
@@ -230,7 +235,8 @@ module _ (places : List Place) (count : ℕ) (others : List ℕ) (held : AreHeld
       ap (λ ms. let v : Held = record { first = packets_of ms (numbers_at (now d)); second = packets_of ms others } in
       v) (new_members d)
       ∙ ap (λ ns.
-      let v : Held = record { first = packets_of (members ++ x ∷ []) ns; second = packets_of (members ++ x ∷ []) others } in
+      let v : Held =
+      record { first = packets_of (members ++ x ∷ []) ns; second = packets_of (members ++ x ∷ []) others } in
       v) (new_numbers d)
       ∙ ap (λ l. let v : Held = record { first = l; second = packets_of (members ++ x ∷ []) others } in v)
       (packets_new members (numbers_at places) x held.first_numbered)
@@ -238,16 +244,17 @@ module _ (places : List Place) (count : ℕ) (others : List ℕ) (held : AreHeld
       (packets-more members x others held.second_numbered)
 
   -- a packet of the second block that is a member
-  pub second_held : number_of members x < length members → AreHeld places count (others ++ number_of members x ∷ [])
+  pub second_held : member_number members x < length members
+      → AreHeld places count (others ++ member_number members x ∷ [])
   second_held inside = record {
     within = held.within;
     members = held.members;
     first_numbered = held.first_numbered;
-    second_numbered = numbered_push members others (number_of members x) held.second_numbered inside;
+    second_numbered = numbered_push members others (member_number members x) held.second_numbered inside;
   }
 
-  pub second_view : number_of members x < length members
-      → held_at places count (others ++ number_of members x ∷ []) ≡ record (held_at places count others)
+  pub second_view : member_number members x < length members
+      → held_at places count (others ++ member_number members x ∷ []) ≡ record (held_at places count others)
       { second = (held_at places count others).second ++ x ∷ [] }
   second_view inside =
       ap (λ l. let v : Held = record { first = packets_of members (numbers_at places); second = l } in v)
@@ -272,10 +279,10 @@ number_gives members (m ∷ ns) n (suc k, inside, is) =
     (suc rest.0, (let low : rest.0 < length (packets_of members ns) = rest.1 in omega arith), rest.2)
 
 numbers_back : (members : List Packet) → EachOnce members → (ns : List ℕ) → Numbered members ns
-    → map (number_of members) (packets_of members ns) ≡ ns
+    → map (member_number members) (packets_of members ns) ≡ ns
 numbers_back members once [] all = refl
 numbers_back members once (n ∷ ns) all =
-    ap (λ k. k ∷ map (number_of members) (packets_of members ns)) (once n Idle all.0)
+    ap (λ k. k ∷ map (member_number members) (packets_of members ns)) (once n Idle all.0)
     ∙ ap (λ l. n ∷ l) (numbers_back members once ns all.1)
 
 module _ (places : List Place) (count : ℕ) (others : List ℕ) (held : AreHeld places count others) where
@@ -304,7 +311,7 @@ module _ (places : List Place) (count : ℕ) (others : List ℕ) (held : AreHeld
         let n = packets_are_members ms others held.second_numbered p
         ((same p).0 ((held.members.same_set p).0 (k, inside, get_or_default ms k p Idle inside))) in
         subst (Contains others)
-        (sym (held.members.once n.0 Idle n.1) ∙ ap (number_of ms) n.3 ∙ held.members.once k Idle inside) n.2,
+        (sym (held.members.once n.0 Idle n.1) ∙ ap (member_number ms) n.3 ∙ held.members.once k Idle inside) n.2,
   )
 
   member_at : (k : ℕ) (d : Packet) (e : Place) → k < count → get_or ms k d ≡ (get_or places k e).member

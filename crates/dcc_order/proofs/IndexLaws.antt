@@ -16,7 +16,7 @@ use Rattle.dcc_packet.specs.Spelling.{spelling}
 use Rattle.dcc_packet.proofs.OneSpelling.{one_packet}
 use Rattle.dcc_packet.proofs.SameFrames.{Decides-same, same-refl}
 use Rattle.dcc_order.specs.FrameNumbers.{frame_number, IsIndex}
-use Rattle.dcc_order.specs.Members.{number_of}
+use Rattle.dcc_order.specs.Members.{member_number}
 use Rattle.dcc_order.proofs.AlikeBlocks.{true_is_not_false}
 use Rattle.dcc_order.proofs.MemberLaws.{number-within}
 
@@ -57,40 +57,40 @@ lt_false m n h = grind (arith, h)
 
 -- a place that is found, or the count
 pub found_or_count : (members : List Packet) (x : Packet)
-    → unwrap_or (position (same x) members) (length members) ≡ number_of members x
-found_or_count members x = by_case (nat_lt (number_of members x) (length members)) refl
+    → unwrap_or (position (same x) members) (length members) ≡ member_number members x
+found_or_count members x = by_case (nat_lt (member_number members x) (length members)) refl
   where
-    by_case : (t : Bool) → nat_lt (number_of members x) (length members) ≡ t
-        → unwrap_or (cond t (Some (number_of members x)) None) (length members) ≡ number_of members x
+    by_case : (t : Bool) → nat_lt (member_number members x) (length members) ≡ t
+        → unwrap_or (cond t (Some (member_number members x)) None) (length members) ≡ member_number members x
     by_case true e = refl
     by_case false e = let low = number-within members x in grind (arith, low, e)
 
 -- what is found by a packet's number in an index, or the count
 pub number_found : (found : ℕ → Option ℕ) (members : List Packet) (x : Packet) (count : ℕ) → IsIndex found members
     → IsFrame (spelling x) → length members ≡ count →
-    unwrap_or (found (frame_number (spelling x))) count ≡ number_of members x
+    unwrap_or (found (frame_number (spelling x))) count ≡ member_number members x
 number_found found members x count index frame size =
     ap (λ o. unwrap_or o count) (index x frame) ∙ ap (unwrap_or (position (same x) members)) (sym size)
     ∙ found_or_count members x
 
-here : (members : List Packet) (x : Packet) → number_of members x < length members
-    → position (same x) members ≡ Some (number_of members x)
+here : (members : List Packet) (x : Packet) → member_number members x < length members
+    → position (same x) members ≡ Some (member_number members x)
 here members x inside =
-    ap (λ t. cond t (Some (number_of members x)) None) (lt_true (number_of members x) (length members) inside)
+    ap (λ t. cond t (Some (member_number members x)) None) (lt_true (member_number members x) (length members) inside)
 
 module _ (found then_found : ℕ → Option ℕ) (members : List Packet) (x : Packet) (index : IsIndex found members)
     (frame : IsFrame (spelling x)) where
   -- the index after the number of a known packet was put where it is
   pub known_index :
       ((q : ℕ)
-      → then_found q ≡ cond (is_at (nat_cmp (frame_number (spelling x))) q) (Some (number_of members x)) (found q))
-      → number_of members x < length members → IsIndex then_found members
+      → then_found q ≡ cond (is_at (nat_cmp (frame_number (spelling x))) q) (Some (member_number members x)) (found q))
+      → member_number members x < length members → IsIndex then_found members
   known_index now inside p own =
       now (frame_number (spelling p))
       ∙ by_case (is_at (nat_cmp (frame_number (spelling x))) (frame_number (spelling p))) refl
     where
       by_case : (t : Bool) → is_at (nat_cmp (frame_number (spelling x))) (frame_number (spelling p)) ≡ t →
-          cond t (Some (number_of members x)) (found (frame_number (spelling p))) ≡ position (same p) members
+          cond t (Some (member_number members x)) (found (frame_number (spelling p))) ≡ position (same p) members
       by_case true e =
           sym (here members x inside)
           ∙ ap (λ y. position (same y) members)
@@ -100,7 +100,7 @@ module _ (found then_found : ℕ → Option ℕ) (members : List Packet) (x : Pa
   -- the index after a new packet
   pub new_index :
       ((q : ℕ) → then_found q ≡ cond (is_at (nat_cmp (frame_number (spelling x))) q) (Some (length members)) (found q))
-      → number_of members x ≡ length members → IsIndex then_found (members ++ x ∷ [])
+      → member_number members x ≡ length members → IsIndex then_found (members ++ x ∷ [])
   new_index now none p own =
       now (frame_number (spelling p))
       ∙ by_case (is_at (nat_cmp (frame_number (spelling x))) (frame_number (spelling p))) refl
@@ -109,33 +109,36 @@ module _ (found then_found : ℕ → Option ℕ) (members : List Packet) (x : Pa
       more = length-append members (x ∷ [])
 
       -- the number of a packet among the members and the new one
-      number : (q : Packet) (t : Bool) → eqb (number_of members q) (length members) ≡ t
-          → number_of (members ++ x ∷ []) q ≡ cond t (length members + cond (same q x) 0 1) (number_of members q)
+      number : (q : Packet) (t : Bool) → eqb (member_number members q) (length members) ≡ t
+          → member_number (members ++ x ∷ []) q ≡ cond t (length members + cond (same q x) 0 1)
+          (member_number members q)
       number q t e =
           position_or_len_push (same q) members x
-          ∙ ap (λ z. cond z (length members + cond (same q x) 0 1) (number_of members q)) e
+          ∙ ap (λ z. cond z (length members + cond (same q x) 0 1) (member_number members q)) e
 
-      new_place : number_of (members ++ x ∷ []) x ≡ length members
+      new_place : member_number (members ++ x ∷ []) x ≡ length members
       new_place =
-          number x true ((Decides-eqb (number_of members x) (length members)).1 none)
+          number x true ((Decides-eqb (member_number members x) (length members)).1 none)
           ∙ ap (λ t. length members + cond t 0 1) (same-refl x)
           ∙ (let e : length members + 0 ≡ length members = omega arith in e)
 
-      other : same p x ≡ false → (t : Bool) → eqb (number_of members p) (length members) ≡ t
+      other : same p x ≡ false → (t : Bool) → eqb (member_number members p) (length members) ≡ t
           → position (same p) members ≡ position (same p) (members ++ x ∷ [])
       other apart true e =
-          let is : number_of members p ≡ length members = (Decides-eqb (number_of members p) (length members)).0 e in
-          let now : number_of (members ++ x ∷ []) p ≡ length members + 1 =
+          let is : member_number members p ≡ length members =
+          (Decides-eqb (member_number members p) (length members)).0 e in
+          let now : member_number (members ++ x ∷ []) p ≡ length members + 1 =
           number p true e ∙ ap (λ t. length members + cond t 0 1) apart in
-          ap (λ t. cond t (Some (number_of members p)) None) (lt_false (number_of members p) (length members) is)
-          ∙ sym (ap (λ t. cond t (Some (number_of (members ++ x ∷ []) p)) None)
-          (lt_false (number_of (members ++ x ∷ []) p) (length (members ++ x ∷ [])) (now ∙ sym more)))
+          ap (λ t. cond t (Some (member_number members p)) None)
+          (lt_false (member_number members p) (length members) is)
+          ∙ sym (ap (λ t. cond t (Some (member_number (members ++ x ∷ []) p)) None)
+          (lt_false (member_number (members ++ x ∷ []) p) (length (members ++ x ∷ [])) (now ∙ sym more)))
       other apart false e =
           let low = number-within members p in
-          let unlike : number_of members p ≡ length members → ⊥ =
-          λ is. true_is_not_false (sym ((Decides-eqb (number_of members p) (length members)).1 is) ∙ e) in
-          let inside : number_of members p < length members = omega (arith, low, unlike) in
-          let now : number_of (members ++ x ∷ []) p ≡ number_of members p = number p false e in
+          let unlike : member_number members p ≡ length members → ⊥ =
+          λ is. true_is_not_false (sym ((Decides-eqb (member_number members p) (length members)).1 is) ∙ e) in
+          let inside : member_number members p < length members = omega (arith, low, unlike) in
+          let now : member_number (members ++ x ∷ []) p ≡ member_number members p = number p false e in
           here members p inside ∙ ap (λ n. Some n) (sym now)
           ∙ sym (here (members ++ x ∷ []) p (omega (arith, now, inside, more)))
 
@@ -153,7 +156,8 @@ module _ (found then_found : ℕ → Option ℕ) (members : List Packet) (x : Pa
           ∙ sym (here (members ++ x ∷ []) x (omega (arith, new_place, more)))
           ∙ ap (λ y. position (same y) (members ++ x ∷ []))
           (sym (same_number p x own frame (at_key (frame_number (spelling x)) (frame_number (spelling p)) e)))
-      by_case false e = index p own ∙ other (differ e (same p x) refl) (eqb (number_of members p) (length members)) refl
+      by_case false e =
+          index p own ∙ other (differ e (same p x) refl) (eqb (member_number members p) (length members)) refl
 
 -- nothing is found where there is nothing
 pub no_index : (found : ℕ → Option ℕ) → ((q : ℕ) → found q ≡ None) → IsIndex found []

@@ -1,10 +1,10 @@
-pub mod Stepped
+pub mod ListWalk
 pub mod SpelledLemmas
 pub mod HearingLemmas
 pub mod SentAndHeard
 pub mod PieceLemmas
 pub mod WholeTheorem
-pub mod Clash
+pub mod ConflictLaws
 pub mod AlikeBlocks
 pub mod AlikeCuts
 pub mod CutTests

@@ -10,30 +10,31 @@ use Rattle.std.proofs.lemmas.List.Elements.{Contains-append_left, Contains-push,
 use Rattle.dcc_packet.specs.declared.packet.Packet.{Packet}
 use Rattle.dcc_packet.specs.SamePacket.{same}
 use Rattle.dcc_packet.proofs.SameFrames.{Decides-same, same-refl}
-use Rattle.dcc_order.specs.Members.{number_of, AreMembers}
+use Rattle.dcc_order.specs.Members.{member_number, AreMembers}
 use Rattle.dcc_order.proofs.AlikeBlocks.{true_is_not_false}
 
-pub number-within : (members : List Packet) (p : Packet) → number_of members p ≤ length members
+pub number-within : (members : List Packet) (p : Packet) → member_number members p ≤ length members
 number-within [] p = omega arith
 number-within (m ∷ members) p = by_case (not (same p m)) (number-within members p)
   where
-    by_case : (t : Bool) → number_of members p ≤ length members
-        → cond t (1 + number_of members p) 0 ≤ suc (length members)
+    by_case : (t : Bool) → member_number members p ≤ length members
+        → cond t (1 + member_number members p) 0 ≤ suc (length members)
     by_case true below = omega arith
     by_case false below = omega arith
 
 -- a packet that has a number stands there
-pub stands_at : (members : List Packet) (p d : Packet) → number_of members p < length members
-    → p ≡ get_or members (number_of members p) d
+pub stands_at : (members : List Packet) (p d : Packet) → member_number members p < length members
+    → p ≡ get_or members (member_number members p) d
 stands_at members p d inside =
-    (Decides-same p (get_or members (number_of members p) d)).0 (passes_at_first (same p) members d inside)
+    (Decides-same p (get_or members (member_number members p) d)).0 (passes_at_first (same p) members d inside)
 
-pub place_contains : (members : List Packet) (p : Packet) → number_of members p < length members → Contains members p
-place_contains members p inside = (number_of members p, inside, sym (stands_at members p p inside))
+pub place_contains : (members : List Packet) (p : Packet) → member_number members p < length members
+    → Contains members p
+place_contains members p inside = (member_number members p, inside, sym (stands_at members p p inside))
 
 -- one more packet that is a member already
 pub known_member : (members block : List Packet) (x : Packet) → AreMembers members block
-    → number_of members x < length members → AreMembers members (block ++ x ∷ [])
+    → member_number members x < length members → AreMembers members (block ++ x ∷ [])
 known_member members block x are inside = record {
   same_set = λ p. (
     λ h. Contains-append_left block (x ∷ []) p ((are.same_set p).0 h),
@@ -60,7 +61,7 @@ get-push_new (m ∷ members) x d (suc k) h = get-push_new members x d k (omega a
 
 -- one more packet that is no member yet
 pub new_member : (members block : List Packet) (x : Packet) → AreMembers members block
-    → number_of members x ≡ length members → AreMembers (members ++ x ∷ []) (block ++ x ∷ [])
+    → member_number members x ≡ length members → AreMembers (members ++ x ∷ []) (block ++ x ∷ [])
 new_member members block x are none = record {
   same_set = λ p. (
     λ h. elim (Contains-push_cases members x p h) [
@@ -75,42 +76,43 @@ new_member members block x are none = record {
   once = λ k d h. at_place k d h;
 }
   where
-    found : (p : Packet) (t : Bool) → eqb (number_of members p) (length members) ≡ t
-        → number_of (members ++ x ∷ []) p ≡ cond t (length members + cond (same p x) 0 1) (number_of members p)
+    found : (p : Packet) (t : Bool) → eqb (member_number members p) (length members) ≡ t
+        → member_number (members ++ x ∷ []) p ≡ cond t (length members + cond (same p x) 0 1) (member_number members p)
     found p t e =
         position_or_len_push (same p) members x
-        ∙ ap (λ z. cond z (length members + cond (same p x) 0 1) (number_of members p)) e
+        ∙ ap (λ z. cond z (length members + cond (same p x) 0 1) (member_number members p)) e
 
     old_place : (k : ℕ) (d : Packet) → k < length members
-        → number_of (members ++ x ∷ []) (get_or (members ++ x ∷ []) k d) ≡ k
+        → member_number (members ++ x ∷ []) (get_or (members ++ x ∷ []) k d) ≡ k
     old_place k d inside =
-        ap (number_of (members ++ x ∷ [])) (get-push_old members x d k inside)
-        ∙ found (get_or members k d) false (apart (eqb (number_of members (get_or members k d)) (length members)) refl)
+        ap (member_number (members ++ x ∷ [])) (get-push_old members x d k inside)
+        ∙ found (get_or members k d) false
+        (apart (eqb (member_number members (get_or members k d)) (length members)) refl)
         ∙ are.once k d inside
       where
-        apart : (t : Bool) → eqb (number_of members (get_or members k d)) (length members) ≡ t
-            → eqb (number_of members (get_or members k d)) (length members) ≡ false
+        apart : (t : Bool) → eqb (member_number members (get_or members k d)) (length members) ≡ t
+            → eqb (member_number members (get_or members k d)) (length members) ≡ false
         apart false e = e
         apart true e = absurd (
-            let here : number_of members (get_or members k d) ≡ length members =
-            (Decides-eqb (number_of members (get_or members k d)) (length members)).0 e in
-            let there : number_of members (get_or members k d) ≡ k = are.once k d inside in
+            let here : member_number members (get_or members k d) ≡ length members =
+            (Decides-eqb (member_number members (get_or members k d)) (length members)).0 e in
+            let there : member_number members (get_or members k d) ≡ k = are.once k d inside in
             omega arith)
 
     new_place : (k : ℕ) (d : Packet) → k ≡ length members
-        → number_of (members ++ x ∷ []) (get_or (members ++ x ∷ []) k d) ≡ k
+        → member_number (members ++ x ∷ []) (get_or (members ++ x ∷ []) k d) ≡ k
     new_place k d last =
-        ap (number_of (members ++ x ∷ [])) (get-push_new members x d k last)
-        ∙ found x true ((Decides-eqb (number_of members x) (length members)).1 none)
+        ap (member_number (members ++ x ∷ [])) (get-push_new members x d k last)
+        ∙ found x true ((Decides-eqb (member_number members x) (length members)).1 none)
         ∙ ap (λ t. length members + cond t 0 1) (same-refl x)
         ∙ (let e : length members + 0 ≡ k = omega arith in e)
 
     at_place : (k : ℕ) (d : Packet) → k < length (members ++ x ∷ [])
-        → number_of (members ++ x ∷ []) (get_or (members ++ x ∷ []) k d) ≡ k
+        → member_number (members ++ x ∷ []) (get_or (members ++ x ∷ []) k d) ≡ k
     at_place k d inside = by_case (eqb k (length members)) refl
       where
         by_case : (t : Bool) → eqb k (length members) ≡ t
-            → number_of (members ++ x ∷ []) (get_or (members ++ x ∷ []) k d) ≡ k
+            → member_number (members ++ x ∷ []) (get_or (members ++ x ∷ []) k d) ≡ k
         by_case true e = new_place k d ((Decides-eqb k (length members)).0 e)
         by_case false e = old_place k d (
             let total : length (members ++ x ∷ []) ≡ length members + 1 = length-append members (x ∷ []) in

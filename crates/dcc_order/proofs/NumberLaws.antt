@@ -11,7 +11,7 @@ use Rattle.dcc_packet.specs.SamePacket.{same}
 use Rattle.dcc_packet.proofs.SameFrames.{Decides-same}
 use Rattle.dcc_order.specs.AlikeLists.{SameTurns}
 use Rattle.dcc_order.specs.declared.turns.Turns.{Turns}
-use Rattle.dcc_order.specs.Members.{number_of, EachOnce}
+use Rattle.dcc_order.specs.Members.{member_number, EachOnce}
 use Rattle.dcc_order.specs.Turns.{turns_taken, own_turn, rival_turn, no_turns, with_turn, turns_of}
 use Rattle.dcc_order.proofs.AlikeBlocks.{true_is_not_false}
 use Rattle.dcc_order.proofs.MemberLaws.{stands_at}
@@ -57,28 +57,29 @@ module _ (members : List Packet) (once : EachOnce members) (own rival : ℕ) (d 
   second = get_or members rival e
 
   -- a packet with a number is the member of that place
-  is_member : (x y : Packet) (k : ℕ) → k < length members → eqb (number_of members x) k ≡ true → x ≡ get_or members k y
+  is_member : (x y : Packet) (k : ℕ) → k < length members → eqb (member_number members x) k ≡ true
+      → x ≡ get_or members k y
   is_member x y k inside e =
-      let here : number_of members x ≡ k = (Decides-eqb (number_of members x) k).0 e in
+      let here : member_number members x ≡ k = (Decides-eqb (member_number members x) k).0 e in
       stands_at members x y (subst (λ n. n < length members) (sym here) inside) ∙ ap (λ n. get_or members n y) here
 
   -- a packet with another number is another packet
-  is_other : (x y : Packet) (k : ℕ) → k < length members → eqb (number_of members x) k ≡ false
+  is_other : (x y : Packet) (k : ℕ) → k < length members → eqb (member_number members x) k ≡ false
       → same (get_or members k y) x ≡ false
   is_other x y k inside e = by_case (same (get_or members k y) x) refl
     where
       by_case : (t : Bool) → same (get_or members k y) x ≡ t → t ≡ false
       by_case false i = refl
       by_case true i = absurd (true_is_not_false (
-          sym ((Decides-eqb (number_of members x) k).1
-          (ap (number_of members) (sym ((Decides-same (get_or members k y) x).0 i)) ∙ once k y inside)) ∙ e))
+          sym ((Decides-eqb (member_number members x) k).1
+          (ap (member_number members) (sym ((Decides-same (get_or members k y) x).0 i)) ∙ once k y inside)) ∙ e))
 
   turn_more : (first ≡ second → ⊥) → (block : List Packet) (x : Packet)
-      → with_turn own rival (turns_taken first second block) (number_of members x) ≡ turns_taken first second
+      → with_turn own rival (turns_taken first second block) (member_number members x) ≡ turns_taken first second
       (block ++ x ∷ [])
-  turn_more apart block x = by_case (eqb (number_of members x) own) (eqb (number_of members x) rival) refl refl
+  turn_more apart block x = by_case (eqb (member_number members x) own) (eqb (member_number members x) rival) refl refl
     where
-      by_case : (s t : Bool) → eqb (number_of members x) own ≡ s → eqb (number_of members x) rival ≡ t →
+      by_case : (s t : Bool) → eqb (member_number members x) own ≡ s → eqb (member_number members x) rival ≡ t →
           cond s (own_turn (turns_taken first second block))
           (cond t (rival_turn (turns_taken first second block)) (turns_taken first second block)) ≡ turns_taken
           first second (block ++ x ∷ [])
@@ -94,19 +95,19 @@ module _ (members : List Packet) (once : EachOnce members) (own rival : ℕ) (d 
 
   -- turns that are counted by numbers are those of the packets
   pub turns_counted : (first ≡ second → ⊥) → (block : List Packet)
-      → turns_of own rival (map (number_of members) block) ≡ turns_taken first second block
+      → turns_of own rival (map (member_number members) block) ≡ turns_taken first second block
   turns_counted apart =
-      snoc (λ block. turns_of own rival (map (number_of members) block) ≡ turns_taken first second block) refl
+      snoc (λ block. turns_of own rival (map (member_number members) block) ≡ turns_taken first second block) refl
       (λ block x counted.
-      ap (turns_of own rival) (map-append (number_of members) block (x ∷ []))
-      ∙ turns_of-more own rival (map (number_of members) block) (number_of members x)
-      ∙ ap (λ taken. with_turn own rival taken (number_of members x)) counted
+      ap (turns_of own rival) (map-append (member_number members) block (x ∷ []))
+      ∙ turns_of-more own rival (map (member_number members) block) (member_number members x)
+      ∙ ap (λ taken. with_turn own rival taken (member_number members x)) counted
       ∙ turn_more apart block x)
 
   -- members that are two packets take the same turns in two blocks exactly where the count is the same
   pub same_turns_counted : (first ≡ second → ⊥) → (left right : List Packet) →
       SameTurns left right first second ↔
-      (turns_of own rival (map (number_of members) left) ≡ turns_of own rival (map (number_of members) right))
+      (turns_of own rival (map (member_number members) left) ≡ turns_of own rival (map (member_number members) right))
   same_turns_counted apart left right = (
     λ h. turns_counted apart left ∙ (turns_told first second left right).0 h ∙ sym (turns_counted apart right),
     λ h. (turns_told first second left right).1 (sym (turns_counted apart left) ∙ h ∙ turns_counted apart right),

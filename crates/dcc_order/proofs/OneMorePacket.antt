@@ -11,7 +11,7 @@ use Rattle.dcc_packet.specs.SamePacket.{same}
 use Rattle.dcc_regs.specs.Writes.{is_own_write}
 use Rattle.dcc_regs.specs.Heard.{hears, heard}
 use Rattle.dcc_packet.proofs.SameFrames.{Decides-same}
-use Rattle.dcc_order.specs.AlikeLists.{capped, Cut, LastBlock, Block, in_first_block, cut, cut_for}
+use Rattle.dcc_order.specs.AlikeLists.{without_third_copies, Cut, LastBlock, Block, in_first_block, cut, cut_for}
 use Rattle.dcc_order.specs.OneMore.{ends_with_two, cut_more, OneMorePacket, GoesOnAs, FinishedBlocksStay}
 
 cut_more-in_first : (q : Packet) (x : Cut) (p : Packet)
@@ -54,20 +54,22 @@ both_true : (a b : Bool) → (a && b) ≡ true → (a ≡ true) × (b ≡ true)
 both_true true b e = (refl, e)
 both_true false b e = cc
 
-one_alone : (q : Packet) → capped (q ∷ []) ≡ q ∷ []
+one_alone : (q : Packet) → without_third_copies (q ∷ []) ≡ q ∷ []
 one_alone q = ap (λ t. cond t [] (q ∷ [])) (and-false (is_own_write q))
 
-two_alone : (q r : Packet) → capped (q ∷ r ∷ []) ≡ q ∷ r ∷ []
+two_alone : (q r : Packet) → without_third_copies (q ∷ r ∷ []) ≡ q ∷ r ∷ []
 two_alone q r =
-    ap (λ t. cond t (capped (r ∷ [])) (q ∷ capped (r ∷ []))) (and-false (is_own_write q))
+    ap (λ t. cond t (without_third_copies (r ∷ [])) (q ∷ without_third_copies (r ∷ []))) (and-false (is_own_write q))
     ∙ ap (λ l. q ∷ l) (one_alone r)
 
 capped-more : (l : List Packet) (p : Packet)
-    → capped (l ++ p ∷ []) ≡ cond (is_own_write p && ends_with_two l p) (capped l) (capped l ++ p ∷ [])
+    → without_third_copies (l ++ p ∷ []) ≡ cond (is_own_write p && ends_with_two l p) (without_third_copies l)
+    (without_third_copies l ++ p ∷ [])
 capped-more [] p = one_alone p ∙ sym (ap (λ t. cond t [] (p ∷ [])) (and-false (is_own_write p)))
 capped-more (q ∷ []) p =
     two_alone q p
-    ∙ sym (ap (λ t. cond t (capped (q ∷ [])) (capped (q ∷ []) ++ p ∷ [])) (and-false (is_own_write p))
+    ∙ sym (ap (λ t. cond t (without_third_copies (q ∷ [])) (without_third_copies (q ∷ []) ++ p ∷ []))
+    (and-false (is_own_write p))
     ∙ ap (λ l. l ++ p ∷ []) (one_alone q))
 capped-more (q ∷ r ∷ []) p =
     ap (λ l. cond (is_own_write q && (same q r && same q p)) l (q ∷ l)) (two_alone r p)
@@ -89,30 +91,32 @@ capped-more (q ∷ r ∷ s ∷ l) p =
     ∙ by_case (is_own_write q && (same q r && same q s)) (is_own_write p && ends_with_two (r ∷ s ∷ l) p)
   where
     by_case : (a b : Bool)
-        → cond a (cond b (capped (r ∷ s ∷ l)) (capped (r ∷ s ∷ l) ++ p ∷ []))
-        (q ∷ cond b (capped (r ∷ s ∷ l)) (capped (r ∷ s ∷ l) ++ p ∷ []))
-        ≡ cond b (cond a (capped (r ∷ s ∷ l)) (q ∷ capped (r ∷ s ∷ l)))
-        (cond a (capped (r ∷ s ∷ l)) (q ∷ capped (r ∷ s ∷ l)) ++ p ∷ [])
+        → cond a (cond b (without_third_copies (r ∷ s ∷ l)) (without_third_copies (r ∷ s ∷ l) ++ p ∷ []))
+        (q ∷ cond b (without_third_copies (r ∷ s ∷ l)) (without_third_copies (r ∷ s ∷ l) ++ p ∷ []))
+        ≡ cond b (cond a (without_third_copies (r ∷ s ∷ l)) (q ∷ without_third_copies (r ∷ s ∷ l)))
+        (cond a (without_third_copies (r ∷ s ∷ l)) (q ∷ without_third_copies (r ∷ s ∷ l)) ++ p ∷ [])
     by_case true true = refl
     by_case true false = refl
     by_case false true = refl
     by_case false false = refl
 
 pub one_more_packet : OneMorePacket
-one_more_packet who l p = ap (λ m. cut (capped m)) (filter-append (hears who) l (p ∷ [])) ∙ by_case (hears who p)
+one_more_packet who l p =
+    ap (λ m. cut (without_third_copies m)) (filter-append (hears who) l (p ∷ [])) ∙ by_case (hears who p)
   where
     heard_more : (t : Bool)
-        → cut (cond t (capped (heard who l)) (capped (heard who l) ++ p ∷ [])) ≡ cond t (cut (capped (heard who l)))
-        (cut_more (cut (capped (heard who l))) p)
+        → cut (cond t (without_third_copies (heard who l)) (without_third_copies (heard who l) ++ p ∷ [])) ≡ cond t
+        (cut (without_third_copies (heard who l)))
+        (cut_more (cut (without_third_copies (heard who l))) p)
     heard_more true = refl
-    heard_more false = cut-more (capped (heard who l)) p
+    heard_more false = cut-more (without_third_copies (heard who l)) p
 
     by_case : (t : Bool)
-        → cut (capped (heard who l ++ cond t (p ∷ []) [])) ≡ cond t
+        → cut (without_third_copies (heard who l ++ cond t (p ∷ []) [])) ≡ cond t
         (cond (is_own_write p && ends_with_two (heard who l) p) (cut_for who l) (cut_more (cut_for who l) p))
         (cut_for who l)
     by_case true = ap cut (capped-more (heard who l) p) ∙ heard_more (is_own_write p && ends_with_two (heard who l) p)
-    by_case false = ap (λ m. cut (capped m)) (append-nil (heard who l))
+    by_case false = ap (λ m. cut (without_third_copies m)) (append-nil (heard who l))
 
 goes_on_itself : (x : Cut) → GoesOnAs x x
 goes_on_itself (LastBlock block) = ([], sym (append-nil block))

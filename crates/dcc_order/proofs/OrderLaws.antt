@@ -8,10 +8,10 @@ use Rattle.dcc_packet.specs.SamePacket.{same}
 use Rattle.std.proofs.lemmas.List.{get_or_default}
 use Rattle.dcc_packet.specs.declared.packet.Packet.{Packet}
 use Rattle.dcc_regs.specs.Conflict.{Conflict}
-use Rattle.dcc_order.specs.AlikeLists.{SameOrder, SameTurns, is_one_of, unrepeated}
-use Rattle.dcc_order.specs.Members.{number_of, AreMembers}
+use Rattle.dcc_order.specs.AlikeLists.{SameOrder, SameTurns, is_one_of, without_repeats}
+use Rattle.dcc_order.specs.Members.{member_number, AreMembers}
 use Rattle.dcc_order.specs.Turns.{turns_of}
-use Rattle.dcc_order.proofs.Clash.{no_clash}
+use Rattle.dcc_order.proofs.ConflictLaws.{no_clash}
 use Rattle.dcc_order.proofs.NumberLaws.{same_turns_counted}
 
 apart : (p q : Packet) → Conflict p q → p ≡ q → ⊥
@@ -28,7 +28,8 @@ either_way p q = fun_ext (λ x. swap (same p x) (same q x))
     swap false false = refl
 
 turned : (p q : Packet) (left right : List Packet) → SameTurns left right p q → SameTurns left right q p
-turned p q left right = subst (λ t. unrepeated None (filter t left) ≡ unrepeated None (filter t right)) (either_way p q)
+turned p q left right =
+    subst (λ t. without_repeats None (filter t left) ≡ without_repeats None (filter t right)) (either_way p q)
 
 other_way : (p q : Packet) → Conflict p q → Conflict q p
 other_way p q clash =
@@ -49,7 +50,7 @@ other_way p q clash =
 abbrev pub CountedAlike : List Packet → List Packet → List Packet → ℕ → Type 0
 CountedAlike members left right own =
     (rival : ℕ) (d e : Packet) → rival < own → Conflict (get_or members own d) (get_or members rival e) →
-    turns_of own rival (map (number_of members) left) ≡ turns_of own rival (map (number_of members) right)
+    turns_of own rival (map (member_number members) left) ≡ turns_of own rival (map (member_number members) right)
 
 module _ (members left right : List Packet) (are : AreMembers members left)
     (counted : (own : ℕ) → own < length members → CountedAlike members left right own) where

@@ -5,7 +5,7 @@ use Rattle.std.proofs.lemmas.Grind.{common_steps}
 use Rattle.std.proofs.lemmas.List.{map-append, append-nil}
 use Rattle.std.proofs.lemmas.List.Folds.{concat-append}
 use Rattle.std.specs.List.{AllZip, concat}
-use Rattle.dcc_order.specs.Hearing.{joined}
+use Rattle.dcc_order.specs.Hearing.{whole_track}
 
 take_more : (pieces : List (Bor (List ℕ))) (n : ℕ) (d : Bor (List ℕ)) → n < length pieces
     → take (n + 1) pieces ≡ take n pieces ++ slice_index_or pieces n d ∷ []
@@ -16,18 +16,19 @@ take_all pieces n h = grind (arith, common_steps)
 
 -- one piece more
 pub piece_more : (pieces : List (Bor (List ℕ))) (n : ℕ) (d : Bor (List ℕ)) → n < length pieces
-    → joined (take (n + 1) pieces) ≡ joined (take n pieces) ++ (slice_index_or pieces n d).now
+    → whole_track (take (n + 1) pieces) ≡ whole_track (take n pieces) ++ (slice_index_or pieces n d).now
 piece_more pieces n d h =
     let halves : Bor (List ℕ) → List ℕ = λ piece. piece.now in
     let last : Bor (List ℕ) = slice_index_or pieces n d in
-    ap joined (take_more pieces n d h)
+    ap whole_track (take_more pieces n d h)
     ∙ ap concat (map-append halves (take n pieces) (last ∷ []))
     ∙ concat-append (map halves (take n pieces)) (halves last ∷ [])
     ∙ ap (λ (hs : List ℕ). concat (map halves (take n pieces)) ++ hs) (append-nil (halves last))
 
 -- all pieces
-pub pieces_all : (pieces : List (Bor (List ℕ))) (n : ℕ) → length pieces ≤ n → joined (take n pieces) ≡ joined pieces
-pieces_all pieces n h = ap joined (take_all pieces n h)
+pub pieces_all : (pieces : List (Bor (List ℕ))) (n : ℕ) → length pieces ≤ n
+    → whole_track (take n pieces) ≡ whole_track pieces
+pieces_all pieces n h = ap whole_track (take_all pieces n h)
 
 -- what is so of the view of each member is so of each member
 pub AllZip-viewed : {A B C : Type 0} → (v : A → B) (R : B → C → Type 0) (xs : List A) (ys : List C)

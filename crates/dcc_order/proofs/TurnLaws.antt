@@ -9,7 +9,7 @@ use Rattle.dcc_packet.specs.declared.packet.Packet.{Packet}
 use Rattle.dcc_packet.specs.SamePacket.{same}
 use Rattle.dcc_packet.proofs.SameFrames.{Decides-same, same-refl}
 use Rattle.dcc_regs.specs.Result.{is_repeated}
-use Rattle.dcc_order.specs.AlikeLists.{is_one_of, unrepeated, turns, SameTurns}
+use Rattle.dcc_order.specs.AlikeLists.{is_one_of, without_repeats, turns, SameTurns}
 use Rattle.dcc_order.specs.declared.turns.Turns.{Turns}
 use Rattle.dcc_order.specs.Turns.{last_behind, last_turn, turns_taken, own_turn, rival_turn}
 use Rattle.dcc_order.proofs.AlikeBlocks.{true_is_not_false}
@@ -33,15 +33,16 @@ last_behind-append before [] x = refl
 last_behind-append before (y ∷ l) x = last_behind-append (Some y) l x
 
 unrepeated-append : (before : Option Packet) (l : List Packet) (x : Packet)
-    → unrepeated before (l ++ x ∷ []) ≡ unrepeated before l ++ cond (is_repeated (last_behind before l) x) [] (x ∷ [])
+    → without_repeats before (l ++ x ∷ []) ≡ without_repeats before l
+    ++ cond (is_repeated (last_behind before l) x) [] (x ∷ [])
 unrepeated-append before [] x = refl
 unrepeated-append before (y ∷ l) x = by_case (is_repeated before y) (unrepeated-append (Some y) l x)
   where
     by_case : (t : Bool)
-        → unrepeated (Some y) (l ++ x ∷ []) ≡ unrepeated (Some y) l
+        → without_repeats (Some y) (l ++ x ∷ []) ≡ without_repeats (Some y) l
         ++ cond (is_repeated (last_behind (Some y) l) x) [] (x ∷ []) →
-        cond t (unrepeated (Some y) (l ++ x ∷ [])) (y ∷ unrepeated (Some y) (l ++ x ∷ [])) ≡
-        cond t (unrepeated (Some y) l) (y ∷ unrepeated (Some y) l)
+        cond t (without_repeats (Some y) (l ++ x ∷ [])) (y ∷ without_repeats (Some y) (l ++ x ∷ [])) ≡
+        cond t (without_repeats (Some y) l) (y ∷ without_repeats (Some y) l)
         ++ cond (is_repeated (last_behind (Some y) l) x) [] (x ∷ [])
     by_case true rest = rest
     by_case false rest = ap (λ z. y ∷ z) rest
@@ -51,13 +52,13 @@ pub turns-append : (p q : Packet) (block : List Packet) (x : Packet) →
     turns p q (block ++ x ∷ []) ≡ cond (is_one_of p q x)
     (turns p q block ++ cond (is_repeated (summary p q block).last x) [] (x ∷ [])) (turns p q block)
 turns-append p q block x =
-    ap (unrepeated None) (filter-append (is_one_of p q) block (x ∷ [])) ∙ by_case (is_one_of p q x)
+    ap (without_repeats None) (filter-append (is_one_of p q) block (x ∷ [])) ∙ by_case (is_one_of p q x)
   where
-    by_case : (t : Bool) → unrepeated None (filter (is_one_of p q) block ++ cond t (x ∷ []) []) ≡
+    by_case : (t : Bool) → without_repeats None (filter (is_one_of p q) block ++ cond t (x ∷ []) []) ≡
         cond t (turns p q block ++ cond (is_repeated (last_behind None (filter (is_one_of p q) block)) x) [] (x ∷ []))
         (turns p q block)
     by_case true = unrepeated-append None (filter (is_one_of p q) block) x
-    by_case false = ap (unrepeated None) (append-nil (filter (is_one_of p q) block))
+    by_case false = ap (without_repeats None) (append-nil (filter (is_one_of p q) block))
 
 -- the last turn of two packets with one more packet
 pub last-append : (p q : Packet) (block : List Packet) (x : Packet) →
@@ -167,14 +168,15 @@ told p q = snoc (λ block. Told p q (turns p q block) (summary p q block)) (refl
     refl refl)))
 
 last_behind-unrepeated : (before : Option Packet) (l : List Packet)
-    → last_behind before (unrepeated before l) ≡ last_behind before l
+    → last_behind before (without_repeats before l) ≡ last_behind before l
 last_behind-unrepeated before [] = refl
 last_behind-unrepeated before (y ∷ l) = by_case (is_repeated before y) refl (last_behind-unrepeated (Some y) l)
   where
     by_case : (t : Bool) → is_repeated before y ≡ t
-        → last_behind (Some y) (unrepeated (Some y) l) ≡ last_behind (Some y) l →
-        last_behind before (cond t (unrepeated (Some y) l) (y ∷ unrepeated (Some y) l)) ≡ last_behind (Some y) l
-    by_case true e rest = ap (λ b. last_behind b (unrepeated (Some y) l)) (repeated_is_last before y e) ∙ rest
+        → last_behind (Some y) (without_repeats (Some y) l) ≡ last_behind (Some y) l →
+        last_behind before (cond t (without_repeats (Some y) l) (y ∷ without_repeats (Some y) l)) ≡ last_behind (Some y)
+        l
+    by_case true e rest = ap (λ b. last_behind b (without_repeats (Some y) l)) (repeated_is_last before y e) ∙ rest
     by_case false e rest = rest
 
 -- the summary is that of the turns alone

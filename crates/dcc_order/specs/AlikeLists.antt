@@ -16,9 +16,10 @@ begins_with_two (q ∷ []) p = false
 begins_with_two (q ∷ r ∷ rest) p = same p q && same p r
 
 -- of more than two equal own writes in a row two are kept: a write is left out where two copies of it follow
-abbrev pub capped : List Packet → List Packet
-capped [] = []
-capped (p ∷ later) = if is_own_write p && begins_with_two later p then capped later else p ∷ capped later
+abbrev pub without_third_copies : List Packet → List Packet
+without_third_copies [] = []
+without_third_copies (p ∷ later) =
+    if is_own_write p && begins_with_two later p then without_third_copies later else p ∷ without_third_copies later
 
 -- a list that its own writes cut into blocks: the last block, or a block, the write that ends it, and the rest
 pub data Cut : Type 0 where
@@ -39,15 +40,15 @@ abbrev pub cut_by : List Packet → Option Packet → List Packet → Cut
 cut_by block None later = LastBlock block
 cut_by block (Some write) later = Block block write (cut later)
 
--- a list as a decoder hears it, capped and then cut
+-- a list as a decoder hears it, without_third_copies and then cut
 abbrev pub cut_for : Who → List Packet → Cut
-cut_for who packets = cut (capped (heard who packets))
+cut_for who packets = cut (without_third_copies (heard who packets))
 
 -- a list without each item that is equal to the one before it
-abbrev pub unrepeated : Option Packet → List Packet → List Packet
-unrepeated before [] = []
-unrepeated before (p ∷ later) =
-    if is_repeated before p then unrepeated (Some p) later else p ∷ unrepeated (Some p) later
+abbrev pub without_repeats : Option Packet → List Packet → List Packet
+without_repeats before [] = []
+without_repeats before (p ∷ later) =
+    if is_repeated before p then without_repeats (Some p) later else p ∷ without_repeats (Some p) later
 
 -- a packet is one of two
 abbrev pub is_one_of : Packet → Packet → Packet → Bool
@@ -55,7 +56,7 @@ is_one_of p q x = same p x || same q x
 
 -- how two packets take turns in a block
 abbrev pub turns : Packet → Packet → List Packet → List Packet
-turns p q block = unrepeated None (filter (is_one_of p q) block)
+turns p q block = without_repeats None (filter (is_one_of p q) block)
 
 -- two blocks have the same set of packets
 abbrev pub SameMembers : List Packet → List Packet → Type 0

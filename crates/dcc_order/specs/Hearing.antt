@@ -37,5 +37,5 @@ pub record HasHeardHalves (halves : List ℕ) (who : Who) (start : RegisterMap) 
     pub heard : HasHeard packets who start who' now
 
 -- the halves of a track that comes in pieces
-abbrev pub joined : List (Bor (List ℕ)) → List ℕ
-joined pieces = concat (map (λ piece. piece.now) pieces)
+abbrev pub whole_track : List (Bor (List ℕ)) → List ℕ
+whole_track pieces = concat (map (λ piece. piece.now) pieces)

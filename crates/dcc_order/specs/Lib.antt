@@ -11,5 +11,5 @@ pub mod GivenLists
 pub mod Held
 pub mod HeldPlaces
 pub mod Comparisons
-pub mod ComparisonSteps
 pub mod FrameNumbers
+pub mod Inner

@@ -6,12 +6,12 @@ use Rattle.dcc_packet.specs.SamePacket.{same}
 use Rattle.dcc_order.specs.AlikeLists.{SameMembers}
 
 -- the number of a packet among members: its place, or their count where it is none of them
-abbrev pub number_of : List Packet → Packet → ℕ
-number_of members p = position_or_len (same p) members
+abbrev pub member_number : List Packet → Packet → ℕ
+member_number members p = position_or_len (same p) members
 
 -- no packet stands twice: each is found at its own place
 abbrev pub EachOnce : List Packet → Type 0
-EachOnce members = (k : ℕ) (d : Packet) → k < length members → number_of members (slice_index_or members k d) ≡ k
+EachOnce members = (k : ℕ) (d : Packet) → k < length members → member_number members (slice_index_or members k d) ≡ k
 
 -- the packets of a block, each once
 pub record AreMembers (members block : List Packet) : Type 0 where

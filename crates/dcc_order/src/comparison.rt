@@ -5,7 +5,7 @@ ghost use Rattle.std.specs.Prelude.{IfNone, MatchOption};
 ghost use Rattle.dcc_regs.specs.Heard.{hears as is_heard_by};
 ghost use Rattle.dcc_order.specs.AlikeLists.{AlikeBlocks};
 ghost use Rattle.dcc_order.specs.Comparisons.{StandsFor, heard_next, BlocksDiffer, EndAlike, IsVerdictAtEnds};
-ghost use Rattle.dcc_order.specs.ComparisonSteps.{begun_block, closed_left, joined_left, ClosesRight, JoinsRight};
+ghost use Rattle.dcc_order.specs.Inner.ComparisonSteps.{begun_block, closed_left, joined_left, ClosesRight, JoinsRight};
 ghost use Rattle.dcc_order.specs.declared.verdict.Verdict.{Verdict as VerdictOf};
 ghost use Rattle.dcc_order.specs.GivenLists.{Lists, no_lists, with_item, most_held};
 

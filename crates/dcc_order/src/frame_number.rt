@@ -12,11 +12,11 @@ pub fn frame_number(frame: &Frame) -> u64
     ensures valid { IsFrame frame.now }
 {
     let bytes = frame.bytes();
-    number_of(bytes)
+    number_of_bytes(bytes)
 }
 
 /// The number of a few bytes: the first is the lowest, and a one stands above the last.
-fn number_of(bytes: &[u8]) -> u64
+fn number_of_bytes(bytes: &[u8]) -> u64
     requires { length bytes.now ≤ 6 }
     ensures { result ≡ index.frame_number bytes.now }
 {

@@ -2,7 +2,7 @@
 
 ghost use Rattle.std.specs.List.{AllZip};
 ghost use Rattle.std.specs.Prelude.{◌≡◌, ◌≢◌, ◌≤◌, ◌+◌, ◌-◌, ◌++◌, ◌∷◌, [], ℕ, List, length, replicate};
-ghost use Rattle.dcc_wire.specs.Framing.{Hunting, StandsFor, reported, seen as seen_in};
+ghost use Rattle.dcc_wire.specs.Framing.{Hunting, StandsFor, report_at, seen as seen_in};
 ghost use Rattle.dcc_wire.specs.Half.{class_of};
 ghost use Rattle.dcc_wire.specs.Outcomes.{ones_left};
 ghost use Rattle.dcc_wire.specs.Runs.{rest_after_run};
@@ -40,7 +40,7 @@ pub fn hear_half<D: Decoder>(decoders: &mut [D], framer: &mut Framer, us: u16) -
     ensures hunts { result ≢ Seen.Nothing → framer.new ≡ Hunting (ones_left result) }
     ensures stands { (halves : List ℕ) → StandsFor framer.old halves → StandsFor framer.new (halves ++ us ∷ []) }
     ensures sees { (halves : List ℕ) → StandsFor framer.old halves →
-        seen_in (halves ++ us ∷ []) ≡ seen_in halves ++ reported (length halves) result }
+        seen_in (halves ++ us ∷ []) ≡ seen_in halves ++ report_at (length halves) result }
 
     // What the half showed is some list of packets, one or none,
     ensures spelled { (packets : List Packet) × AreSpelled packets (frames_of result) }
@@ -71,7 +71,7 @@ pub fn hear_half_run<D: Decoder>(
     ensures history { (halves : List ℕ) × StandsFor framer.old halves }
     ensures stands { (halves : List ℕ) → StandsFor framer.old halves → StandsFor framer.new (halves ++ replicate n us) }
     ensures sees { (halves : List ℕ) → StandsFor framer.old halves →
-        seen_in (halves ++ replicate n us) ≡ seen_in halves ++ reported (length halves + result.at - 1) result.seen }
+        seen_in (halves ++ replicate n us) ≡ seen_in halves ++ report_at (length halves + result.at - 1) result.seen }
     ensures before { (halves : List ℕ) → StandsFor framer.old halves
         → seen_in (halves ++ replicate (result.at - 1) us) ≡ seen_in halves }
     ensures nothing { result.seen ≡ Seen.Nothing → result.at ≡ n }
@@ -102,7 +102,7 @@ pub fn hear(decoders: &mut [Box<dyn Decoder>], framer: &mut Framer, us: u16) -> 
     ensures hunts { result ≢ Seen.Nothing → framer.new ≡ Hunting (ones_left result) }
     ensures stands { (halves : List ℕ) → StandsFor framer.old halves → StandsFor framer.new (halves ++ us ∷ []) }
     ensures sees { (halves : List ℕ) → StandsFor framer.old halves →
-        seen_in (halves ++ us ∷ []) ≡ seen_in halves ++ reported (length halves) result }
+        seen_in (halves ++ us ∷ []) ≡ seen_in halves ++ report_at (length halves) result }
 
     // What the half showed is some list of packets, one or none,
     ensures spelled { (packets : List Packet) × AreSpelled packets (frames_of result) }
@@ -124,7 +124,7 @@ pub fn hear_run(decoders: &mut [Box<dyn Decoder>], framer: &mut Framer, us: u16,
     ensures history { (halves : List ℕ) × StandsFor framer.old halves }
     ensures stands { (halves : List ℕ) → StandsFor framer.old halves → StandsFor framer.new (halves ++ replicate n us) }
     ensures sees { (halves : List ℕ) → StandsFor framer.old halves →
-        seen_in (halves ++ replicate n us) ≡ seen_in halves ++ reported (length halves + result.at - 1) result.seen }
+        seen_in (halves ++ replicate n us) ≡ seen_in halves ++ report_at (length halves + result.at - 1) result.seen }
     ensures before { (halves : List ℕ) → StandsFor framer.old halves
         → seen_in (halves ++ replicate (result.at - 1) us) ≡ seen_in halves }
     ensures nothing { result.seen ≡ Seen.Nothing → result.at ≡ n }

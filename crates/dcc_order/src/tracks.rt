@@ -2,7 +2,7 @@
 
 ghost use Rattle.std.specs.List.{AllZip};
 ghost use Rattle.std.specs.Prelude.{◌≡◌};
-ghost use Rattle.dcc_order.specs.Hearing.{HasHeardHalves, joined};
+ghost use Rattle.dcc_order.specs.Hearing.{HasHeardHalves, whole_track};
 ghost use Rattle.dcc_order.specs.HearingLaws.{AlikeHalves};
 
 use crate::hearing::hear_piece;
@@ -12,7 +12,7 @@ use dcc_wire::Framer;
 /// A fleet hears a track through a new framer. The track may come in pieces of any length.
 pub fn hear_track<D: Decoder>(decoders: &mut [D], pieces: &[&[u16]])
     ensures { AllZip
-        (λ old new. HasHeardHalves (joined pieces.now) (D.who old) (D.registers old) (D.who new) (D.registers new))
+        (λ old new. HasHeardHalves (whole_track pieces.now) (D.who old) (D.registers old) (D.who new) (D.registers new))
         decoders.old decoders.new }
 {
     let mut framer = Framer::new();
@@ -31,16 +31,16 @@ pub fn hear_two_tracks<L: Decoder, R: Decoder>(
 )
     // Each member has heard the track of its fleet.
     ensures left { AllZip
-        (λ old new. HasHeardHalves (joined pieces.now) (L.who old) (L.registers old) (L.who new) (L.registers new))
+        (λ old new. HasHeardHalves (whole_track pieces.now) (L.who old) (L.registers old) (L.who new) (L.registers new))
         left.old left.new }
     ensures right { AllZip
-        (λ old new. HasHeardHalves (joined others.now) (R.who old) (R.registers old) (R.who new) (R.registers new))
+        (λ old new. HasHeardHalves (whole_track others.now) (R.who old) (R.registers old) (R.who new) (R.registers new))
         right.old right.new }
 
     // So equal members, for whom the tracks are alike, are equal again.
     ensures alike { AllZip
         (λ one other. (L.who one ≡ R.who other) × (L.registers one ≡ R.registers other)
-        × AlikeHalves (L.who one) (joined pieces.now) (joined others.now))
+        × AlikeHalves (L.who one) (whole_track pieces.now) (whole_track others.now))
         left.old right.old →
         AllZip (λ one other. L.registers one ≡ R.registers other) left.new right.new }
 {

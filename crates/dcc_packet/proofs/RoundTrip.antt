@@ -24,7 +24,7 @@ use Rattle.dcc_packet.specs.Written.{written_line, written_words, address_word, 
 use Rattle.dcc_packet.specs.Spelling.{BytesFit, ValueFits}
 use Rattle.dcc_packet.specs.Line.{idle, accessory, signal, frame, reset, speed28, speed128, functions, binary_state}
 use Rattle.dcc_packet.specs.Line.{cv_value, cv_bit, cv_access, cv_write, cv_verify, cv_bit_write, cv_bit_verify}
-use Rattle.dcc_packet.specs.Line.{instruction, loco, spelled, said, Says}
+use Rattle.dcc_packet.specs.Line.{instruction, loco, spelling_or_fault, frame_of_words, Says}
 use Rattle.dcc_packet.specs.Spelling.{spelling}
 use Rattle.dcc_packet.proofs.OneSpelling.{one_packet}
 use Rattle.dcc_packet.proofs.WrittenWords.{written_are_words}
@@ -107,20 +107,21 @@ unfolding frame
 frame_back f bytes h = rw (hex_back f bytes h) refl
 
 -- the words that are written for a packet say the packet
-said_back : (p : Packet) → BytesFit p → said (written_words p) ≡ Ok (spelling p)
-unfolding said idle
+said_back : (p : Packet) → BytesFit p → frame_of_words (written_words p) ≡ Ok (spelling p)
+unfolding frame_of_words idle
 said_back Idle h = refl
-said_back (Loco to what) h = ap spelled (loco_back to what h)
-said_back (Accessory b o on) h = ap spelled (accessory_back b o on)
-said_back (Signal s a) h = ap spelled (signal_line_back s a h)
+said_back (Loco to what) h = ap spelling_or_fault (loco_back to what h)
+said_back (Accessory b o on) h = ap spelling_or_fault (accessory_back b o on)
+said_back (Signal s a) h = ap spelling_or_fault (signal_line_back s a h)
 said_back (Other o) h = frame_back o.frame h o.valid
 
 -- a written line says its packet
 pub says_back : (p : Packet) → BytesFit p → Says (words (written_line p)) (Ok p)
-says_back p h = sym (ap said (written_are_words p h) ∙ said_back p h)
+says_back p h = sym (ap frame_of_words (written_are_words p h) ∙ said_back p h)
 
 -- two answers with one spelling are one answer
-spelled-injective : (one other : Result Packet PacketFault) → spelled one ≡ spelled other → one ≡ other
+spelled-injective : (one other : Result Packet PacketFault) → spelling_or_fault one ≡ spelling_or_fault other
+    → one ≡ other
 spelled-injective (Ok p) (Ok q) e =
     let same : spelling p ≡ spelling q = cc in
     ap Ok (one_packet p q same)

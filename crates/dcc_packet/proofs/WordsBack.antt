@@ -26,7 +26,7 @@ use Rattle.dcc_packet.specs.declared.speed.SpeedBits28.{SpeedBits28}
 use Rattle.dcc_packet.specs.Written.{address_word, direction_word, group_word, state_word, switch_word}
 use Rattle.dcc_packet.specs.LineWords.{number, small_number, address, direction, speed28_bits, speed128_bits, group}
 use Rattle.dcc_packet.specs.LineWords.{group_bits, state_number, cv_number, bit_place, bit_state, switch}
-use Rattle.dcc_packet.specs.LineWords.{board_number, output_number, signal_number, framed, hex_frame}
+use Rattle.dcc_packet.specs.LineWords.{board_number, output_number, signal_number, frame_or_fault, hex_frame}
 use Rattle.dcc_packet.proofs.UpTo.{up_to_ok, from_one_to_ok}
 use Rattle.dcc_packet.proofs.Decimal.{short}
 use Rattle.dcc_packet.proofs.WrittenWords.{test_from_digits, group_is_byte}
@@ -124,7 +124,7 @@ signal_back s =
     rw (number-decimal s.number (omega arith))
     (up_to_ok 2047 s.number faults.Signal (λ h. record { number = s.number; in_range = h }) s.in_range)
 
-pub framed_is : (f : List ℕ) → IsFrame f → framed (frame_of f) ≡ Ok f
+pub framed_is : (f : List ℕ) → IsFrame f → frame_or_fault (frame_of f) ≡ Ok f
 framed_is f h =
     let low : nat_lt (length f) 3 ≡ false = le-ltb (length f) 3 h.least in
     let high : nat_lt 6 (length f) ≡ false = le-ltb 6 (length f) h.most in

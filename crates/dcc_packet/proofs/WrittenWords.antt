@@ -23,7 +23,8 @@ use Rattle.dcc_packet.specs.declared.instruction.What.TheVariants.{CvWrite, CvVe
 use Rattle.dcc_packet.specs.declared.functions.Group.{Group}
 use Rattle.dcc_packet.specs.declared.functions.Group.TheVariants.{F0, F5, F9, F13, F21, F29, F37, F45, F53, F61}
 use Rattle.dcc_packet.specs.Group.{group_max}
-use Rattle.dcc_packet.specs.Written.{spaced, written_line, written_words, address_word, direction_word, group_word}
+use Rattle.dcc_packet.specs.Written.{spaced_words, written_line, written_words, address_word, direction_word}
+use Rattle.dcc_packet.specs.Written.{group_word}
 use Rattle.dcc_packet.specs.Written.{state_word, switch_word, instruction_words}
 use Rattle.dcc_packet.specs.declared.packet.Packet.{Packet}
 use Rattle.dcc_packet.specs.declared.packet.Packet.TheVariants.{Idle, Loco, Accessory, Signal, Other}
@@ -39,13 +40,13 @@ pub record IsWord (word : List ℕ) : Type 0 where
 
 -- the words of a written line are the words that were written
 pub words_spaced : (word : List ℕ) (rest : List (List ℕ)) → IsWord word → AllByRecursion IsWord rest
-    → words (word ++ spaced rest) ≡ word ∷ rest
+    → words (word ++ spaced_words rest) ≡ word ∷ rest
 words_spaced word [] h t =
     ap words (append-nil word) ∙ ap (filter is_some_word) (slice_split_none is_separator word h.plain)
     ∙ filter_some word [] h.some
 words_spaced word (next ∷ rest) h t =
-    ap (filter is_some_word) (slice_split_at is_separator word 32 (next ++ spaced rest) h.plain refl)
-    ∙ filter_some word (slice_split is_separator (next ++ spaced rest)) h.some
+    ap (filter is_some_word) (slice_split_at is_separator word 32 (next ++ spaced_words rest) h.plain refl)
+    ∙ filter_some word (slice_split is_separator (next ++ spaced_words rest)) h.some
     ∙ ap (λ (ws : List (List ℕ)). word ∷ ws) (words_spaced next rest t.0 t.1)
 
 pub not_true : (b : Bool) → not b ≡ true → b ≡ false

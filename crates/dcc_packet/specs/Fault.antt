@@ -6,18 +6,18 @@ use Rattle.dcc_packet.specs.declared.fault.PacketFault.TheVariants.{BitPlace, Sp
 use Rattle.dcc_packet.specs.declared.fault.PacketFault.TheVariants.{Frame, State, StateNumber}
 
 -- the number behind the letter P
-abbrev pub number_of : PacketFault → ℕ
-number_of Short = 1
-number_of Long = 2
-number_of Board = 3
-number_of Output = 4
-number_of Signal = 5
-number_of CvNumber = 6
-number_of BitPlace = 7
-number_of SpeedBits = 8
-number_of GroupBits = 9
-number_of Word = 10
-number_of Number = 11
-number_of Frame = 12
-number_of State = 13
-number_of StateNumber = 14
+abbrev pub packet_fault_number : PacketFault → ℕ
+packet_fault_number Short = 1
+packet_fault_number Long = 2
+packet_fault_number Board = 3
+packet_fault_number Output = 4
+packet_fault_number Signal = 5
+packet_fault_number CvNumber = 6
+packet_fault_number BitPlace = 7
+packet_fault_number SpeedBits = 8
+packet_fault_number GroupBits = 9
+packet_fault_number Word = 10
+packet_fault_number Number = 11
+packet_fault_number Frame = 12
+packet_fault_number State = 13
+packet_fault_number StateNumber = 14

@@ -132,12 +132,12 @@ abbrev pub signal_number : Word → Result SignalAddress PacketFault
 signal_number word = number word >>= signal_of
 
 -- the frame of bytes, or the fault of a word that spells none
-abbrev pub framed : Result Frame FrameFault → Result (List ℕ) PacketFault
-framed (Ok frame) = Ok frame
-framed (Err fault) = Err faults.Frame
+abbrev pub frame_or_fault : Result Frame FrameFault → Result (List ℕ) PacketFault
+frame_or_fault (Ok frame) = Ok frame
+frame_or_fault (Err fault) = Err faults.Frame
 
 abbrev pub framed_bytes : Result (List ℕ) FromHexError → Result (List ℕ) PacketFault
-framed_bytes (Ok bytes) = framed (frame_of bytes)
+framed_bytes (Ok bytes) = frame_or_fault (frame_of bytes)
 framed_bytes (Err fault) = Err faults.Frame
 
 -- HEX: the bytes of a frame, two digits of either case a byte

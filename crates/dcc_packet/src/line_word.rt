@@ -3,7 +3,7 @@ ghost use Rattle.std.specs.Prelude.{◌≡◌};
 ghost use Rattle.dcc_wire.specs.FrameOf.{frame_of};
 ghost use Rattle.dcc_packet.specs.LineWords.{address, direction, speed28_bits, speed128_bits, group, group_bits};
 ghost use Rattle.dcc_packet.specs.LineWords.{state_number, cv_number, bit_place, bit_state, board_number};
-ghost use Rattle.dcc_packet.specs.LineWords.{output_number, switch, signal_number, framed, hex_frame};
+ghost use Rattle.dcc_packet.specs.LineWords.{output_number, switch, signal_number, frame_or_fault, hex_frame};
 
 use crate::numeral::{number, small_number};
 use crate::{
@@ -155,7 +155,7 @@ pub fn hex_frame(word: &[u8]) -> Result<Frame, PacketFault>
 }
 
 fn framed(bytes: &[u8]) -> Result<Frame, PacketFault>
-    ensures { result ≡ framed (frame_of bytes.now) }
+    ensures { result ≡ frame_or_fault (frame_of bytes.now) }
 {
     match Frame::of(bytes) {
         Ok(frame) => Ok(frame),

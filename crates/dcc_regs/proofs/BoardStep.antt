@@ -19,7 +19,7 @@ use Rattle.dcc_regs.specs.Sets.{side}
 use Rattle.dcc_regs.specs.Result.{result_of_heard, step}
 use Rattle.dcc_regs.specs.Board.{BoardContent, board_registers}
 use Rattle.dcc_regs.specs.Possible.{IsPossible, may_hold}
-use Rattle.dcc_regs.proofs.OneStep.{set_by, where_there, heard_one}
+use Rattle.dcc_regs.proofs.LocoStep.{set_by, where_there, heard_one}
 
 -- d is a board before the packet that it hears, and d' after it
 pub record Obeys (p : Packet) (d d' : BoardContent) : Type 0 where

@@ -19,8 +19,8 @@ use Rattle.dcc_packet.specs.declared.accessory.Output.{Output}
 use Rattle.dcc_regs.specs.Heard.{is_full_reset}
 use Rattle.dcc_regs.specs.Outputs.{out_set}
 use Rattle.dcc_regs.specs.Sets.{sets, side}
-use Rattle.dcc_regs.specs.ConflictParts.{Differ, DifferIn, DifferInLoco, DifferAtOutput, DifferInOutputs}
-use Rattle.dcc_regs.specs.ConflictParts.{DifferInAspects, output_of}
+use Rattle.dcc_regs.specs.Inner.ConflictParts.{Differ, DifferIn, DifferInLoco, DifferAtOutput, DifferInOutputs}
+use Rattle.dcc_regs.specs.Inner.ConflictParts.{DifferInAspects, output_of}
 use Rattle.dcc_regs.proofs.DifferLemmas.{Off, off_by, never, differ-sym}
 
 nothing : (a : Option Value) → Differ a None → ⊥

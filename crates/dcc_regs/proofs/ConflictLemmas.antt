@@ -6,7 +6,7 @@ use Rattle.dcc_regs.specs.declared.register.SpeedMode.{SpeedMode}
 use Rattle.dcc_regs.specs.declared.register.Value.{Value}
 use Rattle.dcc_regs.specs.Sets.{sets}
 use Rattle.dcc_regs.specs.Conflict.{Conflict}
-use Rattle.dcc_regs.specs.ConflictParts.{Differ, DifferIn, HeardTogether}
+use Rattle.dcc_regs.specs.Inner.ConflictParts.{Differ, DifferIn, HeardTogether}
 
 record TwoValues (a b : Option Value) : Type 0 where
   one : Value

@@ -11,7 +11,7 @@ use Rattle.dcc_packet.specs.Bits.{is_one}
 use Rattle.dcc_regs.specs.Addresses.{active_address}
 use Rattle.dcc_packet.proofs.BitLemmas.{byte_of_bits, same_byte}
 use Rattle.dcc_packet.specs.Cvs.{cv_in}
-use Rattle.dcc_regs.specs.Loco.{LocoContent, loco_registers, is_cv_bit, holds_one, cv_of, started}
+use Rattle.dcc_regs.specs.Loco.{LocoContent, loco_registers, is_cv_bit, holds_one, cv_held, start_content}
 
 bit_there : (cv place : ℕ) → 1 ≤ cv → cv ≤ 1024 → place ≤ 7 → is_cv_bit cv place ≡ true
 bit_there cv place a b h = grind (arith, nat_tests)
@@ -23,7 +23,7 @@ held_bit false one e = absurd (cc)
 
 -- the value of a CV among the registers of a decoder
 pub cv_of-loco : (d : LocoContent) (cv : ℕ) → 1 ≤ cv → cv ≤ 1024 → d.cvs cv < 256
-    → cv_of (loco_registers d) cv ≡ d.cvs cv
+    → cv_held (loco_registers d) cv ≡ d.cvs cv
 cv_of-loco d cv a b h =
     same_byte (λ place. holds_one (loco_registers d (CvBit cv place))) (is_one (d.cvs cv))
     (λ k le. held_bit (is_cv_bit cv k) (is_one (d.cvs cv) k) (bit_there cv k a b le))
@@ -54,7 +54,7 @@ pub started-off : (n k : ℕ) (bytes : List ℕ)
       states = all_off k;
       cvs = cv_in bytes;
       pending = None;
-    }) ≡ loco_registers (started (cv_in bytes))
+    }) ≡ loco_registers (start_content (cv_in bytes))
 started-off n k bytes =
     ap (λ (f : ℕ → Bool). loco_registers
     (record {
@@ -75,8 +75,8 @@ pub active_address-same : (f g : ℕ → ℕ) → f 1 ≡ g 1 → f 17 ≡ g 17 
 active_address-same f g a b c d = rw (a, b, c, d) refl
 
 pub active_address-loco : (d : LocoContent) → d.cvs 1 < 256 → d.cvs 17 < 256 → d.cvs 18 < 256 → d.cvs 29 < 256
-    → active_address d.cvs ≡ active_address (cv_of (loco_registers d))
+    → active_address d.cvs ≡ active_address (cv_held (loco_registers d))
 active_address-loco d a b c e =
-    sym (active_address-same (cv_of (loco_registers d)) d.cvs
+    sym (active_address-same (cv_held (loco_registers d)) d.cvs
     (cv_of-loco d 1 (omega arith) (omega arith) a) (cv_of-loco d 17 (omega arith) (omega arith) b)
     (cv_of-loco d 18 (omega arith) (omega arith) c) (cv_of-loco d 29 (omega arith) (omega arith) e))

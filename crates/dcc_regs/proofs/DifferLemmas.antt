@@ -19,7 +19,7 @@ use Rattle.dcc_packet.specs.declared.functions.GroupBits.{GroupBits}
 use Rattle.dcc_packet.specs.Bits.{is_one}
 use Rattle.dcc_regs.specs.FunctionBits.{function_set, group_bit, place_of_f0, first_function, count_of}
 use Rattle.dcc_regs.specs.Sets.{sets}
-use Rattle.dcc_regs.specs.ConflictParts.{Differ, group_of}
+use Rattle.dcc_regs.specs.Inner.ConflictParts.{Differ, group_of}
 
 pub differ-sym : (a b : Option Value) → Differ a b → Differ b a
 differ-sym (Some v) (Some w) d = λ e. d (sym e)

@@ -23,7 +23,7 @@ use Rattle.dcc_regs.specs.Writes.{bit_set, cv_bit_set, writes_cv29, writes_mode}
 use Rattle.dcc_regs.specs.Result.{is_effective, mode_of}
 use Rattle.dcc_regs.specs.Laws.{ConflictIsMutual, IdleIsUnheard, ModeStays, NoConflictWithItself, OneAddress}
 use Rattle.dcc_regs.specs.Laws.{PacketsAreDecided, ValuesAreDecided, WritesSetNoPlain}
-use Rattle.dcc_regs.proofs.Stepping.{step-keeps}
+use Rattle.dcc_regs.proofs.RegisterStep.{step-keeps}
 use Rattle.dcc_regs.proofs.SameValues.{same_value, Decides-same_value}
 use Rattle.dcc_regs.proofs.OwnWrites.{sets-own_write}
 

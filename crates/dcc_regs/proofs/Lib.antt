@@ -1,10 +1,10 @@
 pub mod InParts
 pub mod Packing
-pub mod Rows
-pub mod Walk
+pub mod WorkedExamples
+pub mod ListWalk
 pub mod NoteLemmas
-pub mod OneStep
-pub mod Stepping
+pub mod LocoStep
+pub mod RegisterStep
 pub mod BoardStep
 pub mod DifferLemmas
 pub mod StateLemmas
@@ -14,7 +14,7 @@ pub mod ConflictLemmas
 pub mod LawLemmas
 pub mod CvLemmas
 pub mod KindsDiffer
-pub mod Runs
+pub mod ResultByParts
 pub mod SameValues
 pub mod OwnWrites
 pub mod NothingSet

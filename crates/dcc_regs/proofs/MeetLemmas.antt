@@ -11,8 +11,8 @@ use Rattle.dcc_packet.specs.declared.packet.Packet.TheVariants.{Idle, Loco as To
 use Rattle.dcc_regs.specs.declared.register.Who.{Who}
 use Rattle.dcc_regs.specs.declared.register.Who.TheVariants.{Loco as LocoWho, Board as BoardWho}
 use Rattle.dcc_regs.specs.Heard.{hears, is_for, is_full_reset, address_of}
-use Rattle.dcc_regs.specs.ConflictParts.{HeardTogether, meets, both_meet, boards_meet, board_number, some_loco}
-use Rattle.dcc_regs.specs.ConflictParts.{some_board}
+use Rattle.dcc_regs.specs.Inner.ConflictParts.{HeardTogether, meets, both_meet, boards_meet, board_number, some_loco}
+use Rattle.dcc_regs.specs.Inner.ConflictParts.{some_board}
 
 self : (n : ℕ) → (n == n) ≡ true
 self n = (Decides-eqb n n).1 refl

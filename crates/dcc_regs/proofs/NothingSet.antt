@@ -25,7 +25,7 @@ use Rattle.dcc_regs.specs.declared.register.Value.TheVariants.{Speed as SpeedVal
 use Rattle.dcc_regs.specs.declared.register.Speed.TheVariants.{Stop, Emergency}
 use Rattle.dcc_regs.specs.Speeds.{speed_set, direction_set}
 use Rattle.dcc_packet.specs.Bits.{is_one}
-use Rattle.dcc_regs.specs.FunctionBits.{first_function, place_of}
+use Rattle.dcc_regs.specs.FunctionBits.{first_function, function_place}
 use Rattle.dcc_regs.specs.Sets.{sets, SetsNothing}
 use Rattle.dcc_regs.proofs.OwnWrites.{none_of}
 
@@ -60,7 +60,7 @@ broadcast_stop forward bits none = by_case (nat_lt bits.bits 2) (nat_lt bits.bit
     by_case false false e f = grind (arith, e, f)
 
 -- a group has a place for its first function
-first_place : (g : Group) → place_of Steps28 g (first_function g) ≡ Some 0
+first_place : (g : Group) → function_place Steps28 g (first_function g) ≡ Some 0
 first_place F0 = refl
 first_place F5 = refl
 first_place F9 = refl

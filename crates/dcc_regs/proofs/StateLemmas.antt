@@ -4,8 +4,8 @@ use Rattle.std.specs.Prelude.{◌==◌, ◌&&◌, ◌||◌, Option, None, Some, 
 use Rattle.std.proofs.lemmas.Bool.Decides.{nat_tests}
 use Rattle.dcc_regs.specs.declared.register.Value.{Value}
 use Rattle.dcc_regs.specs.declared.register.Value.TheVariants.{Flag}
-use Rattle.dcc_regs.specs.ConflictParts.{Differ}
-use Rattle.dcc_regs.specs.States.{is_binary_state, state_by, looked}
+use Rattle.dcc_regs.specs.Inner.ConflictParts.{Differ}
+use Rattle.dcc_regs.specs.States.{is_binary_state, state_by, differing_state}
 use Rattle.dcc_regs.proofs.DifferLemmas.{differ-sym}
 
 -- what is told turns state n on or off, as a value
@@ -45,24 +45,24 @@ move c d n k e h = subst (λ (m : ℕ). Differ (held c m) (held d m)) e h
 
 at_looked : (c d : ℕ × Bool) (n : ℕ) (t u : Bool) → (c.0 == 0) ≡ t → (d.0 == 0) ≡ u
     → Differ (held (Some c) n) (held (Some d) n)
-    → Differ (held (Some c) (looked (Some c) (Some d))) (held (Some d) (looked (Some c) (Some d)))
+    → Differ (held (Some c) (differing_state (Some c) (Some d))) (held (Some d) (differing_state (Some c) (Some d)))
 at_looked c d n false u e f h =
-    let at : looked (Some c) (Some d) ≡ c.0 = rw e refl in
-    move (Some c) (Some d) n (looked (Some c) (Some d)) (only c n (held (Some d) n) h e ∙ sym at) h
+    let at : differing_state (Some c) (Some d) ≡ c.0 = rw e refl in
+    move (Some c) (Some d) n (differing_state (Some c) (Some d)) (only c n (held (Some d) n) h e ∙ sym at) h
 at_looked c d n true false e f h =
-    let at : looked (Some c) (Some d) ≡ d.0 = rw (e, f) refl in
-    move (Some c) (Some d) n (looked (Some c) (Some d))
+    let at : differing_state (Some c) (Some d) ≡ d.0 = rw (e, f) refl in
+    move (Some c) (Some d) n (differing_state (Some c) (Some d))
     (only d n (held (Some c) n) (differ-sym (held (Some c) n) (held (Some d) n) h) f ∙ sym at) h
 at_looked c d n true true e f h =
-    let at : looked (Some c) (Some d) ≡ 1 = rw (e, f) refl in
-    move (Some c) (Some d) 1 (looked (Some c) (Some d)) (sym at)
+    let at : differing_state (Some c) (Some d) ≡ 1 = rw (e, f) refl in
+    move (Some c) (Some d) 1 (differing_state (Some c) (Some d)) (sym at)
     (to_all (c.0 == 0) (d.0 == 0) (1 == c.0) (1 == d.0) c.1 d.1 e f
     (from_all (is_binary_state n) (c.0 == 0) (d.0 == 0) (n == c.0) (n == d.0) c.1 d.1 e f h))
 
--- two packets that differ at some state differ at the one that is looked at
+-- two packets that differ at some state differ at the one that is differing_state at
 pub differ_at_looked : (c d : Option (ℕ × Bool)) (n : ℕ)
     → Differ (option_map Flag (state_by c n)) (option_map Flag (state_by d n))
-    → Differ (option_map Flag (state_by c (looked c d))) (option_map Flag (state_by d (looked c d)))
+    → Differ (option_map Flag (state_by c (differing_state c d))) (option_map Flag (state_by d (differing_state c d)))
 differ_at_looked None d n h = absurd h
 differ_at_looked (Some c) None n h = absurd (differ-sym (held (Some c) n) None h)
 differ_at_looked (Some c) (Some d) n h = at_looked c d n (c.0 == 0) (d.0 == 0) refl refl h

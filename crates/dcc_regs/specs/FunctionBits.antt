@@ -45,8 +45,8 @@ place_of_f0 Steps28 F0 = Some 4
 place_of_f0 mode group = None
 
 -- the bit of a group that is for function n
-abbrev pub place_of : SpeedMode → Group → ℕ → Option ℕ
-place_of mode group n =
+abbrev pub function_place : SpeedMode → Group → ℕ → Option ℕ
+function_place mode group n =
     if n == 0 then place_of_f0 mode group
     else if nat_le (first_function group) n && nat_lt n (first_function group + count_of group) then Some
     (n - first_function group)
@@ -54,7 +54,7 @@ place_of mode group n =
 
 -- what a group's bits say of function n
 abbrev pub group_bit : SpeedMode → GroupBits → ℕ → Option Bool
-group_bit mode bits n = option_map (is_one bits.bits) (place_of mode bits.group n)
+group_bit mode bits n = option_map (is_one bits.bits) (function_place mode bits.group n)
 
 -- whether a packet turns function n on or off: the lowest bit of the baseline speed instruction is F0 where it is read
 -- for 14 steps

@@ -15,7 +15,7 @@ use Rattle.dcc_regs.specs.Sets.{sets}
 use Rattle.dcc_regs.specs.Writes.{is_own_write, writes_cv29}
 use Rattle.dcc_regs.specs.Result.{RegisterMap, result, step}
 use Rattle.dcc_regs.specs.Notes.{Note, note_of, packet_told}
-use Rattle.dcc_regs.specs.Setting.{mode_in, set_from, overwritten}
+use Rattle.dcc_regs.specs.Setting.{mode_in, set_from, value_over}
 
 -- what a list of packets leaves is what its second part leaves, from what its first part left
 abbrev pub ResultInParts : Type 0
@@ -27,7 +27,7 @@ ResultInParts =
 abbrev pub StepSets : Type 0
 StepSets =
     (who : Who) (start : RegisterMap) (p : Packet) (r : Register)
-    → step who start p r ≡ (if hears who p then overwritten (start r) (set_from start p r) else start r)
+    → step who start p r ≡ (if hears who p then value_over (start r) (set_from start p r) else start r)
 
 -- the one call of a packet tells that packet
 abbrev pub NotesTellPackets : Type 0

@@ -18,7 +18,6 @@ pub mod PackedBoard
 pub mod BoardState
 pub mod Possible
 pub mod Conflict
-pub mod ConflictParts
 pub mod Notes
 pub mod Laws
-pub mod Same
+pub mod Inner

@@ -52,8 +52,8 @@ loco_registers d (Position n) = None
 loco_registers d (Aspect n) = None
 
 -- a locomotive decoder just made or powered up: stopped, forward, all functions and binary states off, nothing pending
-abbrev pub started : (ℕ → ℕ) → LocoContent
-started cvs =
+abbrev pub start_content : (ℕ → ℕ) → LocoContent
+start_content cvs =
     record { speed = Stop; forward = true; functions = λ n. false; states = λ n. false; cvs = cvs; pending = None }
 
 -- the steps of each speed mode
@@ -95,10 +95,10 @@ holds_one (Some (Flag true)) = true
 holds_one held = false
 
 -- the value of a CV among the registers
-abbrev pub cv_of : RegisterMap → ℕ → ℕ
-cv_of m cv = byte_of (λ place. holds_one (m (CvBit cv place)))
+abbrev pub cv_held : RegisterMap → ℕ → ℕ
+cv_held m cv = byte_of (λ place. holds_one (m (CvBit cv place)))
 
 -- the registers after power-up: those of a decoder just made with the CVs as they are
 abbrev pub powered_up : RegisterMap → RegisterMap
 powered_up m (CvBit cv place) = m (CvBit cv place)
-powered_up m r = loco_registers (started (cv_of m)) r
+powered_up m r = loco_registers (start_content (cv_held m)) r

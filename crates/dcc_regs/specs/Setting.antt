@@ -28,6 +28,6 @@ set_from m p (Position n) = sets (mode_in m) p (Position n)
 set_from m p (Aspect n) = sets (mode_in m) p (Aspect n)
 
 -- a register after a value was put over it, if one was. One that a decoder does not have stays none
-abbrev pub overwritten : Option Value → Option Value → Option Value
-overwritten None set = None
-overwritten (Some start) set = Some (unwrap_or set start)
+abbrev pub value_over : Option Value → Option Value → Option Value
+value_over None set = None
+value_over (Some start) set = Some (unwrap_or set start)

@@ -25,12 +25,12 @@ states_in (CvBitWrite cv place one) = None
 states_in (CvBitVerify cv place one) = None
 
 -- the same of a packet
-abbrev pub states_told : Packet → Option (ℕ × Bool)
-states_told (ToLoco to what) = states_in what
-states_told (Accessory board output on) = None
-states_told (Signal address aspect) = None
-states_told (Other frame) = None
-states_told Idle = None
+abbrev pub turned_states : Packet → Option (ℕ × Bool)
+turned_states (ToLoco to what) = states_in what
+turned_states (Accessory board output on) = None
+turned_states (Signal address aspect) = None
+turned_states (Other frame) = None
+turned_states Idle = None
 
 -- whether such a number turns state n on or off
 abbrev pub state_by : Option (ℕ × Bool) → ℕ → Option Bool
@@ -39,7 +39,7 @@ state_by (Some told) n = if is_binary_state n && (told.0 == 0 || n == told.0) th
 
 -- whether a packet turns state n on or off: in either speed mode, and to the broadcast address too
 abbrev pub state_set : Packet → ℕ → Option Bool
-state_set p n = state_by (states_told p) n
+state_set p n = state_by (turned_states p) n
 
 -- the number of a single state, where it is one
 abbrev pub single_state : Option (ℕ × Bool) → Option ℕ
@@ -47,5 +47,5 @@ single_state None = None
 single_state (Some told) = if told.0 == 0 then None else Some told.0
 
 -- a state at which two packets differ, if they differ in states: that of either, or any where both are for all
-abbrev pub looked : Option (ℕ × Bool) → Option (ℕ × Bool) → ℕ
-looked c d = unwrap_or (option_or (single_state c) (single_state d)) 1
+abbrev pub differing_state : Option (ℕ × Bool) → Option (ℕ × Bool) → ℕ
+differing_state c d = unwrap_or (option_or (single_state c) (single_state d)) 1

@@ -2,7 +2,7 @@
 
 ghost use Rattle.std.specs.Prelude.{◌≡◌, ◌↔◌, ◌⊎◌, IsTrue};
 ghost use Rattle.dcc_regs.specs.Conflict.{Conflict};
-ghost use Rattle.dcc_regs.specs.ConflictParts.{DifferIn, DifferInAspects, DifferInLoco, DifferInOutputs};
+ghost use Rattle.dcc_regs.specs.Inner.ConflictParts.{DifferIn, DifferInAspects, DifferInLoco, DifferInOutputs};
 ghost use Rattle.dcc_packet.specs.declared.packet.Packet.TheVariants.{Loco as ToLoco};
 ghost use Rattle.dcc_regs.specs.Sets.{SetsNothing};
 ghost use Rattle.dcc_regs.specs.declared.register.SpeedMode.{SpeedMode};

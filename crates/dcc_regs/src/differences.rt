@@ -1,9 +1,9 @@
 //! The registers that two packets set to two values.
 
 ghost use Rattle.std.specs.Prelude.{◌≡◌, ◌↔◌, ℕ, ◌%◌, ◌+◌, ◌<◌, ◌≤◌, IsTrue};
-ghost use Rattle.dcc_regs.specs.ConflictParts.{Differ, DifferAtOutput, DifferInAspects, DifferInLoco};
-ghost use Rattle.dcc_regs.specs.ConflictParts.{DifferInOutputs, group_of as group_of_packet};
-ghost use Rattle.dcc_regs.specs.ConflictParts.{output_of as output_of_packet, signal_of as signal_of_packet};
+ghost use Rattle.dcc_regs.specs.Inner.ConflictParts.{Differ, DifferAtOutput, DifferInAspects, DifferInLoco};
+ghost use Rattle.dcc_regs.specs.Inner.ConflictParts.{DifferInOutputs, group_of as group_of_packet};
+ghost use Rattle.dcc_regs.specs.Inner.ConflictParts.{output_of as output_of_packet, signal_of as signal_of_packet};
 ghost use Rattle.dcc_regs.specs.Sets as table;
 ghost use Rattle.dcc_regs.specs.declared.register.Register.TheVariants.{Aspect, Function, State as StateRegister};
 ghost use Rattle.dcc_regs.specs.declared.register.SpeedMode.TheVariants.{Steps28};
@@ -48,7 +48,7 @@ fn differ_at(mode: SpeedMode, p: &Packet, q: &Packet, register: Register) -> boo
 }
 
 /// Whether both packets set one of the `count` functions from `first` on, and not to one state.
-fn run_differs(mode: SpeedMode, p: &Packet, q: &Packet, first: u8, count: u8) -> bool
+fn functions_from_differ(mode: SpeedMode, p: &Packet, q: &Packet, first: u8, count: u8) -> bool
     requires { first + count ≤ 69 }
     ensures { IsTrue result ↔
         ((n : ℕ) × (first ≤ n) × (n < first + count)
@@ -85,7 +85,7 @@ fn functions_differ(mode: SpeedMode, p: &Packet, q: &Packet) -> bool
         return true;
     }
     match group_of(p).or(group_of(q)) {
-        Some(group) => run_differs(mode, p, q, first_function(group), count_of(group)),
+        Some(group) => functions_from_differ(mode, p, q, first_function(group), count_of(group)),
         None => false,
     }
 }

@@ -49,8 +49,8 @@ fn place_of_f0(mode: SpeedMode, group: Group) -> Option<u8>
 }
 
 /// The bit of a group that is for function `n`.
-fn place_of(mode: SpeedMode, group: Group, n: u8) -> Option<u8>
-    ensures place { result ≡ table.place_of mode group n }
+fn function_place(mode: SpeedMode, group: Group, n: u8) -> Option<u8>
+    ensures place { result ≡ table.function_place mode group n }
     ensures small { IfSome result (λ place. place ≤ 7) }
 {
     if n == 0 {
@@ -68,7 +68,7 @@ fn place_of(mode: SpeedMode, group: Group, n: u8) -> Option<u8>
 fn group_bit(mode: SpeedMode, bits: GroupBits, n: u8) -> Option<bool>
     ensures { result ≡ table.group_bit mode bits n }
 {
-    place_of(mode, bits.group(), n).map(|place| bits.bits() >> place & 1 == 1)
+    function_place(mode, bits.group(), n).map(|place| bits.bits() >> place & 1 == 1)
 }
 
 /// Whether a packet turns function `n` on or off.
@@ -94,7 +94,7 @@ pub fn function_set(mode: SpeedMode, packet: &Packet, n: u8) -> Option<bool>
 }
 
 /// The functions that a packet may turn on or off: from the first up to the second, without it.
-pub fn functions_told(mode: SpeedMode, packet: &Packet) -> (u8, u8)
+pub fn function_range(mode: SpeedMode, packet: &Packet) -> (u8, u8)
     ensures others { (n : ℕ) → n ≤ 68 → (n < result.0) ⊎ (result.1 ≤ n) → table.function_set mode packet.now n ≡ None }
     ensures end { result.1 ≤ 69 }
 {
@@ -104,15 +104,15 @@ pub fn functions_told(mode: SpeedMode, packet: &Packet) -> (u8, u8)
     match (what, mode) {
         (What::Reset, _) => (0, 69),
         (What::Speed28 { .. }, SpeedMode::Steps14) => (0, 1),
-        (What::Functions(bits), _) => group_told(bits.group()),
+        (What::Functions(bits), _) => group_range(bits.group()),
         _ => (0, 0),
     }
 }
 
 /// The functions of a group: from the first up to the second, without it.
-fn group_told(group: Group) -> (u8, u8)
+fn group_range(group: Group) -> (u8, u8)
     ensures others { (mode : SpeedModeOf) (n : ℕ) → n ≤ 68 → (n < result.0) ⊎ (result.1 ≤ n)
-        → table.place_of mode group n ≡ None }
+        → table.function_place mode group n ≡ None }
     ensures end { result.1 ≤ 69 }
 {
     match group {

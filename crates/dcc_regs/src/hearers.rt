@@ -1,8 +1,8 @@
 //! Whether some decoder hears two packets.
 
 ghost use Rattle.std.specs.Prelude.{◌≡◌, ◌↔◌, IsTrue};
-ghost use Rattle.dcc_regs.specs.ConflictParts.{HeardTogether, board_number as board_number_of, meets, some_board};
-ghost use Rattle.dcc_regs.specs.ConflictParts.{some_loco};
+ghost use Rattle.dcc_regs.specs.Inner.ConflictParts.{HeardTogether, board_number as board_number_of, meets, some_board};
+ghost use Rattle.dcc_regs.specs.Inner.ConflictParts.{some_loco};
 
 use crate::heard::{address_of, is_for_active, is_full_reset};
 use dcc_packet::{Address, Packet};

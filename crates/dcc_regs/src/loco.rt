@@ -36,14 +36,15 @@ pub struct LocoDecoder {
 impl LocoDecoder {
     ghost use Rattle.dcc_regs.specs.Addresses.{active_address};
     ghost use Rattle.dcc_packet.specs.Cvs.{cv_in};
-    ghost use Rattle.dcc_regs.specs.Loco.{cv_of, loco_registers, powered_up, started};
+    ghost use Rattle.dcc_regs.specs.Loco.{cv_held, loco_registers, powered_up, start_content};
     ghost use Rattle.dcc_regs.specs.LocoState.{is_state, content as content_of};
     ghost use Rattle.dcc_regs.specs.declared.register.Who.TheVariants.{Loco as LocoWho};
 
     /// A decoder powered up with these CVs.
     pub fn new(cvs: &[u8; 1024]) -> LocoDecoder
         ensures who { ⟦<LocoDecoder as Decoder>⟧.who result ≡ LocoWho (active_address (cv_in cvs.now)) }
-        ensures registers { ⟦<LocoDecoder as Decoder>⟧.registers result ≡ loco_registers (started (cv_in cvs.now)) }
+        ensures registers { ⟦<LocoDecoder as Decoder>⟧.registers result ≡ loco_registers
+            (start_content (cv_in cvs.now)) }
         ensures bytes { (n : ℕ) → cv_in cvs.now n < 256 }
     {
         let cvs = Cvs { bytes: *cvs };
@@ -101,7 +102,7 @@ impl LocoDecoder {
     /// Powers the decoder up: it is as `new` makes one of its present CVs.
     pub fn power_up(&mut self)
         ensures who { ⟦<LocoDecoder as Decoder>⟧.who self.new ≡ LocoWho
-            (active_address (cv_of (⟦<LocoDecoder as Decoder>⟧.registers self.old))) }
+            (active_address (cv_held (⟦<LocoDecoder as Decoder>⟧.registers self.old))) }
         ensures registers { ⟦<LocoDecoder as Decoder>⟧.registers self.new ≡ powered_up
             (⟦<LocoDecoder as Decoder>⟧.registers self.old) }
     {
@@ -110,7 +111,7 @@ impl LocoDecoder {
 
     /// The value of a CV.
     pub fn cv(&self, cv: CvNumber) -> u8
-        ensures { result ≡ cv_of (⟦<LocoDecoder as Decoder>⟧.registers self.now) cv.number }
+        ensures { result ≡ cv_held (⟦<LocoDecoder as Decoder>⟧.registers self.now) cv.number }
     {
         self.cvs.value(cv)
     }

@@ -9,12 +9,12 @@ ghost use Rattle.dcc_regs.specs.States.{is_binary_state, state_set as state_set_
 
 use crate::cvs::Cvs;
 use crate::decoder::Decoder;
-use crate::function_bits::{function_set, functions_told};
+use crate::function_bits::{function_range, function_set};
 use crate::heard::hears;
 use crate::loco_state::{LocoState, functions_in, states_in};
 use crate::register::{Register, Speed, SpeedMode, Value, Who};
 use crate::speeds::{direction_set, speed_set};
-use crate::states::{state_set, states_told};
+use crate::states::{state_set, turned_states};
 use crate::writes::leave_pending;
 use dcc_packet::{Address, CvNumber, Packet, PacketFault};
 
@@ -37,14 +37,15 @@ pub struct PackedLoco {
 impl PackedLoco {
     ghost use Rattle.dcc_regs.specs.Addresses.{active_address};
     ghost use Rattle.dcc_packet.specs.Cvs.{cv_in};
-    ghost use Rattle.dcc_regs.specs.Loco.{cv_of, loco_registers, powered_up, started};
+    ghost use Rattle.dcc_regs.specs.Loco.{cv_held, loco_registers, powered_up, start_content};
     ghost use Rattle.dcc_regs.specs.LocoState.{is_state, content as content_of};
     ghost use Rattle.dcc_regs.specs.declared.register.Who.TheVariants.{Loco as LocoWho};
 
     /// A decoder powered up with these CVs.
     pub fn new(cvs: &[u8; 1024]) -> PackedLoco
         ensures who { ⟦<PackedLoco as Decoder>⟧.who result ≡ LocoWho (active_address (cv_in cvs.now)) }
-        ensures registers { ⟦<PackedLoco as Decoder>⟧.registers result ≡ loco_registers (started (cv_in cvs.now)) }
+        ensures registers { ⟦<PackedLoco as Decoder>⟧.registers result ≡ loco_registers
+            (start_content (cv_in cvs.now)) }
         ensures bytes { (n : ℕ) → cv_in cvs.now n < 256 }
     {
         let cvs = Cvs { bytes: *cvs };
@@ -102,7 +103,7 @@ impl PackedLoco {
     /// Powers the decoder up: it is as `new` makes one of its present CVs.
     pub fn power_up(&mut self)
         ensures who { ⟦<PackedLoco as Decoder>⟧.who self.new ≡ LocoWho
-            (active_address (cv_of (⟦<PackedLoco as Decoder>⟧.registers self.old))) }
+            (active_address (cv_held (⟦<PackedLoco as Decoder>⟧.registers self.old))) }
         ensures registers { ⟦<PackedLoco as Decoder>⟧.registers self.new ≡ powered_up
             (⟦<PackedLoco as Decoder>⟧.registers self.old) }
     {
@@ -111,7 +112,7 @@ impl PackedLoco {
 
     /// The value of a CV.
     pub fn cv(&self, cv: CvNumber) -> u8
-        ensures { result ≡ cv_of (⟦<PackedLoco as Decoder>⟧.registers self.now) cv.number }
+        ensures { result ≡ cv_held (⟦<PackedLoco as Decoder>⟧.registers self.now) cv.number }
     {
         self.cvs.value(cv)
     }
@@ -121,7 +122,7 @@ impl PackedLoco {
 fn functions_after(functions: u128, mode: SpeedMode, packet: &Packet) -> u128
     ensures { (n : ℕ) → n ≤ 68 → is_one result n ≡ unwrap_or (function_set_of mode packet.now n) (is_one functions n) }
 {
-    let (first, end) = functions_told(mode, packet);
+    let (first, end) = function_range(mode, packet);
     let mut after = functions;
     for n in first..end {
         let on = function_set(mode, packet, n).unwrap_or(functions >> n & 1 == 1);
@@ -148,7 +149,7 @@ fn states_of(packet: &Packet) -> (u8, u8)
     ensures others { (n : ℕ) → n ≤ 127 → (n < result.0) ⊎ (result.1 ≤ n) → state_set_of packet.now n ≡ None }
     ensures end { result.1 ≤ 128 }
 {
-    match states_told(packet) {
+    match turned_states(packet) {
         Some((0, _)) => (1, 128),
         Some((number, _)) if number <= 127 => (number, number + 1),
         Some(_) => (0, 0),

@@ -6,8 +6,8 @@ ghost use Rattle.dcc_regs.specs.States as table;
 use dcc_packet::{Packet, What};
 
 /// The number that a packet turns on or off, and which of the two. 0 is all states, which a reset turns off.
-pub fn states_told(packet: &Packet) -> Option<(u8, bool)>
-    ensures { result ≡ table.states_told packet.now }
+pub fn turned_states(packet: &Packet) -> Option<(u8, bool)>
+    ensures { result ≡ table.turned_states packet.now }
 {
     match packet {
         Packet::Loco {
@@ -26,7 +26,7 @@ pub fn states_told(packet: &Packet) -> Option<(u8, bool)>
 pub fn state_set(packet: &Packet, n: u8) -> Option<bool>
     ensures { result ≡ table.state_set packet.now n }
 {
-    match states_told(packet) {
+    match turned_states(packet) {
         Some((number, on)) if (1..=127).contains(&n) && (number == 0 || n == number) => Some(on),
         _ => None,
     }
@@ -34,9 +34,9 @@ pub fn state_set(packet: &Packet, n: u8) -> Option<bool>
 
 /// The state that a packet is for, where it is for one alone.
 fn single_state(packet: &Packet) -> Option<u8>
-    ensures { result ≡ table.single_state (table.states_told packet.now) }
+    ensures { result ≡ table.single_state (table.turned_states packet.now) }
 {
-    match states_told(packet) {
+    match turned_states(packet) {
         Some((number, _)) if number != 0 => Some(number),
         _ => None,
     }
@@ -45,7 +45,7 @@ fn single_state(packet: &Packet) -> Option<u8>
 /// A state at which two packets differ, if they differ in states: that of either, or any where both are for
 /// all.
 pub fn looked(p: &Packet, q: &Packet) -> u8
-    ensures { result ≡ table.looked (table.states_told p.now) (table.states_told q.now) }
+    ensures { result ≡ table.differing_state (table.turned_states p.now) (table.turned_states q.now) }
 {
     single_state(p).or(single_state(q)).unwrap_or(1)
 }

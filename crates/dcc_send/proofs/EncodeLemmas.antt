@@ -1,4 +1,4 @@
--- How an encoding grows.
+-- How an encoding grows. The search finds `encodes_all` and `encodes_up_to` at the returns of its loop.
 use Rattle.std.proofs.Common.{◌≡◌, ℕ, List, [], ◌∷◌, ◌++◌, Option, None, Some, Ok, Err, refl, sym, ap, ◌∙◌, subst}
 use Rattle.std.proofs.Common.{IfSome, IsSomeAnd}
 use Rattle.std.proofs.lemmas.List.{append-nil}
@@ -7,41 +7,40 @@ use Rattle.dcc_packet.specs.declared.packet.Packet.{Packet}
 use Rattle.dcc_packet.specs.Spelling.{spelling}
 use Rattle.dcc_send.specs.declared.encoding.Encode.{Encode}
 use Rattle.dcc_io.specs.declared.fault.KeptFault.{KeptFault}
-use Rattle.dcc_io.specs.declared.fault.KeptFault.TheVariants.{Number, Line, Read, TooMuch}
 use Rattle.dcc_io.specs.declared.fault.ToolFault.TheVariants.{Write}
 use Rattle.dcc_io.specs.Failures.{HasRisen}
 use Rattle.dcc_io.specs.Faults.{as_tool_fault}
 use Rattle.dcc_io.specs.InputState.{InputState}
-use Rattle.dcc_io.specs.Written.{AppendsFront}
+use Rattle.dcc_io.specs.WriterState.{WriterState}
+use Rattle.dcc_io.specs.WrittenBytes.{AppendsFront}
 use Rattle.dcc_io.specs.Held.{Holds}
 use Rattle.dcc_io.specs.Items.{Items, Gives, Gave}
-use Rattle.dcc_io.specs.PacketLines.{packet_lines, frames_in}
+use Rattle.dcc_io.specs.PacketLines.{packet_lines, packet_words, frames_in}
 use Rattle.dcc_io.specs.PacketRead.{AnswersPacket}
-use Rattle.dcc_send.specs.Held.{WritesOut}
+use Rattle.dcc_send.specs.Inner.Held.{WritesOut}
 use Rattle.dcc_send.specs.Encoded.{frame_line, encoding, Encodes, EncodesText}
 use Rattle.dcc_io.proofs.HeldLemmas.{Holds-same, Holds-wrote, Holds-append, Holds-fails, Holds-fails_with, Holds-rest}
 use Rattle.dcc_io.proofs.WrittenLemmas.{AppendsFront-more}
-use Rattle.dcc_io.proofs.ItemsLemmas.{Gave-none, Gave-append, in_whole, up_to_fault, reads_up_to, uses_all_lines}
+use Rattle.dcc_io.proofs.ItemsLemmas.{Gave-none, Gave-append, in_whole}
+use Rattle.dcc_send.proofs.LinesLemmas.{writes_all, writes_up_to}
 
 -- so far these frames were read, and their lines written or held
-pub record Encoding (how : Encode) (start now : InputState) (held : List ℕ) (before after : Option (List ℕ))
-    (writes count : ℕ) : Type 0 where
+pub record Encoding (how : Encode) (start now : InputState) (held : List ℕ) (before after : WriterState) : Type 0 where
   pub frames : List (List ℕ)
   pub gave : Gave packet_lines start frames now
   pub holds : Holds before after (encoding how frames) held
-  pub failures : count ≡ writes
+  pub failures : after.failures ≡ before.failures
 
-pub Encoding-start : (how : Encode) (input : InputState) (contents : Option (List ℕ)) (count : ℕ) → input.fault ≡ None
-    → Encoding how input input [] contents contents count count
-Encoding-start how input contents count fault =
-    record { frames = []; gave = Gave-none packet_lines input fault; holds = Holds-same contents []; failures = refl }
+pub Encoding-start : (how : Encode) (input : InputState) (state : WriterState) → input.fault ≡ None
+    → Encoding how input input [] state state
+Encoding-start how input state fault =
+    record { frames = []; gave = Gave-none packet_lines input fault; holds = Holds-same state []; failures = refl }
 
 -- some of what was held was written
-pub Encoding-wrote : (how : Encode) (start now : InputState) (held left : List ℕ) (before after then : Option (List ℕ))
-    (writes count later : ℕ)
-    → Encoding how start now held before after writes count → Holds after then held left → later ≡ count
-    → Encoding how start now left before then writes later
-Encoding-wrote how start now held left before after then writes count later so_far wrote same = record {
+pub Encoding-wrote : (how : Encode) (start now : InputState) (held left : List ℕ) (before after then : WriterState)
+    → Encoding how start now held before after → Holds after then held left → then.failures ≡ after.failures
+    → Encoding how start now left before then
+Encoding-wrote how start now held left before after then so_far wrote same = record {
   frames = so_far.frames;
   gave = so_far.gave;
   holds = Holds-wrote before after then (encoding how so_far.frames) held left so_far.holds wrote;
@@ -58,11 +57,11 @@ encoding-one how frames frame =
     ∙ ap (λ (bytes : List ℕ). encoding how frames ++ bytes) (append-nil (frame_line how frame))
 
 pub Encoding-packet : (how : Encode) (start now new : InputState) (held left : List ℕ)
-    (before after then : Option (List ℕ)) (writes count later : ℕ) (packet : Packet)
-    → Encoding how start now held before after writes count → AnswersPacket now (Ok (Some packet)) new
-    → Holds after then (held ++ frame_line how (spelling packet)) left → later ≡ count
-    → Encoding how start new left before then writes later
-Encoding-packet how start now new held left before after then writes count later packet so_far answer holds same =
+    (before after then : WriterState) (packet : Packet)
+    → Encoding how start now held before after → AnswersPacket now (Ok (Some packet)) new
+    → Holds after then (held ++ frame_line how (spelling packet)) left → then.failures ≡ after.failures
+    → Encoding how start new left before then
+Encoding-packet how start now new held left before after then packet so_far answer holds same =
     record {
       frames = so_far.frames ++ spelling packet ∷ [];
       gave = Gave-append packet_lines start now new so_far.frames (spelling packet ∷ []) so_far.gave answer.0;
@@ -74,7 +73,7 @@ Encoding-packet how start now new held left before after then writes count later
     }
 
 -- a front of one line more is a front of all that is written
-front_of_all : (how : Encode) (start now : InputState) (frames : List (List ℕ)) (before after : Option (List ℕ))
+front_of_all : (how : Encode) (start now : InputState) (frames : List (List ℕ)) (before after : WriterState)
     → Gave packet_lines start frames now → AppendsFront before after (encoding how frames)
     → IfSome start.text (λ text. AppendsFront before after (encoding how (frames_in start text).said))
 front_of_all how start now frames before after gave wrote = go start.text now.text gave.text
@@ -94,93 +93,53 @@ front_of_all how start now frames before after gave wrote = go start.text now.te
         (AppendsFront-more before after (encoding how frames) (encoding how later) wrote)
 
 -- a write failed where a line was to be held
-pub stops_at_write : (how : Encode) (start now new : InputState) (held : List ℕ) (before after then : Option (List ℕ))
-    (writes count later : ℕ) (packet : Packet)
-    → Encoding how start now held before after writes count → AnswersPacket now (Ok (Some packet)) new
+pub stops_at_write : (how : Encode) (start now new : InputState) (held : List ℕ) (before after then : WriterState)
+    (packet : Packet) → Encoding how start now held before after → AnswersPacket now (Ok (Some packet)) new
     → AppendsFront after then (held ++ frame_line how (spelling packet))
-    → HasRisen count later → EncodesText how start before writes (Err Write) new then later
-stops_at_write how start now new held before after then writes count later packet so_far answer wrote risen =
+    → HasRisen after.failures then.failures → EncodesText how start before (Err Write) new then
+stops_at_write how start now new held before after then packet so_far answer wrote risen =
     let all = Gave-append packet_lines start now new so_far.frames (spelling packet ∷ []) so_far.gave answer.0 in
     let front = subst (λ (bytes : List ℕ). AppendsFront before then bytes) (sym (encoding-one how so_far.frames (spelling packet)))
     (Holds-fails_with before after then (encoding how so_far.frames) held (frame_line how (spelling packet))
     so_far.holds wrote) in (
-      front_of_all how start new (so_far.frames ++ spelling packet ∷ []) before then all front,
-      all.fault,
-      all.failures,
-      subst (λ (n : ℕ). HasRisen n later) so_far.failures risen,
+      (
+        front_of_all how start new (so_far.frames ++ spelling packet ∷ []) before then all front,
+        all.fault,
+        all.failures,
+      ),
+      subst (λ (n : ℕ). HasRisen n then.failures) so_far.failures risen,
     )
 
 -- a write of what was held failed
-pub stops_before_read : (how : Encode) (start now : InputState) (held : List ℕ) (before after then : Option (List ℕ))
-    (writes count later : ℕ)
-    → Encoding how start now held before after writes count → AppendsFront after then held → HasRisen count later
-    → EncodesText how start before writes (Err Write) now then later
-stops_before_read how start now held before after then writes count later so_far wrote risen = (
-  front_of_all how start now so_far.frames before then so_far.gave
-      (Holds-fails before after then (encoding how so_far.frames) held so_far.holds wrote),
-  so_far.gave.fault,
-  so_far.gave.failures,
-  subst (λ (n : ℕ). HasRisen n later) so_far.failures risen,
+pub stops_before_read : (how : Encode) (start now : InputState) (held : List ℕ) (before after then : WriterState)
+    → Encoding how start now held before after → AppendsFront after then held
+    → HasRisen after.failures then.failures → EncodesText how start before (Err Write) now then
+stops_before_read how start now held before after then so_far wrote risen = (
+  (
+    front_of_all how start now so_far.frames before then so_far.gave
+        (Holds-fails before after then (encoding how so_far.frames) held so_far.holds wrote),
+    so_far.gave.fault,
+    so_far.gave.failures,
+  ),
+  subst (λ (n : ℕ). HasRisen n then.failures) so_far.failures risen,
 )
 
 -- the input has ended, and what was held was written
-pub encodes_all : (how : Encode) (start now new : InputState) (held left : List ℕ) (before after then : Option (List ℕ))
-    (writes count later : ℕ)
-    → Encoding how start now held before after writes count → AnswersPacket now (Ok None) new
-    → WritesOut after count held left then later → EncodesText how start before writes (Ok tt) new then later
-encodes_all how start now new held left before after then writes count later so_far answer wrote =
-    let last = answer.0 in
-    let all = Holds-rest before after then (encoding how so_far.frames) held so_far.holds wrote.1 in (
-      (
-        up_to_fault packet_lines start now so_far.frames None (Encodes how before then) so_far.gave answer.2 all,
-        last.failures ∙ so_far.gave.failures,
-      ),
-      answer.1,
-      uses_all_lines packet_lines start new (so_far.frames ++ [])
-          (Gave-append packet_lines start now new so_far.frames [] so_far.gave last) answer.1,
-      last.fault,
-      wrote.2 ∙ so_far.failures,
-    )
+pub encodes_all : (how : Encode) (start now new : InputState) (held left : List ℕ) (before after then : WriterState)
+    → Encoding how start now held before after → AnswersPacket now (Ok None) new
+    → WritesOut after held left then → EncodesText how start before (Ok tt) new then
+encodes_all how start now new held left before after then so_far answer wrote =
+    writes_all packet_words spelling start now new so_far.frames (Encodes how before then)
+    (λ frames. AppendsFront before then (encoding how frames)) before then so_far.gave
+    (Holds-rest before after then (encoding how so_far.frames) held so_far.holds wrote.1) (wrote.2 ∙ so_far.failures)
+    answer
 
 -- the input has a fault, and what was held was written
-pub encodes_up_to : (how : Encode) (start now new : InputState) (held left : List ℕ)
-    (before after then : Option (List ℕ)) (writes count later : ℕ) (fault : KeptFault)
-    → Encoding how start now held before after writes count → AnswersPacket now (Err fault) new
-    → WritesOut after count held left then later
-    → EncodesText how start before writes (Err (as_tool_fault fault)) new then later
-encodes_up_to how start now new held left before after then writes count later fault so_far answer wrote =
-    go fault answer
-  where
-    all : Encodes how before then so_far.frames
-    all = Holds-rest before after then (encoding how so_far.frames) held so_far.holds wrote.1
-
-    same : later ≡ writes
-    same = wrote.2 ∙ so_far.failures
-
-    go : (fault : KeptFault) → AnswersPacket now (Err fault) new
-        → EncodesText how start before writes (Err (as_tool_fault fault)) new then later
-    go (Number line) answer = answer
-    go (Line line fault) answer = (
-      (
-        answer.1,
-        reads_up_to packet_lines start now new (Line line fault) so_far.frames (Encodes how before then)
-            so_far.gave answer.0 all,
-      ),
-      same,
-    )
-    go Read answer = (
-      (
-        answer.1,
-        reads_up_to packet_lines start now new Read so_far.frames (Encodes how before then) so_far.gave answer.0
-            all,
-      ),
-      same,
-    )
-    go TooMuch answer = (
-      (
-        answer.1,
-        reads_up_to packet_lines start now new TooMuch so_far.frames (Encodes how before then) so_far.gave
-            answer.0 all,
-      ),
-      same,
-    )
+pub encodes_up_to : (how : Encode) (start now new : InputState) (held left : List ℕ) (before after then : WriterState)
+    (fault : KeptFault) → Encoding how start now held before after → AnswersPacket now (Err fault) new
+    → WritesOut after held left then → EncodesText how start before (Err (as_tool_fault fault)) new then
+encodes_up_to how start now new held left before after then fault so_far answer wrote =
+    writes_up_to packet_words spelling start now new so_far.frames (Encodes how before then)
+    (λ frames. AppendsFront before then (encoding how frames)) before then so_far.gave
+    (Holds-rest before after then (encoding how so_far.frames) held so_far.holds wrote.1) (wrote.2 ∙ so_far.failures)
+    fault answer

@@ -1,3 +1,4 @@
+pub mod LinesLemmas
 pub mod EncodeLemmas
 pub mod TrackLemmas
 pub mod StationLemmas

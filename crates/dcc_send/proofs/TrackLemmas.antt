@@ -14,7 +14,7 @@ use Rattle.dcc_service.specs.Bits.{bits_from_lowest, number_from_lowest}
 use Rattle.dcc_service.specs.CvAnswers.{CvAnswers, Asks, question_frame}
 use Rattle.dcc_packet.specs.Cvs.{cv_in}
 use Rattle.dcc_service.specs.Cvs.{IsCvs}
-use Rattle.dcc_service.specs.Machine.{ServiceState, acknowledged}
+use Rattle.dcc_service.specs.Machine.{ServiceState, is_acknowledged}
 use Rattle.dcc_service.specs.Question.{after_question}
 use Rattle.dcc_service.specs.ReadingLaws.{AreFirstOf}
 use Rattle.dcc_service.specs.Readings.{Comes}
@@ -22,10 +22,12 @@ use Rattle.dcc_service.proofs.ReadingLemmas.{next_is_true, truth_is_the_value, s
 use Rattle.dcc_io.specs.declared.fault.ToolFault.{ToolFault}
 use Rattle.dcc_io.specs.declared.fault.ToolFault.TheVariants as faults
 use Rattle.dcc_io.specs.Failures.{HasRisen}
-use Rattle.dcc_send.specs.TrackAnswers.{TakesAnswer, Tells}
-use Rattle.dcc_send.specs.TrackReading.{value_on, answers_on, answered_line, with_answer, answered_lines, unasked}
-use Rattle.dcc_send.specs.TrackReading.{value_line, reading_text, after_reading, ReadsCv}
-use Rattle.dcc_io.specs.Written.{AppendsFront}
+use Rattle.dcc_send.specs.Inner.ProgrammingTrackAnswers.{TakesAnswer, Tells}
+use Rattle.dcc_send.specs.ProgrammingTrackReading.{value_on, answers_on, answered_line, with_answer, answered_lines}
+use Rattle.dcc_send.specs.ProgrammingTrackReading.{no_answers}
+use Rattle.dcc_send.specs.ProgrammingTrackReading.{value_line, reading_text, after_reading, ReadsCv}
+use Rattle.dcc_io.specs.WriterState.{WriterState}
+use Rattle.dcc_io.specs.WrittenBytes.{AppendsFront}
 use Rattle.dcc_io.proofs.WrittenLemmas.{AppendsFront-more}
 use Rattle.dcc_io.proofs.WrittenLemmas.{Appends-none, Appends-append, front_behind}
 
@@ -47,60 +49,54 @@ lines-append so_far (x ∷ xs) ys =
 
 -- the line of one answer more
 lines-one : (so_far : CvAnswers) (answer : Bool)
-    → answered_lines (unasked so_far.cv) (so_far.answers ++ answer ∷ []) ≡ answered_lines (unasked so_far.cv)
+    → answered_lines (no_answers so_far.cv) (so_far.answers ++ answer ∷ []) ≡ answered_lines (no_answers so_far.cv)
     so_far.answers ++ answered_line (question_frame so_far) answer
 lines-one so_far answer =
-    lines-append (unasked so_far.cv) so_far.answers (answer ∷ [])
-    ∙ ap (λ (line : List ℕ). answered_lines (unasked so_far.cv) so_far.answers ++ line)
+    lines-append (no_answers so_far.cv) so_far.answers (answer ∷ [])
+    ∙ ap (λ (line : List ℕ). answered_lines (no_answers so_far.cv) so_far.answers ++ line)
     (append-nil (answered_line (question_frame so_far) answer))
 
 -- the lines of the first answers are the first lines
 first_lines : (cv : CvNumber) (answers all : List Bool) → AreFirstOf answers all
-    → (rest : List ℕ) × (answered_lines (unasked cv) all ≡ answered_lines (unasked cv) answers ++ rest)
+    → (rest : List ℕ) × (answered_lines (no_answers cv) all ≡ answered_lines (no_answers cv) answers ++ rest)
 first_lines cv answers all first =
     let n : ℕ = length answers in (
       answered_lines (record { cv = cv; answers = take n all }) (drop n all),
-      ap (answered_lines (unasked cv)) (sym (take-append-drop n all))
-          ∙ lines-append (unasked cv) (take n all) (drop n all)
-          ∙ ap (λ (xs : List Bool). answered_lines (unasked cv) xs
+      ap (answered_lines (no_answers cv)) (sym (take-append-drop n all))
+          ∙ lines-append (no_answers cv) (take n all) (drop n all)
+          ∙ ap (λ (xs : List Bool). answered_lines (no_answers cv) xs
           ++ answered_lines (record { cv = cv; answers = take n all }) (drop n all)) (sym first),
     )
 
 -- so far these answers to the questions about a CV came, and their lines were written
-pub record IsReading (track : Option (List ℕ)) (cv : CvNumber) (so_far : CvAnswers) (before after : Option (List ℕ))
-    (writes count : ℕ) : Type 0 where
+pub record IsReading (track : Option (List ℕ)) (cv : CvNumber) (so_far : CvAnswers) (before after : WriterState) : Type
+    0 where
   pub same_cv : so_far.cv ≡ cv
   pub first : AreFirstOf so_far.answers (answers_on track cv)
-  pub written : Appends before after (answered_lines (unasked cv) so_far.answers)
-  pub failures : count ≡ writes
-
-pub IsReading-start : (track : Option (List ℕ)) (cv : CvNumber) (so_far : CvAnswers) (contents : Option (List ℕ))
-    (count : ℕ) → so_far ≡ unasked cv → IsReading track cv so_far contents contents count count
-IsReading-start track cv so_far contents count e =
-    let P : CvAnswers → Type 0 = λ a. IsReading track cv a contents contents count count in
-    subst P (sym e) (record { same_cv = refl; first = refl; written = Appends-none contents; failures = refl })
+  pub written : Appends before.contents after.contents (answered_lines (no_answers cv) so_far.answers)
+  pub failures : after.failures ≡ before.failures
 
 -- the lines so far, and that of one answer more
-written_more : (cv : CvNumber) (so_far : CvAnswers) (answer : Bool) (before mid after : Option (List ℕ))
-    → so_far.cv ≡ cv → Appends before mid (answered_lines (unasked cv) so_far.answers)
-    → Appends mid after (answered_line (question_frame so_far) answer)
-    → Appends before after (answered_lines (unasked cv) (so_far.answers ++ answer ∷ []))
+written_more : (cv : CvNumber) (so_far : CvAnswers) (answer : Bool) (before mid after : WriterState)
+    → so_far.cv ≡ cv → Appends before.contents mid.contents (answered_lines (no_answers cv) so_far.answers)
+    → Appends mid.contents after.contents (answered_line (question_frame so_far) answer)
+    → Appends before.contents after.contents (answered_lines (no_answers cv) (so_far.answers ++ answer ∷ []))
 written_more cv so_far answer before mid after same first second =
-    let lines : answered_lines (unasked cv) (so_far.answers ++ answer ∷ []) ≡ answered_lines (unasked cv) so_far.answers ++ answered_line (question_frame so_far) answer =
-    ap (λ c. answered_lines (unasked c) (so_far.answers ++ answer ∷ [])) (sym same) ∙ lines-one so_far answer
-    ∙ ap (λ c. answered_lines (unasked c) so_far.answers ++ answered_line (question_frame so_far) answer) same in
-    subst (λ (bytes : List ℕ). Appends before after bytes) (sym lines)
+    let lines : answered_lines (no_answers cv) (so_far.answers ++ answer ∷ []) ≡ answered_lines (no_answers cv) so_far.answers ++ answered_line (question_frame so_far) answer =
+    ap (λ c. answered_lines (no_answers c) (so_far.answers ++ answer ∷ [])) (sym same) ∙ lines-one so_far answer
+    ∙ ap (λ c. answered_lines (no_answers c) so_far.answers ++ answered_line (question_frame so_far) answer) same in
+    subst (λ (bytes : List ℕ). Appends before.contents after.contents bytes) (sym lines)
     (Appends-append before mid after _ _ first second)
 
 pub IsReading-more : (track : Option (List ℕ)) (cv : CvNumber) (so_far next : CvAnswers) (answer : Bool)
-    (before mid after : Option (List ℕ)) (writes count later : ℕ)
-    → IsReading track cv so_far before mid writes count
+    (before mid after : WriterState)
+    → IsReading track cv so_far before mid
     → AreFirstOf (so_far.answers ++ answer ∷ []) (answers_on track cv)
     → Comes so_far.cv (so_far.answers ++ answer ∷ []) (More next)
-    → Appends mid after (answered_line (question_frame so_far) answer) → later ≡ count
-    → IsReading track cv next before after writes later
-IsReading-more track cv so_far next answer before mid after writes count later reading first comes line same =
-    let P : CvAnswers → Type 0 = λ a. IsReading track cv a before after writes later in
+    → Appends mid.contents after.contents (answered_line (question_frame so_far) answer) → after.failures ≡ mid.failures
+    → IsReading track cv next before after
+IsReading-more track cv so_far next answer before mid after reading first comes line same =
+    let P : CvAnswers → Type 0 = λ a. IsReading track cv a before after in
     subst P (sym comes.1) (record {
       same_cv = reading.same_cv;
       first = first;
@@ -110,27 +106,27 @@ IsReading-more track cv so_far next answer before mid after writes count later r
 
 -- a write failed within a line
 pub fails_in_line : (track : Option (List ℕ)) (cv : CvNumber) (so_far : CvAnswers) (answer : Bool)
-    (before mid after : Option (List ℕ)) (writes count later : ℕ)
-    → IsReading track cv so_far before mid writes count
+    (before mid after : WriterState)
+    → IsReading track cv so_far before mid
     → AreFirstOf (so_far.answers ++ answer ∷ []) (answers_on track cv)
-    → AppendsFront mid after (answered_line (question_frame so_far) answer) → HasRisen count later
-    → ReadsCv track cv before writes (Err faults.Write) after later
-fails_in_line track cv so_far answer before mid after writes count later reading first front risen =
+    → AppendsFront mid after (answered_line (question_frame so_far) answer) → HasRisen mid.failures after.failures
+    → ReadsCv track cv before (Err faults.Write) after
+fails_in_line track cv so_far answer before mid after reading first front risen =
     let rest = first_lines cv (so_far.answers ++ answer ∷ []) (answers_on track cv) first in
-    let lines : answered_lines (unasked cv) (so_far.answers ++ answer ∷ []) ≡ answered_lines (unasked cv) so_far.answers ++ answered_line (question_frame so_far) answer =
-    ap (λ c. answered_lines (unasked c) (so_far.answers ++ answer ∷ [])) (sym reading.same_cv) ∙ lines-one so_far answer
-    ∙ ap (λ c. answered_lines (unasked c) so_far.answers ++ answered_line (question_frame so_far) answer)
+    let lines : answered_lines (no_answers cv) (so_far.answers ++ answer ∷ []) ≡ answered_lines (no_answers cv) so_far.answers ++ answered_line (question_frame so_far) answer =
+    ap (λ c. answered_lines (no_answers c) (so_far.answers ++ answer ∷ [])) (sym reading.same_cv)
+    ∙ lines-one so_far answer
+    ∙ ap (λ c. answered_lines (no_answers c) so_far.answers ++ answered_line (question_frame so_far) answer)
     reading.same_cv in
-    let whole : reading_text track cv ≡ answered_lines (unasked cv) so_far.answers ++ answered_line (question_frame so_far) answer ++ rest.0 ++ value_line (value_on track cv) =
+    let whole : reading_text track cv ≡ answered_lines (no_answers cv) so_far.answers ++ answered_line (question_frame so_far) answer ++ rest.0 ++ value_line (value_on track cv) =
     ap (λ (bytes : List ℕ). bytes ++ value_line (value_on track cv))
     (rest.1 ∙ ap (λ (bytes : List ℕ). bytes ++ rest.0) lines) in
-    let written = front_behind before mid after (answered_lines (unasked cv) so_far.answers)
+    let written = front_behind before mid after (answered_lines (no_answers cv) so_far.answers)
     (answered_line (question_frame so_far) answer) reading.written front in (
-      refl,
       subst (λ (bytes : List ℕ). AppendsFront before after bytes) (sym whole)
           (AppendsFront-more before after _ (value_line (value_on track cv))
           (AppendsFront-more before after _ rest.0 written)),
-      subst (λ (n : ℕ). HasRisen n later) reading.failures risen,
+      subst (λ (n : ℕ). HasRisen n after.failures) reading.failures risen,
     )
 
 nine_on : (track : Option (List ℕ)) (cv : CvNumber) → length (answers_on track cv) ≡ 9
@@ -188,35 +184,43 @@ told_value track cv so_far answer told ok same_cv first comes =
 
 -- the value is told, behind the lines of all answers
 pub tells_value : (track : Option (List ℕ)) (cv : CvNumber) (so_far : CvAnswers) (answer : Bool) (told : Option ℕ)
-    (before mid after then : Option (List ℕ)) (writes count later last : ℕ)
-    (result : Result (Option ℕ) ToolFault) → IfSome track IsCvs → IsReading track cv so_far before mid writes count
+    (before mid after then : WriterState)
+    (result : Result (Option ℕ) ToolFault) → IfSome track IsCvs → IsReading track cv so_far before mid
     → AreFirstOf (so_far.answers ++ answer ∷ []) (answers_on track cv)
-    → TakesAnswer so_far answer mid count (Ok (reading_of told)) after later → Tells told after later result then last
-    → ReadsCv track cv before writes result then last
-tells_value track cv so_far answer told before mid after then writes count later last result ok reading first takes
+    → TakesAnswer so_far answer mid (Ok (reading_of told)) after → Tells told after result then
+    → ReadsCv track cv before result then
+tells_value track cv so_far answer told before mid after then result ok reading first takes
     tells =
     let all = all_answers track cv so_far answer told first takes.0 in
     let value = told_value track cv so_far answer told ok reading.same_cv first takes.0 in
-    let lines : Appends before after (answered_lines (unasked cv) (answers_on track cv)) =
-    subst (λ (answers : List Bool). Appends before after (answered_lines (unasked cv) answers)) all
+    let lines : Appends before.contents after.contents (answered_lines (no_answers cv) (answers_on track cv)) =
+    subst (λ (answers : List Bool). Appends before.contents after.contents (answered_lines (no_answers cv) answers)) all
     (written_more cv so_far answer before mid after reading.same_cv reading.written takes.1) in
     ends result value lines (takes.2 ∙ reading.failures) tells
   where
     ends : (result : Result (Option ℕ) ToolFault) → told ≡ value_on track cv
-        → Appends before after (answered_lines (unasked cv) (answers_on track cv)) → later ≡ writes
-        → Tells told after later result then last → ReadsCv track cv before writes result then last
+        → Appends before.contents after.contents (answered_lines (no_answers cv) (answers_on track cv))
+        → after.failures ≡ before.failures
+        → Tells told after result then → ReadsCv track cv before result then
     ends (Ok answered) value lines same tells = (
-      tells.0 ∙ value,
-      Appends-append before after then _ _ lines
-          (subst (λ (v : Option ℕ). Appends after then (value_line v)) value tells.1),
-      tells.2 ∙ same,
+      (
+        tells.0.0 ∙ value,
+        Appends-append before after then _ _ lines
+            (subst (λ (v : Option ℕ). Appends after.contents then.contents (value_line v)) value tells.0.1),
+      ),
+      tells.1 ∙ same,
     )
-    ends (Err fault) value lines same tells = (
-      tells.0,
+    ends (Err faults.Write) value lines same tells = (
       front_behind before after then _ _ lines
-          (subst (λ (v : Option ℕ). AppendsFront after then (value_line v)) value tells.1),
-      subst (λ (n : ℕ). HasRisen n last) same tells.2,
+          (subst (λ (v : Option ℕ). AppendsFront after then (value_line v)) value tells.0),
+      subst (λ (n : ℕ). HasRisen n then.failures) same tells.1,
     )
+    ends (Err (faults.Number line)) value lines same tells = absurd tells.0
+    ends (Err (faults.Line line fault)) value lines same tells = absurd tells.0
+    ends (Err faults.Read) value lines same tells = absurd tells.0
+    ends (Err faults.TooMuch) value lines same tells = absurd tells.0
+    ends (Err faults.NoMemory) value lines same tells = absurd tells.0
+    ends (Err (faults.Usage usage)) value lines same tells = absurd tells
 
 -- eight answers stand before the last of nine
 eight_before : (answers bits : List Bool) (answer last : Bool) → length bits ≡ 8
@@ -272,7 +276,7 @@ on_ok_map (Err fault) P Q each fact = tt
 -- a decoder's answer to the question behind true answers is the next one
 pub true_answer : (so_far : CvAnswers) (question : ServicePacket) (cvs now : List ℕ) (cv : CvNumber) (answer : Bool)
     → now ≡ cvs → so_far.cv ≡ cv → IsCvs now → Asks so_far question
-    → AreFirstOf so_far.answers (answers_on (Some cvs) cv) → answer ≡ acknowledged question now
+    → AreFirstOf so_far.answers (answers_on (Some cvs) cv) → answer ≡ is_acknowledged question now
     → AreFirstOf (so_far.answers ++ answer ∷ []) (answers_on (Some cvs) cv)
 true_answer so_far question cvs now cv answer same same_cv ok asks first is =
     let all : answers_on (Some now) so_far.cv ≡ answers_on (Some cvs) cv =

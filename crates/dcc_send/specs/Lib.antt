@@ -1,8 +1,7 @@
-pub mod Track
+pub mod ProgrammingTrack
 pub mod Encoded
-pub mod TrackReading
-pub mod TrackAnswers
+pub mod ProgrammingTrackReading
 pub mod Loan
 pub mod StationEncoded
 pub mod EncodeStation
-pub mod Held
+pub mod Inner

@@ -1,6 +1,6 @@
 -- What `encode` writes with a station.
-use Rattle.std.specs.Prelude.{◌≡◌, ℕ, ◌==◌, not, List, [], ◌∷◌, ◌++◌, Option, None, Some, Result, Ok, Err, length}
-use Rattle.std.specs.Prelude.{codes, IfSome, if◌then◌else◌}
+use Rattle.std.specs.Prelude.{◌≡◌, ℕ, ◌==◌, not, List, [], ◌∷◌, ◌++◌, Option, None, Some, Result, length, codes}
+use Rattle.std.specs.Prelude.{if◌then◌else◌}
 use Rattle.std.specs.Io.KnownBytes.{Appends}
 use Rattle.dcc_packet.specs.declared.packet.Packet.{Packet}
 use Rattle.dcc_packet.specs.Spelling.{spelling}
@@ -9,18 +9,13 @@ use Rattle.dcc_station.specs.declared.fault.Refused.TheVariants.{NotSendable, Qu
 use Rattle.dcc_station.specs.Commands.{is_sendable}
 use Rattle.dcc_station.specs.Sending as sending
 use Rattle.dcc_send.specs.declared.encoding.Encode.{Encode}
-use Rattle.dcc_io.specs.declared.fault.KeptFault.{KeptFault}
-use Rattle.dcc_io.specs.declared.fault.KeptFault.TheVariants as kept
 use Rattle.dcc_io.specs.declared.fault.ToolFault.{ToolFault}
-use Rattle.dcc_io.specs.declared.fault.ToolFault.TheVariants.{Usage, Number, Line, Read, Write, NoMemory, TooMuch}
-use Rattle.dcc_io.specs.Failures.{HasRisen}
-use Rattle.dcc_io.specs.Told.{IsAtEnd}
-use Rattle.dcc_io.specs.InputState.{InputState, UsesAllLines}
-use Rattle.dcc_io.specs.Written.{AppendsFront}
+use Rattle.dcc_io.specs.Calls.{WritesOfLines}
+use Rattle.dcc_io.specs.InputState.{InputState}
+use Rattle.dcc_io.specs.WriterState.{WriterState}
+use Rattle.dcc_io.specs.WrittenBytes.{AppendsFront}
 use Rattle.dcc_send.specs.Encoded.{frame_line}
-use Rattle.dcc_io.specs.Items.{ReadsUpTo}
-use Rattle.dcc_io.specs.PacketLines.{items_in}
-use Rattle.dcc_io.specs.StationLines.{Asked, Command, Next, station_lines, station_words}
+use Rattle.dcc_io.specs.StationLines.{Asked, Command, Next, station_lines}
 
 -- why a station refuses a command: first that it is none to be sent, then that its queue is full
 abbrev pub refusal : sending.Sending → Packet → Option Refused
@@ -40,7 +35,7 @@ command_line (Some refused) = refusal_line refused
 
 -- a command waits behind the others, unless it is refused
 abbrev pub after_command : sending.Sending → Packet → Option Refused → sending.Sending
-after_command s packet None = sending.accepted s packet
+after_command s packet None = sending.with_command s packet
 after_command s packet (Some refused) = s
 
 -- what a station is asked, these bytes are written of it, and so it is then
@@ -60,47 +55,29 @@ AnswersAll how s (item ∷ later) bytes new =
 
 -- what a station answers was written
 pub record Wrote (how : Encode) (s : sending.Sending) (items : List Asked) (new : sending.Sending)
-    (before after : Option (List ℕ)) : Type 0 where
+    (before after : WriterState) : Type 0 where
   pub bytes : List ℕ
   pub answers : AnswersAll how s items bytes new
-  pub written : Appends before after bytes
+  pub written : Appends before.contents after.contents bytes
 
 -- a front of what a station answers to the first of these items was written
-pub record WroteFront (how : Encode) (s : sending.Sending) (items : List Asked) (before after : Option (List ℕ)) : Type
-    0 where
-  pub first : List Asked
-  pub later : List Asked
-  pub whole : items ≡ first ++ later
-  pub bytes : List ℕ
-  pub new : sending.Sending
-  pub answers : AnswersAll how s first bytes new
-  pub written : AppendsFront before after bytes
+pub record WroteFront (how : Encode) (s : sending.Sending) (before after : WriterState) (items : List Asked) : Type 0
+  where
+    pub first : List Asked
+    pub later : List Asked
+    pub whole : items ≡ first ++ later
+    pub bytes : List ℕ
+    pub new : sending.Sending
+    pub answers : AnswersAll how s first bytes new
+    pub written : AppendsFront before after bytes
 
 -- what a station answers to all of these was written
-abbrev pub Answered : Encode → sending.Sending → Option (List ℕ) → Option (List ℕ) → List Asked → Type 0
+abbrev pub Answered : Encode → sending.Sending → WriterState → WriterState → List Asked → Type 0
 Answered how s before after items = (new : sending.Sending) × Wrote how s items new before after
 
--- all was read up to this fault, which is kept, and all before it is answered
-abbrev pub AnsweredUpTo : Encode → sending.Sending → InputState → KeptFault → InputState → Option (List ℕ)
-    → Option (List ℕ) → Type 0
-AnsweredUpTo how s old fault new before after =
-    (new.fault ≡ Some fault) × ReadsUpTo station_lines old (Some fault) new (Answered how s before after)
-
 -- A fault comes only where its cause stands, and all that stands before it is answered.
-abbrev pub StationText : Encode → sending.Sending → InputState → Option (List ℕ) → ℕ → Result (Unit {0}) ToolFault
-    → InputState → Option (List ℕ) → ℕ → Type 0
-StationText how s old before writes (Ok done) new after now =
-    ReadsUpTo station_lines old None new (Answered how s before after) × IsAtEnd new.text × UsesAllLines old new
-    × (new.fault ≡ None) × (now ≡ writes)
-StationText how s old before writes (Err (Line number fault)) new after now =
-    AnsweredUpTo how s old (kept.Line number fault) new before after × (now ≡ writes)
-StationText how s old before writes (Err Read) new after now =
-    AnsweredUpTo how s old kept.Read new before after × (now ≡ writes)
-StationText how s old before writes (Err TooMuch) new after now =
-    AnsweredUpTo how s old kept.TooMuch new before after × (now ≡ writes)
-StationText how s old before writes (Err Write) new after now =
-    IfSome old.text (λ text. WroteFront how s (items_in station_words old text).said before after) × (new.fault ≡ None)
-    × (new.failures ≡ old.failures) × HasRisen writes now
-StationText how s old before writes (Err (Number number)) new after now = ⊥
-StationText how s old before writes (Err NoMemory) new after now = ⊥
-StationText how s old before writes (Err (Usage usage)) new after now = ⊥
+abbrev pub StationText : Encode → sending.Sending → InputState → WriterState → Result (Unit {0}) ToolFault → InputState
+    → WriterState → Type 0
+StationText how s old before result new after =
+    WritesOfLines station_lines (Answered how s before after) (WroteFront how s before after) old before result new
+    after

@@ -7,7 +7,7 @@ ghost use Rattle.dcc_send.specs.Encoded.{EncodesText};
 ghost use Rattle.dcc_send.specs.EncodeStation.{is_past_limits, has_begun};
 ghost use Rattle.dcc_io.specs.PacketRead.{AnswersPacket};
 ghost use Rattle.dcc_send.specs.StationEncoded.{StationText};
-ghost use Rattle.dcc_send.specs.Held.{TakesNext};
+ghost use Rattle.dcc_send.specs.Inner.Held.{TakesNext};
 
 use crate::encoded_line::hold_frame;
 use crate::encoding::Encode;
@@ -47,13 +47,13 @@ pub fn encode<R: Source, W: Sink>(
 
     // Else the lines of the packets are written, up to the first fault.
     ensures encodes { how.station ≡ None → input.old.fault ≡ None
-        → EncodesText how input.old (W.contents writer.old) (W.failures writer.old) result
-        input.new (W.contents writer.new) (W.failures writer.new) }
+        → EncodesText how input.old (W.state writer.old) result
+        input.new (W.state writer.new) }
 
     // With a station its answers are written, up to the first fault.
     ensures answers { has_begun result ≡ true → input.old.fault ≡ None
         → IfSome how.station (λ sizes. StationText how (idle_sending sizes.0 sizes.1 sizes.2) input.old
-        (W.contents writer.old) (W.failures writer.old) result input.new (W.contents writer.new) (W.failures writer.new)) }
+        (W.state writer.old) result input.new (W.state writer.new)) }
 {
     match how.station {
         Some((queue, slots, repeats)) => match Station::new(alloc, queue, slots, repeats) {
@@ -78,8 +78,8 @@ fn encode_packets<R: Source, W: Sink>(
 
     // Else the lines of the packets are written, up to the first fault.
     ensures encodes { input.old.fault ≡ None
-        → EncodesText how input.old (W.contents writer.old) (W.failures writer.old) result
-        input.new (W.contents writer.new) (W.failures writer.new) }
+        → EncodesText how input.old (W.state writer.old) result
+        input.new (W.state writer.new) }
 {
     if let Some(fault) = input.fault() {
         return Err(fault.told());
@@ -106,9 +106,9 @@ fn next_packet<R: Source, W: Sink>(
     writer: &mut W,
 ) -> Result<Result<Option<Packet>, KeptFault>, Failed>
     requires { input.old.fault ≡ None }
-    ensures { TakesNext AnswersPacket input.old (W.contents writer.old) (W.failures writer.old) held.old result
+    ensures { TakesNext AnswersPacket input.old (W.state writer.old) held.old result
         input.new held.new
-        (W.contents writer.new) (W.failures writer.new) }
+        (W.state writer.new) }
 {
     match reading::packet_at_hand(input) {
         Some(packet) => return Ok(Ok(Some(packet))),

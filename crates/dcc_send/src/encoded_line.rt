@@ -5,7 +5,7 @@ ghost use Rattle.dcc_wire.specs.Sending.{sent};
 ghost use Rattle.hex.specs.Hex.{encode_lower};
 ghost use Rattle.dcc_io.specs.Held.{HoldsOrFails};
 ghost use Rattle.dcc_io.specs.Spaced.{behind_space};
-ghost use Rattle.dcc_send.specs.Encoded.{frame_line, timing_of, spaced};
+ghost use Rattle.dcc_send.specs.Encoded.{frame_line, timing_of, spaced_numbers};
 
 use crate::encoding::Encode;
 use arrayvec::ArrayVec;
@@ -22,9 +22,9 @@ pub(crate) fn hold_frame<W: Sink>(
     how: Encode,
     writer: &mut W,
 ) -> Result<(), Failed>
-    ensures { HoldsOrFails (W.contents writer.old) (W.failures writer.old) (held.old ++ frame_line how frame.now) result
+    ensures { HoldsOrFails (W.state writer.old) (held.old ++ frame_line how frame.now) result
         held.new
-        (W.contents writer.new) (W.failures writer.new) }
+        (W.state writer.new) }
 {
     let bytes = frame.bytes();
     if how.hex {
@@ -37,9 +37,9 @@ pub(crate) fn hold_frame<W: Sink>(
 /// Holds the bytes of a frame in hex, and a line feed.
 fn hold_hex<W: Sink>(held: &mut HeldLines, bytes: &[u8], writer: &mut W) -> Result<(), Failed>
     requires { length bytes.now ≤ 6 }
-    ensures { HoldsOrFails (W.contents writer.old) (W.failures writer.old)
+    ensures { HoldsOrFails (W.state writer.old)
         (held.old ++ (encode_lower bytes.now ++ 10 ∷ [])) result held.new
-        (W.contents writer.new) (W.failures writer.new) }
+        (W.state writer.new) }
 {
     let mut line = [0; 13];
     let len = 2 * bytes.len();
@@ -60,9 +60,9 @@ fn hold_halves<W: Sink>(
 ) -> Result<(), Failed>
     requires few { length frame ≤ 6 }
     requires short { timing.preamble ≤ 20 }
-    ensures { HoldsOrFails (W.contents writer.old) (W.failures writer.old)
-        (held.old ++ (spaced (sent frame timing) ++ 10 ∷ [])) result held.new
-        (W.contents writer.new) (W.failures writer.new) }
+    ensures { HoldsOrFails (W.state writer.old)
+        (held.old ++ (spaced_numbers (sent frame timing) ++ 10 ∷ [])) result held.new
+        (W.state writer.new) }
 {
     let mut line = EncodedLine::new();
     append_halves(&mut line, frame, timing);
@@ -83,12 +83,12 @@ fn timing_of(how: Encode) -> Timing
 }
 
 /// Adds the halves that are sent for a frame.
-#[tactic(auto, using(dcc_io::proofs::ListingLemmas::decimal_is_short))]
+#[tactic(auto, using(dcc_io::proofs::DecimalLemmas::decimal_is_short))]
 fn append_halves(line: &mut EncodedLine, frame: Frame, timing: Timing)
     requires empty { line.old.items ≡ [] }
     requires few { length frame ≤ 6 }
     requires short { timing.preamble ≤ 20 }
-    ensures items { line.new.items ≡ spaced (sent frame timing) }
+    ensures items { line.new.items ≡ spaced_numbers (sent frame timing) }
     ensures len { array_vec_len line.new ≤ 900 }
 {
     let mut halves = Halves::new(frame, timing);
@@ -104,7 +104,7 @@ fn append_halves(line: &mut EncodedLine, frame: Frame, timing: Timing)
 }
 
 /// Adds a half, of up to five digits.
-#[tactic(auto, using(dcc_io::proofs::ListingLemmas::half_is_short))]
+#[tactic(auto, using(dcc_io::proofs::DecimalLemmas::half_is_short))]
 fn append_half(line: &mut EncodedLine, us: u16)
     requires { array_vec_len line.old ≤ 900 }
     ensures items { line.new.items ≡ line.old.items ++ decimal us }
@@ -137,7 +137,7 @@ struct HalfText {
 }
 
 impl HalfText {
-    #[tactic(auto, using(dcc_io::proofs::ListingLemmas::half_is_short))]
+    #[tactic(auto, using(dcc_io::proofs::DecimalLemmas::half_is_short))]
     fn new(us: u16) -> HalfText
         ensures { result.us ≡ us }
     {

@@ -4,12 +4,12 @@
 mod encode_call;
 mod encoded_line;
 mod encoding;
+mod programming_track_decoder;
+mod programming_track_line;
 mod readcv_call;
 mod station_encoding;
-mod track;
-mod track_line;
 
 pub use encode_call::encode;
 pub use encoding::Encode;
+pub use programming_track_decoder::programming_track;
 pub use readcv_call::readcv;
-pub use track::programming_track;

@@ -3,10 +3,10 @@ ghost use Rattle.std.specs.Prelude.{◌≡◌, None, Some, OnOk};
 ghost use Rattle.std.specs.Option.{option_map, option_copied_mut};
 ghost use Rattle.dcc_service.specs.CvAnswers.{Asks};
 ghost use Rattle.dcc_send.specs.Loan.{left_in};
-ghost use Rattle.dcc_send.specs.TrackAnswers.{TakesAnswer, Tells};
-ghost use Rattle.dcc_send.specs.TrackReading.{ReadsCv, after_reading};
+ghost use Rattle.dcc_send.specs.Inner.ProgrammingTrackAnswers.{TakesAnswer, Tells};
+ghost use Rattle.dcc_send.specs.ProgrammingTrackReading.{ReadsCv, after_reading};
 
-use crate::track_line::{answered_line, value_line};
+use crate::programming_track_line::{answered_line, value_line};
 use dcc_io::{Failed, Sink, ToolFault, write_all};
 use dcc_packet::CvNumber;
 use dcc_service::{CvReader, Reading, ServiceDecoder, ServicePacket, ask};
@@ -23,9 +23,8 @@ pub fn readcv<W: Sink>(
     cv: CvNumber,
     writer: &mut W,
 ) -> Result<Option<u8>, ToolFault>
-    ensures reads { ReadsCv (option_map (λ d. d.cvs) (option_copied_mut decoder.entry)) cv (W.contents writer.old)
-        (W.failures writer.old)
-        result (W.contents writer.new) (W.failures writer.new) }
+    ensures reads { ReadsCv (option_map (λ d. d.cvs) (option_copied_mut decoder.entry)) cv (W.state writer.old)
+        result (W.state writer.new) }
     ensures cvs { option_map (λ d. d.cvs) (left_in decoder.exit) ≡ option_map (λ d. d.cvs)
         (option_copied_mut decoder.entry) }
 
@@ -45,8 +44,8 @@ fn read_decoder<W: Sink>(
     cv: CvNumber,
     writer: &mut W,
 ) -> Result<Option<u8>, ToolFault>
-    ensures tells { ReadsCv (Some decoder.old.cvs) cv (W.contents writer.old) (W.failures writer.old) result
-        (W.contents writer.new) (W.failures writer.new) }
+    ensures tells { ReadsCv (Some decoder.old.cvs) cv (W.state writer.old) result
+        (W.state writer.new) }
     ensures cvs { decoder.new.cvs ≡ decoder.old.cvs }
     ensures asked { OnOk result (decoder.new ≡ after_reading decoder.old cv) }
 {
@@ -65,8 +64,7 @@ fn read_decoder<W: Sink>(
 
 /// Puts the questions about a CV to a track where nobody answers.
 fn read_empty_track<W: Sink>(cv: CvNumber, writer: &mut W) -> Result<Option<u8>, ToolFault>
-    ensures { ReadsCv None cv (W.contents writer.old) (W.failures writer.old) result (W.contents writer.new)
-        (W.failures writer.new) }
+    ensures { ReadsCv None cv (W.state writer.old) result (W.state writer.new) }
 {
     let mut reader = CvReader::new(cv);
     'questions: loop {
@@ -88,8 +86,7 @@ fn take_answer<W: Sink>(
     writer: &mut W,
 ) -> Result<Reading, Failed>
     requires { Asks reader question.now }
-    ensures { TakesAnswer reader yes (W.contents writer.old) (W.failures writer.old) result (W.contents writer.new)
-        (W.failures writer.new) }
+    ensures { TakesAnswer reader yes (W.state writer.old) result (W.state writer.new) }
 {
     match write_all(writer, answered_line(&question.frame(), yes).as_slice()) {
         Ok(()) => Ok(reader.answer(yes)),
@@ -99,8 +96,7 @@ fn take_answer<W: Sink>(
 
 /// Writes the line of a value or of none, and answers it.
 fn tell<W: Sink>(value: Option<u8>, writer: &mut W) -> Result<Option<u8>, ToolFault>
-    ensures { Tells value (W.contents writer.old) (W.failures writer.old) result (W.contents writer.new)
-        (W.failures writer.new) }
+    ensures { Tells value (W.state writer.old) result (W.state writer.new) }
 {
     match write_all(writer, value_line(value).as_slice()) {
         Ok(()) => Ok(value),

@@ -7,7 +7,7 @@ ghost use Rattle.dcc_send.specs.declared.encoding.Encode.{Encode};
 ghost use Rattle.dcc_io.specs.PacketRead.{AnswersSaid};
 ghost use Rattle.dcc_io.specs.StationLines.{asked_by, station_words, Command, Next};
 ghost use Rattle.dcc_send.specs.StationEncoded.{StationText, refusal_line};
-ghost use Rattle.dcc_send.specs.Held.{TakesNext, HoldsAnswersOrFails};
+ghost use Rattle.dcc_send.specs.Inner.Held.{TakesNext, HoldsAnswersOrFails};
 
 use crate::encoded_line::hold_frame;
 use crate::encoding::Encode;
@@ -28,8 +28,8 @@ pub(crate) fn encode_by_station<R: Source, W: Sink>(
         (λ fault. (result ≡ Err (as_tool_fault fault)) × (input.new ≡ input.old) × (writer.new ≡ writer.old)) }
     ensures cause { HasCause input.old.fault input.old.failures }
     ensures answers { input.old.fault ≡ None
-        → StationText how station.old input.old (W.contents writer.old) (W.failures writer.old) result
-        input.new (W.contents writer.new) (W.failures writer.new) }
+        → StationText how station.old input.old (W.state writer.old) result
+        input.new (W.state writer.new) }
 {
     if let Some(fault) = input.fault() {
         return Err(fault.told());
@@ -56,9 +56,9 @@ fn next_line<R: Source, W: Sink>(
     writer: &mut W,
 ) -> Result<Result<Option<StationLine>, KeptFault>, Failed>
     requires { input.old.fault ≡ None }
-    ensures { TakesNext (AnswersSaid station_words asked_by) input.old (W.contents writer.old) (W.failures writer.old)
+    ensures { TakesNext (AnswersSaid station_words asked_by) input.old (W.state writer.old)
         held.old result
-        input.new held.new (W.contents writer.new) (W.failures writer.new) }
+        input.new held.new (W.state writer.new) }
 {
     match station_line_at_hand(input) {
         Some(line) => return Ok(Ok(Some(line))),
@@ -78,9 +78,9 @@ fn answer<W: Sink>(
     line: StationLine,
     writer: &mut W,
 ) -> Result<(), Failed>
-    ensures { HoldsAnswersOrFails how station.old (asked_by line) (W.contents writer.old) (W.failures writer.old)
+    ensures { HoldsAnswersOrFails how station.old (asked_by line) (W.state writer.old)
         held.old result
-        station.new held.new (W.contents writer.new) (W.failures writer.new) }
+        station.new held.new (W.state writer.new) }
 {
     match line {
         StationLine::Command(packet) => take_command(station, held, packet, writer),
@@ -96,9 +96,8 @@ fn take_command<W: Sink>(
     writer: &mut W,
 ) -> Result<(), Failed>
     ensures { (how : Encode)
-        → HoldsAnswersOrFails how station.old (Command (spelling packet) ∷ []) (W.contents writer.old)
-        (W.failures writer.old) held.old result
-        station.new held.new (W.contents writer.new) (W.failures writer.new) }
+        → HoldsAnswersOrFails how station.old (Command (spelling packet) ∷ []) (W.state writer.old) held.old result
+        station.new held.new (W.state writer.new) }
 {
     match station.command(packet) {
         Ok(()) => Ok(()),
@@ -114,9 +113,9 @@ fn send<W: Sink>(
     count: u16,
     writer: &mut W,
 ) -> Result<(), Failed>
-    ensures { HoldsAnswersOrFails how station.old (replicate count Next) (W.contents writer.old) (W.failures writer.old)
+    ensures { HoldsAnswersOrFails how station.old (replicate count Next) (W.state writer.old)
         held.old result
-        station.new held.new (W.contents writer.new) (W.failures writer.new) }
+        station.new held.new (W.state writer.new) }
 {
     for _ in 0..count {
         match send_next(station, held, how, writer) {
@@ -134,9 +133,9 @@ fn send_next<W: Sink>(
     how: Encode,
     writer: &mut W,
 ) -> Result<(), Failed>
-    ensures { HoldsAnswersOrFails how station.old (Next ∷ []) (W.contents writer.old) (W.failures writer.old) held.old
+    ensures { HoldsAnswersOrFails how station.old (Next ∷ []) (W.state writer.old) held.old
         result
-        station.new held.new (W.contents writer.new) (W.failures writer.new) }
+        station.new held.new (W.state writer.new) }
 {
     let packet = station.next();
     hold_frame(held, &packet.frame(), how, writer)

@@ -6,4 +6,4 @@ pub mod QuestionLemmas
 pub mod LawLemmas
 pub mod ReaderLemmas
 pub mod ReadingLemmas
-pub mod Rows
+pub mod WorkedExamples

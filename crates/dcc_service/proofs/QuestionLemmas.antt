@@ -7,7 +7,7 @@ use Rattle.std.proofs.lemmas.List.{get_or-set_same, set-get_or}
 use Rattle.dcc_service.specs.declared.packet.ServicePacket.{ServicePacket}
 use Rattle.dcc_service.specs.declared.packet.ServicePacket.TheVariants.{Write, Verify, BitWrite, BitVerify}
 use Rattle.dcc_service.specs.Cvs.{is_writable}
-use Rattle.dcc_service.specs.Machine.{ServiceState, Step, reset_bytes, acted_on, acknowledged}
+use Rattle.dcc_service.specs.Machine.{ServiceState, Step, reset_bytes, acted_on, is_acknowledged}
 use Rattle.dcc_service.specs.Question.{question_bytes, Steps, after_question, four_no_then}
 use Rattle.dcc_service.specs.Table.{spelling}
 use Rattle.dcc_packet.specs.Bits.{with_bit}
@@ -27,7 +27,7 @@ after_first packet cvs after answer step = step.first packet refl refl (λ e. cc
 
 after_again : (packet : ServicePacket) (cvs : List ℕ) (after : ServiceState) (answer : Bool)
     → Step (waiting (Some packet) cvs) (spelling packet) after answer
-    → (after ≡ waiting (Some packet) (acted_on packet cvs)) × (answer ≡ acknowledged packet cvs)
+    → (after ≡ waiting (Some packet) (acted_on packet cvs)) × (answer ≡ is_acknowledged packet cvs)
 after_again packet cvs after answer step = step.again packet refl refl refl
 
 -- with a known first step, the rest
@@ -83,9 +83,9 @@ acted_on-twice (BitWrite cv bits one) cvs count =
     same_bit_again (is_writable cv) cvs (cv.number - 1) bits.place one (omega (arith, cv.in_range)) bits.in_range
 acted_on-twice (BitVerify cv bits one) cvs count = refl
 
--- and it is acknowledged alike
+-- and it is is_acknowledged alike
 pub acknowledged-again : (packet : ServicePacket) (cvs : List ℕ)
-    → acknowledged packet (acted_on packet cvs) ≡ acknowledged packet cvs
+    → is_acknowledged packet (acted_on packet cvs) ≡ is_acknowledged packet cvs
 acknowledged-again (Write cv value) cvs = refl
 acknowledged-again (Verify cv value) cvs = refl
 acknowledged-again (BitWrite cv bits one) cvs = refl
@@ -93,7 +93,7 @@ acknowledged-again (BitVerify cv bits one) cvs = refl
 
 after_settled : (packet : ServicePacket) (cvs : List ℕ) → length cvs ≡ 1024 → (after : ServiceState) (answer : Bool)
     → Step (waiting (Some packet) (acted_on packet cvs)) (spelling packet) after answer
-    → (after ≡ waiting (Some packet) (acted_on packet cvs)) × (answer ≡ acknowledged packet cvs)
+    → (after ≡ waiting (Some packet) (acted_on packet cvs)) × (answer ≡ is_acknowledged packet cvs)
 after_settled packet cvs count after answer step =
     let e = after_again packet (acted_on packet cvs) after answer step in
     (e.0 ∙ ap (waiting (Some packet)) (acted_on-twice packet cvs count), e.1 ∙ acknowledged-again packet cvs)
@@ -101,11 +101,11 @@ after_settled packet cvs count after answer step =
 -- the answers to the frames of a question, and the state behind them
 pub answers_of : (packet : ServicePacket) (before after : ServiceState) (answers : List Bool) → length before.cvs ≡ 1024
     → Steps before (question_bytes packet) after answers
-    → (after ≡ after_question before packet) × (answers ≡ four_no_then (acknowledged packet before.cvs))
+    → (after ≡ after_question before packet) × (answers ≡ four_no_then (is_acknowledged packet before.cvs))
 answers_of packet before after answers count steps =
     let cvs : List ℕ = before.cvs in
     let done : List ℕ = acted_on packet cvs in
-    let truth : Bool = acknowledged packet cvs in
+    let truth : Bool = is_acknowledged packet cvs in
     let a = known before reset_bytes _ after answers (waiting None cvs) false (after_reset before) steps in
     let b = known (waiting None cvs) reset_bytes _ after a.0 (waiting None cvs) false (after_reset (waiting None cvs))
     a.2 in
@@ -139,7 +139,7 @@ Steps-more before (f ∷ frames) middle [] frame after answer steps step = absur
 Steps-more before (f ∷ frames) middle (a ∷ answers) frame after answer (next, first, more) step =
     (next, first, Steps-more next frames middle answers frame after answer more step)
 
--- one of the eight answers is a yes where the packet is acknowledged
+-- one of the eight answers is a yes where the packet is is_acknowledged
 pub any_of_answers : (truth : Bool) → list_any (λ answer. answer) (four_no_then truth) ≡ truth
 any_of_answers true = refl
 any_of_answers false = refl

@@ -16,7 +16,7 @@ use Rattle.dcc_service.specs.Bits.{bits_from_lowest, number_from_lowest}
 use Rattle.dcc_service.specs.CvAnswers.{CvAnswers, Asks, question_frame}
 use Rattle.dcc_packet.specs.Cvs.{cv_in}
 use Rattle.dcc_service.specs.Cvs.{IsCvs}
-use Rattle.dcc_service.specs.Machine.{acknowledged, acted_on}
+use Rattle.dcc_service.specs.Machine.{is_acknowledged, acted_on}
 use Rattle.dcc_service.specs.ReadingLaws.{true_answers, AreFirstOf}
 use Rattle.dcc_service.specs.Readings.{Comes}
 use Rattle.dcc_service.specs.Table.{access_bytes, spelling}
@@ -117,7 +117,7 @@ eight_bits answers value all so_far byte =
 -- behind true answers, a decoder's answer is the next one
 pub next_is_true : (so_far : CvAnswers) (question : ServicePacket) (cvs : List ℕ) → IsCvs cvs → Asks so_far question
     → AreFirstOf so_far.answers (true_answers (cv_in cvs so_far.cv.number))
-    → AreFirstOf (so_far.answers ++ acknowledged question cvs ∷ []) (true_answers (cv_in cvs so_far.cv.number))
+    → AreFirstOf (so_far.answers ++ is_acknowledged question cvs ∷ []) (true_answers (cv_in cvs so_far.cv.number))
 next_is_true so_far (Write cv value) cvs ok asks first = absurd asks
 next_is_true so_far (BitWrite cv bits one) cvs ok asks first = absurd asks
 next_is_true so_far (BitVerify cv bits one) cvs ok asks first =

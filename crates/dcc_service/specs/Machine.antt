@@ -27,12 +27,12 @@ acted_on (Verify cv value) cvs = cvs
 acted_on (BitWrite cv bits one) cvs = written cvs cv (with_bit (cv_in cvs cv.number) bits.place one)
 acted_on (BitVerify cv bits one) cvs = cvs
 
--- whether it is acknowledged then: a write that was done, a verify that is true
-abbrev pub acknowledged : ServicePacket → List ℕ → Bool
-acknowledged (Write cv value) cvs = is_writable cv
-acknowledged (Verify cv value) cvs = cv_in cvs cv.number == value
-acknowledged (BitWrite cv bits one) cvs = is_writable cv
-acknowledged (BitVerify cv bits one) cvs = bit_at (cv_in cvs cv.number) bits.place == bit one
+-- whether it is is_acknowledged then: a write that was done, a verify that is true
+abbrev pub is_acknowledged : ServicePacket → List ℕ → Bool
+is_acknowledged (Write cv value) cvs = is_writable cv
+is_acknowledged (Verify cv value) cvs = cv_in cvs cv.number == value
+is_acknowledged (BitWrite cv bits one) cvs = is_writable cv
+is_acknowledged (BitVerify cv bits one) cvs = bit_at (cv_in cvs cv.number) bits.place == bit one
 
 -- A frame takes a decoder from one state to the next, with or without an acknowledgement.
 pub record Step (before : ServiceState) (frame : List ℕ) (after : ServiceState) (answer : Bool) : Type 0 where
@@ -47,7 +47,7 @@ pub record Step (before : ServiceState) (frame : List ℕ) (after : ServiceState
   pub again : (packet : ServicePacket) → frame ≡ spelling packet → before.in_service ≡ true
       → before.pending ≡ Some packet
       → (after ≡ record { in_service = true; pending = Some packet; cvs = acted_on packet before.cvs })
-      × (answer ≡ acknowledged packet before.cvs)
+      × (answer ≡ is_acknowledged packet before.cvs)
   -- any other packet, the idle one too, ends service and clears what is pending
   pub other : frame ≢ reset_bytes → ((packet : ServicePacket) → frame ≢ spelling packet) → before.in_service ≡ true
       → (after ≡ record { in_service = false; pending = None; cvs = before.cvs }) × (answer ≡ false)

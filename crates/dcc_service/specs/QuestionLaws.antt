@@ -8,7 +8,7 @@ use Rattle.dcc_service.specs.declared.packet.ServicePacket.{ServicePacket}
 use Rattle.dcc_service.specs.declared.packet.ServicePacket.TheVariants.{Write, Verify, BitWrite, BitVerify}
 use Rattle.dcc_packet.specs.Cvs.{cv_in, is_read_only}
 use Rattle.dcc_service.specs.Cvs.{IsCvs}
-use Rattle.dcc_service.specs.Machine.{ServiceState, Step, acknowledged}
+use Rattle.dcc_service.specs.Machine.{ServiceState, Step, is_acknowledged}
 use Rattle.dcc_service.specs.Question.{Steps, question_bytes, after_question, four_no_then}
 
 -- the eight frames of a question take a decoder from one state to another, with these acknowledgements
@@ -16,12 +16,12 @@ pub record IsAsked (question : ServicePacket) (before after : ServiceState) (ans
   pub cvs : IsCvs before.cvs
   pub steps : Steps before (question_bytes question) after answers
 
--- four times no, then four times whether the packet is acknowledged
+-- four times no, then four times whether the packet is is_acknowledged
 abbrev pub QuestionsAreAnswered : Type 0
 QuestionsAreAnswered =
     (question : ServicePacket) (before after : ServiceState) (answers : List Bool)
     → IsAsked question before after answers
-    → (after ≡ after_question before question) × (answers ≡ four_no_then (acknowledged question before.cvs))
+    → (after ≡ after_question before question) × (answers ≡ four_no_then (is_acknowledged question before.cvs))
 
 -- a frame takes a decoder from a state to one state, with one answer
 abbrev pub OneStep : List ℕ → Type 0

@@ -11,7 +11,7 @@ use Rattle.dcc_service.specs.Bits.{bits_from_lowest, number_from_lowest}
 use Rattle.dcc_packet.specs.Cvs.{cv_in}
 use Rattle.dcc_service.specs.Cvs.{IsCvs}
 use Rattle.dcc_service.specs.CvAnswers.{CvAnswers, Asks, question_frame}
-use Rattle.dcc_service.specs.Machine.{acknowledged, acted_on}
+use Rattle.dcc_service.specs.Machine.{is_acknowledged, acted_on}
 use Rattle.dcc_service.specs.Readings.{Comes}
 use Rattle.dcc_service.specs.Table.{spelling}
 
@@ -27,7 +27,7 @@ AreFirstOf answers all = answers ≡ take (length answers) all
 abbrev pub DecodersTellTheTruth : Type 0
 DecodersTellTheTruth = (so_far : CvAnswers) (question : ServicePacket) (cvs : List ℕ) → IsCvs cvs → Asks so_far question
     → AreFirstOf so_far.answers (true_answers (cv_in cvs so_far.cv.number))
-    → AreFirstOf (so_far.answers ++ acknowledged question cvs ∷ []) (true_answers (cv_in cvs so_far.cv.number))
+    → AreFirstOf (so_far.answers ++ is_acknowledged question cvs ∷ []) (true_answers (cv_in cvs so_far.cv.number))
 
 -- the questions of a reading change no CV
 abbrev pub ReadingLeavesTheCvs : Type 0

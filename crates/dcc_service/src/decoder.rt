@@ -28,7 +28,7 @@ impl Model for ServiceDecoder {
 impl ServiceDecoder {
     ghost use Rattle.std.specs.Prelude.{◌≡◌, ◌↔◌, IsTrue, Some, None, true, false};
     ghost use Rattle.dcc_service.specs.Cvs.{IsCvs};
-    ghost use Rattle.dcc_service.specs.Machine.{Step, acted_on, acknowledged};
+    ghost use Rattle.dcc_service.specs.Machine.{Step, acted_on, is_acknowledged};
 
     /// A decoder out of service with these CVs, that of CV1 first.
     pub fn new(cvs: &[u8; 1024]) -> ServiceDecoder
@@ -108,7 +108,7 @@ impl ServiceDecoder {
     /// Does what the packet asks, and answers whether that is acknowledged.
     fn act(&mut self, packet: &ServicePacket) -> bool
         ensures after { self.new ≡ record self.old { cvs = acted_on packet.now self.old.cvs } }
-        ensures answer { result ≡ acknowledged packet.now self.old.cvs }
+        ensures answer { result ≡ is_acknowledged packet.now self.old.cvs }
     {
         match packet {
             ServicePacket::Write { cv, value } => self.cvs.write(cv, *value),

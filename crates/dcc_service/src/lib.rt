@@ -5,13 +5,13 @@
 
 mod cvs;
 mod decoder;
+mod from_frame;
 pub mod laws;
 mod packet;
 mod question;
 mod reader;
-mod reading;
 mod state;
-mod writing;
+mod to_frame;
 
 pub use decoder::ServiceDecoder;
 pub use packet::ServicePacket;

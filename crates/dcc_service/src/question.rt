@@ -1,7 +1,7 @@
 //! Service packets sent as questions.
 
 ghost use Rattle.std.specs.Prelude.{◌≡◌};
-ghost use Rattle.dcc_service.specs.Machine.{reset_bytes, acknowledged};
+ghost use Rattle.dcc_service.specs.Machine.{reset_bytes, is_acknowledged};
 ghost use Rattle.dcc_service.specs.Cvs.{IsCvs};
 ghost use Rattle.dcc_service.specs.Question.{question_bytes, after_question};
 
@@ -30,7 +30,7 @@ fn reset_frame() -> Frame
 
 /// Puts a question to a decoder, and answers whether it acknowledges one of the eight frames.
 pub fn ask(decoder: &mut ServiceDecoder, question: &ServicePacket) -> bool
-    ensures answer { result ≡ acknowledged question.now decoder.old.cvs }
+    ensures answer { result ≡ is_acknowledged question.now decoder.old.cvs }
     ensures after { decoder.new ≡ after_question decoder.old question.now }
     ensures cvs { IsCvs decoder.old.cvs }
 {

@@ -1,7 +1,7 @@
 pub mod Tables
 pub mod Effects
 pub mod Transparent
-pub mod Nexts
-pub mod Left
-pub mod Turning
+pub mod NextPackets
+pub mod EntriesLeft
+pub mod EntriesInTurn
 pub mod StatePackets

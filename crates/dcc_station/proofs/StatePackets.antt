@@ -18,7 +18,7 @@ use Rattle.dcc_regs.specs.declared.register.Value.{Value}
 use Rattle.dcc_regs.specs.declared.register.Value.TheVariants.{Speed as SpeedValue, Forward, Flag}
 use Rattle.dcc_regs.specs.Speeds.{speed_set, direction_set}
 use Rattle.dcc_regs.specs.FunctionBits.{function_set}
-use Rattle.dcc_regs.specs.States.{states_told, state_by}
+use Rattle.dcc_regs.specs.States.{turned_states, state_by}
 use Rattle.dcc_regs.specs.Outputs.{out_set}
 use Rattle.dcc_regs.specs.Sets.{sets}
 use Rattle.dcc_station.specs.Commands.{is_refreshed, sets_speed_or_functions}
@@ -58,14 +58,14 @@ out_none Broadcast n on k = refl
 out_none (Short to) n on k = refl
 out_none (Long to) n on k = refl
 
-none_told : (what : What) → sets_speed_or_functions what ≡ true → (to : Address) → states_told (Loco to what) ≡ None
+none_told : (what : What) → sets_speed_or_functions what ≡ true → (to : Address) → turned_states (Loco to what) ≡ None
 none_told (Speed28 forward bits) h to = refl
 none_told (Speed128 forward bits) h to = refl
 none_told (Functions bits) h to = refl
 none_told what h to = absurd (cc)
 
 -- an entry turns no state on or off
-entry_tells_none : (e : Packet) → is_refreshed e ≡ true → states_told e ≡ None
+entry_tells_none : (e : Packet) → is_refreshed e ≡ true → turned_states e ≡ None
 unfolding is_refreshed
 entry_tells_none (Loco (Short to) what) h = none_told what h (Short to)
 entry_tells_none (Loco (Long to) what) h = none_told what h (Long to)

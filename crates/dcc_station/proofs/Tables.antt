@@ -13,7 +13,7 @@ use Rattle.dcc_regs.specs.declared.register.Register.TheVariants.{CvBit}
 use Rattle.dcc_regs.specs.declared.register.Value.TheVariants.{Flag}
 use Rattle.dcc_regs.specs.Heard.{hears, address_of}
 use Rattle.dcc_regs.specs.Writes.{is_own_write, is_cv_write, cv_bit_set, writes_mode, writes_cv29}
-use Rattle.dcc_regs.proofs.Runs.{sets_bit}
+use Rattle.dcc_regs.proofs.ResultByParts.{sets_bit}
 use Rattle.dcc_regs.proofs.LawLemmas.{one_address}
 use Rattle.dcc_station.specs.Commands.{is_refreshed, sets_speed_or_functions}
 

@@ -21,12 +21,12 @@ use Rattle.dcc_regs.specs.Result.{RegisterMap}
 use Rattle.dcc_regs.specs.Heard.{hears, heard}
 use Rattle.dcc_regs.specs.Sets.{sets}
 use Rattle.dcc_regs.specs.Conflict.{Conflict}
-use Rattle.dcc_regs.specs.Setting.{overwritten, mode_in}
+use Rattle.dcc_regs.specs.Setting.{value_over, mode_in}
 use Rattle.dcc_regs.specs.Result.{mode_of, is_pending, left_pending}
 use Rattle.dcc_packet.proofs.SameFrames.{same-refl}
 use Rattle.dcc_regs.proofs.SameValues.{same_value, Decides-same_value}
-use Rattle.dcc_regs.proofs.Stepping.{overwritten-none}
-use Rattle.dcc_regs.proofs.Runs.{read, after-run, State, step, run, start, run-append, sets_bit}
+use Rattle.dcc_regs.proofs.RegisterStep.{overwritten-none}
+use Rattle.dcc_regs.proofs.ResultByParts.{read, after-run, State, step, run, start, run-append, sets_bit}
 use Rattle.dcc_station.specs.Sending.{Sending, copies, Displaces, Leaves, with_entry, Refreshes, HandsOut}
 use Rattle.dcc_station.specs.Commands.{is_refreshed}
 use Rattle.dcc_regs.specs.Writes.{writes_cv29}
@@ -39,7 +39,7 @@ use Rattle.dcc_station.proofs.Effects.{step_pending, effect_after_first, effect_
 
 -- every register that a packet sets in the present mode is at the packet's value
 abbrev pub Holds : Core → Packet → Type 0
-Holds c e = (r : Register) → overwritten (c.plain r) (sets (mode_in c.bits) e r) ≡ c.plain r
+Holds c e = (r : Register) → value_over (c.plain r) (sets (mode_in c.bits) e r) ≡ c.plain r
 
 pub not_both : {b : Bool} → b ≡ true → b ≡ false → ⊥
 not_both e h = (let k : true ≡ false = sym e ∙ h in cc)
@@ -54,7 +54,7 @@ all_dropped P zero l all = all
 all_dropped P (suc n) [] all = tt
 all_dropped P (suc n) (x ∷ l) all = all_dropped P n l all.1
 
-none_written : (t : Bool) (v : Option Value) → cond t (overwritten v None) v ≡ v
+none_written : (t : Bool) (v : Option Value) → cond t (value_over v None) v ≡ v
 none_written true v = overwritten-none v
 none_written false v = refl
 
@@ -73,30 +73,30 @@ module _ (who : Who) where
   holds_after c p e h g refreshed holds stays r = by_kind (is_own_write p) refl
     where
       by_kind : (w : Bool) → is_own_write p ≡ w
-          → overwritten ((effect c p).plain r) (sets (mode_in (effect c p).bits) e r) ≡ (effect c p).plain r
+          → value_over ((effect c p).plain r) (sets (mode_in (effect c p).bits) e r) ≡ (effect c p).plain r
       by_kind true own = by_mode (writes_cv29 p) refl
         where
           by_mode : (w : Bool) → writes_cv29 p ≡ w
-              → overwritten ((effect c p).plain r) (sets (mode_in (effect c p).bits) e r) ≡ (effect c p).plain r
+              → value_over ((effect c p).plain r) (sets (mode_in (effect c p).bits) e r) ≡ (effect c p).plain r
           by_mode true writes = absurd (stays (inr (inr (writes, refreshed_address who p e own h refreshed g))))
           by_mode false writes =
-              ap (λ v. overwritten v (sets (mode_in (effect c p).bits) e r)) (effect_plain_own c p own r)
-              ∙ ap (λ mode. overwritten (c.plain r) (sets mode e r))
+              ap (λ v. value_over v (sets (mode_in (effect c p).bits) e r)) (effect_plain_own c p own r)
+              ∙ ap (λ mode. value_over (c.plain r) (sets mode e r))
               (ap (λ o. mode_of
-              (cond (is_own_write p && c.can_wait) (overwritten (c.bits (CvBit 29 1)) o)
+              (cond (is_own_write p && c.can_wait) (value_over (c.bits (CvBit 29 1)) o)
               (c.bits (CvBit 29 1)))) (mode_stays p writes)
               ∙ ap mode_of (none_written (is_own_write p && c.can_wait) (c.bits (CvBit 29 1))))
               ∙ holds r
               ∙ sym (effect_plain_own c p own r)
       by_kind false other =
-          ap (λ mode. overwritten (overwritten (c.plain r) (sets (mode_in c.bits) p r)) (sets mode e r))
+          ap (λ mode. value_over (value_over (c.plain r) (sets (mode_in c.bits) p r)) (sets mode e r))
           (ap (λ w. mode_of
-          (cond (w && c.can_wait) (overwritten (c.bits (CvBit 29 1)) (sets_bit p (CvBit 29 1)))
+          (cond (w && c.can_wait) (value_over (c.bits (CvBit 29 1)) (sets_bit p (CvBit 29 1)))
           (c.bits (CvBit 29 1)))) other)
           ∙ by_values (c.plain r) (sets (mode_in c.bits) p r) (sets (mode_in c.bits) e r) refl refl (holds r)
         where
           by_values : (v a b : Option Value) → sets (mode_in c.bits) p r ≡ a → sets (mode_in c.bits) e r ≡ b
-              → overwritten v b ≡ v → overwritten (overwritten v a) b ≡ overwritten v a
+              → value_over v b ≡ v → value_over (value_over v a) b ≡ value_over v a
           by_values None a b x y k = refl
           by_values (Some v) a None x y k = refl
           by_values (Some v) None (Some w) x y k = k
@@ -201,8 +201,8 @@ module _ (who : Who) where
   pending_behind s p own = by_case s.pending
     where
       by_case : (held : Option Value)
-          → is_pending (overwritten held (Some (PendingValue (left_pending p)))) p ≡ is_some
-          (overwritten held (Some (PendingValue (left_pending p))))
+          → is_pending (value_over held (Some (PendingValue (left_pending p)))) p ≡ is_some
+          (value_over held (Some (PendingValue (left_pending p))))
       by_case None = refl
       by_case (Some v) = ap (λ t. is_pending (Some (PendingValue (cond t (Some p) None))) p) own ∙ same-refl p
 
@@ -267,7 +267,7 @@ module _ (who : Who) where
       held : hears who e ≡ true → effect c e ≡ c
       held h =
           same_core (effect c e) c refl
-          (λ r. ap (λ w. cond (w && c.can_wait) (overwritten (c.bits r) (sets_bit e r)) (c.bits r)) other) (entry.1 h)
+          (λ r. ap (λ w. cond (w && c.can_wait) (value_over (c.bits r) (sets_bit e r)) (c.bits r)) other) (entry.1 h)
 
       by_case : (t : Bool) → hears who e ≡ t → core (cond t (step s e) s) ≡ c
       by_case true h = step_plain s e other ∙ ap (λ d. effect d e) is ∙ held h

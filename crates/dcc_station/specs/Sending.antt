@@ -49,9 +49,9 @@ abbrev pub Refreshes : ℕ → Packet → List Packet → List Packet → Type 0
 Refreshes slots p entries new =
     (kept : List Packet) × Leaves p entries kept × (new ≡ (if is_refreshed p then with_entry slots kept p else kept))
 
--- a command is accepted
-abbrev pub accepted : Sending → Packet → Sending
-accepted s p = record s { waiting = s.waiting ++ p ∷ [] }
+-- a command is with_command
+abbrev pub with_command : Sending → Packet → Sending
+with_command s p = record s { waiting = s.waiting ++ p ∷ [] }
 
 -- one more copy of the first command was sent. It leaves the queue after its last copy
 abbrev pub sent_once_more : Sending → Packet → List Packet → List Packet → Sending

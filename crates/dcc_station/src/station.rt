@@ -6,7 +6,7 @@ ghost use Rattle.dcc_packet.specs.declared.packet.Packet.{Packet};
 ghost use Rattle.dcc_station.specs.Commands as commands;
 ghost use Rattle.dcc_station.specs.Limits.{is_within_limits};
 ghost use Rattle.dcc_station.specs.Refresh.{StandsFor};
-ghost use Rattle.dcc_station.specs.Sending.{idle_sending, accepted, sent_once_more, Next, ChangesEntries};
+ghost use Rattle.dcc_station.specs.Sending.{idle_sending, with_command, sent_once_more, Next, ChangesEntries};
 
 use crate::commands::{copies, is_sendable};
 use crate::entries::{refresh_after, rotated};
@@ -89,7 +89,7 @@ impl Station {
     /// a CV access to all decoders. Then C4, exactly where as many commands wait as the queue holds. A command that is
     /// refused comes back, and the station is unchanged. A command that is partly sent still waits.
     pub fn command(&mut self, packet: Packet) -> Result<(), (Refused, Packet)>
-        ensures ok { OnOk result (self.new ≡ accepted self.old packet) }
+        ensures ok { OnOk result (self.new ≡ with_command self.old packet) }
         ensures err { OnErr result (self.new ≡ self.old) }
         ensures not_sendable { (result ≡ Err (Refused.NotSendable, packet)) ↔ (commands.is_sendable packet ≡ false) }
         ensures full { (result ≡ Err (Refused.QueueFull, packet)) ↔
@@ -118,7 +118,7 @@ impl Station {
 
     fn accept(&mut self, packet: Packet)
         requires { length self.old.waiting < self.old.queue }
-        ensures { self.new ≡ accepted self.old packet }
+        ensures { self.new ≡ with_command self.old packet }
     {
         let _ = self.commands.try_push_back(packet);
     }

@@ -12,6 +12,7 @@ use Rattle.dcc_io.specs.declared.fault.ToolFault.TheVariants as told
 use Rattle.dcc_io.specs.declared.saved.Saved.{Saved}
 use Rattle.dcc_io.specs.Faults.{as_tool_fault}
 use Rattle.dcc_io.specs.InputState.{InputState, HasCause}
+use Rattle.dcc_io.specs.WriterState.{WriterState}
 use Rattle.dcc_io.specs.declared.fault.Usage.TheVariants as usages
 use Rattle.dcc_station.specs.Sending.{idle_sending}
 use Rattle.dcc_send.specs.declared.encoding.Encode.{Encode}
@@ -19,10 +20,10 @@ use Rattle.dcc_send.specs.Encoded.{EncodesText}
 use Rattle.dcc_send.specs.EncodeStation.{is_past_limits, has_begun}
 use Rattle.dcc_send.specs.StationEncoded.{StationText}
 use Rattle.dcc_io.specs.DecoderText.{decoder_text}
-use Rattle.dcc_io.specs.SoundLines.{is_possible}
+use Rattle.dcc_io.specs.PossibleLines.{is_possible}
 use Rattle.dcc_io.specs.TextRead.{Answers, UsedWholeLines}
-use Rattle.dcc_listen.specs.FleetRun.{Members, Runs}
-use Rattle.dcc_tool.specs.Performs.{Streams, EncodesLines, SavesThese, RunsText, RunsDecoders, member_of}
+use Rattle.dcc_listen.specs.FleetRun.{Fleet, Runs}
+use Rattle.dcc_tool.specs.Performs.{Streams, EncodesLines, SavesThese, RunsText, RunsDecoders, decoder_of}
 
 -- where an answer came, no fault was kept
 none_kept : {A : Type 0} (x : A) (fault : Option KeptFault) (P : Type 0)
@@ -35,9 +36,9 @@ module _ {A : Type 0} (x : A) (old left : InputState) (decoders : List Saved)
     (λ fault. (◌≡◌ {A = Result A ToolFault} (Ok x) (Err (as_tool_fault fault))) × (left ≡ old)))
     (reads : old.fault ≡ None → Answers decoder_text old (Ok decoders) left) (lines : UsedWholeLines old left)
     (possible : All (λ decoder. is_possible decoder ≡ true) decoders)
-    (written : Option (List ℕ)) (failures : ℕ) where
+    (writer : WriterState) where
   abbrev before : Streams
-  before = record { input = old; written = written; failures = failures }
+  before = record { input = old; writer = writer }
 
   abbrev none : old.fault ≡ None
   none = none_kept x old.fault (left ≡ old) kept
@@ -46,22 +47,22 @@ module _ {A : Type 0} (x : A) (old left : InputState) (decoders : List Saved)
   saves = record { none_kept = none; reads = reads none; lines = lines; possible = possible }
 
   -- there is no memory for these decoders
-  pub no_memory : RunsText before (Err told.NoMemory) (record { input = left; written = written; failures = failures })
-  no_memory = inr (decoders, left, saves, inl (refl, refl, refl, refl))
+  pub no_memory : RunsText before (Err told.NoMemory) (record { input = left; writer = writer })
+  no_memory = inr (decoders, left, saves, inl (refl, refl, refl))
 
   -- these decoders hear the capture that is left
-  pub hear_rest : (starts ends : Members) (answer : Result (Unit {0}) ToolFault) (new : InputState)
-      (after : Option (List ℕ)) (now : ℕ) → starts ≡ map member_of decoders
-      → (left.fault ≡ None → Runs starts left written failures answer ends new after now)
-      → RunsText before answer (record { input = new; written = after; failures = now })
-  hear_rest starts ends answer new after now are runs =
+  pub hear_rest : (starts ends : Fleet) (answer : Result (Unit {0}) ToolFault) (new : InputState)
+      (after : WriterState) → starts ≡ map decoder_of decoders
+      → (left.fault ≡ None → Runs starts left writer answer ends new after)
+      → RunsText before answer (record { input = new; writer = after })
+  hear_rest starts ends answer new after are runs =
       inr (
         decoders,
         left,
         saves,
         inr (
           ends,
-          subst (λ (members : Members). Runs members left written failures answer ends new after now) are
+          subst (λ (fleet : Fleet). Runs fleet left writer answer ends new after) are
               (runs (reads none).fault),
         ),
       )
@@ -69,14 +70,14 @@ module _ {A : Type 0} (x : A) (old left : InputState) (decoders : List Saved)
 -- one decoder more is boxed
 pub one_more_boxed : {B : Type 0} (view : B → Who × RegisterMap) (fleet grown : List B) (boxed : B)
     (decoders : List Saved) (one : Saved) (i : ℕ) → i < length decoders → one ≡ get_or decoders i one
-    → map view fleet ≡ map member_of (take i decoders) → grown ≡ fleet ++ boxed ∷ [] → view boxed ≡ member_of one
-    → map view grown ≡ map member_of (take (i + 1) decoders)
+    → map view fleet ≡ map decoder_of (take i decoders) → grown ≡ fleet ++ boxed ∷ [] → view boxed ≡ decoder_of one
+    → map view grown ≡ map decoder_of (take (i + 1) decoders)
 one_more_boxed view fleet grown boxed decoders one i within is so_far grows same =
     ap (map view) grows ∙ map-append view fleet (boxed ∷ [])
-    ∙ ap (λ (members : Members). members ++ view boxed ∷ []) so_far
-    ∙ ap (λ (member : Who × RegisterMap). map member_of (take i decoders) ++ member ∷ []) same
-    ∙ sym (map-append member_of (take i decoders) (one ∷ []))
-    ∙ ap (λ (saved : List Saved). map member_of saved) (sym next)
+    ∙ ap (λ (fleet : Fleet). fleet ++ view boxed ∷ []) so_far
+    ∙ ap (λ (decoder : Who × RegisterMap). map decoder_of (take i decoders) ++ decoder ∷ []) same
+    ∙ sym (map-append decoder_of (take i decoders) (one ∷ []))
+    ∙ ap (λ (saved : List Saved). map decoder_of saved) (sym next)
   where
     next : take (i + 1) decoders ≡ take i decoders ++ one ∷ []
     next = rw add-one (take-suc decoders i one within ∙ ap (λ (saved : Saved). take i decoders ++ saved ∷ []) (sym is))
@@ -84,9 +85,10 @@ one_more_boxed view fleet grown boxed decoders one i within is so_far grows same
 -- each decoder is boxed
 pub all_boxed : {B : Type 0} (view : B → Who × RegisterMap) (fleet slice : List B) (decoders saved : List Saved) (i : ℕ)
     → slice ≡ fleet → decoders ≡ saved → length decoders ≤ i
-    → map view fleet ≡ map member_of (take i decoders) → map view slice ≡ map member_of saved
+    → map view fleet ≡ map decoder_of (take i decoders) → map view slice ≡ map decoder_of saved
 all_boxed view fleet slice decoders saved i same_fleet same past so_far =
-    ap (map view) same_fleet ∙ so_far ∙ ap (λ (some : List Saved). map member_of some) (take_all decoders i past ∙ same)
+    ap (map view) same_fleet ∙ so_far
+    ∙ ap (λ (some : List Saved). map decoder_of some) (take_all decoders i past ∙ same)
   where
     take_all : (xs : List Saved) (i : ℕ) → length xs ≤ i → take i xs ≡ xs
     take_all [] zero past = refl
@@ -94,19 +96,19 @@ all_boxed view fleet slice decoders saved i same_fleet same past so_far =
     take_all (x ∷ xs) zero past = absurd (omega (arith, past))
     take_all (x ∷ xs) (suc i) past = ap (λ (ys : List Saved). x ∷ ys) (take_all xs i (omega (arith, past)))
 
-pub same_member : (one other : Who) (registers registers' : RegisterMap) → one ≡ other → registers ≡ registers'
+pub same_decoder : (one other : Who) (registers registers' : RegisterMap) → one ≡ other → registers ≡ registers'
     → ◌≡◌ {A = Who × RegisterMap} (one, registers) (other, registers')
-same_member one other registers registers' named holds =
+same_decoder one other registers registers' named holds =
     ap (λ (w : Who). let m : Who × RegisterMap = (w, registers) in m) named
     ∙ ap (λ (r : RegisterMap). let m : Who × RegisterMap = (other, r) in m) holds
 
-module _ {S : Type 0} (contents : S → Option (List ℕ)) (failures : S → ℕ) (how : Encode) (old new : InputState)
+module _ {S : Type 0} (state : S → WriterState) (how : Encode) (old new : InputState)
     (writer writer' : S) (answer : Result (Unit {0}) ToolFault) where
   abbrev at_first : Streams
-  at_first = record { input = old; written = contents writer; failures = failures writer }
+  at_first = record { input = old; writer = state writer }
 
   abbrev at_last : Streams
-  at_last = record { input = new; written = contents writer'; failures = failures writer' }
+  at_last = record { input = new; writer = state writer' }
 
   unchanged : new ≡ old → writer' ≡ writer → at_last ≡ at_first
   unchanged same same' = cc
@@ -119,12 +121,11 @@ module _ {S : Type 0} (contents : S → Option (List ℕ)) (failures : S → ℕ
       → IfSome old.fault (λ fault. (answer ≡ Err (as_tool_fault fault)) × (new ≡ old) × (writer' ≡ writer)))
       → (has_begun answer ≡ true → HasCause old.fault old.failures)
       → (how.station ≡ None → old.fault ≡ None
-      → EncodesText how old (contents writer) (failures writer) answer new (contents writer')
-      (failures writer'))
+      → EncodesText how old (state writer) answer new (state writer'))
       → (has_begun answer ≡ true → old.fault ≡ None
       → IfSome how.station
-      (λ sizes. StationText how (idle_sending sizes.0 sizes.1 sizes.2) old (contents writer) (failures writer)
-      answer new (contents writer') (failures writer')))
+      (λ sizes. StationText how (idle_sending sizes.0 sizes.1 sizes.2) old (state writer)
+      answer new (state writer')))
       → EncodesLines how at_first answer at_last
   encodes_lines past begins nothing kept cause packets station = record {
     past_limits = past;

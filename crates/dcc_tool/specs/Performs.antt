@@ -19,19 +19,20 @@ use Rattle.dcc_io.specs.declared.saved.Saved.{Saved}
 use Rattle.dcc_io.specs.declared.saved.Saved.TheVariants as saved
 use Rattle.dcc_io.specs.Faults.{as_tool_fault}
 use Rattle.dcc_io.specs.InputState.{InputState, HasCause}
+use Rattle.dcc_io.specs.WriterState.{WriterState}
 use Rattle.dcc_io.specs.DecoderText.{decoder_text}
-use Rattle.dcc_io.specs.SoundLines.{is_possible}
+use Rattle.dcc_io.specs.PossibleLines.{is_possible}
 use Rattle.dcc_io.specs.TextRead.{Answers, UsedWholeLines}
 use Rattle.dcc_io.specs.TextReadOrNoMemory.{ReadFails}
 use Rattle.dcc_listen.specs.Shown.{Shows}
-use Rattle.dcc_listen.specs.FleetRun.{Members, Runs}
+use Rattle.dcc_listen.specs.FleetRun.{Fleet, Runs}
 use Rattle.dcc_listen.specs.ComparedBoth.{ComparesBoth}
 use Rattle.dcc_send.specs.declared.encoding.Encode.{Encode}
 use Rattle.dcc_send.specs.Encoded.{EncodesText}
 use Rattle.dcc_send.specs.EncodeStation.{is_past_limits, has_begun}
 use Rattle.dcc_send.specs.StationEncoded.{StationText}
-use Rattle.dcc_send.specs.Track.{first_cvs}
-use Rattle.dcc_send.specs.TrackReading.{ReadsCv}
+use Rattle.dcc_send.specs.ProgrammingTrack.{first_cvs}
+use Rattle.dcc_send.specs.ProgrammingTrackReading.{ReadsCv}
 use Rattle.dcc_tool.specs.declared.ending.Ending.{Ending}
 use Rattle.dcc_tool.specs.declared.ending.Ending.TheVariants as ending
 use Rattle.dcc_tool.specs.declared.performing.Request.{Request}
@@ -41,10 +42,8 @@ use Rattle.dcc_tool.specs.declared.performing.Request.TheVariants as request
 pub record Streams : Type 0 where
   -- what is still to come of the input
   pub input : InputState
-  -- what was written, where the writer tells it
-  pub written : Option (List ℕ)
-  -- how many writes have failed
-  pub failures : ℕ
+  -- what is known of the writer
+  pub writer : WriterState
 
 -- an ending with no value, and what answered so
 abbrev pub Done : Result Ending ToolFault → (Result (Unit {0}) ToolFault → Type 0) → Type 0
@@ -77,16 +76,16 @@ pub record KeptOr {A : Type 0} (old : Streams) (answer : Result A ToolFault) (ne
 -- the listing of the capture is written
 abbrev pub ShowsCapture : Bool → Streams → Result (Unit {0}) ToolFault → Streams → Type 0
 ShowsCapture words old answer new =
-    KeptOr old answer new (Shows words old.input old.written old.failures answer new.input new.written new.failures)
+    KeptOr old answer new (Shows words old.input old.writer answer new.input new.writer)
 
 -- the lines of packets are written: of those that the lines say, or that the station hands out
 pub record WritesPackets (how : Encode) (old : Streams) (answer : Result (Unit {0}) ToolFault) (new : Streams) : Type 0
   where
     pub packets : how.station ≡ None
-        → EncodesText how old.input old.written old.failures answer new.input new.written new.failures
+        → EncodesText how old.input old.writer answer new.input new.writer
     pub station : IfSome how.station
-        (λ sizes. StationText how (idle_sending sizes.0 sizes.1 sizes.2) old.input old.written old.failures answer
-        new.input new.written new.failures)
+        (λ sizes. StationText how (idle_sending sizes.0 sizes.1 sizes.2) old.input old.writer answer
+        new.input new.writer)
 
 -- the station is made first, where one is asked for; before that nothing is read or written
 pub record EncodesLines (how : Encode) (old : Streams) (answer : Result (Unit {0}) ToolFault) (new : Streams) : Type 0
@@ -108,22 +107,20 @@ pub record TextFails (old : Streams) (fault : ToolFault) (new : Streams) : Type 
   pub kept : IfSome old.input.fault (λ kept. (fault ≡ as_tool_fault kept) × (new.input ≡ old.input))
   pub cause : HasCause old.input.fault old.input.failures
   pub reads : old.input.fault ≡ None → ReadFails old.input fault new.input
-  pub written : new.written ≡ old.written
-  pub failures : new.failures ≡ old.failures
+  pub writer : new.writer ≡ old.writer
 
 -- a decoder as it was saved
-abbrev pub member_of : Saved → Who × RegisterMap
-member_of (saved.Loco state) = (who.Loco state.address, loco_registers (loco_content state))
-member_of (saved.Board state) = (who.Board state.board, board_registers (board_content state))
+abbrev pub decoder_of : Saved → Who × RegisterMap
+decoder_of (saved.Loco state) = (who.Loco state.address, loco_registers (loco_content state))
+decoder_of (saved.Board state) = (who.Board state.board, board_registers (board_content state))
 
 -- these decoders have heard the capture that is left, and their text is written; or there is no memory for them, and
 -- nothing is written
 abbrev pub RunsDecoders : List Saved → InputState → Streams → Result (Unit {0}) ToolFault → Streams → Type 0
 RunsDecoders decoders left old answer new =
-    ((answer ≡ Err told.NoMemory) × (new.input ≡ left) × (new.written ≡ old.written) × (new.failures ≡ old.failures))
-    ⊎ ((ends : Members)
-    × Runs (map member_of decoders) left old.written old.failures answer ends new.input new.written
-    new.failures)
+    ((answer ≡ Err told.NoMemory) × (new.input ≡ left) × (new.writer ≡ old.writer))
+    ⊎ ((ends : Fleet)
+    × Runs (map decoder_of decoders) left old.writer answer ends new.input new.writer)
 
 -- the decoder text has a fault, or the decoders that it saves hear the capture behind it
 abbrev pub RunsText : Streams → Result (Unit {0}) ToolFault → Streams → Type 0
@@ -135,9 +132,9 @@ RunsText old answer new =
 -- a CV of the decoder with these CVs is read; where there is none, the fault is told on the last line that was read
 abbrev pub ReadsOnTrack : Option (List ℕ) → CvNumber → Streams → Result (Option ℕ) ToolFault → Streams → Type 0
 ReadsOnTrack None cv old answer new =
-    (answer ≡ Err (told.Line new.input.lines faults.Word)) × (new.written ≡ old.written) × (new.failures ≡ old.failures)
+    (answer ≡ Err (told.Line new.input.lines faults.Word)) × (new.writer ≡ old.writer)
 ReadsOnTrack (Some cvs) cv old answer new =
-    ReadsCv (Some cvs) cv old.written old.failures answer new.written new.failures
+    ReadsCv (Some cvs) cv old.writer answer new.writer
 
 -- the decoder text has a fault, or its first locomotive is on the programming track
 abbrev pub ReadsFromText : CvNumber → Streams → Result (Option ℕ) ToolFault → Streams → Type 0
@@ -149,7 +146,7 @@ ReadsFromText cv old answer new =
 -- nobody is on the programming track, and nothing is read of the input
 abbrev pub ReadsEmptyTrack : CvNumber → Streams → Result (Option ℕ) ToolFault → Streams → Type 0
 ReadsEmptyTrack cv old answer new =
-    (new.input ≡ old.input) × ReadsCv None cv old.written old.failures answer new.written new.failures
+    (new.input ≡ old.input) × ReadsCv None cv old.writer answer new.writer
 
 -- the CV is read on the track that was asked for
 abbrev pub ReadsTrack : Bool → CvNumber → Streams → Result (Option ℕ) ToolFault → Streams → Type 0
@@ -163,5 +160,5 @@ Performs (request.Encode how) old result new = Done result (λ answer. EncodesLi
 Performs request.Run old result new = Done result (λ answer. RunsText old answer new)
 Performs (request.Same who) old result new =
     Judged result
-    (λ answer. ComparesBoth who old.input old.written old.failures answer new.input new.written new.failures)
+    (λ answer. ComparesBoth who old.input old.writer answer new.input new.writer)
 Performs (request.ReadCv cv empty) old result new = Valued result (λ answer. ReadsTrack empty cv old answer new)

@@ -42,30 +42,27 @@ pub fn perform<R: Source, W: Sink>(
     writer: &mut W,
 ) -> Result<Ending, ToolFault>
     ensures { Performs request
-        (record { input = input.old; written = W.contents writer.old; failures = W.failures writer.old }) result
-        (record { input = input.new; written = W.contents writer.new; failures = W.failures writer.new }) }
+        (record { input = input.old; writer = W.state writer.old }) result
+        (record { input = input.new; writer = W.state writer.new }) }
 {
     match request {
-        Request::Show { words } => match show(input, writer, words) {
-            Ok(()) => Ok(Ending::Done),
-            Err(fault) => Err(fault),
-        },
-        Request::Encode(how) => match encode(alloc, input, writer, how) {
-            Ok(()) => Ok(Ending::Done),
-            Err(fault) => Err(fault),
-        },
-        Request::Run => match run_saved(alloc, input, writer) {
-            Ok(()) => Ok(Ending::Done),
-            Err(fault) => Err(fault),
-        },
-        Request::Same(who) => match same_input(alloc, input, writer, who) {
-            Ok(verdict) => Ok(Ending::Verdict(verdict)),
-            Err(fault) => Err(fault),
-        },
-        Request::ReadCv { cv, empty } => match read_on_track(alloc, input, writer, cv, empty) {
-            Ok(value) => Ok(Ending::Value(value)),
-            Err(fault) => Err(fault),
-        },
+        Request::Show { words } => {
+            show(input, writer, words)?;
+            Ok(Ending::Done)
+        }
+        Request::Encode(how) => {
+            encode(alloc, input, writer, how)?;
+            Ok(Ending::Done)
+        }
+        Request::Run => {
+            run_saved(alloc, input, writer)?;
+            Ok(Ending::Done)
+        }
+        Request::Same(who) => Ok(Ending::Verdict(same_input(alloc, input, writer, who)?)),
+        Request::ReadCv { cv, empty } => {
+            let value = read_on_track(alloc, input, writer, cv, empty)?;
+            Ok(Ending::Value(value))
+        }
     }
 }
 
@@ -78,20 +75,15 @@ fn read_on_track<R: Source, W: Sink>(
     empty: bool,
 ) -> Result<Option<u8>, ToolFault>
     ensures { ReadsTrack empty cv
-        (record { input = input.old; written = W.contents writer.old; failures = W.failures writer.old }) result
-        (record { input = input.new; written = W.contents writer.new; failures = W.failures writer.new }) }
+        (record { input = input.old; writer = W.state writer.old }) result
+        (record { input = input.new; writer = W.state writer.new }) }
 {
     if empty {
         return readcv(None, cv, writer);
     }
-    let decoders = match read_decoders(alloc, input) {
-        Ok(decoders) => decoders,
-        Err(fault) => return Err(fault),
-    };
-    match programming_track(decoders.as_slice(), input.lines()) {
-        Ok(mut decoder) => readcv(Some(&mut decoder), cv, writer),
-        Err(fault) => Err(fault),
-    }
+    let decoders = read_decoders(alloc, input)?;
+    let mut decoder = programming_track(decoders.as_slice(), input.lines())?;
+    readcv(Some(&mut decoder), cv, writer)
 }
 
 /// The locomotive decoder that was saved.
@@ -124,14 +116,11 @@ fn run_saved<R: Source, W: Sink>(
     input: &mut Input<R>,
     writer: &mut W,
 ) -> Result<(), ToolFault>
-    ensures { RunsText (record { input = input.old; written = W.contents writer.old; failures = W.failures writer.old })
+    ensures { RunsText (record { input = input.old; writer = W.state writer.old })
         result
-        (record { input = input.new; written = W.contents writer.new; failures = W.failures writer.new }) }
+        (record { input = input.new; writer = W.state writer.new }) }
 {
-    let saved = match read_decoders(alloc, input) {
-        Ok(saved) => saved,
-        Err(fault) => return Err(fault),
-    };
+    let saved = read_decoders(alloc, input)?;
     let mut fleet: Vec<Box<dyn Decoder>> = Vec::new(alloc);
     'decoders: for decoder in &saved {
         match decoder {

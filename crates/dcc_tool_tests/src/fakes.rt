@@ -131,9 +131,7 @@ impl Taking {
 }
 
 impl Sink for Taking {
-    ghost contents = { λ _. None };
-
-    ghost failures = { λ writer. writer.failures };
+    ghost state = { λ writer. record { contents = None; failures = writer.failures } };
 
     fn write(&mut self, bytes: &[u8]) -> Result<usize, Failed> {
         let count = self.each.min(bytes.len());
@@ -238,10 +236,8 @@ pub struct Counting<'a> {
 }
 
 impl<'a> Sink for Counting<'a> {
-    ghost contents = { λ _. None };
-
     // Each call takes all that it is handed.
-    ghost failures = { λ _. 0 };
+    ghost state = { λ _. record { contents = None; failures = 0 } };
 
     fn write(&mut self, bytes: &[u8]) -> Result<usize, Failed> {
         self.track

@@ -15,9 +15,10 @@ use Rattle.dcc_wire.specs.declared.fault.Seen.{Seen}
 use Rattle.dcc_wire.specs.declared.fault.Seen.TheVariants.{Nothing, Packet, Refused}
 use Rattle.dcc_wire.specs.Half.{class_of}
 use Rattle.dcc_wire.specs.Outcomes.{bits_in, behind_bits, bytes_in, by_halves, outcome_of, ones_left}
-use Rattle.dcc_wire.specs.Framing.{ones_before, ones_at_end, is_zero, used, used_up, is_start, starts_below, starts}
-use Rattle.dcc_wire.specs.Framing.{outcome_at, outcomes_at, seen, Hunting, InBody, hunting, rest_at, rest, reported}
-use Rattle.dcc_wire.specs.Steps.{answer_of, left_of, rest_after, answer_to}
+use Rattle.dcc_wire.specs.Framing.{ones_before, ones_at_end, is_zero, halves_used, used_up, is_start, starts_below}
+use Rattle.dcc_wire.specs.Framing.{starts}
+use Rattle.dcc_wire.specs.Framing.{outcome_at, outcomes_at, seen, Hunting, InBody, hunting, rest_at, rest, report_at}
+use Rattle.dcc_wire.specs.Inner.Steps.{answer_of, left_of, rest_after, answer_to}
 use Rattle.dcc_wire.proofs.OutcomeLemmas.{outcome_of-more, outcome_of-push, outcome_of-long, ones_left_le}
 
 -- ones at the end of a list
@@ -47,15 +48,16 @@ ones_at_end-bad halves = rw (reverse-append halves (Bad ∷ [])) refl
 
 -- how many halves a start place uses
 
-pub used_open : (halves : List Half) → outcome_of halves ≡ None → used halves ≡ length halves
-unfolding used
+pub used_open : (halves : List Half) → outcome_of halves ≡ None → halves_used halves ≡ length halves
+unfolding halves_used
 used_open halves e = ap (λ o. option_map_or (λ p. p.0 - ones_left p.1) o (length halves)) e
 
-pub used_ended : (halves : List Half) (p : ℕ × Seen) → outcome_of halves ≡ Some p → used halves ≡ p.0 - ones_left p.1
-unfolding used
+pub used_ended : (halves : List Half) (p : ℕ × Seen) → outcome_of halves ≡ Some p
+    → halves_used halves ≡ p.0 - ones_left p.1
+unfolding halves_used
 used_ended halves p e = ap (λ o. option_map_or (λ p. p.0 - ones_left p.1) o (length halves)) e
 
--- no start place among the used halves, nor right behind them
+-- no start place among the halves_used halves, nor right behind them
 
 and_false : (b : Bool) → (b && false) ≡ false
 and_false true = refl
@@ -176,12 +178,12 @@ module _ (halves : List Half) (half : Half) where
       let len = length-drop start halves in
       elim (outcome_of-push (drop start halves) half e) [
         | inl unfinished ↦
-            let all : used (drop start longer) ≡ length (drop start halves ++ half ∷ []) =
-            ap used (drop_longer start within) ∙ used_open (drop start halves ++ half ∷ []) unfinished in
+            let all : halves_used (drop start longer) ≡ length (drop start halves ++ half ∷ []) =
+            ap halves_used (drop_longer start within) ∙ used_open (drop start halves ++ half ∷ []) unfinished in
             omega (arith, all, length-append (drop start halves) (half ∷ []), len)
         | inr ends ↦
-            let most : used (drop start longer) ≡ length (drop start halves) + 1 - ones_left ends.outcome =
-            ap used (drop_longer start within)
+            let most : halves_used (drop start longer) ≡ length (drop start halves) + 1 - ones_left ends.outcome =
+            ap halves_used (drop_longer start within)
             ∙ used_ended (drop start halves ++ half ∷ []) (length (drop start halves) + 1, ends.outcome) ends.is
             in
             omega (arith, most, ones_left_le ends.outcome, len)
@@ -249,12 +251,12 @@ module _ (halves : List Half) (half : Half) where
 pub record Step (halves : List Half) (half : Half) (old new : List ℕ) : Type 0 where
   pub open_part : rest_at (halves ++ half ∷ []) new ≡ rest_after (rest_at halves old) half
   pub outcomes : outcomes_at (halves ++ half ∷ []) new ≡ outcomes_at halves old
-      ++ reported (length halves) (answer_to (rest_at halves old) half)
+      ++ report_at (length halves) (answer_to (rest_at halves old) half)
 
 -- an unfinished body goes on, or comes to an outcome
 
-reported_something : (place : ℕ) (outcome : Seen) → outcome ≢ Nothing → reported place outcome ≡ (place, outcome) ∷ []
-unfolding reported
+reported_something : (place : ℕ) (outcome : Seen) → outcome ≢ Nothing → report_at place outcome ≡ (place, outcome) ∷ []
+unfolding report_at
 reported_something place Nothing something = absurd (something refl)
 reported_something place (Packet bytes) something = refl
 reported_something place (Refused fault) something = refl
@@ -288,7 +290,7 @@ outcomes_ended halves start earlier p e =
 body_step : (halves : List Half) (half : Half) (start : ℕ) (earlier : List ℕ) → start ≤ length halves
     → Settled halves earlier → outcome_of (drop start halves) ≡ None
     → Step halves half (start ∷ earlier) (start ∷ earlier)
-unfolding rest_after answer_to left_of answer_of reported hunting used_up
+unfolding rest_after answer_to left_of answer_of report_at hunting used_up
 body_step halves half start earlier within settled e =
     let longer : List Half = halves ++ half ∷ [] in
     let body : List Half = drop start halves in
@@ -303,7 +305,7 @@ body_step halves half start earlier within settled e =
                 ∙ rw (rest_open halves start earlier e) (ap (λ o. left_of (body ++ half ∷ []) o) (sym unfinished));
             outcomes = outcomes_open longer start earlier none ∙ settled_outcomes halves half earlier settled
                 ∙ sym (rw (rest_open halves start earlier e, outcomes_open halves start earlier e)
-                (ap (λ o. outcomes_at halves earlier ++ reported (length halves) (answer_of o)) unfinished
+                (ap (λ o. outcomes_at halves earlier ++ report_at (length halves) (answer_of o)) unfinished
                 ∙ append-nil (outcomes_at halves earlier)));
           }
       | inr ends ↦
@@ -327,7 +329,7 @@ body_step halves half start earlier within settled e =
             outcomes =
                 outcomes_ended longer start earlier p some ∙ rw (settled_outcomes halves half earlier settled, place)
                 (sym (rw (rest_open halves start earlier e, outcomes_open halves start earlier e)
-                (ap (λ o. outcomes_at halves earlier ++ reported (length halves) (answer_of o)) ends.is
+                (ap (λ o. outcomes_at halves earlier ++ report_at (length halves) (answer_of o)) ends.is
                 ∙ ap (λ l. outcomes_at halves earlier ++ l)
                 (reported_something (length halves) ends.outcome ends.something))));
           }
@@ -360,8 +362,8 @@ starts_here halves half places q =
 
 quiet_outcomes : (halves : List Half) (half : Half) (places : List ℕ) → Quiet halves half places
     → outcomes_at (halves ++ half ∷ []) places ≡ outcomes_at halves places
-    ++ reported (length halves) (answer_to (rest_at halves places) half)
-unfolding answer_to reported hunting
+    ++ report_at (length halves) (answer_to (rest_at halves places) half)
+unfolding answer_to report_at hunting
 quiet_outcomes halves half places q = rw (q.outcomes_stay, q.hunts) (sym (append-nil (outcomes_at halves places)))
 
 quiet_one : (halves : List Half) (places : List ℕ) → Quiet halves One places
@@ -486,7 +488,7 @@ rest-push durations us =
 
 pub seen-push : (durations : List ℕ) (us : ℕ)
     → seen (durations ++ us ∷ []) ≡ seen durations
-    ++ reported (length durations) (answer_to (rest durations) (class_of us))
+    ++ report_at (length durations) (answer_to (rest durations) (class_of us))
 unfolding seen rest
 seen-push durations us =
     rw (map-append class_of durations (us ∷ []))

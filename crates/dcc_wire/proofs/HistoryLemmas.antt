@@ -8,7 +8,7 @@ use Rattle.dcc_wire.specs.Half.{class_of}
 use Rattle.dcc_wire.specs.Outcomes.{ones_left}
 use Rattle.dcc_wire.specs.Framing.{Rest, Hunting, StandsFor, rest, rest_at, hunting, starts_below, used_up}
 use Rattle.dcc_wire.specs.Framing.{ones_at_end, ones_before}
-use Rattle.dcc_wire.specs.Steps.{rest_after, left_of, answer_of}
+use Rattle.dcc_wire.specs.Inner.Steps.{rest_after, left_of, answer_of}
 use Rattle.dcc_wire.proofs.FramingLemmas.{rest-push}
 
 -- a half of each class, in microseconds

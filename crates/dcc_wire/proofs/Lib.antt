@@ -16,4 +16,4 @@ pub mod FramerSteps
 pub mod RunLemmas
 pub mod ErrorByte
 pub mod SeenLemmas
-pub mod Rows
+pub mod WorkedExamples

@@ -10,7 +10,7 @@ use Rattle.dcc_wire.specs.declared.fault.Seen.TheVariants.{Nothing, Refused}
 use Rattle.dcc_wire.specs.Half.{bit_of}
 use Rattle.dcc_wire.specs.Bodies.{halves_of, first_half}
 use Rattle.dcc_wire.specs.Outcomes.{bytes_in, by_bits, outcome_of}
-use Rattle.dcc_wire.specs.Steps.{answer_of}
+use Rattle.dcc_wire.specs.Inner.Steps.{answer_of}
 use Rattle.dcc_wire.proofs.BitLemmas.{halves_of-append}
 use Rattle.dcc_wire.proofs.OutcomeLemmas.{outcome_bad_first, outcome_one_first, outcome_zero_first, outcome_one_bad}
 use Rattle.dcc_wire.proofs.OutcomeLemmas.{outcome_zero_bad, outcome_one_zero, outcome_zero_one, outcome_of-bits}

@@ -14,9 +14,10 @@ use Rattle.dcc_wire.specs.declared.fault.Seen.{Seen}
 use Rattle.dcc_wire.specs.declared.fault.Seen.TheVariants.{Nothing, Packet, Refused}
 use Rattle.dcc_wire.specs.Frames.{xor_of}
 use Rattle.dcc_wire.specs.Bodies.{halves_of}
-use Rattle.dcc_wire.specs.Outcomes.{bits_in, behind_bits, bytes_in, closed, by_bits, by_halves, outcome_of, ones_left}
+use Rattle.dcc_wire.specs.Outcomes.{bits_in, behind_bits, bytes_in, body_outcome, by_bits, by_halves, outcome_of}
+use Rattle.dcc_wire.specs.Outcomes.{ones_left}
 use Rattle.dcc_wire.specs.Framing.{ones_before, ones_at_end}
-use Rattle.dcc_wire.specs.Steps.{answer_of}
+use Rattle.dcc_wire.specs.Inner.Steps.{answer_of}
 use Rattle.dcc_wire.proofs.BitLemmas.{halves_of-append, length-halves_of, bits_in-halves, behind_bits-halves}
 use Rattle.dcc_wire.proofs.BitLemmas.{halves_split, bits_in-behind, some_same, bytes_in-more, bytes_in-long}
 use Rattle.dcc_wire.proofs.BitLemmas.{bytes_in-inside, Edge, bytes_in-edge}
@@ -148,8 +149,8 @@ growth : (bits : List Bool) (tail : List Half) (half : Half) → outcome_of (hal
     → Grows (halves_of bits ++ tail) half
 growth bits tail half e = inl (ap outcome_of (append_assoc (halves_of bits) tail (half ∷ [])) ∙ e)
 
-pub ones_left-closed : (bytes : List ℕ) → ones_left (closed bytes) ≡ 2
-unfolding closed ones_left
+pub ones_left-closed : (bytes : List ℕ) → ones_left (body_outcome bytes) ≡ 2
+unfolding body_outcome ones_left
 ones_left-closed bytes =
     elim (ltb (length bytes) 3) as
     (λ b. ones_left
@@ -159,10 +160,10 @@ ones_left-closed bytes =
           [ true ↦ refl | false ↦ refl ]
     ]
 
-pub something_closed : (bytes : List ℕ) → closed bytes ≢ Nothing
+pub something_closed : (bytes : List ℕ) → body_outcome bytes ≢ Nothing
 unfolding ones_left
 something_closed bytes e =
-    let two : ones_left (closed bytes) ≡ 0 = ap ones_left e in absurd (omega (arith, two, ones_left-closed bytes))
+    let two : ones_left (body_outcome bytes) ≡ 0 = ap ones_left e in absurd (omega (arith, two, ones_left-closed bytes))
 
 -- the closing of a body, whose end bit is left to the next preamble
 closing : (bits : List Bool) (bytes : List ℕ) → 9 * length bytes ≡ length bits
@@ -177,9 +178,9 @@ closing bits bytes whole e =
     let before : length r + 1 - 2 ≡ length (halves_of bits) =
     omega (arith, length-append (halves_of bits) (One ∷ [])) in
     inr (record {
-      outcome = closed bytes;
+      outcome = body_outcome bytes;
       is = ap outcome_of bit ∙ outcome_of-bits (bits ++ true ∷ []) ∙ ap (λ o. option_map by_bits o) e
-          ∙ ap (λ k. Some (k, closed bytes)) count;
+          ∙ ap (λ k. Some (k, body_outcome bytes)) count;
       something = something_closed bytes;
       left = rw (ones_left-closed bytes, before, same, drop-append_seam (halves_of bits) (One ∷ One ∷ [])) refl;
     })
@@ -313,7 +314,7 @@ ones_left_le (Refused (ErrorByte bytes)) = omega arith
 -- what a bit more answers
 
 pub answer-closed : (bits : List Bool) (bytes : List ℕ) → bytes_in 6 (bits ++ true ∷ []) ≡ Some (bytes, true)
-    → answer_of (option_map by_bits (bytes_in 6 (bits ++ true ∷ []))) ≡ closed bytes
+    → answer_of (option_map by_bits (bytes_in 6 (bits ++ true ∷ []))) ≡ body_outcome bytes
 unfolding answer_of by_bits
 answer-closed bits bytes e = ap (λ o. answer_of (option_map by_bits o)) e
 

@@ -11,7 +11,7 @@ use Rattle.dcc_wire.specs.declared.fault.Seen.{Seen}
 use Rattle.dcc_wire.specs.declared.fault.Seen.TheVariants.{Refused}
 use Rattle.dcc_wire.specs.Frames.{xor_of, AllBytes, IsFrame}
 use Rattle.dcc_wire.specs.Bodies.{halves_of, body_bits, body}
-use Rattle.dcc_wire.specs.Outcomes.{bits_in, behind_bits, bytes_in, closed, by_bits, by_halves, outcome_of}
+use Rattle.dcc_wire.specs.Outcomes.{bits_in, behind_bits, bytes_in, body_outcome, by_bits, by_halves, outcome_of}
 use Rattle.dcc_wire.specs.Packed.{byte_bits}
 use Rattle.dcc_wire.specs.OutcomeTable.{IsOpen, IsUnpaired, IsRow, Comes, IsUnfinished}
 use Rattle.dcc_wire.specs.OutcomeLaws.{OutcomesAreRows, NoOutcomeIsUnfinished, SomeRowFits, OneRowFits}
@@ -30,7 +30,8 @@ IsAnswer halves (Some p) = Comes halves p.0 p.1
 
 -- Bytes with an end bit
 
-row-closed : (bytes : List ℕ) → AllBytes bytes → 1 ≤ length bytes → length bytes ≤ 6 → IsRow (body bytes) (closed bytes)
+row-closed : (bytes : List ℕ) → AllBytes bytes → 1 ≤ length bytes → length bytes ≤ 6
+    → IsRow (body bytes) (body_outcome bytes)
 row-closed bytes each some few = elim (cases_lt (length bytes) 3) [
   | inl short ↦ subst (IsRow (body bytes)) (sym (closed-short bytes short)) (bytes, each, some, omega arith, refl)
   | inr long ↦ elim (cases_lt 0 (xor_of bytes)) [
@@ -59,7 +60,7 @@ behind_bit front bit more tail =
     ∙ append_assoc (halves_of (front ++ bit ∷ [])) (halves_of more) tail
 
 row_end : (bytes : List ℕ) (more : List Bool) (tail : List Half) → AllBytes bytes → 1 ≤ length bytes → length bytes ≤ 6
-    → Comes (halves_of (byte_bits bytes ++ true ∷ more) ++ tail) (18 * length bytes + 2) (closed bytes)
+    → Comes (halves_of (byte_bits bytes ++ true ∷ more) ++ tail) (18 * length bytes + 2) (body_outcome bytes)
 unfolding body
 row_end bytes more tail each some few = (
   body bytes,

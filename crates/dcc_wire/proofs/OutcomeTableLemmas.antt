@@ -12,7 +12,7 @@ use Rattle.dcc_wire.specs.declared.fault.Seen.{Seen}
 use Rattle.dcc_wire.specs.declared.fault.Seen.TheVariants.{Nothing, Packet, Refused}
 use Rattle.dcc_wire.specs.Frames.{xor_of, AllBytes}
 use Rattle.dcc_wire.specs.Bodies.{halves_of, body_bits, body}
-use Rattle.dcc_wire.specs.Outcomes.{bytes_in, closed, by_bits, outcome_of}
+use Rattle.dcc_wire.specs.Outcomes.{bytes_in, body_outcome, by_bits, outcome_of}
 use Rattle.dcc_wire.specs.Packed.{byte_bits}
 use Rattle.dcc_wire.specs.OutcomeTable.{IsUnpaired, IsRow, Comes, IsUnfinished}
 use Rattle.dcc_wire.proofs.BitLemmas.{halves_of-append, length-halves_of, bytes_in-edge}
@@ -25,20 +25,21 @@ use Rattle.dcc_wire.proofs.OpenLists.{OpenBits, short_by, open-bits}
 
 -- the body of some bytes is what they are with an end bit
 body_closed : (bytes : List ℕ) → AllBytes bytes → length bytes ≤ 6
-    → outcome_of (body bytes) ≡ Some (length (body bytes), closed bytes)
+    → outcome_of (body bytes) ≡ Some (length (body bytes), body_outcome bytes)
 unfolding body by_bits
 body_closed bytes each few =
     let count : 18 * length bytes + 2 ≡ length (halves_of (body_bits bytes)) =
     omega (arith, length-halves_of (body_bits bytes), length-body_bits bytes) in
     outcome_of-bits (body_bits bytes) ∙ ap (option_map by_bits) (bytes_in-body 6 bytes each few)
-    ∙ ap (λ k. Some (k, closed bytes)) count
+    ∙ ap (λ k. Some (k, body_outcome bytes)) count
 
-pub closed-short : (bytes : List ℕ) → length bytes < 3 → closed bytes ≡ Refused TooShort
-unfolding closed
+pub closed-short : (bytes : List ℕ) → length bytes < 3 → body_outcome bytes ≡ Refused TooShort
+unfolding body_outcome
 closed-short bytes short = let test : ltb (length bytes) 3 ≡ true = grind (arith, nat_tests) in rw test refl
 
-pub closed-wrong : (bytes : List ℕ) → 3 ≤ length bytes → xor_of bytes ≢ 0 → closed bytes ≡ Refused (ErrorByte bytes)
-unfolding closed
+pub closed-wrong : (bytes : List ℕ) → 3 ≤ length bytes → xor_of bytes ≢ 0
+    → body_outcome bytes ≡ Refused (ErrorByte bytes)
+unfolding body_outcome
 closed-wrong bytes long wrong =
     let test : ltb (length bytes) 3 ≡ false = grind (arith, nat_tests) in
     let sum : eqb (xor_of bytes) 0 ≡ false = grind (arith, nat_tests) in

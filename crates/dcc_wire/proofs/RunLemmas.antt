@@ -10,8 +10,8 @@ use Rattle.dcc_wire.specs.declared.fault.Seen.{Seen}
 use Rattle.dcc_wire.specs.declared.fault.Seen.TheVariants.{Nothing}
 use Rattle.dcc_wire.specs.Half.{class_of}
 use Rattle.dcc_wire.specs.Outcomes.{ones_left}
-use Rattle.dcc_wire.specs.Framing.{Rest, Hunting, InBody, rest, seen, reported, StandsFor}
-use Rattle.dcc_wire.specs.Steps.{rest_after, answer_to}
+use Rattle.dcc_wire.specs.Framing.{Rest, Hunting, InBody, rest, seen, report_at, StandsFor}
+use Rattle.dcc_wire.specs.Inner.Steps.{rest_after, answer_to}
 use Rattle.dcc_wire.specs.Runs.{IsQuiet, IsQuietFor, ones_after, rest_after_run}
 use Rattle.dcc_wire.proofs.OutcomeLemmas.{ones_left_le}
 use Rattle.dcc_wire.proofs.FramingLemmas.{rest-push, seen-push}
@@ -70,7 +70,7 @@ record Skips (durations : List ℕ) (us n ones : ℕ) : Type 0 where
 
 skips : (n us : ℕ) (durations : List ℕ) (ones : ℕ) → IsQuiet ones (class_of us) → rest durations ≡ Hunting ones
     → Skips durations us n ones
-unfolding ones_after answer_to reported
+unfolding ones_after answer_to report_at
 skips zero us durations ones quiet hunts =
     record { open_part = ap rest (append-nil durations) ∙ hunts; outcomes = ap seen (append-nil durations) }
 skips (suc n) us durations ones quiet hunts =
@@ -81,7 +81,7 @@ skips (suc n) us durations ones quiet hunts =
     record {
       open_part = ap rest (replicate_more n us durations) ∙ ih.open_part ∙ ap Hunting w.rest_same;
       outcomes = ap seen (replicate_more n us durations) ∙ ih.outcomes ∙ seen-push durations us
-          ∙ ap (λ r. seen durations ++ reported (length durations) (answer_to r (class_of us))) hunts
+          ∙ ap (λ r. seen durations ++ report_at (length durations) (answer_to r (class_of us))) hunts
           ∙ append-nil (seen durations);
     }
 
@@ -122,7 +122,7 @@ Stands mid new us = (durations : List ℕ) → StandsFor mid durations → Stand
 abbrev pub Sees : Rest → ℕ → Seen → Type 0
 Sees mid us shown =
     (durations : List ℕ) → StandsFor mid durations
-    → seen (durations ++ us ∷ []) ≡ seen durations ++ reported (length durations) shown
+    → seen (durations ++ us ∷ []) ≡ seen durations ++ report_at (length durations) shown
 
 module _ (old mid new : Rest) (us i : ℕ) (shown : Seen) (run : RunsTo old mid us i) (stands : Stands mid new us)
     (sees : Sees mid us shown) where
@@ -132,16 +132,16 @@ module _ (old mid new : Rest) (us i : ℕ) (shown : Seen) (run : RunsTo old mid 
       (stands (durations ++ replicate i us) (run.stands durations h))
 
   pub run_sees : (durations : List ℕ) → StandsFor old durations
-      → seen (durations ++ replicate (i + 1) us) ≡ seen durations ++ reported (length durations + i) shown
+      → seen (durations ++ replicate (i + 1) us) ≡ seen durations ++ report_at (length durations + i) shown
   run_sees durations h =
       ap seen (one_longer durations us i) ∙ sees (durations ++ replicate i us) (run.stands durations h)
       ∙ rw (run.quiet durations h, length-run durations us i) refl
 
   pub run_more : shown ≡ Nothing → RunsTo old new us (i + 1)
-  unfolding reported
+  unfolding report_at
   run_more nothing = record {
     stands = run_stands;
-    quiet = λ durations h. run_sees durations h ∙ ap (λ o. seen durations ++ reported (length durations + i) o) nothing
+    quiet = λ durations h. run_sees durations h ∙ ap (λ o. seen durations ++ report_at (length durations + i) o) nothing
         ∙ append-nil (seen durations);
   }
 
@@ -207,6 +207,6 @@ quiet_after left shown Bad e = rw e tt
 
 -- the answer of a run that shows nothing
 pub nothing_seen : (durations longer : List ℕ) (place : ℕ) → seen longer ≡ seen durations
-    → seen longer ≡ seen durations ++ reported place Nothing
-unfolding reported
+    → seen longer ≡ seen durations ++ report_at place Nothing
+unfolding report_at
 nothing_seen durations longer place e = e ∙ sym (append-nil (seen durations))

@@ -3,8 +3,8 @@ use Rattle.std.proofs.Common.{◌≡◌, ℕ, List, [], ◌∷◌, ◌++◌, len
 use Rattle.std.proofs.lemmas.List.{append-nil}
 use Rattle.dcc_wire.specs.declared.fault.Seen.{Seen}
 use Rattle.dcc_wire.specs.Half.{class_of}
-use Rattle.dcc_wire.specs.Framing.{seen, rest, reported, starts_below, outcomes_at}
-use Rattle.dcc_wire.specs.Steps.{answer_to}
+use Rattle.dcc_wire.specs.Framing.{seen, rest, report_at, starts_below, outcomes_at}
+use Rattle.dcc_wire.specs.Inner.Steps.{answer_to}
 use Rattle.dcc_wire.specs.SeenLaws.{SeenOnlyGrows}
 use Rattle.dcc_wire.proofs.FramingLemmas.{seen-push}
 
@@ -12,7 +12,7 @@ pub seen-grows : SeenOnlyGrows
 seen-grows halves [] = ([], ap seen (append-nil halves) ∙ sym (append-nil (seen halves)))
 seen-grows halves (us ∷ more) =
     let later = seen-grows (halves ++ us ∷ []) more in
-    let here : List (ℕ × Seen) = reported (length halves) (answer_to (rest halves) (class_of us)) in (
+    let here : List (ℕ × Seen) = report_at (length halves) (answer_to (rest halves) (class_of us)) in (
       here ++ later.0,
       ap seen (sym (append_assoc halves (us ∷ []) more)) ∙ later.1
           ∙ ap (λ (outcomes : List (ℕ × Seen)). outcomes ++ later.0) (seen-push halves us)

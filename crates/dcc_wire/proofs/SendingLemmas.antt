@@ -18,16 +18,16 @@ use Rattle.dcc_wire.specs.declared.fault.Seen.{Seen}
 use Rattle.dcc_wire.specs.declared.fault.Seen.TheVariants.{Packet}
 use Rattle.dcc_wire.specs.Half.{class_of}
 use Rattle.dcc_wire.specs.Frames.{xor_of, AllBytes, IsFrame}
-use Rattle.dcc_wire.specs.Framing.{Hunting, InBody, rest, seen, reported, rest_at, hunting, outcomes_at, starts_below}
+use Rattle.dcc_wire.specs.Framing.{Hunting, InBody, rest, seen, report_at, rest_at, hunting, outcomes_at, starts_below}
 use Rattle.dcc_wire.specs.Framing.{used_up, ones_at_end, ones_before}
-use Rattle.dcc_wire.specs.Steps.{rest_after, answer_to, answer_of, left_of}
+use Rattle.dcc_wire.specs.Inner.Steps.{rest_after, answer_to, answer_of, left_of}
 use Rattle.dcc_wire.specs.declared.timing.TimingFault.TheVariants as TimingFault
 use Rattle.dcc_wire.specs.Timings.{is_one_half, is_zero_half, is_zero_bit, is_preamble}
 use Rattle.dcc_wire.specs.declared.timing.Timing.{Timing}
 use Rattle.dcc_wire.specs.Sending.{durations_of, sent_bits, sent, Sent, sent_all, at_last_halves, AllFrames}
 use Rattle.dcc_wire.proofs.FramingLemmas.{rest-push, seen-push}
 use Rattle.dcc_wire.specs.Bodies.{halves_of, bits_of, number_of, body_bits, body}
-use Rattle.dcc_wire.specs.Outcomes.{bytes_in, by_bits, closed, outcome_of, ones_left}
+use Rattle.dcc_wire.specs.Outcomes.{bytes_in, by_bits, body_outcome, outcome_of, ones_left}
 use Rattle.dcc_wire.proofs.BitLemmas.{zero_long, some_same, length-halves_of}
 use Rattle.dcc_wire.proofs.OutcomeLemmas.{outcome_of-bits, outcome_of-more, outcome_of-long}
 
@@ -88,8 +88,8 @@ length-body_bits [] = refl
 length-body_bits (byte ∷ bytes) =
     omega (arith, length-append (bits_of 8 byte) (body_bits bytes), length-bits_of 8 byte, length-body_bits bytes)
 
-pub closed-packet : (bytes : List ℕ) → IsFrame bytes → closed bytes ≡ Packet bytes
-unfolding closed
+pub closed-packet : (bytes : List ℕ) → IsFrame bytes → body_outcome bytes ≡ Packet bytes
+unfolding body_outcome
 closed-packet bytes packet =
     let long : ltb (length bytes) 3 ≡ false = grind (arith, nat_tests, packet.least) in
     let right : eqb (xor_of bytes) 0 ≡ true = grind (arith, nat_tests, packet.error_byte) in
@@ -103,7 +103,7 @@ outcome_of-body bytes packet =
     omega (arith, length-halves_of (body_bits bytes), length-body_bits bytes) in
     outcome_of-bits (body_bits bytes)
     ∙ ap (option_map by_bits) (bytes_in-body 6 bytes (AllBytes-of bytes packet.each) packet.most)
-    ∙ ap (λ k. Some (k, closed bytes)) count
+    ∙ ap (λ k. Some (k, body_outcome bytes)) count
     ∙ ap (λ o. Some (length (halves_of (body_bits bytes)), o)) (closed-packet bytes packet)
 
 -- and not before
@@ -137,7 +137,7 @@ record Counted (durations ones : List ℕ) (before : ℕ) : Type 0 where
 
 ones_counted : (durations ones : List ℕ) (before : ℕ) → AllOnes ones → before ≤ 20 → rest durations ≡ Hunting before
     → Counted durations ones before
-unfolding AllOnes rest_after answer_to reported
+unfolding AllOnes rest_after answer_to report_at
 ones_counted durations [] before all few hunts = record {
   open_part = ap rest (append-nil durations) ∙ hunts ∙ ap Hunting (omega (arith, few));
   outcomes = ap seen (append-nil durations);
@@ -161,7 +161,7 @@ record Arrived (durations more : List ℕ) (bytes : List ℕ) : Type 0 where
 body_arrives : (durations : List ℕ) (us : ℕ) (more : List ℕ) (bytes : List ℕ) (front : List Half) → IsFrame bytes
     → rest durations ≡ InBody front → front ++ map class_of (us ∷ more) ≡ body bytes
     → Arrived durations (us ∷ more) bytes
-unfolding rest_after answer_to answer_of left_of reported ones_left
+unfolding rest_after answer_to answer_of left_of report_at ones_left
 body_arrives durations us [] bytes front packet inside e =
     let whole : outcome_of (front ++ class_of us ∷ []) ≡ Some (length (body bytes), Packet bytes) =
     ap outcome_of e ∙ outcome_of-body bytes packet in
@@ -170,7 +170,7 @@ body_arrives durations us [] bytes front packet inside e =
       open_part = rest-push durations us ∙ rw inside (ap (left_of (front ++ class_of us ∷ [])) whole);
       outcomes =
           seen-push durations us
-          ∙ rw (inside, place) (ap (λ o. seen durations ++ reported (length durations) (answer_of o)) whole);
+          ∙ rw (inside, place) (ap (λ o. seen durations ++ report_at (length durations) (answer_of o)) whole);
     }
 body_arrives durations us (next ∷ more) bytes front packet inside e =
     let split : (front ++ class_of us ∷ []) ++ class_of next ∷ map class_of more ≡ body bytes =
@@ -181,7 +181,7 @@ body_arrives durations us (next ∷ more) bytes front packet inside e =
     let same : seen (durations ++ us ∷ []) ≡ seen durations =
     seen-push durations us
     ∙ rw inside
-    (ap (λ o. seen durations ++ reported (length durations) (answer_of o)) none ∙ append-nil (seen durations))
+    (ap (λ o. seen durations ++ report_at (length durations) (answer_of o)) none ∙ append-nil (seen durations))
     in
     let ih = body_arrives (durations ++ us ∷ []) next more bytes (front ++ class_of us ∷ []) packet then_inside split in
     let place : length (durations ++ us ∷ []) + length (next ∷ more) - 1 ≡ length durations + length (us ∷ next ∷ more) - 1 =
@@ -301,7 +301,7 @@ pub record Delivered (durations more : List ℕ) (bytes : List ℕ) : Type 0 whe
 
 pub sent_delivered : (durations : List ℕ) (bytes : List ℕ) (timing : Timing) (before : ℕ) → IsFrame bytes → before ≤ 20
     → rest durations ≡ Hunting before → Delivered durations (sent bytes timing) bytes
-unfolding sent sent_bits rest_after answer_to reported durations_of body halves_of
+unfolding sent sent_bits rest_after answer_to report_at durations_of body halves_of
 sent_delivered durations bytes timing before packet few hunts =
     let c = classes timing in
     let ones : List ℕ = durations_of timing (replicate timing.preamble true) in

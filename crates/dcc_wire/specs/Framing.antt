@@ -24,13 +24,13 @@ is_zero Bad = false
 
 -- How many of these halves, the first of which stands at a start place, that start place uses:
 -- those of its outcome but for the end bit, or all of them where it is unfinished.
-unfoldable pub used : List Half → ℕ
-used halves = option_map_or (λ p. p.0 - ones_left p.1) (outcome_of halves) (length halves)
+unfoldable pub halves_used : List Half → ℕ
+halves_used halves = option_map_or (λ p. p.0 - ones_left p.1) (outcome_of halves) (length halves)
 
 -- the place behind the halves that start places use, of which the last one comes first
 unfoldable pub used_up : List Half → List ℕ → ℕ
 used_up halves [] = 0
-used_up halves (start ∷ earlier) = start + used (drop start halves)
+used_up halves (start ∷ earlier) = start + halves_used (drop start halves)
 
 -- whether the place of a half is a start place: a zero behind 20 ones that no earlier one uses
 unfoldable pub is_start : List Half → List ℕ → ℕ → Bool
@@ -83,10 +83,10 @@ unfoldable pub rest : List ℕ → Rest
 rest durations = let halves = map class_of durations in rest_at halves (starts halves)
 
 -- what one answer adds to what was seen
-unfoldable pub reported : ℕ → Seen → List (ℕ × Seen)
-reported place Nothing = []
-reported place (Packet bytes) = (place, Packet bytes) ∷ []
-reported place (Refused fault) = (place, Refused fault) ∷ []
+unfoldable pub report_at : ℕ → Seen → List (ℕ × Seen)
+report_at place Nothing = []
+report_at place (Packet bytes) = (place, Packet bytes) ∷ []
+report_at place (Refused fault) = (place, Refused fault) ∷ []
 
 -- a framer stands for these durations where it holds what they leave open
 unfoldable pub StandsFor : Rest → List ℕ → Type 0

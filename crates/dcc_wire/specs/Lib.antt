@@ -8,7 +8,6 @@ pub mod Packed
 pub mod Outcomes
 pub mod Framing
 pub mod SeenLaws
-pub mod Steps
 pub mod Runs
 pub mod FramerState
 pub mod Timings
@@ -18,3 +17,4 @@ pub mod HalvesLeft
 pub mod OutcomeTable
 pub mod OutcomeLaws
 pub mod Kept
+pub mod Inner

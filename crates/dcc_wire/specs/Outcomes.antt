@@ -34,14 +34,14 @@ bytes_in (suc n) (false ∷ bits) =
     else option_map (λ p. (number_of (take 8 bits) ∷ p.0, p.1)) (bytes_in n (drop 8 bits))
 
 -- what bytes with an end bit are
-unfoldable pub closed : List ℕ → Seen
-closed bytes =
+unfoldable pub body_outcome : List ℕ → Seen
+body_outcome bytes =
     if nat_lt (length bytes) 3 then Refused TooShort
     else (if xor_of bytes == 0 then Packet bytes else Refused (ErrorByte bytes))
 
 -- the outcome of six bytes at most and the bit behind them, and its number of halves
 unfoldable pub by_bits : List ℕ × Bool → ℕ × Seen
-by_bits p = (18 * length p.0 + 2, if p.1 then closed p.0 else Refused TooLong)
+by_bits p = (18 * length p.0 + 2, if p.1 then body_outcome p.0 else Refused TooLong)
 
 -- the outcome of the halves behind n halves of whole bits
 unfoldable pub by_halves : ℕ → List Half → Option (ℕ × Seen)

@@ -38,8 +38,8 @@ impl Model for Framer {
 impl Framer {
     ghost use Rattle.std.specs.Prelude.{◌≡◌, ◌≢◌, ◌↔◌, ℕ, List, ◌++◌, [], ◌∷◌, length, IsTrue};
     ghost use Rattle.dcc_wire.specs.Outcomes.{ones_left};
-    ghost use Rattle.dcc_wire.specs.Framing.{Hunting, StandsFor, seen, reported};
-    ghost use Rattle.dcc_wire.specs.Steps.{rest_after, answer_to};
+    ghost use Rattle.dcc_wire.specs.Framing.{Hunting, StandsFor, seen, report_at};
+    ghost use Rattle.dcc_wire.specs.Inner.Steps.{rest_after, answer_to};
     ghost use Rattle.dcc_wire.specs.Runs.{IsQuietFor, rest_after_run};
 
     /// A framer that was given no halves.
@@ -67,14 +67,14 @@ impl Framer {
             → StandsFor self.new (durations ++ us ∷ []) }
         // and the answer is what that longer list shows at its last place.
         ensures sees { (durations : List ℕ) → StandsFor self.old durations →
-            seen (durations ++ us ∷ []) ≡ seen durations ++ reported (length durations) result }
+            seen (durations ++ us ∷ []) ≡ seen durations ++ report_at (length durations) result }
 
         ensures hunts { result ≢ Seen.Nothing → self.new ≡ Hunting (ones_left result) }
     {
         self.take_half(Half::of(us))
     }
 
-    #[tactic(auto, unfolding(crate::specs::Steps::rest_after, crate::specs::Steps::answer_to, crate::specs::Steps::left_of, crate::specs::Steps::answer_of))]
+    #[tactic(auto, unfolding(crate::specs::Inner::Steps::rest_after, crate::specs::Inner::Steps::answer_to, crate::specs::Inner::Steps::left_of, crate::specs::Inner::Steps::answer_of))]
     #[inline(always)]
     fn take_half(&mut self, half: Half) -> Seen
         ensures history { (durations : List ℕ) × StandsFor self.old durations }
@@ -125,12 +125,12 @@ impl Framer {
 
 ghost use Rattle.std.specs.Prelude.{◌≡◌, ◌∷◌, [], false, IsTrue};
 ghost use Rattle.dcc_wire.specs.Framing.{Hunting, InBody};
-ghost use Rattle.dcc_wire.specs.Steps.{rest_after};
+ghost use Rattle.dcc_wire.specs.Inner.Steps.{rest_after};
 ghost use Rattle.dcc_wire.specs.Runs.{IsQuiet, ones_after};
 
 /// Whether a half is the first one of a start bit, behind so many ones.
 #[inline(always)]
-#[tactic(auto, unfolding(crate::specs::Steps::rest_after))]
+#[tactic(auto, unfolding(crate::specs::Inner::Steps::rest_after))]
 fn begins_body(ones: u8, half: Half) -> bool
     ensures yes { IsTrue result → rest_after (Hunting ones) half ≡ InBody (Half.Zero ∷ []) }
     ensures no { (result ≡ false) → IsQuiet ones half }
@@ -140,7 +140,7 @@ fn begins_body(ones: u8, half: Half) -> bool
 
 /// Counts a half that begins no body.
 #[inline(always)]
-#[tactic(auto, unfolding(crate::specs::Steps::rest_after))]
+#[tactic(auto, unfolding(crate::specs::Inner::Steps::rest_after))]
 fn counted(ones: u8, half: Half) -> u8
     requires { IsQuiet ones half }
     ensures { Hunting result ≡ rest_after (Hunting ones) half }

@@ -2,7 +2,7 @@
 
 ghost use Rattle.std.specs.Prelude.{◌≡◌, ◌≤◌, length};
 ghost use Rattle.dcc_wire.specs.Frames.{xor_of};
-ghost use Rattle.dcc_wire.specs.Outcomes.{closed};
+ghost use Rattle.dcc_wire.specs.Outcomes.{body_outcome};
 
 use crate::{Body, Fault, Frame, Seen};
 use arrayvec::ArrayVec;
@@ -35,7 +35,7 @@ impl PackedBits {
     ghost use Rattle.std.specs.Prelude.{◌≡◌, ◌++◌, [], ◌∷◌, None};
     ghost use Rattle.std.specs.Option.{option_map};
     ghost use Rattle.dcc_wire.specs.Outcomes.{bytes_in, by_bits};
-    ghost use Rattle.dcc_wire.specs.Steps.{answer_of};
+    ghost use Rattle.dcc_wire.specs.Inner.Steps.{answer_of};
 
     /// No bits.
     pub fn new() -> PackedBits
@@ -78,11 +78,11 @@ impl PackedBits {
 }
 
 /// What bytes with an end bit are.
-#[tactic(auto, unfolding(crate::specs::Outcomes::closed))]
+#[tactic(auto, unfolding(crate::specs::Outcomes::body_outcome))]
 fn close(bytes: &[u8], xor: u8) -> Seen
     requires few { length bytes.now ≤ 6 }
     requires exclusive_or { xor ≡ xor_of bytes.now }
-    ensures { result ≡ closed bytes.now }
+    ensures { result ≡ body_outcome bytes.now }
 {
     if bytes.len() < 3 {
         return Seen::Refused(Fault::TooShort);

@@ -13,7 +13,7 @@ pub struct RunSeen {
 
 impl Framer {
     ghost use Rattle.std.specs.Prelude.{◌≡◌, ◌≢◌, ◌≤◌, ◌+◌, ◌-◌, ℕ, List, ◌++◌, length, replicate};
-    ghost use Rattle.dcc_wire.specs.Framing.{Hunting, StandsFor, seen, reported};
+    ghost use Rattle.dcc_wire.specs.Framing.{Hunting, StandsFor, seen, report_at};
     ghost use Rattle.dcc_wire.specs.Half.{class_of};
     ghost use Rattle.dcc_wire.specs.Outcomes.{ones_left};
     ghost use Rattle.dcc_wire.specs.Runs.{rest_after_run};
@@ -32,7 +32,7 @@ impl Framer {
             → StandsFor self.new (durations ++ replicate n us) }
         // the longer list shows the answer at its number, and nothing else behind the list,
         ensures sees { (durations : List ℕ) → StandsFor self.old durations →
-            seen (durations ++ replicate n us) ≡ seen durations ++ reported (length durations + result.at - 1) result.seen }
+            seen (durations ++ replicate n us) ≡ seen durations ++ report_at (length durations + result.at - 1) result.seen }
         // and the halves before that number show nothing.
         ensures before { (durations : List ℕ) → StandsFor self.old durations
             → seen (durations ++ replicate (result.at - 1) us) ≡ seen durations }

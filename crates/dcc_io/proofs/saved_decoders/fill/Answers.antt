@@ -1,5 +1,5 @@
 use Rattle.std.proofs.Common.{◌≡◌, ◌<◌, true, arith, length, vec_len, vec_capacity}
-use Rattle.dcc_io.specs.SoundLines.{is_possible}
+use Rattle.dcc_io.specs.PossibleLines.{is_possible}
 use Rattle.dcc_io.proofs.DecoderTextLemmas.{no_version, no_head, ReadsDecoders-start, ReadsDecoders-end}
 use Rattle.dcc_io.proofs.DecoderTextLemmas.{ReadsDecoders-full, ReadsDecoders-one, ReadsDecoders-fault, pushed}
 use Rattle.dcc_io.proofs.DecoderTextLemmas.{one_more_possible, through_end}

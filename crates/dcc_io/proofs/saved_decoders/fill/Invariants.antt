@@ -1,5 +1,5 @@
 use Rattle.std.proofs.Common.{◌≡◌, ◌≤◌, ◌-◌, true, All, vec_len, vec_capacity}
-use Rattle.dcc_io.specs.SoundLines.{IsPossibleHead, is_possible}
+use Rattle.dcc_io.specs.PossibleLines.{IsPossibleHead, is_possible}
 use Rattle.dcc_io.proofs.DecoderTextLemmas.{ReadsDecoders}
 use Rattle.dcc_io.proofs.saved_decoders.fill.Given as goal
 

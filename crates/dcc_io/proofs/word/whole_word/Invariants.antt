@@ -1,7 +1,7 @@
 use Rattle.std.proofs.Common.{◌≡◌, true, take}
 use Rattle.std.specs.List.{list_all}
-use Rattle.dcc_io.specs.Front.{is_plain}
-use Rattle.dcc_io.specs.Spells.{Spells}
+use Rattle.dcc_io.specs.Inner.FrontWords.{is_plain}
+use Rattle.dcc_io.specs.SpelledWords.{Spells}
 use Rattle.dcc_io.proofs.word.whole_word.Given as goal
 
 abbrev pub invariant-loop-len : goal.invariant-loop-len

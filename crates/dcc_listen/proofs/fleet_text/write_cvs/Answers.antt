@@ -1,7 +1,7 @@
 use Rattle.std.proofs.Common.{◌≡◌, Err, ap, sym, ◌∙◌, subst, refl, List, ℕ, eqb, true, false, ◌+◌}
 use Rattle.std.proofs.lemmas.Bool.{ne_eqb, eq-eqb}
-use Rattle.dcc_regs.specs.Loco.{cv_of}
-use Rattle.dcc_io.specs.Written.{Writes}
+use Rattle.dcc_regs.specs.Loco.{cv_held}
+use Rattle.dcc_io.specs.WrittenBytes.{Writes}
 use Rattle.dcc_listen.specs.FleetText.{cv_line, cvs_text}
 use Rattle.dcc_io.proofs.WrittenLemmas.{Appends-none, Appends-append}
 use Rattle.dcc_listen.proofs.RowsLemmas.{cvs_none, cvs_some, cvs_zero}
@@ -12,29 +12,27 @@ use Rattle.dcc_listen.proofs.fleet_text.write_cvs.Goals.{then-value-ne0+in-Ok, e
 pub loop-n-init : goal.loop-n-init
 loop-n-init g c =
     let is = goal.Decoder-dyn g c.args.decoder.now in
-    let cvs : ℕ → ℕ = cv_of (is.registers c.args.decoder.now.1) in
-    (rw (cvs_none cvs) (Appends-none (g.W.Sink.contents c.args.writer.now)), refl)
+    let cvs : ℕ → ℕ = cv_held (is.registers c.args.decoder.now.1) in
+    (rw (cvs_none cvs) (Appends-none (g.W.Sink.state c.args.writer.now)), refl)
 
 pub returns-in-Err : goal.returns-in-Err
 returns-in-Err g c =
     let is = goal.Decoder-dyn g c.args.decoder.now in
-    let cvs : ℕ → ℕ = cv_of (is.registers c.args.decoder.now.1) in
+    let cvs : ℕ → ℕ = cv_held (is.registers c.args.decoder.now.1) in
     let some : eqb (cvs (c.loop-n.n + 1)) 0 ≡ false =
     ap (λ n. eqb n 0) (sym c.cv_value-value.ensures) ∙ ne_eqb _ _ c.if-value-ne0.true in
     let line = c.as_slice.ensures.value ∙ c.cv_line.ensures ∙ ap (cv_line (c.loop-n.n + 1)) c.cv_value-value.ensures in
     let wrote = subst
-    (λ (bytes : List ℕ). Writes (g.W.Sink.contents c.loop-n.writer) (g.W.Sink.failures c.loop-n.writer) bytes
-    (Err c.in-Err.failed) (g.W.Sink.contents c.write_all.new.writer)
-    (g.W.Sink.failures c.write_all.new.writer)) line c.in-Err.ensures in
-    cvs_stopped cvs c.loop-n.n 1024 (g.W.Sink.contents c.args.writer.now) (g.W.Sink.contents c.loop-n.writer)
-    (g.W.Sink.contents c.write_all.new.writer)
-    (g.W.Sink.failures c.args.writer.now) (g.W.Sink.failures c.loop-n.writer) (g.W.Sink.failures c.write_all.new.writer)
+    (λ (bytes : List ℕ). Writes (g.W.Sink.state c.loop-n.writer) bytes
+    (Err c.in-Err.failed) (g.W.Sink.state c.write_all.new.writer)) line c.in-Err.ensures in
+    cvs_stopped cvs c.loop-n.n 1024 (g.W.Sink.state c.args.writer.now) (g.W.Sink.state c.loop-n.writer)
+    (g.W.Sink.state c.write_all.new.writer)
     c.in-Err.failed c.loop-n-test.true some c.loop-n.invariant.0 c.loop-n.invariant.1 wrote
 
 pub loop-n-preserved : goal.loop-n-preserved
 loop-n-preserved g c =
     let is = goal.Decoder-dyn g c.args.decoder.now in
-    let cvs : ℕ → ℕ = cv_of (is.registers c.args.decoder.now.1) in
+    let cvs : ℕ → ℕ = cv_held (is.registers c.args.decoder.now.1) in
     elim c.if-value-ne0.branch [
       | then-value-ne0+in-Ok w ↦
           let some : eqb (cvs (c.loop-n.n + 1)) 0 ≡ false =
@@ -43,8 +41,8 @@ loop-n-preserved g c =
           ∙ ap (cv_line (c.loop-n.n + 1)) c.cv_value-value.ensures in
           let wrote = rw line at w.in-Ok.ensures in
           rw (w.writer-is, cvs_some cvs c.loop-n.n some) (
-            Appends-append (g.W.Sink.contents c.args.writer.now) (g.W.Sink.contents c.loop-n.writer)
-                (g.W.Sink.contents w.write_all.new.writer) (cvs_text cvs c.loop-n.n)
+            Appends-append (g.W.Sink.state c.args.writer.now) (g.W.Sink.state c.loop-n.writer)
+                (g.W.Sink.state w.write_all.new.writer) (cvs_text cvs c.loop-n.n)
                 (cv_line (c.loop-n.n + 1) (cvs (c.loop-n.n + 1))) c.loop-n.invariant.0 wrote.0,
             wrote.1 ∙ c.loop-n.invariant.1,
           )

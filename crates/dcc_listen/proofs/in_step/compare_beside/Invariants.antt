@@ -1,5 +1,5 @@
 use Rattle.std.proofs.Common.{◌≡◌, ◌+◌, ◌-◌, cond, None, length}
-use Rattle.dcc_listen.specs.InStep.{ReadBeside}
+use Rattle.dcc_listen.specs.Inner.InStep.{ReadBeside}
 use Rattle.dcc_listen.proofs.in_step.compare_beside.Given as goal
 
 abbrev pub invariant-packets : goal.invariant-packets

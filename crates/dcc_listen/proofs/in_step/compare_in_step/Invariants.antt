@@ -1,5 +1,5 @@
 use Rattle.std.proofs.Common.{◌≡◌, ◌+◌, cond, None}
-use Rattle.dcc_listen.specs.InStep.{ReadInStep}
+use Rattle.dcc_listen.specs.Inner.InStep.{ReadInStep}
 use Rattle.dcc_listen.proofs.in_step.compare_in_step.Given as goal
 
 abbrev pub invariant-packets : goal.invariant-packets

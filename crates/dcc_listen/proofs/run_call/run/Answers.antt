@@ -16,7 +16,7 @@ runs-init g c = record {
   halves = [];
   gave = Gave-none captures c.args.input.now (sym c.fault.ensures.fault ∙ c.in_default.is);
   stands = c.new-framer.ensures;
-  members =
+  decoders =
       AllZip-start
       (λ (start : Who × RegisterMap) now. let is = goal.Decoder-dyn g (now.vtable, now.value) in HasHeardHalves []
       start.0 start.1 (is.who now.value) (is.registers now.value))
@@ -37,10 +37,10 @@ runs-preserved g c =
       gave = Gave-append captures c.args.input.now c.runs.input c.read_run.new.input before.halves
           (replicate c.in-Ok-Some.run'.n c.in-Ok-Some.run'.us) before.gave took.0.items;
       stands = c.hear_half_run.ensures.stands before.halves before.stands;
-      members =
+      decoders =
           c.hear_half_run.ensures.since before.halves before.stands
           (map (λ decoder. let is = goal.Decoder-dyn g (decoder.vtable, decoder.value) in
-          (is.who decoder.value, is.registers decoder.value)) c.args.decoders.now) before.members;
+          (is.who decoder.value, is.registers decoder.value)) c.args.decoders.now) before.decoders;
     }
 
 pub runs-preserved-in-Some-half_at_hand : goal.runs-preserved-in-Some-half_at_hand
@@ -51,10 +51,10 @@ runs-preserved-in-Some-half_at_hand g c =
       gave = Gave-append captures c.args.input.now c.runs.input c.half_at_hand.new.input before.halves
           (c.in-Some-half_at_hand.us ∷ []) before.gave c.in-Some-half_at_hand.ensures.some.0.items;
       stands = c.hear_half.ensures.stands before.halves before.stands;
-      members =
+      decoders =
           c.hear_half.ensures.since before.halves before.stands
           (map (λ decoder. let is = goal.Decoder-dyn g (decoder.vtable, decoder.value) in
-          (is.who decoder.value, is.registers decoder.value)) c.args.decoders.now) before.members;
+          (is.who decoder.value, is.registers decoder.value)) c.args.decoders.now) before.decoders;
     }
 
 pub returns-in-Err-clause-runs : goal.returns-in-Err-clause-runs
@@ -69,15 +69,14 @@ returns-in-Err-clause-runs g c none =
     (is.who decoder.value, is.registers decoder.value)) c.args.decoders.now)
     (map (λ decoder. let is = goal.Decoder-dyn g (decoder.vtable, decoder.value) in
     (is.who decoder.value, is.registers decoder.value)) c.runs.decoders) c.args.input.now
-    c.half_at_hand.new.input c.read_run.new.input (g.W.Sink.contents c.args.writer.now)
-    (g.W.Sink.failures c.args.writer.now)
+    c.half_at_hand.new.input c.read_run.new.input (g.W.Sink.state c.args.writer.now)
     before.halves c.in-Err.fault gave
     (AllZip-views (λ start end. HasHeardHalves halves start.0 start.1 end.0 end.1)
     (λ decoder. let is = goal.Decoder-dyn g (decoder.vtable, decoder.value) in
     (is.who decoder.value, is.registers decoder.value))
     (map (λ decoder. let is = goal.Decoder-dyn g (decoder.vtable, decoder.value) in
     (is.who decoder.value, is.registers decoder.value)) c.args.decoders.now) c.runs.decoders
-    before.members)
+    before.decoders)
     (c.in-Err.ensures.reads
     (ap (λ (state : InputState). state.fault) c.in-None.ensures.none ∙ c.runs.invariant.gave.fault)))
 
@@ -93,8 +92,7 @@ returns-in-Ok-clause-runs g c none =
     (is.who decoder.value, is.registers decoder.value)) c.args.decoders.now)
     (map (λ decoder. let is = goal.Decoder-dyn g (decoder.vtable, decoder.value) in
     (is.who decoder.value, is.registers decoder.value)) c.runs.decoders) c.args.input.now
-    c.read_run.new.input (g.W.Sink.contents c.args.writer.now) (g.W.Sink.contents c.write_fleet.new.writer)
-    (g.W.Sink.failures c.args.writer.now) (g.W.Sink.failures c.write_fleet.new.writer)
+    c.read_run.new.input (g.W.Sink.state c.args.writer.now) (g.W.Sink.state c.write_fleet.new.writer)
     (hears_all
     (map (λ decoder. let is = goal.Decoder-dyn g (decoder.vtable, decoder.value) in
     (is.who decoder.value, is.registers decoder.value)) c.args.decoders.now)
@@ -106,7 +104,7 @@ returns-in-Ok-clause-runs g c none =
     (is.who decoder.value, is.registers decoder.value))
     (map (λ decoder. let is = goal.Decoder-dyn g (decoder.vtable, decoder.value) in
     (is.who decoder.value, is.registers decoder.value)) c.args.decoders.now) c.runs.decoders
-    before.members) took)
+    before.decoders) took)
     c.in-Ok.ensures
 
 pub returns-in-Err-write_fleet-clause-runs : goal.returns-in-Err-write_fleet-clause-runs
@@ -121,8 +119,8 @@ returns-in-Err-write_fleet-clause-runs g c none =
     (is.who decoder.value, is.registers decoder.value)) c.args.decoders.now)
     (map (λ decoder. let is = goal.Decoder-dyn g (decoder.vtable, decoder.value) in
     (is.who decoder.value, is.registers decoder.value)) c.runs.decoders) c.args.input.now
-    c.read_run.new.input (g.W.Sink.contents c.args.writer.now) (g.W.Sink.contents c.write_fleet.new.writer)
-    (g.W.Sink.failures c.args.writer.now) (g.W.Sink.failures c.write_fleet.new.writer) c.in-Err-write_fleet.field-0
+    c.read_run.new.input (g.W.Sink.state c.args.writer.now) (g.W.Sink.state c.write_fleet.new.writer)
+    c.in-Err-write_fleet.field-0
     (hears_all
     (map (λ decoder. let is = goal.Decoder-dyn g (decoder.vtable, decoder.value) in
     (is.who decoder.value, is.registers decoder.value)) c.args.decoders.now)
@@ -134,5 +132,5 @@ returns-in-Err-write_fleet-clause-runs g c none =
     (is.who decoder.value, is.registers decoder.value))
     (map (λ decoder. let is = goal.Decoder-dyn g (decoder.vtable, decoder.value) in
     (is.who decoder.value, is.registers decoder.value)) c.args.decoders.now) c.runs.decoders
-    before.members) took)
+    before.decoders) took)
     c.in-Err-write_fleet.ensures

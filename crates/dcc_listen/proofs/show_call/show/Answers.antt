@@ -10,8 +10,8 @@ use Rattle.dcc_listen.proofs.show_call.show.Goals as goal
 pub runs-init : goal.runs-init
 runs-init g c =
     rw c.new-held.ensures
-    (Showing-start c.args.words c.args.input.now c.new-framer.result (g.W.Sink.contents c.args.writer.now)
-    (g.W.Sink.failures c.args.writer.now) (sym c.fault.ensures.fault ∙ c.in_default.is) c.new-framer.ensures)
+    (Showing-start c.args.words c.args.input.now c.new-framer.result (g.W.Sink.state c.args.writer.now)
+    (sym c.fault.ensures.fault ∙ c.in_default.is) c.new-framer.ensures)
 
 -- a half at hand
 
@@ -22,13 +22,13 @@ runs-preserved-in-Ok g c =
     let showing = c.runs.invariant in
     let gave = c.in-Some-half_at_hand.ensures.some.0 in
     let taken = taken_with c.args.words c.args.input.now c.runs.input c.half_at_hand.new.input c.runs.framer c.runs.held
-    _ _ _ _ one showing gave in
+    _ _ one showing gave in
     let half = counted_one c.halves_left-most.result c.halves_left.result c.args.input.now.halves
     c.half_at_hand.new.input.halves (length showing.halves) c.halves_left-most.ensures c.halves_left.ensures
     taken in
     let wrote = c.in-Ok.ensures (length showing.halves + 1 - 1) half in
     Showing-run c.args.words c.args.input.now c.runs.input c.half_at_hand.new.input c.runs.framer c.push-seen.new.self
-    c.runs.held c.hold_seen.new.held _ _ _ _ _ _
+    c.runs.held c.hold_seen.new.held _ _ _
     one answer showing wrote.0 gave (c.push-seen.ensures.stands showing.halves showing.stands)
     (answers_one showing.halves one.us c.push-seen.result (c.push-seen.ensures.sees showing.halves showing.stands))
     wrote.1 wrote.2.0 wrote.2.1
@@ -38,7 +38,7 @@ hold_seen-requires g c =
     let one : Run = record { us = c.in-Some-half_at_hand.us; n = 1 } in
     let showing = c.runs.invariant in
     let taken = taken_with c.args.words c.args.input.now c.runs.input c.half_at_hand.new.input c.runs.framer c.runs.held
-    _ _ _ _ one showing c.in-Some-half_at_hand.ensures.some.0 in
+    _ _ one showing c.in-Some-half_at_hand.ensures.some.0 in
     let half = counted_one c.halves_left-most.result c.halves_left.result c.args.input.now.halves
     c.half_at_hand.new.input.halves (length showing.halves) c.halves_left-most.ensures c.halves_left.ensures
     taken in
@@ -51,13 +51,13 @@ returns-in-Err-clause-shows g c fault =
     let showing = c.runs.invariant in
     let gave = c.in-Some-half_at_hand.ensures.some.0 in
     let taken = taken_with c.args.words c.args.input.now c.runs.input c.half_at_hand.new.input c.runs.framer c.runs.held
-    _ _ _ _ one showing gave in
+    _ _ one showing gave in
     let half = counted_one c.halves_left-most.result c.halves_left.result c.args.input.now.halves
     c.half_at_hand.new.input.halves (length showing.halves) c.halves_left-most.ensures c.halves_left.ensures
     taken in
     let wrote = c.in-Err.ensures (length showing.halves + 1 - 1) half in
-    stops_at_run c.args.words c.args.input.now c.runs.input c.half_at_hand.new.input c.runs.framer c.runs.held _ _ _ _ _
-    _ one answer showing wrote.0 gave
+    stops_at_run c.args.words c.args.input.now c.runs.input c.half_at_hand.new.input c.runs.framer c.runs.held _ _ _
+    one answer showing wrote.0 gave
     (answers_one showing.halves one.us c.push-seen.result (c.push-seen.ensures.sees showing.halves showing.stands))
     wrote.1 wrote.2.0 wrote.2.1
 
@@ -71,15 +71,15 @@ runs-preserved g c =
     let within = at_some_half c.in-Ok-Ok-Some.run' c.push_run-shown.result took.0.1 c.push_run-shown.ensures.nothing
     c.push_run-shown.ensures.something in
     let showing = Showing-wrote c.args.words c.args.input.now c.runs.input c.runs.framer c.runs.held c.next_run.new.held
-    _ _ _ _ _ _ c.runs.invariant took.1 took.2 in
+    _ _ _ c.runs.invariant took.1 took.2 in
     let taken = taken_with c.args.words c.args.input.now c.runs.input c.next_run.new.input c.runs.framer
-    c.next_run.new.held _ _ _ _ c.in-Ok-Ok-Some.run' showing gave in
+    c.next_run.new.held _ _ c.in-Ok-Ok-Some.run' showing gave in
     let half = counted_half c.halves_left-most.result c.halves_left-in-Ok-Ok-Some.result c.args.input.now.halves
     c.next_run.new.input.halves c.in-Ok-Ok-Some.run'.n c.push_run-shown.result.at (length showing.halves)
     c.halves_left-most.ensures c.halves_left-in-Ok-Ok-Some.ensures taken within.0 in
     let wrote = c.in-Ok-hold_seen.ensures (length showing.halves + c.push_run-shown.result.at - 1) half in
     Showing-run c.args.words c.args.input.now c.runs.input c.next_run.new.input c.runs.framer c.push_run-shown.new.self
-    c.next_run.new.held c.hold_seen-in-Ok-Ok-Some.new.held _ _ _ _ _ _
+    c.next_run.new.held c.hold_seen-in-Ok-Ok-Some.new.held _ _ _
     c.in-Ok-Ok-Some.run' c.push_run-shown.result showing wrote.0 gave
     (c.push_run-shown.ensures.stands showing.halves showing.stands)
     (c.push_run-shown.ensures.sees showing.halves showing.stands) wrote.1 wrote.2.0 wrote.2.1
@@ -92,15 +92,15 @@ returns-in-Err-hold_seen-clause-shows g c fault =
     let within = at_some_half c.in-Ok-Ok-Some.run' c.push_run-shown.result took.0.1 c.push_run-shown.ensures.nothing
     c.push_run-shown.ensures.something in
     let showing = Showing-wrote c.args.words c.args.input.now c.runs.input c.runs.framer c.runs.held c.next_run.new.held
-    _ _ _ _ _ _ c.runs.invariant took.1 took.2 in
+    _ _ _ c.runs.invariant took.1 took.2 in
     let taken = taken_with c.args.words c.args.input.now c.runs.input c.next_run.new.input c.runs.framer
-    c.next_run.new.held _ _ _ _ c.in-Ok-Ok-Some.run' showing gave in
+    c.next_run.new.held _ _ c.in-Ok-Ok-Some.run' showing gave in
     let half = counted_half c.halves_left-most.result c.halves_left-in-Ok-Ok-Some.result c.args.input.now.halves
     c.next_run.new.input.halves c.in-Ok-Ok-Some.run'.n c.push_run-shown.result.at (length showing.halves)
     c.halves_left-most.ensures c.halves_left-in-Ok-Ok-Some.ensures taken within.0 in
     let wrote = c.in-Err-hold_seen.ensures (length showing.halves + c.push_run-shown.result.at - 1) half in
     stops_at_run c.args.words c.args.input.now c.runs.input c.next_run.new.input c.runs.framer c.next_run.new.held _ _ _
-    _ _ _ c.in-Ok-Ok-Some.run' c.push_run-shown.result showing wrote.0 gave
+    c.in-Ok-Ok-Some.run' c.push_run-shown.result showing wrote.0 gave
     (c.push_run-shown.ensures.sees showing.halves showing.stands) wrote.1 wrote.2.0 wrote.2.1
 
 pub returns-in-Ok-Ok-None-clause-shows : goal.returns-in-Ok-Ok-None-clause-shows
@@ -108,25 +108,26 @@ returns-in-Ok-Ok-None-clause-shows g c fault =
     let took = rw (c.in-Ok-Ok-None.field-0-is, c.in-Ok-Ok-None.field-0-0-is, c.in-None.ensures.none) at
     c.in-Ok-Ok-None.ensures in
     let showing = Showing-wrote c.args.words c.args.input.now c.runs.input c.runs.framer c.runs.held c.next_run.new.held
-    _ _ _ _ _ _ c.runs.invariant took.1 took.2 in
+    _ _ _ c.runs.invariant took.1 took.2 in
     stops_at_end c.args.words c.args.input.now c.runs.input c.next_run.new.input c.runs.framer c.next_run.new.held _ _ _
-    _ _ _ c.write_rest.result showing took.0 c.write_rest.ensures
+    c.write_rest.result showing took.0 c.write_rest.ensures
 
 pub returns-in-Ok-Err-clause-shows : goal.returns-in-Ok-Err-clause-shows
 returns-in-Ok-Err-clause-shows g c fault =
-    let before = subst (λ (now : InputState). Showing c.args.words c.args.input.now now c.runs.framer c.runs.held (g.W.Sink.contents c.args.writer.now) (g.W.Sink.contents c.runs.writer) (g.W.Sink.failures c.args.writer.now) (g.W.Sink.failures c.runs.writer))
+    let before = subst (λ (now : InputState). Showing c.args.words c.args.input.now now c.runs.framer c.runs.held
+    (g.W.Sink.state c.args.writer.now) (g.W.Sink.state c.runs.writer))
     (sym c.in-None.ensures.none) c.runs.invariant in
     let took = rw c.in-Ok-Err.field-0-is at c.in-Ok-Err.ensures in
     let showing = Showing-wrote c.args.words c.args.input.now c.half_at_hand.new.input c.runs.framer c.runs.held
-    c.next_run.new.held _ _ _ _ _ _ before took.1 took.2 in
+    c.next_run.new.held _ _ _ before took.1 took.2 in
     let rest = rw c.told-in-Ok-Err.ensures at c.write_rest-in-Ok-Err.ensures in
     stops_at_fault c.args.words c.args.input.now c.half_at_hand.new.input c.next_run.new.input c.runs.framer
-    c.next_run.new.held _ _ _ _ _ _ c.in-Ok-Err.fault
+    c.next_run.new.held _ _ _ c.in-Ok-Err.fault
     c.write_rest-in-Ok-Err.result showing took.0 rest
 
 pub returns-in-Err-next_run-clause-shows : goal.returns-in-Err-next_run-clause-shows
 returns-in-Err-next_run-clause-shows g c =
     let failed = rw c.in-None.ensures.none at c.in-Err-next_run.ensures in
     rw failed.0
-    (λ fault. stops_before_read c.args.words c.args.input.now c.runs.input c.runs.framer c.runs.held _ _ _ _ _ _
+    (λ fault. stops_before_read c.args.words c.args.input.now c.runs.input c.runs.framer c.runs.held _ _ _
     c.runs.invariant failed.1 failed.2)

@@ -3,8 +3,8 @@ use Rattle.dcc_listen.proofs.show_call.show.Given as goal
 
 abbrev pub invariant-runs : goal.invariant-runs
 invariant-runs g l =
-    Showing l.initial.words l.initial.input l.input l.framer l.held (g.W.Sink.contents l.initial.writer)
-    (g.W.Sink.contents l.writer) (g.W.Sink.failures l.initial.writer) (g.W.Sink.failures l.writer)
+    Showing l.initial.words l.initial.input l.input l.framer l.held (g.W.Sink.state l.initial.writer)
+    (g.W.Sink.state l.writer)
 
 abbrev pub decreases-runs : goal.decreases-runs
 decreases-runs g l = l.input.bytes

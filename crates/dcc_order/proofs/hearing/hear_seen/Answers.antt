@@ -2,7 +2,7 @@ use Rattle.std.proofs.Common.{◌≡◌, ◌∷◌, [], List, ℕ, subst, ap}
 use Rattle.dcc_wire.specs.declared.fault.Seen.{Seen}
 use Rattle.dcc_order.specs.Hearing.{frames_of, AreSpelled}
 use Rattle.dcc_regs.proofs.InParts.{heard_nothing}
-use Rattle.dcc_order.proofs.Stepped.{AllZip-same}
+use Rattle.dcc_order.proofs.ListWalk.{AllZip-same}
 use Rattle.dcc_order.proofs.SpelledLemmas.{no_packet, one_packet}
 use Rattle.dcc_order.proofs.hearing.hear_seen.Goals as goal
 

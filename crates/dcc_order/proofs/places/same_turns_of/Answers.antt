@@ -6,7 +6,7 @@ use Rattle.dcc_order.specs.declared.places.Place.{Place}
 use Rattle.dcc_order.specs.declared.turns.Turns.{Turns}
 use Rattle.dcc_order.specs.HeldPlaces.{NumberedAlike, numbers_at}
 use Rattle.dcc_order.specs.Turns.{Counted, no_turns}
-use Rattle.dcc_order.proofs.Clash.{nothing_set}
+use Rattle.dcc_order.proofs.ConflictLaws.{nothing_set}
 use Rattle.dcc_order.proofs.places.same_turns_of.Goals as goal
 
 -- what the counted turns of one member with each before it tell

@@ -1,5 +1,5 @@
 use Rattle.std.proofs.Common.{ℕ, List, take, sym}
-use Rattle.dcc_order.specs.Hearing.{joined}
+use Rattle.dcc_order.specs.Hearing.{whole_track}
 use Rattle.dcc_order.proofs.HearingLemmas.{no_halves_heard}
 use Rattle.dcc_order.proofs.TrackLemmas.{piece_more, pieces_all, AllZip-viewed, AllZip-start}
 use Rattle.dcc_order.proofs.tracks.hear_track.Goals as goal
@@ -14,7 +14,7 @@ loop-piece-init g c = record {
 pub loop-piece-preserved : goal.loop-piece-preserved
 loop-piece-preserved g c =
     let before = c.loop-piece.invariant in
-    let so_far : List ℕ = joined (take c.loop-piece.piece-index c.args.pieces.now) in
+    let so_far : List ℕ = whole_track (take c.loop-piece.piece-index c.args.pieces.now) in
     let more = piece_more c.args.pieces.now c.loop-piece.piece-index _ c.loop-piece-test.true in
     record {
       stands = rw more (c.hear_piece.ensures.stands so_far before.stands);

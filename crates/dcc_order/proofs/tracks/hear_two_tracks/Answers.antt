@@ -1,13 +1,13 @@
 use Rattle.std.proofs.Common.{ℕ, List}
-use Rattle.dcc_order.specs.Hearing.{HasHeardHalves, joined}
+use Rattle.dcc_order.specs.Hearing.{HasHeardHalves, whole_track}
 use Rattle.dcc_order.proofs.WholeTheorem.{alike_halves_leave_the_same}
 use Rattle.dcc_order.proofs.TrackLemmas.{AllZip-both}
 use Rattle.dcc_order.proofs.tracks.hear_two_tracks.Goals as goal
 
 pub returns-clause-alike : goal.returns-clause-alike
 returns-clause-alike g c =
-    let halves : List ℕ = joined c.args.pieces.now in
-    let others : List ℕ = joined c.args.others.now in
+    let halves : List ℕ = whole_track c.args.pieces.now in
+    let others : List ℕ = whole_track c.args.others.now in
     AllZip-both _ _ _ _
     (λ one other one' other' heard heard' equal.
     let from_one : HasHeardHalves others (g.L.Decoder.who one) (g.L.Decoder.registers one) (g.R.Decoder.who other') (g.R.Decoder.registers other') =

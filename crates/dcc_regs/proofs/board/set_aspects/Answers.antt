@@ -1,7 +1,7 @@
 use Rattle.std.proofs.Common.{◌≡◌, arith}
 use Rattle.std.specs.Prelude.{slice_index}
 use Rattle.std.proofs.Math.ListN.{length-set}
-use Rattle.dcc_regs.proofs.Walk.{written_more, left_more}
+use Rattle.dcc_regs.proofs.ListWalk.{written_more, left_more}
 use Rattle.dcc_regs.proofs.board.set_aspects.Goals as goal
 
 pub loop-n-preserved : goal.loop-n-preserved

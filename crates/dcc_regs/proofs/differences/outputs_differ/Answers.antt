@@ -1,7 +1,7 @@
 use Rattle.std.proofs.Common.{◌≡◌, sym, ◌∙◌}
 use Rattle.std.specs.Prelude.{Some, None}
 use Rattle.std.specs.Option.{option_or}
-use Rattle.dcc_regs.specs.ConflictParts.{output_of}
+use Rattle.dcc_regs.specs.Inner.ConflictParts.{output_of}
 use Rattle.dcc_regs.proofs.ByKind.{output_from, output_to, no_outputs}
 use Rattle.dcc_regs.proofs.differences.outputs_differ.Goals as goal
 

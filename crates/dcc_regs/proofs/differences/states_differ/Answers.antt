@@ -1,8 +1,8 @@
 use Rattle.std.proofs.Common.{ℕ, subst, sym}
 use Rattle.dcc_regs.specs.declared.register.Register.TheVariants.{State as StateRegister}
-use Rattle.dcc_regs.specs.ConflictParts.{Differ}
+use Rattle.dcc_regs.specs.Inner.ConflictParts.{Differ}
 use Rattle.dcc_regs.specs.Sets.{sets}
-use Rattle.dcc_regs.specs.States.{states_told}
+use Rattle.dcc_regs.specs.States.{turned_states}
 use Rattle.dcc_regs.proofs.StateLemmas.{differ_at_looked}
 use Rattle.dcc_regs.proofs.differences.states_differ.Goals as goal
 
@@ -15,5 +15,5 @@ returns c =
       λ d. c.differ_at.ensures.1
           (subst (λ (n : ℕ). Differ (sets mode p (StateRegister n)) (sets mode q (StateRegister n)))
           (sym c.looked.ensures)
-          (differ_at_looked (states_told p) (states_told q) d.0 d.1)),
+          (differ_at_looked (turned_states p) (turned_states q) d.0 d.1)),
     )

@@ -1,6 +1,6 @@
 use Rattle.std.proofs.Common.{◌≡◌, slice_index_or, false, arith}
 use Rattle.std.proofs.Math.ListN.{length-set}
-use Rattle.dcc_regs.proofs.Walk.{written_more, left_more}
+use Rattle.dcc_regs.proofs.ListWalk.{written_more, left_more}
 use Rattle.dcc_regs.proofs.loco.set_states.Goals as goal
 
 pub loop-n-preserved : goal.loop-n-preserved

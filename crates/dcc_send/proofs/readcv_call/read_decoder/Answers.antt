@@ -2,7 +2,7 @@ use Rattle.std.proofs.Common.{◌++◌, ◌∷◌, [], None, Some, ap, ◌∙◌
 use Rattle.dcc_service.specs.Cvs.{IsCvs}
 use Rattle.dcc_service.specs.ReadingLaws.{AreFirstOf}
 use Rattle.dcc_service.proofs.ReadingLemmas.{asks_only}
-use Rattle.dcc_send.specs.TrackReading.{answers_on}
+use Rattle.dcc_send.specs.ProgrammingTrackReading.{answers_on}
 use Rattle.dcc_send.proofs.TrackLemmas.{true_answer, IsReading-more, fails_in_line, tells_value, asked_last, on_ok}
 use Rattle.dcc_send.proofs.readcv_call.read_decoder.Goals as goal
 
@@ -17,7 +17,7 @@ questions-preserved g c =
     record {
       reading =
           IsReading-more (Some c.args.decoder.now.cvs) c.args.cv c.questions.reader c.in-Ok-More.next c.ask-yes.result _
-          _ _ _ _ _ c.questions.invariant.reading first takes.0 takes.1 takes.2;
+          _ _ c.questions.invariant.reading first takes.0 takes.1 takes.2;
       unchanged = ap (λ d. d.cvs) c.ask-yes.ensures.after
           ∙ asks_only c.questions.reader c.question-question.result c.questions.decoder.cvs
           c.question-question.ensures.question ∙ c.questions.invariant.unchanged;
@@ -33,7 +33,7 @@ returns-in-Ok-Value-clause-tells g c =
     c.questions.invariant.reading.first c.ask-yes.ensures.answer in
     let cvs : IsCvs c.args.decoder.now.cvs = subst IsCvs c.questions.invariant.unchanged c.ask-yes.ensures.cvs in
     tells_value (Some c.args.decoder.now.cvs) c.args.cv c.questions.reader c.ask-yes.result (Some c.in-Ok-Value.value) _
-    _ _ _ _ _ _ _ c.tell.result cvs
+    _ _ _ c.tell.result cvs
     c.questions.invariant.reading first takes c.tell.ensures
 
 pub returns-in-Ok-NoAnswer-clause-tells : goal.returns-in-Ok-NoAnswer-clause-tells
@@ -45,7 +45,7 @@ returns-in-Ok-NoAnswer-clause-tells g c =
     c.questions.invariant.reading.same_cv c.ask-yes.ensures.cvs c.question-question.ensures.question
     c.questions.invariant.reading.first c.ask-yes.ensures.answer in
     let cvs : IsCvs c.args.decoder.now.cvs = subst IsCvs c.questions.invariant.unchanged c.ask-yes.ensures.cvs in
-    tells_value (Some c.args.decoder.now.cvs) c.args.cv c.questions.reader c.ask-yes.result None _ _ _ _ _ _ _ _
+    tells_value (Some c.args.decoder.now.cvs) c.args.cv c.questions.reader c.ask-yes.result None _ _ _ _
     c.tell-in-Ok-NoAnswer.result cvs
     c.questions.invariant.reading first takes c.tell-in-Ok-NoAnswer.ensures
 
@@ -86,5 +86,5 @@ returns-in-Err-clause-tells g c =
     c.ask-yes.result c.questions.invariant.unchanged
     c.questions.invariant.reading.same_cv c.ask-yes.ensures.cvs c.question-question.ensures.question
     c.questions.invariant.reading.first c.ask-yes.ensures.answer in
-    fails_in_line (Some c.args.decoder.now.cvs) c.args.cv c.questions.reader c.ask-yes.result _ _ _ _ _ _
+    fails_in_line (Some c.args.decoder.now.cvs) c.args.cv c.questions.reader c.ask-yes.result _ _ _
     c.questions.invariant.reading first c.in-Err.ensures.0 c.in-Err.ensures.1

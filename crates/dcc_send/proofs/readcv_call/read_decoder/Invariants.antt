@@ -5,9 +5,8 @@ use Rattle.dcc_send.proofs.readcv_call.read_decoder.Given as goal
 -- so far the decoder answered and its lines were written, and no CV has changed
 abbrev pub invariant-questions : goal.invariant-questions
 invariant-questions g l = record {
-  reading : IsReading (Some l.initial.decoder.cvs) l.fn.cv l.reader (g.W.Sink.contents l.initial.writer)
-      (g.W.Sink.contents l.writer)
-      (g.W.Sink.failures l.initial.writer) (g.W.Sink.failures l.writer);
+  reading : IsReading (Some l.initial.decoder.cvs) l.fn.cv l.reader (g.W.Sink.state l.initial.writer)
+      (g.W.Sink.state l.writer);
   unchanged : l.decoder.cvs ≡ l.initial.decoder.cvs;
 }
 

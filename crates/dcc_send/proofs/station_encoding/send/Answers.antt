@@ -4,7 +4,7 @@ use Rattle.dcc_send.proofs.station_encoding.send.Goals as goal
 
 pub loop-init : goal.loop-init
 loop-init g c =
-    (HoldsAnswers-none c.args.how c.args.station.now (g.W.Sink.contents c.args.writer.now) c.args.held.now, refl)
+    (HoldsAnswers-none c.args.how c.args.station.now (g.W.Sink.state c.args.writer.now) c.args.held.now, refl)
 
 pub loop-preserved : goal.loop-preserved
 loop-preserved g c = (
@@ -16,4 +16,4 @@ loop-preserved g c = (
 pub returns-in-Err : goal.returns-in-Err
 returns-in-Err g c =
     stops_sending c.args.how c.args.station.now c.loop.station c.loop.counter c.args.count _ _ _ c.args.held.now
-    c.loop.held _ _ _ c.loop-test.true c.loop.invariant.0 c.loop.invariant.1 c.in-Err.ensures.0 c.in-Err.ensures.1
+    c.loop.held c.loop-test.true c.loop.invariant.0 c.loop.invariant.1 c.in-Err.ensures.0 c.in-Err.ensures.1

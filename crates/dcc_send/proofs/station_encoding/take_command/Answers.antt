@@ -8,7 +8,7 @@ returns-in-Ok g c how =
     let is = sym (ap refused_by c.in-Ok.is)
     ∙ refused_is c.args.station.now c.args.packet c.command.result c.command.ensures.not_sendable
     c.command.ensures.full c.command.ensures.comes_back in
-    answers_accepted how c.args.station.now c.command.new.self c.args.packet _ _ c.args.held.now is
+    answers_accepted how c.args.station.now c.command.new.self c.args.packet _ c.args.held.now is
     (rw c.in-Ok.is at c.command.ensures.ok)
 
 pub returns-in-Err : goal.returns-in-Err
@@ -16,9 +16,9 @@ returns-in-Err g c how =
     let is = sym (ap refused_by c.in-Err.is)
     ∙ refused_is c.args.station.now c.args.packet c.command.result c.command.ensures.not_sendable
     c.command.ensures.full c.command.ensures.comes_back in
-    answers_refused how c.args.station.now c.command.new.self c.args.packet c.in-Err.refused _ _ _ _ c.args.held.now
+    answers_refused how c.args.station.now c.command.new.self c.args.packet c.in-Err.refused _ _ c.args.held.now
     c.hold.new.self c.hold.result is (rw c.in-Err.is at c.command.ensures.err)
-    (subst (λ (line : List ℕ). HoldsOrFails (g.W.Sink.contents c.args.writer.now) (g.W.Sink.failures c.args.writer.now)
+    (subst (λ (line : List ℕ). HoldsOrFails (g.W.Sink.state c.args.writer.now)
     (c.args.held.now ++ line) c.hold.result c.hold.new.self
-    (g.W.Sink.contents c.hold.new.writer) (g.W.Sink.failures c.hold.new.writer)) c.refusal_line.ensures.line
+    (g.W.Sink.state c.hold.new.writer)) c.refusal_line.ensures.line
     c.hold.ensures)

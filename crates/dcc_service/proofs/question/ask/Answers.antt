@@ -3,7 +3,7 @@ use Rattle.std.proofs.lemmas.List.{take_more}
 use Rattle.std.specs.Prelude.{◌||◌}
 use Rattle.std.specs.List.{list_any}
 use Rattle.dcc_service.specs.Question.{Steps, question_bytes, after_question, four_no_then}
-use Rattle.dcc_service.specs.Machine.{acknowledged}
+use Rattle.dcc_service.specs.Machine.{is_acknowledged}
 use Rattle.dcc_service.proofs.QuestionLemmas.{answers_of, any_of_answers, any-more, Steps-more}
 use Rattle.dcc_service.proofs.question.ask.Goals as goal
 use Rattle.dcc_service.proofs.question.ask.Goals.{After-loop-frame}
@@ -37,7 +37,7 @@ whole c =
     ∙ ap (λ (frames : List (List ℕ)). take 8 frames) c.question_frames-frames.ensures) c.loop-frame.invariant.1
 
 known : (c : After-loop-frame) → (c.loop-frame.decoder ≡ after_question c.args.decoder.now c.args.question.now)
-    × (c.loop-frame.invariant.0 ≡ four_no_then (acknowledged c.args.question.now c.args.decoder.now.cvs))
+    × (c.loop-frame.invariant.0 ≡ four_no_then (is_acknowledged c.args.question.now c.args.decoder.now.cvs))
 known c =
     answers_of c.args.question.now c.args.decoder.now c.loop-frame.decoder c.loop-frame.invariant.0
     c.cvs.ensures.bytes.count (whole c)
@@ -45,7 +45,7 @@ known c =
 pub returns-clause-answer : goal.returns-clause-answer
 returns-clause-answer c =
     c.loop-frame.invariant.2 ∙ ap (λ (answers : List Bool). list_any (λ answer. answer) answers) (known c).1
-    ∙ any_of_answers (acknowledged c.args.question.now c.args.decoder.now.cvs)
+    ∙ any_of_answers (is_acknowledged c.args.question.now c.args.decoder.now.cvs)
 
 pub returns-clause-after : goal.returns-clause-after
 returns-clause-after c = (known c).0

@@ -1,7 +1,7 @@
 use Rattle.std.proofs.Common.{◌≡◌, ◌∙◌, sym, ap, arith, subst, ◌+◌, [], ◌∷◌, ◌++◌, drop}
 use Rattle.dcc_packet.specs.declared.packet.Packet.{Packet}
 use Rattle.circular_buffer.specs.Buffer.{Buffer, buffer, keep_last}
-use Rattle.dcc_station.proofs.Left.{Passed, passed_all, passed_displaced, passed_kept, passed_front}
+use Rattle.dcc_station.proofs.EntriesLeft.{Passed, passed_all, passed_displaced, passed_kept, passed_front}
 use Rattle.dcc_station.proofs.Transparent.{not_both}
 use Rattle.dcc_station.proofs.entries.remove_displaced.Goals as goal
 use Rattle.dcc_station.proofs.entries.remove_displaced.Goals.{in-Some+then-not-displaces, in-Some+else-not-displaces}

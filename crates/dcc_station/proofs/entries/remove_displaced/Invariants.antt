@@ -1,5 +1,5 @@
 use Rattle.std.proofs.Common.{◌≡◌}
-use Rattle.dcc_station.proofs.Left.{Passed}
+use Rattle.dcc_station.proofs.EntriesLeft.{Passed}
 use Rattle.dcc_station.proofs.entries.remove_displaced.Given as goal
 
 abbrev pub invariant-loop : goal.invariant-loop

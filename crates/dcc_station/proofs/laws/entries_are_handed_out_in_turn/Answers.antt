@@ -1,4 +1,4 @@
-use Rattle.dcc_station.proofs.Turning.{in_turn}
+use Rattle.dcc_station.proofs.EntriesInTurn.{in_turn}
 use Rattle.dcc_station.proofs.laws.entries_are_handed_out_in_turn.Goals as goal
 
 pub returns : goal.returns

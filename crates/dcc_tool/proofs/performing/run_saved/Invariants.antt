@@ -1,5 +1,5 @@
 use Rattle.std.proofs.Common.{◌≡◌, map, take}
-use Rattle.dcc_tool.specs.Performs.{member_of}
+use Rattle.dcc_tool.specs.Performs.{decoder_of}
 use Rattle.dcc_tool.proofs.performing.run_saved.OwnLists.{own-1}
 use Rattle.dcc_tool.proofs.performing.run_saved.Given as goal
 
@@ -8,4 +8,4 @@ invariant-decoders g l =
     map (λ decoder.
     ((own-1.entry decoder.vtable).1.who decoder.value, (own-1.entry decoder.vtable).1.registers decoder.value))
     l.fleet.items
-    ≡ map member_of (take l.decoder-index l.decoder-items)
+    ≡ map decoder_of (take l.decoder-index l.decoder-items)

@@ -1,7 +1,7 @@
 use Rattle.std.proofs.Common.{ap, ◌∙◌}
 use Rattle.dcc_packet.specs.Words.{words}
 use Rattle.dcc_io.specs.DecoderLines.{head_line}
-use Rattle.dcc_io.specs.SoundLines.{IsPossibleHead}
+use Rattle.dcc_io.specs.PossibleLines.{IsPossibleHead}
 use Rattle.dcc_io.proofs.BlankLines.{blank_head}
 use Rattle.dcc_io.proofs.ReadLemmas.{line-judged, line-missed, judged-sound}
 use Rattle.dcc_io.proofs.input.Input.head.Goals as goal

@@ -1,7 +1,7 @@
 use Rattle.std.proofs.Common.{ap, ◌∙◌}
 use Rattle.dcc_packet.specs.Words.{words}
 use Rattle.dcc_io.specs.DecoderLines.{loco_line}
-use Rattle.dcc_io.specs.SoundLines.{IsSoundLine}
+use Rattle.dcc_io.specs.PossibleLines.{IsSoundLine}
 use Rattle.dcc_io.proofs.BlankLines.{blank_loco}
 use Rattle.dcc_io.proofs.ReadLemmas.{line-judged, line-missed, judged-sound}
 use Rattle.dcc_io.proofs.input.Input.loco_line.Goals as goal

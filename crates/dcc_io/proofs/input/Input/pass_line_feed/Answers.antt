@@ -1,5 +1,5 @@
 use Rattle.std.proofs.Common.{◌<◌, ap, sym, subst, ◌∙◌}
-use Rattle.dcc_io.specs.Front.{HasLineFeedAt}
+use Rattle.dcc_io.specs.Inner.FrontWords.{HasLineFeedAt}
 use Rattle.dcc_io.specs.InputState.{InputState}
 use Rattle.dcc_io.proofs.FrontLemmas.{passes_line_feed_at, open_with}
 use Rattle.dcc_io.proofs.input.Input.pass_line_feed.Goals as goal

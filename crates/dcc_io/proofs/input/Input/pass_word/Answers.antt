@@ -1,5 +1,5 @@
 use Rattle.std.proofs.Common.{Bool, ◌+◌, ◌<◌, ap, sym, subst, ◌∙◌, get_or, arith}
-use Rattle.dcc_io.specs.Front.{BeginsWithWord}
+use Rattle.dcc_io.specs.Inner.FrontWords.{BeginsWithWord}
 use Rattle.dcc_io.specs.InputState.{InputState, closing}
 use Rattle.dcc_io.proofs.FrontLemmas.{passes_word_at, line_of_gap, same_line_of_gap, open_with}
 use Rattle.dcc_io.proofs.input.Input.pass_word.Goals as goal

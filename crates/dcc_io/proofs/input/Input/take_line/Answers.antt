@@ -1,5 +1,5 @@
 use Rattle.std.proofs.Common.{ap, sym, subst, ◌∙◌}
-use Rattle.dcc_io.specs.FrontLine.{IsFrontLine}
+use Rattle.dcc_io.specs.Inner.FrontLine.{IsFrontLine}
 use Rattle.dcc_io.proofs.FrontLineLemmas.{takes_line_at, front_opens}
 use Rattle.dcc_io.specs.InputState.{InputState}
 use Rattle.dcc_io.proofs.input.Input.take_line.Goals as goal

@@ -12,7 +12,7 @@ use Rattle.dcc_order.specs.declared.places.Place.{Place}
 use Rattle.dcc_order.specs.FrameNumbers.{frame_number, IsIndex}
 use Rattle.dcc_order.specs.Held.{Held}
 use Rattle.dcc_order.specs.HeldPlaces.{AreHeld, held_at, members_at}
-use Rattle.dcc_order.specs.Members.{number_of}
+use Rattle.dcc_order.specs.Members.{member_number}
 use Rattle.dcc_order.proofs.IndexLaws.{number_found, known_index, new_index}
 use Rattle.dcc_order.proofs.HeldLaws.{count_of, on_ok, is_known, is_new, known_held, known_view, known_members}
 use Rattle.dcc_order.proofs.HeldLaws.{new_held, new_view, new_members}
@@ -51,7 +51,7 @@ invariant_of-self-then-number-self c =
     let frame_is : IsFrame (spelling x) = subst IsFrame c.frame.ensures c.frame_number-frame.ensures.valid in
     let key : c.frame_number-frame.result ≡ frame_number (spelling x) =
     c.frame_number-frame.ensures.number ∙ ap frame_number c.frame.ensures in
-    let found : c.number_at-number.result ≡ number_of (members_at places b.count) x =
+    let found : c.number_at-number.result ≡ member_number (members_at places b.count) x =
     c.number_at-number.ensures
     ∙ ap (λ k. unwrap_or (get nat_cmp b.index k) b.count) key
     ∙ number_found (get nat_cmp b.index) (members_at places b.count) x b.count c.self.invariant.1 frame_is
@@ -93,7 +93,7 @@ invariant_of-self-else-number-self c =
     let frame_is : IsFrame (spelling x) = subst IsFrame c.frame.ensures c.frame_number-frame.ensures.valid in
     let key : c.frame_number-frame.result ≡ frame_number (spelling x) =
     c.frame_number-frame.ensures.number ∙ ap frame_number c.frame.ensures in
-    let found : c.number_at-number.result ≡ number_of (members_at places b.count) x =
+    let found : c.number_at-number.result ≡ member_number (members_at places b.count) x =
     c.number_at-number.ensures
     ∙ ap (λ k. unwrap_or (get nat_cmp b.index k) b.count) key
     ∙ number_found (get nat_cmp b.index) (members_at places b.count) x b.count c.self.invariant.1 frame_is
@@ -104,15 +104,15 @@ invariant_of-self-else-number-self c =
     c.reserve-3.new.self.items c.push.ensures.items room
     ∙ ap (λ l. l ++ at_place c.number_at-number.result x ∷ []) c.reserve-3.ensures.items in
     let inside = is_known places b.count b.others.items held x (λ e. c.if-number-self.false (found ∙ e)) in
-    let items = placed c.push.new.self.items places c.number_at-number.result (number_of (members_at places b.count) x)
+    let items = placed c.push.new.self.items places c.number_at-number.result (member_number (members_at places b.count) x)
     x pushed found in
-    let now : (q : ℕ) → get nat_cmp c.insert.new.self q ≡ cond (is_at (nat_cmp (frame_number (spelling x))) q) (Some (number_of (members_at places b.count) x)) (get nat_cmp b.index q) = λ q.
+    let now : (q : ℕ) → get nat_cmp c.insert.new.self q ≡ cond (is_at (nat_cmp (frame_number (spelling x))) q) (Some (member_number (members_at places b.count) x)) (get nat_cmp b.index q) = λ q.
     c.in_ok-insert.ensures.updates.0 q
     ∙ ap (λ k. cond (is_at (nat_cmp k) q) (Some c.number_at-number.result) (get nat_cmp b.index q)) key
     ∙ ap (λ n. cond (is_at (nat_cmp (frame_number (spelling x))) q) (Some n) (get nat_cmp b.index q)) (found) in
     let members : members_at c.push.new.self.items b.count ≡ members_at places b.count =
     ap (λ ps. members_at ps b.count) items
-    ∙ known_members places b.count b.others.items held x (number_of (members_at places b.count) x) in (
+    ∙ known_members places b.count b.others.items held x (member_number (members_at places b.count) x) in (
       subst (λ ps. AreHeld ps b.count b.others.items) (sym items)
           (known_held places b.count b.others.items held x inside),
       subst (IsIndex (get nat_cmp c.insert.new.self)) (sym members)
@@ -131,7 +131,7 @@ returns-then-number-self-clause-ok c =
     let frame_is : IsFrame (spelling x) = subst IsFrame c.frame.ensures c.frame_number-frame.ensures.valid in
     let key : c.frame_number-frame.result ≡ frame_number (spelling x) =
     c.frame_number-frame.ensures.number ∙ ap frame_number c.frame.ensures in
-    let found : c.number_at-number.result ≡ number_of (members_at places b.count) x =
+    let found : c.number_at-number.result ≡ member_number (members_at places b.count) x =
     c.number_at-number.ensures
     ∙ ap (λ k. unwrap_or (get nat_cmp b.index k) b.count) key
     ∙ number_found (get nat_cmp b.index) (members_at places b.count) x b.count c.self.invariant.1 frame_is
@@ -159,7 +159,7 @@ returns-else-number-self-clause-ok c =
     let frame_is : IsFrame (spelling x) = subst IsFrame c.frame.ensures c.frame_number-frame.ensures.valid in
     let key : c.frame_number-frame.result ≡ frame_number (spelling x) =
     c.frame_number-frame.ensures.number ∙ ap frame_number c.frame.ensures in
-    let found : c.number_at-number.result ≡ number_of (members_at places b.count) x =
+    let found : c.number_at-number.result ≡ member_number (members_at places b.count) x =
     c.number_at-number.ensures
     ∙ ap (λ k. unwrap_or (get nat_cmp b.index k) b.count) key
     ∙ number_found (get nat_cmp b.index) (members_at places b.count) x b.count c.self.invariant.1 frame_is
@@ -170,7 +170,7 @@ returns-else-number-self-clause-ok c =
     c.reserve-3.new.self.items c.push.ensures.items room
     ∙ ap (λ l. l ++ at_place c.number_at-number.result x ∷ []) c.reserve-3.ensures.items in
     let inside = is_known places b.count b.others.items held x (λ e. c.if-number-self.false (found ∙ e)) in
-    let items = placed c.push.new.self.items places c.number_at-number.result (number_of (members_at places b.count) x)
+    let items = placed c.push.new.self.items places c.number_at-number.result (member_number (members_at places b.count) x)
     x pushed found in
     ap (λ ps. held_at ps b.count b.others.items) items
     ∙ known_view places b.count b.others.items held x inside

@@ -8,7 +8,7 @@ use Rattle.dcc_packet.specs.Spelling.{spelling}
 use Rattle.dcc_order.specs.FrameNumbers.{frame_number}
 use Rattle.dcc_order.specs.Held.{Held}
 use Rattle.dcc_order.specs.HeldPlaces.{AreHeld, held_at, members_at}
-use Rattle.dcc_order.specs.Members.{number_of}
+use Rattle.dcc_order.specs.Members.{member_number}
 use Rattle.dcc_order.proofs.IndexLaws.{number_found}
 use Rattle.dcc_order.proofs.HeldLaws.{count_of, is_known, is_foreign, second_held, second_view}
 use Rattle.dcc_order.proofs.held_blocks.HeldBlocks.push_second.Goals as goal
@@ -22,7 +22,7 @@ returns-then-number-self-clause-foreign c = λ is.
     let frame_is : IsFrame (spelling x) = subst IsFrame c.frame.ensures c.frame_number-frame.ensures.valid in
     let key : c.frame_number-frame.result ≡ frame_number (spelling x) =
     c.frame_number-frame.ensures.number ∙ ap frame_number c.frame.ensures in
-    let found : c.number_at-number.result ≡ number_of (members_at places b.count) x =
+    let found : c.number_at-number.result ≡ member_number (members_at places b.count) x =
     c.number_at-number.ensures
     ∙ ap (λ k. unwrap_or (get nat_cmp b.index k) b.count) key
     ∙ number_found (get nat_cmp b.index) (members_at places b.count) x b.count c.self.invariant.1 frame_is
@@ -41,7 +41,7 @@ invariant_of-self-2 c =
     let frame_is : IsFrame (spelling x) = subst IsFrame c.frame.ensures c.frame_number-frame.ensures.valid in
     let key : c.frame_number-frame.result ≡ frame_number (spelling x) =
     c.frame_number-frame.ensures.number ∙ ap frame_number c.frame.ensures in
-    let found : c.number_at-number.result ≡ number_of (members_at places b.count) x =
+    let found : c.number_at-number.result ≡ member_number (members_at places b.count) x =
     c.number_at-number.ensures
     ∙ ap (λ k. unwrap_or (get nat_cmp b.index k) b.count) key
     ∙ number_found (get nat_cmp b.index) (members_at places b.count) x b.count c.self.invariant.1 frame_is
@@ -63,7 +63,7 @@ returns-clause-known c = λ is.
     let frame_is : IsFrame (spelling x) = subst IsFrame c.frame.ensures c.frame_number-frame.ensures.valid in
     let key : c.frame_number-frame.result ≡ frame_number (spelling x) =
     c.frame_number-frame.ensures.number ∙ ap frame_number c.frame.ensures in
-    let found : c.number_at-number.result ≡ number_of (members_at places b.count) x =
+    let found : c.number_at-number.result ≡ member_number (members_at places b.count) x =
     c.number_at-number.ensures
     ∙ ap (λ k. unwrap_or (get nat_cmp b.index k) b.count) key
     ∙ number_found (get nat_cmp b.index) (members_at places b.count) x b.count c.self.invariant.1 frame_is

@@ -4,11 +4,11 @@ use Rattle.std.specs.Prelude.{Option}
 use Rattle.dcc_packet.specs.declared.address.Address.{Address}
 use Rattle.dcc_regs.specs.declared.register.Who.TheVariants.{Loco as LocoWho}
 use Rattle.dcc_regs.specs.Heard.{hears}
-use Rattle.dcc_regs.proofs.Stepping.{kept-after}
+use Rattle.dcc_regs.proofs.RegisterStep.{kept-after}
 use Rattle.dcc_packet.specs.Cvs.{cv_in}
 use Rattle.dcc_regs.specs.Loco.{loco_registers, LocoContent, is_pending_for}
 use Rattle.dcc_regs.specs.LocoDecoder.{content}
-use Rattle.dcc_regs.proofs.OneStep.{step-heard, pending-heard}
+use Rattle.dcc_regs.proofs.LocoStep.{step-heard, pending-heard}
 use Rattle.dcc_regs.proofs.loco.LocoDecoderDecoder.apply.Goals as goal
 
 pub returns-then-hears-clause-step : goal.returns-then-hears-clause-step

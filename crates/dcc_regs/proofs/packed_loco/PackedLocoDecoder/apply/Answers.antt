@@ -6,8 +6,8 @@ use Rattle.dcc_regs.specs.Heard.{hears}
 use Rattle.dcc_packet.specs.Cvs.{cv_in}
 use Rattle.dcc_regs.specs.Loco.{LocoContent, loco_registers}
 use Rattle.dcc_regs.specs.PackedLoco.{content}
-use Rattle.dcc_regs.proofs.OneStep.{step-heard, pending-heard}
-use Rattle.dcc_regs.proofs.Stepping.{kept-after}
+use Rattle.dcc_regs.proofs.LocoStep.{step-heard, pending-heard}
+use Rattle.dcc_regs.proofs.RegisterStep.{kept-after}
 use Rattle.dcc_regs.proofs.packed_loco.PackedLocoDecoder.apply.Goals as goal
 
 pub returns-then-hears-clause-step : goal.returns-then-hears-clause-step

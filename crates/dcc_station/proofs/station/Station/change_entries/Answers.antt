@@ -1,6 +1,6 @@
 use Rattle.std.proofs.Common.{◌∙◌, refl, ap, subst}
 use Rattle.dcc_station.specs.Sending.{Sending, ChangesEntries}
-use Rattle.dcc_station.proofs.Nexts.{first_changes, later_changes}
+use Rattle.dcc_station.proofs.NextPackets.{first_changes, later_changes}
 use Rattle.dcc_station.proofs.station.Station.change_entries.Goals as goal
 
 pub returns-then-self-eq0 : goal.returns-then-self-eq0

@@ -1,6 +1,6 @@
 use Rattle.std.proofs.Common.{◌∙◌, sym}
 use Rattle.dcc_station.specs.Refresh.{hands_out}
-use Rattle.dcc_station.proofs.Nexts.{nothing_waits}
+use Rattle.dcc_station.proofs.NextPackets.{nothing_waits}
 use Rattle.dcc_station.proofs.station.Station.next.Goals as goal
 
 pub refresh-requires : goal.refresh-requires

@@ -1,6 +1,6 @@
 use Rattle.std.proofs.Common.{◌∙◌, ap, drop}
 use Rattle.dcc_station.specs.Sending.{Sending, sent_once_more}
-use Rattle.dcc_station.proofs.Nexts.{hands_out_command}
+use Rattle.dcc_station.proofs.NextPackets.{hands_out_command}
 use Rattle.dcc_station.proofs.station.Station.send.Goals as goal
 
 pub returns : goal.returns

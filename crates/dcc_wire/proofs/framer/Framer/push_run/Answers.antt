@@ -1,7 +1,7 @@
 use Rattle.std.proofs.Common.{◌≡◌, ◌≢◌, ℕ, ◌+◌, ◌-◌, ◌++◌, List, length, replicate, ap, subst, ◌∙◌, rules, arith}
 use Rattle.dcc_wire.specs.declared.fault.Seen.TheVariants.{Nothing}
 use Rattle.dcc_wire.specs.Half.{class_of}
-use Rattle.dcc_wire.specs.Framing.{StandsFor, seen, reported}
+use Rattle.dcc_wire.specs.Framing.{StandsFor, seen, report_at}
 use Rattle.dcc_wire.specs.Runs.{IsQuietFor, rest_after_run}
 use Rattle.dcc_wire.proofs.RunLemmas.{run_stands, run_sees, run_more, skip_stands, skip_sees, quiet_after}
 use Rattle.dcc_wire.proofs.RunLemmas.{quiet_before, nothing_seen}
@@ -55,7 +55,7 @@ returns-then-not-is_nothing-clause-sees c = λ durations h.
     (quiet_then c) (skipped_then c) (stands_then c) durations h
     ∙ run_sees c.args.self.now c.loop-half.self c.push-seen.new.self c.args.us c.loop-half.at c.push-seen.result
     c.loop-half.invariant.0 c.push-seen.ensures.stands c.push-seen.ensures.sees durations h
-    ∙ ap (λ k. seen durations ++ reported k c.push-seen.result) place
+    ∙ ap (λ k. seen durations ++ report_at k c.push-seen.result) place
 
 pub loop-half-preserved : goal.loop-half-preserved
 loop-half-preserved c =

@@ -3,7 +3,7 @@ use Rattle.dcc_wire.specs.declared.fault.Seen.TheVariants.{Nothing}
 use Rattle.dcc_wire.specs.Outcomes.{outcome_of}
 use Rattle.dcc_wire.specs.Framing.{Hunting, InBody}
 use Rattle.dcc_wire.specs.FramerState.{rest_of}
-use Rattle.dcc_wire.specs.Steps.{rest_after, left_of}
+use Rattle.dcc_wire.specs.Inner.Steps.{rest_after, left_of}
 use Rattle.dcc_wire.proofs.OutcomeLemmas.{outcome_of-something}
 use Rattle.dcc_wire.proofs.HistoryLemmas.{HasHistory, history_more, left_of-outcome}
 use Rattle.dcc_wire.proofs.framer.Framer.take_half.Goals as goal

@@ -1,7 +1,7 @@
 use Rattle.std.proofs.Common.{◌≡◌, ◌+◌, ◌*◌, ◌<◌, ◌++◌, [], ◌∷◌, false, cond, length, refl, sym, ap, ◌∙◌, arith}
 use Rattle.std.proofs.Common.{add-one, suc}
 use Rattle.std.proofs.lemmas.Bool.Decides.{nat_tests}
-use Rattle.dcc_wire.specs.Outcomes.{closed}
+use Rattle.dcc_wire.specs.Outcomes.{body_outcome}
 use Rattle.dcc_wire.specs.Packed.{packed_bits}
 use Rattle.dcc_wire.proofs.BitNumbers.{byte_of_bool}
 use Rattle.dcc_wire.proofs.OutcomeLemmas.{answer-closed, answer-full, answer-open, something_closed}
@@ -25,7 +25,7 @@ returns-then-bit-clause-answer c =
     let inside = c.self.inside in
     let bits = packed_bits inside.bytes.items inside.count inside.shift in
     rw (c.if-bit.true, ← c.self.view_is)
-    (c.close.ensures ∙ ap closed c.as_slice.ensures.value
+    (c.close.ensures ∙ ap body_outcome c.as_slice.ensures.value
     ∙ sym (answer-closed bits inside.bytes.items
     (closed_by_one inside.bytes.items inside.xor inside.count inside.shift c.self.invariant
     c.if-self-eq0.true)))

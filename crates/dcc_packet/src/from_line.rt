@@ -1,0 +1,110 @@
+//! Packet lines.
+ghost use Rattle.std.specs.Prelude.{◌≡◌};
+ghost use Rattle.dcc_packet.specs.Words.{words};
+ghost use Rattle.dcc_packet.specs.Line.{idle, accessory, signal, frame, Says, spelling_or_fault};
+
+use crate::line_word::{board_number, hex_frame, output_number, signal_number, switch};
+use crate::numeral::small_number;
+use crate::words::Words;
+use crate::{Packet, PacketFault};
+
+impl Packet {
+    /// The packet of a line, which is one of these:
+    ///
+    /// ```text
+    /// idle
+    /// loco TO reset
+    /// loco TO speed28 f|r BITS
+    /// loco TO speed128 f|r BITS
+    /// loco TO functions GROUP BITS
+    /// loco TO state NUMBER on|off
+    /// loco TO cv write CV VALUE
+    /// loco TO cv verify CV VALUE
+    /// loco TO cv bitwrite CV PLACE 0|1
+    /// loco TO cv bitverify CV PLACE 0|1
+    /// accessory BOARD OUTPUT on|off
+    /// signal ADDRESS ASPECT
+    /// frame HEX
+    /// ```
+    ///
+    /// Words stand between spaces, tabs and carriage returns. TO is `all`, or `s` or `l` and a number; `f`
+    /// is forward, `r` reverse; GROUP is 0, 5, 9, 13, 21, 29, 37, 45, 53 or 61. A number has 1 to 5 decimal
+    /// digits and is at most 65535, or 255 for BITS, NUMBER, VALUE, PLACE, OUTPUT, ASPECT and after `s`. HEX
+    /// are the bytes of a frame, the error byte last.
+    ///
+    /// Words are judged from left to right and the first fault decides: P10 a word that may not stand there
+    /// or is missing, P11 a wrong number, P1 to P9 and P14 a number out of the range of its value, P12 hex digits
+    /// that are no frame, and last P10 for a word too many.
+    pub fn from_line(line: &str) -> Result<Packet, PacketFault>
+        ensures { Says (words line.now) result }
+    {
+        Words::new(line.as_bytes()).packet()
+    }
+
+    /// The packet of a line of bytes that need be no text, in the same way.
+    pub fn from_line_bytes(line: &[u8]) -> Result<Packet, PacketFault>
+        ensures { Says (words line.now) result }
+    {
+        Words::new(line).packet()
+    }
+}
+
+impl<'a> Words<'a> {
+    #[tactic(auto, unfolding(crate::specs::Line::frame_of_words))]
+    fn packet(&mut self) -> Result<Packet, PacketFault>
+        ensures { Says self.old result }
+    {
+        let word = self.word()?;
+        if word == b"idle".as_slice() {
+            self.idle()
+        } else if word == b"loco".as_slice() {
+            self.loco()
+        } else if word == b"accessory".as_slice() {
+            self.accessory()
+        } else if word == b"signal".as_slice() {
+            self.signal()
+        } else if word == b"frame".as_slice() {
+            self.frame()
+        } else {
+            Err(PacketFault::Word)
+        }
+    }
+
+    #[tactic(auto, unfolding(crate::specs::Line::idle))]
+    fn idle(&mut self) -> Result<Packet, PacketFault>
+        ensures { result ≡ idle self.old }
+    {
+        self.end()?;
+        Ok(Packet::Idle)
+    }
+
+    #[tactic(auto, unfolding(crate::specs::Line::accessory))]
+    fn accessory(&mut self) -> Result<Packet, PacketFault>
+        ensures { result ≡ accessory self.old }
+    {
+        let board = board_number(self.word()?)?;
+        let output = output_number(self.word()?)?;
+        let on = switch(self.word()?)?;
+        self.end()?;
+        Ok(Packet::Accessory { board, output, on })
+    }
+
+    #[tactic(auto, unfolding(crate::specs::Line::signal))]
+    fn signal(&mut self) -> Result<Packet, PacketFault>
+        ensures { result ≡ signal self.old }
+    {
+        let address = signal_number(self.word()?)?;
+        let aspect = small_number(self.word()?)?;
+        self.end()?;
+        Ok(Packet::Signal { address, aspect })
+    }
+
+    #[tactic(auto, unfolding(crate::specs::Line::frame))]
+    fn frame(&mut self) -> Result<Packet, PacketFault>
+        ensures { spelling_or_fault result ≡ frame self.old }
+    {
+        let frame = hex_frame(self.word()?)?;
+        self.end()?;
+        Ok(Packet::read(&frame))
+    }
+}

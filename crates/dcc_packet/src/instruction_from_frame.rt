@@ -1,0 +1,173 @@
+//! Instructions of bytes (NMRA S-9.2.1, RCN-212, RCN-214).
+ghost use Rattle.std.specs.Prelude.{◌≡◌, ◌≢◌, ◌≤◌, ◌<◌, ◌-◌, ◌/◌, ◌%◌, ◌∷◌, [], IfSome, IfNone};
+ghost use Rattle.dcc_packet.specs.Rows.{instruction_bytes, cv_bytes};
+ghost use Rattle.dcc_packet.specs.declared.instruction.What.{What};
+
+use crate::bits::is_set;
+use crate::{BitPlace, CvNumber, Group, GroupBits, SpeedBits28, SpeedBits128, StateNumber, What};
+
+/// The instruction of these bytes, where there is one.
+pub(crate) fn instruction(bytes: &[u8]) -> Option<What>
+    ensures found { IfSome result (λ what. instruction_bytes what ≡ bytes.now) }
+    ensures none { IfNone result ((what : What) → instruction_bytes what ≢ bytes.now) }
+{
+    match *bytes {
+        [byte] => one_byte(byte),
+        [first, second] => two_bytes(first, second),
+        [first, second, last] => three_bytes(first, second, last),
+        _ => None,
+    }
+}
+
+/// An instruction of one byte.
+fn one_byte(byte: u8) -> Option<What>
+    ensures found { IfSome result (λ what. instruction_bytes what ≡ byte ∷ []) }
+    ensures none { IfNone result ((what : What) → instruction_bytes what ≢ byte ∷ []) }
+{
+    match byte {
+        0x00 => Some(What::Reset),
+        0x40..=0x7F => Some(speed28(byte)),
+        0x80..=0xBF => Some(narrow_group(byte)),
+        _ => None,
+    }
+}
+
+/// An instruction of two bytes.
+fn two_bytes(first: u8, second: u8) -> Option<What>
+    ensures found { IfSome result (λ what. instruction_bytes what ≡ first ∷ second ∷ []) }
+    ensures none { IfNone result ((what : What) → instruction_bytes what ≢ first ∷ second ∷ []) }
+{
+    match first {
+        0x3F => Some(speed128(second)),
+        0xD8..=0xDF => Some(two_byte_functions(first, second)),
+        _ => None,
+    }
+}
+
+/// An instruction of three bytes.
+fn three_bytes(first: u8, second: u8, last: u8) -> Option<What>
+    ensures found { IfSome result (λ what. instruction_bytes what ≡ first ∷ second ∷ last ∷ []) }
+    ensures none { IfNone result ((what : What) → instruction_bytes what ≢ first ∷ second ∷ last ∷ []) }
+{
+    match first {
+        0xE4..=0xEF => cv_access(first, second, last),
+        _ => None,
+    }
+}
+
+/// A baseline speed, 01DCSSSS.
+fn speed28(byte: u8) -> What
+    requires low { 0x40 ≤ byte }
+    requires high { byte < 0x80 }
+    ensures { instruction_bytes result ≡ byte ∷ [] }
+{
+    let bits = (byte & 0x0F) << 1 | byte >> 4 & 1;
+    What::Speed28 {
+        forward: is_set(byte, 5),
+        bits: SpeedBits28 { bits },
+    }
+}
+
+/// A group whose bits stand in the first byte: 100DDDDD, 1011DDDD or 1010DDDD.
+fn narrow_group(byte: u8) -> What
+    requires low { 0x80 ≤ byte }
+    requires high { byte < 0xC0 }
+    ensures { instruction_bytes result ≡ byte ∷ [] }
+{
+    let functions = match byte {
+        0x80..=0x9F => GroupBits {
+            group: Group::F0,
+            bits: byte & 0x1F,
+        },
+        0xA0..=0xAF => GroupBits {
+            group: Group::F9,
+            bits: byte & 0x0F,
+        },
+        _ => GroupBits {
+            group: Group::F5,
+            bits: byte & 0x0F,
+        },
+    };
+    What::Functions(functions)
+}
+
+/// A speed in 128 steps, DSSSSSSS.
+fn speed128(byte: u8) -> What
+    ensures { instruction_bytes result ≡ 0x3F ∷ byte ∷ [] }
+{
+    What::Speed128 {
+        forward: is_set(byte, 7),
+        bits: SpeedBits128 { bits: byte & 0x7F },
+    }
+}
+
+/// A group whose bits stand in the second byte, or a binary state, DLLLLLLL.
+fn two_byte_functions(first: u8, bits: u8) -> What
+    requires low { 0xD8 ≤ first }
+    requires high { first < 0xE0 }
+    ensures { instruction_bytes result ≡ first ∷ bits ∷ [] }
+{
+    let group = match first {
+        0xDE => Group::F13,
+        0xDF => Group::F21,
+        0xD8 => Group::F29,
+        0xD9 => Group::F37,
+        0xDA => Group::F45,
+        0xDB => Group::F53,
+        0xDC => Group::F61,
+        _ => return binary_state(bits),
+    };
+    What::Functions(GroupBits { group, bits })
+}
+
+/// A binary state in the short form, DLLLLLLL.
+fn binary_state(byte: u8) -> What
+    ensures { instruction_bytes result ≡ 0xDD ∷ byte ∷ [] }
+{
+    What::BinaryState {
+        number: StateNumber {
+            number: byte & 0x7F,
+        },
+        on: is_set(byte, 7),
+    }
+}
+
+/// A write of a byte, a verify of a byte, or a bit access to a CV: 1110KKVV VVVVVVVV and a last byte.
+fn cv_access(first: u8, second: u8, last: u8) -> Option<What>
+    requires low { 0xE4 ≤ first }
+    requires high { first < 0xF0 }
+    ensures found { IfSome result (λ what. instruction_bytes what ≡ first ∷ second ∷ last ∷ []) }
+    ensures none { IfNone result ((what : What) → instruction_bytes what ≢ first ∷ second ∷ last ∷ []) }
+{
+    let cv = cv_in_bytes(first, second);
+    match first {
+        0xEC..=0xEF => Some(What::CvWrite { cv, value: last }),
+        0xE4..=0xE7 => Some(What::CvVerify { cv, value: last }),
+        _ => bit_access(cv, last),
+    }
+}
+
+/// A write or a verify of a bit of a CV: 1111DBBB or 1110DBBB.
+fn bit_access(cv: CvNumber, last: u8) -> Option<What>
+    ensures found { IfSome result (λ what. instruction_bytes what ≡ cv_bytes 0xE8 cv.number last) }
+    ensures none { IfNone result (last < 0xE0) }
+{
+    let place = BitPlace { place: last & 7 };
+    let one = is_set(last, 3);
+    match last {
+        0xF0..=0xFF => Some(What::CvBitWrite { cv, place, one }),
+        0xE0..=0xEF => Some(What::CvBitVerify { cv, place, one }),
+        _ => None,
+    }
+}
+
+/// The CV of an access: its two high bits and its eight low bits, from 0.
+fn cv_in_bytes(first: u8, second: u8) -> CvNumber
+    ensures high { (result.number - 1) / 256 ≡ first % 4 }
+    ensures low { (result.number - 1) % 256 ≡ second }
+{
+    let from_zero = u16::from(first & 3) << 8 | u16::from(second);
+    CvNumber {
+        number: from_zero + 1,
+    }
+}

@@ -1,0 +1,125 @@
+//! Packets as lines.
+ghost use Rattle.std.specs.Prelude.{◌≡◌, ◌+◌, ◌≤◌, ◌<◌, ◌++◌, ◌∷◌, [], length, codes, Result, Ok};
+ghost use Rattle.std.specs.Fmt.{decimal};
+ghost use Rattle.arrayvec.specs.ArrayString.{array_string_len};
+ghost use Rattle.dcc_packet.specs.declared.packet.Packet.{Packet};
+ghost use Rattle.dcc_packet.specs.declared.fault.PacketFault.{PacketFault};
+ghost use Rattle.dcc_packet.specs.Words.{words};
+ghost use Rattle.dcc_packet.specs.Line.{Says};
+ghost use Rattle.dcc_packet.specs.Spelling.{BytesFit, ValueFits};
+ghost use Rattle.dcc_packet.specs.Written.{state_word, instruction_words, spaced_words, written_line};
+
+use crate::to_line_word::{
+    Line, direction_word, group_word, put_address, put_hex, put_number, put_word, state_word,
+    switch_word,
+};
+use crate::{BitPlace, CvNumber, Packet, What};
+use arrayvec::ArrayString;
+
+impl Packet {
+    /// The line of the packet, without a line end: the words of its form with one space between two,
+    /// numbers without leading zeros, hex in lower case. A packet in no row is written as `frame`.
+    /// `from_line` reads it back as this packet.
+    #[tactic(auto, using(crate::proofs::RoundTrip::says_back))]
+    pub fn to_line(&self) -> ArrayString<40>
+        ensures bytes { result.bytes ≡ written_line self.now }
+        ensures fits { BytesFit self.now }
+        ensures says { Says (words result.bytes) (Ok self.now) }
+        ensures read_back { (answer : Result Packet PacketFault)
+            → Says (words result.bytes) answer → answer ≡ Ok self.now }
+    {
+        self.written()
+    }
+
+    /// The line, and that the bytes of the packet are bytes.
+    fn written(&self) -> ArrayString<40>
+        ensures bytes { result.bytes ≡ written_line self.now }
+        ensures fits { BytesFit self.now }
+    {
+        let mut line = Line::new();
+        match self {
+            Packet::Idle => line.push_str("idle"),
+            Packet::Loco { to, what } => {
+                line.push_str("loco");
+                put_address(&mut line, to);
+                put_instruction(&mut line, what);
+            }
+            Packet::Accessory { board, output, on } => {
+                line.push_str("accessory");
+                put_number(&mut line, board.number);
+                put_number(&mut line, u16::from(output.number));
+                put_word(&mut line, switch_word(*on));
+            }
+            Packet::Signal { address, aspect } => {
+                line.push_str("signal");
+                put_number(&mut line, address.number);
+                put_number(&mut line, u16::from(*aspect));
+            }
+            Packet::Other(other) => {
+                line.push_str("frame ");
+                put_hex(&mut line, other.bytes());
+            }
+        }
+        line
+    }
+}
+
+/// The words behind the address, each behind a space.
+fn put_instruction(line: &mut Line, what: &What)
+    requires { array_string_len line.old + 28 ≤ 40 }
+    ensures bytes { line.new.bytes ≡ line.old.bytes ++ spaced_words (instruction_words what.now) }
+    ensures fits { ValueFits what.now }
+{
+    match what {
+        What::Reset => put_word(line, "reset"),
+        What::Speed28 { forward, bits } => {
+            put_word(line, "speed28");
+            put_word(line, direction_word(*forward));
+            put_number(line, u16::from(bits.bits));
+        }
+        What::Speed128 { forward, bits } => {
+            put_word(line, "speed128");
+            put_word(line, direction_word(*forward));
+            put_number(line, u16::from(bits.bits));
+        }
+        What::Functions(functions) => {
+            put_word(line, "functions");
+            put_word(line, group_word(functions.group));
+            put_number(line, u16::from(functions.bits));
+        }
+        What::BinaryState { number, on } => {
+            put_word(line, "state");
+            put_number(line, u16::from(number.number));
+            put_word(line, switch_word(*on));
+        }
+        What::CvWrite { cv, value } => put_cv_value(line, "write", cv, *value),
+        What::CvVerify { cv, value } => put_cv_value(line, "verify", cv, *value),
+        What::CvBitWrite { cv, place, one } => put_cv_bit(line, "bitwrite", cv, place, *one),
+        What::CvBitVerify { cv, place, one } => put_cv_bit(line, "bitverify", cv, place, *one),
+    }
+}
+
+/// `cv`, the access, the CV and a value.
+fn put_cv_value(line: &mut Line, access: &str, cv: &CvNumber, value: u8)
+    requires room { array_string_len line.old + 28 ≤ 40 }
+    requires short { length access.now ≤ 9 }
+    ensures bytes { line.new.bytes ≡ line.old.bytes
+        ++ spaced_words (codes "cv" ∷ access.now ∷ decimal cv.now.number ∷ decimal value ∷ []) }
+    ensures len { array_string_len line.new ≤ array_string_len line.old + 25 }
+{
+    put_word(line, "cv");
+    put_word(line, access);
+    put_number(line, cv.number);
+    put_number(line, u16::from(value));
+}
+
+/// `cv`, the access, the CV, a place and a state.
+fn put_cv_bit(line: &mut Line, access: &str, cv: &CvNumber, place: &BitPlace, one: bool)
+    requires room { array_string_len line.old + 28 ≤ 40 }
+    requires short { length access.now ≤ 9 }
+    ensures { let numbers = decimal cv.now.number ∷ decimal place.now.place ∷ state_word one ∷ [] in
+        line.new.bytes ≡ line.old.bytes ++ spaced_words (codes "cv" ∷ access.now ∷ numbers) }
+{
+    put_cv_value(line, access, cv, place.place);
+    put_word(line, state_word(one));
+}

@@ -1,0 +1,63 @@
+-- Worked rows, computed.
+use Rattle.std.specs.Prelude.{◌≡◌, ℕ, List, [], ◌∷◌, ◌++◌, take, replicate, refl}
+use Rattle.dcc_wire.specs.declared.half.Half.{Half}
+use Rattle.dcc_wire.specs.declared.half.Half.TheVariants.{One, Zero, Bad}
+use Rattle.dcc_wire.specs.declared.fault.Fault.TheVariants.{BadHalf, SplitBit, TooShort, TooLong, ErrorByte}
+use Rattle.dcc_wire.specs.declared.fault.Seen.{Seen}
+use Rattle.dcc_wire.specs.declared.fault.Seen.TheVariants.{Packet, Refused}
+use Rattle.dcc_wire.specs.Bodies.{halves_of, bits_of, number_of, body_bits, body}
+use Rattle.dcc_wire.specs.Outcomes.{bits_in, behind_bits, bytes_in, body_outcome, by_bits, by_halves, outcome_of}
+use Rattle.dcc_wire.specs.Outcomes.{ones_left}
+use Rattle.dcc_wire.specs.Framing.{ones_before, ones_at_end, halves_used, used_up, is_start, starts_below, outcome_at}
+use Rattle.dcc_wire.specs.Framing.{outcomes_at, seen}
+
+-- halves of a one and of a zero as a station sends them, and a bad one
+durations_of : List Half → List ℕ
+durations_of [] = []
+durations_of (One ∷ halves) = 58 ∷ durations_of halves
+durations_of (Zero ∷ halves) = 100 ∷ durations_of halves
+durations_of (Bad ∷ halves) = 70 ∷ durations_of halves
+
+-- what these halves show behind so many halves of ones, each outcome with the place of its last half
+seen_behind : ℕ → List Half → List (ℕ × Seen)
+seen_behind ones halves = seen (durations_of (replicate ones One ++ halves))
+
+record Rows : Type 0 where
+  preamble_of_19_halves : seen_behind 19 (body (3 ∷ 98 ∷ 97 ∷ [])) ≡ []
+  preamble_of_20_halves : seen_behind 20 (body (3 ∷ 98 ∷ 97 ∷ [])) ≡ (75, Packet (3 ∷ 98 ∷ 97 ∷ [])) ∷ []
+  preamble_of_21_halves : seen_behind 21 (body (3 ∷ 98 ∷ 97 ∷ [])) ≡ (76, Packet (3 ∷ 98 ∷ 97 ∷ [])) ∷ []
+  preamble_of_29_halves : seen_behind 29 (body (3 ∷ 98 ∷ 97 ∷ [])) ≡ (84, Packet (3 ∷ 98 ∷ 97 ∷ [])) ∷ []
+  bad_half : seen_behind 28 (Zero ∷ Zero ∷ Bad ∷ []) ≡ (30, Refused BadHalf) ∷ []
+  split_bit : seen_behind 28 (Zero ∷ Zero ∷ One ∷ Zero ∷ []) ≡ (31, Refused SplitBit) ∷ []
+  split_start_bit : seen_behind 28 (Zero ∷ One ∷ []) ≡ (29, Refused SplitBit) ∷ []
+  two_bytes : seen_behind 28 (body (3 ∷ 3 ∷ [])) ≡ (65, Refused TooShort) ∷ []
+  six_bytes_and_a_zero : seen_behind 28
+      (take 108 (body (1 ∷ 2 ∷ 3 ∷ 4 ∷ 5 ∷ 6 ∷ [])) ++ Zero ∷ Zero ∷ []) ≡ (137, Refused TooLong) ∷ []
+  wrong_error_byte : seen_behind 28 (body (3 ∷ 98 ∷ 96 ∷ [])) ≡ (83, Refused (ErrorByte (3 ∷ 98 ∷ 96 ∷ []))) ∷ []
+  -- the end bit counts towards the next preamble, and the ones of an error byte before it do not
+  end_bit_and_18_halves : seen_behind 20
+      (body (3 ∷ 98 ∷ 97 ∷ []) ++ replicate 18 One ++ body (3 ∷ 127 ∷ 124 ∷ []))
+      ≡ (75, Packet (3 ∷ 98 ∷ 97 ∷ [])) ∷ (149, Packet (3 ∷ 127 ∷ 124 ∷ [])) ∷ []
+  error_byte_of_ones_and_16_halves : seen_behind 20
+      (body (255 ∷ 0 ∷ 255 ∷ []) ++ replicate 16 One ++ body (3 ∷ 127 ∷ 124 ∷ []))
+      ≡ (75, Packet (255 ∷ 0 ∷ 255 ∷ [])) ∷ []
+
+rows : Rows
+unfolding seen_behind durations_of seen outcome_at outcomes_at starts_below is_start used_up halves_used ones_at_end
+    ones_before outcome_of bits_in behind_bits bytes_in body_outcome by_bits by_halves ones_left body halves_of
+    body_bits
+    bits_of number_of
+rows = record {
+  preamble_of_19_halves = refl;
+  preamble_of_20_halves = refl;
+  preamble_of_21_halves = refl;
+  preamble_of_29_halves = refl;
+  bad_half = refl;
+  split_bit = refl;
+  split_start_bit = refl;
+  two_bytes = refl;
+  six_bytes_and_a_zero = refl;
+  wrong_error_byte = refl;
+  end_bit_and_18_halves = refl;
+  error_byte_of_ones_and_16_halves = refl;
+}
