@@ -9,7 +9,7 @@ use Rattle.dcc_regs.specs.declared.register.Who.{Who}
 use Rattle.dcc_io.specs.declared.fault.ToolFault.{ToolFault}
 use Rattle.dcc_io.specs.declared.fault.ToolFault.TheVariants as fault
 use Rattle.dcc_io.specs.declared.fault.Usage.TheVariants as usage
-use Rattle.dcc_io.specs.WhoWord.{who_named}
+use Rattle.dcc_saved.specs.WhoWord.{who_named}
 use Rattle.dcc_send.specs.declared.encoding.Encode.{Encode}
 use Rattle.dcc_tool.specs.declared.performing.Request.{Request}
 use Rattle.dcc_tool.specs.declared.performing.Request.TheVariants as request

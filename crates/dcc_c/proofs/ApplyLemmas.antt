@@ -4,12 +4,12 @@ use Rattle.std.specs.Prelude.{Option, None, Some, IfSome, Result, Ok}
 use Rattle.dcc_packet.specs.declared.packet.Packet.{Packet}
 use Rattle.dcc_regs.specs.declared.loco_state.LocoState.{LocoState}
 use Rattle.dcc_regs.specs.declared.register.Who.{Who}
-use Rattle.dcc_regs.specs.LocoState.{is_state}
+use Rattle.dcc_regs.specs.LocoState.{is_state, loco_who, loco_map}
 use Rattle.dcc_regs.specs.Result.{RegisterMap}
 use Rattle.dcc_regs.specs.declared.board_state.BoardState.{BoardState}
 use Rattle.dcc_c.specs.Applied.{HasApplied}
-use Rattle.dcc_c.specs.Boards.{is_single, board_who, board_map}
-use Rattle.dcc_c.specs.Locos.{loco_who, loco_map}
+use Rattle.dcc_c.specs.Boards.{is_single}
+use Rattle.dcc_regs.specs.BoardState.{board_who, board_map}
 
 pub applied : (packet : Packet) (w u w' u' : Who) (m n m' n' : RegisterMap) → w ≡ u → w' ≡ u' → m ≡ n → m' ≡ n'
     → HasApplied packet w m w' m' → HasApplied packet u n u' n'

@@ -1,11 +1,6 @@
 -- The numbers of an accessory decoder.
 use Rattle.std.specs.Prelude.{Bool, nat_le}
 use Rattle.dcc_regs.specs.declared.board_state.BoardState.{BoardState}
-use Rattle.dcc_regs.specs.declared.register.Who.{Who}
-use Rattle.dcc_regs.specs.declared.register.Who.TheVariants.{Board as BoardWho}
-use Rattle.dcc_regs.specs.Board.{board_registers}
-use Rattle.dcc_regs.specs.BoardState.{content}
-use Rattle.dcc_regs.specs.Result.{RegisterMap}
 use Rattle.dcc_c.specs.declared.board.DccBoard.{DccBoard}
 
 -- the numbers of a decoder in a state
@@ -15,10 +10,3 @@ board_numbers s = record { number = s.board.number; outs = s.outs; positions = s
 -- its board is a single one: 511 stands for every board
 abbrev pub is_single : BoardState → Bool
 is_single s = nat_le s.board.number 510
-
--- what a decoder in this state is, and what its registers hold
-abbrev pub board_who : BoardState → Who
-board_who s = BoardWho s.board
-
-abbrev pub board_map : BoardState → RegisterMap
-board_map s = board_registers (content s)

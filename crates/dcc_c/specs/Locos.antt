@@ -6,11 +6,6 @@ use Rattle.dcc_packet.specs.Spelling.{spelling}
 use Rattle.dcc_regs.specs.declared.loco_state.LocoState.{LocoState}
 use Rattle.dcc_regs.specs.declared.register.Speed.{Speed}
 use Rattle.dcc_regs.specs.declared.register.Speed.TheVariants.{Stop, Emergency, Step14, Step28, Step126}
-use Rattle.dcc_regs.specs.declared.register.Who.{Who}
-use Rattle.dcc_regs.specs.declared.register.Who.TheVariants.{Loco as LocoWho}
-use Rattle.dcc_regs.specs.Loco.{loco_registers}
-use Rattle.dcc_regs.specs.LocoState.{content}
-use Rattle.dcc_regs.specs.Result.{RegisterMap}
 use Rattle.dcc_c.specs.declared.frame.DccFrame.{DccFrame}
 use Rattle.dcc_c.specs.declared.loco_numbers.DccLoco.{DccLoco}
 use Rattle.dcc_c.specs.Frames.{frame_numbers}
@@ -62,10 +57,3 @@ loco_numbers s = record {
   states = words_of s.states;
   cvs = s.cvs;
 }
-
--- what a decoder in this state is, and what its registers hold
-abbrev pub loco_who : LocoState → Who
-loco_who s = LocoWho s.address
-
-abbrev pub loco_map : LocoState → RegisterMap
-loco_map s = loco_registers (content s)

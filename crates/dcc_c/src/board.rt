@@ -7,7 +7,8 @@ ghost use Rattle.dcc_packet.specs.Spelling.{spelling};
 ghost use Rattle.dcc_regs.specs.declared.board_state.BoardState.{BoardState};
 ghost use Rattle.dcc_regs.specs.Board.{board_registers, made};
 ghost use Rattle.dcc_c.specs.Applied.{HasApplied};
-ghost use Rattle.dcc_c.specs.Boards.{is_single, board_map, board_numbers, board_who};
+ghost use Rattle.dcc_c.specs.Boards.{is_single, board_numbers};
+ghost use Rattle.dcc_regs.specs.BoardState.{board_map, board_who};
 ghost use Rattle.dcc_c.specs.Frames.{frame_answer};
 
 use crate::frame::frame_of;

@@ -4,14 +4,12 @@ ghost use Rattle.std.specs.Prelude.{◌≡◌, ◌≢◌, true, Some, IfSome};
 ghost use Rattle.dcc_packet.specs.declared.packet.Packet.{Packet};
 ghost use Rattle.dcc_packet.specs.Spelling.{spelling};
 ghost use Rattle.dcc_regs.specs.declared.loco_state.LocoState.{LocoState};
-ghost use Rattle.dcc_regs.specs.declared.register.Who.TheVariants.{Loco as LocoWho};
-ghost use Rattle.dcc_regs.specs.Addresses.{active_address};
 ghost use Rattle.dcc_packet.specs.Cvs.{cv_in};
-ghost use Rattle.dcc_regs.specs.Loco.{loco_registers, start_content};
-ghost use Rattle.dcc_regs.specs.LocoState.{is_state};
+ghost use Rattle.dcc_regs.specs.Loco.{start_map, start_who};
+ghost use Rattle.dcc_regs.specs.LocoState.{is_state, loco_map, loco_who};
 ghost use Rattle.dcc_c.specs.Frames.{frame_answer};
 ghost use Rattle.dcc_c.specs.Applied.{HasApplied};
-ghost use Rattle.dcc_c.specs.Locos.{loco_map, loco_numbers, loco_who};
+ghost use Rattle.dcc_c.specs.Locos.{loco_numbers};
 
 use crate::frame::frame_of;
 use crate::loco_numbers::{DccLoco, numbers, state_of};
@@ -22,7 +20,7 @@ use dcc_regs::{Decoder, LocoState, PackedLoco};
 #[unsafe(no_mangle)]
 pub extern "C" fn dcc_loco_new(loco: &mut DccLoco, cvs: &[u8; 1024])
     ensures { (state : LocoState) × (is_state state ≡ true) × (loco.new ≡ loco_numbers state)
-        × (loco_who state ≡ LocoWho (active_address (cv_in cvs.now))) × (loco_map state ≡ loco_registers (start_content (cv_in cvs.now))) }
+        × (loco_who state ≡ start_who (cv_in cvs.now)) × (loco_map state ≡ start_map (cv_in cvs.now)) }
 {
     *loco = numbers(&PackedLoco::new(cvs).state());
 }

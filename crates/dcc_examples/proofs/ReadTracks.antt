@@ -26,17 +26,6 @@ pub record Reading (who : Who) (left right left_rest right_rest : List Packet) (
   pub left_side : Side left lists.left lists.left_ended left_rest left_ended
   pub right_side : Side right lists.right lists.right_ended right_rest right_ended
 
--- the verdict of all that may follow is that of the two tracks
-pub whole_verdict : (who : Who) (left right left_rest right_rest : List Packet) (left_ended right_ended : Bool)
-    (c : Comparison) (v : Verdict) →
-    (g : Reading who left right left_rest right_rest left_ended right_ended c) → IsVerdictOfAll c.who g.lists v
-    → IsVerdict who left right v
-whole_verdict who left right left_rest right_rest left_ended right_ended c v g all =
-    subst (λ w. IsVerdict w left right v) g.who_is
-    (subst (λ l. IsVerdict c.who l right v) (sym g.left_side.parts)
-    (subst (λ l. IsVerdict c.who (g.lists.left ++ left_rest) l v) (sym g.right_side.parts)
-    (all left_rest right_rest g.left_side.may g.right_side.may)))
-
 nothing_follows : (ended : Bool) → MayFollow ended []
 nothing_follows true = refl
 nothing_follows false = tt

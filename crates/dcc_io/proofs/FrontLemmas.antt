@@ -1,6 +1,6 @@
 -- A word at the front of the bytes at hand is the next word of the input.
 use Rattle.std.proofs.Common.{◌≡◌, ℕ, ◌+◌, ◌-◌, ◌*◌, ◌<◌, ◌≤◌, List, [], ◌∷◌, ◌++◌, take, get_or, length, Bool, true}
-use Rattle.std.proofs.Common.{false, not, cond, eqb, nat_lt, nat_le, ◌||◌, ◌&&◌, min, Option, None, Some, Ok, IfSome}
+use Rattle.std.proofs.Common.{false, not, cond, eqb, nat_lt, nat_le, ◌||◌, ◌&&◌, min, Option, None, Some, IfSome}
 use Rattle.std.proofs.Common.{IsSomeAnd, refl, sym, ap, ◌∙◌, subst, arith, append_assoc, length-append, length-take}
 use Rattle.std.proofs.lemmas.List.{append-nil, take_more}
 use Rattle.std.proofs.lemmas.List.Folds.{list_all_more}
@@ -12,20 +12,16 @@ use Rattle.std.specs.Char.{is_ascii_digit}
 use Rattle.std.specs.Str.Parse.{digits_value}
 use Rattle.dcc_io.specs.declared.word.FrontWord.{FrontWord}
 use Rattle.dcc_io.specs.TextPlace.{TextPlace, line_behind, lines_with, lines_through}
-use Rattle.dcc_io.specs.Words.{Word, is_gap, is_dash, is_mark, comments, ended_words, duration_of, Passes}
+use Rattle.dcc_io.specs.Words.{Word, is_gap, comments, ended_words, duration_of, Passes}
 use Rattle.dcc_io.specs.Inner.FrontWords.{BeginsWithWord, HasLineFeedAt, IsFrontWord, is_plain}
 use Rattle.dcc_io.specs.declared.fault.KeptFault.{KeptFault}
 use Rattle.dcc_io.specs.ReaderState.{ReaderState}
 use Rattle.dcc_io.specs.InputState.{InputState, closed_text, closing}
 use Rattle.dcc_io.specs.PassedWords.{Passed}
-use Rattle.dcc_io.specs.Capture.{AnswersRun}
-use Rattle.dcc_io.specs.FirstRead.{AnswersFirst}
+use Rattle.dcc_io.specs.Counted.{TakesHalf}
 use Rattle.dcc_io.proofs.WordsLemmas.{eqb_line_feed, behind, opened, opened-none, opened-word, opened-gap, ended}
 use Rattle.dcc_io.proofs.HandLemmas.{outside}
-use Rattle.dcc_io.proofs.RunWordLemmas.{run_of_duration}
 use Rattle.dcc_io.proofs.PassedLemmas.{PassesIn}
-use Rattle.dcc_io.proofs.CaptureLemmas.{Gave-word}
-use Rattle.dcc_io.proofs.BothLemmas.{counts}
 use Rattle.dcc_io.proofs.SpellsLemmas.{digit_value-digit, is_ascii_digit-digit, digits_value_after-push}
 
 digit_bounds : (byte : ℕ) → is_ascii_digit byte ≡ true → (48 ≤ byte) × (byte ≤ 57)
@@ -147,10 +143,10 @@ lines_of_front lines line gap (byte ∷ word) rest digits =
 
 -- what a word that spells a duration is made of
 pub record IsDuration (word : List ℕ) : Type 0 where
-  some : 0 < length word
-  digits : list_all is_ascii_digit word ≡ true
+  pub some : 0 < length word
+  pub digits : list_all is_ascii_digit word ≡ true
 
-duration_parts : (word : List ℕ) (us : ℕ) → duration_of word ≡ Some us → IsDuration word
+pub duration_parts : (word : List ℕ) (us : ℕ) → duration_of word ≡ Some us → IsDuration word
 duration_parts word us spells =
     go (nat_lt 0 (length word)) refl (nat_le (length word) 10) (list_all is_ascii_digit word) refl spells
   where
@@ -160,61 +156,6 @@ duration_parts word us spells =
     go true some true false digits is = cc
     go true some false c digits is = cc
     go false some b c digits is = cc
-
--- the half of a word on the line of the input was taken
-pub record TakesHalf (old : InputState) (us : ℕ) (new : InputState) : Type 0 where
-  pub word : List ℕ
-  pub digits : IsDuration word
-  pub spells : duration_of word ≡ Some us
-  pub mid : InputState
-  pub passed : Passed old (record { line = old.place.line; bytes = word } ∷ []) mid
-  pub some : 0 < mid.halves
-  pub counted : new ≡ record {
-    text = mid.text;
-    ahead = mid.ahead;
-    place = mid.place;
-    lines = mid.lines;
-    halves = mid.halves - 1;
-    bytes = mid.bytes;
-    fault = mid.fault;
-    failures = mid.failures;
-  }
-  pub fewer : new.bytes < old.bytes
-
--- as a run of one half
-pub run_taken : (old new : InputState) (us : ℕ) → TakesHalf old us new
-    → AnswersRun old (Ok (Some (record { us = us; n = 1 }))) new
-run_taken old new us takes = let some = takes.some in (
-  Gave-word old takes.mid new old.place.line (record { us = us; n = 1 }) takes.word takes.passed
-      (run_of_duration takes.word us takes.digits.digits takes.spells) (omega (arith, some)) takes.counted,
-  omega arith,
-  takes.fewer,
-)
-
-no_dash : (byte : ℕ) → is_ascii_digit byte ≡ true → is_dash byte ≡ false
-no_dash byte digit = let bounds = digit_bounds byte digit in ne_eqb byte 45 (λ same. omega (arith, bounds))
-
-no_mark : (word : List ℕ) → IsDuration word → is_mark word ≡ false
-no_mark [] is = absurd (let some = is.some in omega (arith, some))
-no_mark (byte ∷ word) is =
-    let parts = both (is_ascii_digit byte) (list_all is_ascii_digit word) is.digits in
-    rw (no_dash byte parts.0) (never (eqb (length (byte ∷ word)) 3))
-  where
-    never : (a : Bool) → (a && false) ≡ false
-    never true = refl
-    never false = refl
-
--- as a half of the first of two captures
-pub first_taken : (before : ℕ) (old new : InputState) (us : ℕ) → old.fault ≡ None → TakesHalf old us new
-    → AnswersFirst before old (Ok (Some (old.place.line, record { us = us; n = 1 }))) new
-first_taken before old new us none takes =
-    let some = takes.some in
-    let fewer = takes.fewer in
-    let bytes : new.bytes ≡ takes.mid.bytes = ap (λ (state : InputState). state.bytes) takes.counted in
-    counts before old.place.line takes.word old takes.mid none takes.passed new
-    (Ok (Some (old.place.line, record { us = us; n = 1 })))
-    (rw (no_mark takes.word takes.digits) refl) (omega (arith, fewer, bytes))
-    (refl, run_of_duration takes.word us takes.digits.digits takes.spells, omega (arith, some), takes.counted)
 
 -- the word at the front was passed
 passes_word : (old new : InputState) (whole rest : Option (List ℕ)) (ahead : List ℕ) (len : ℕ) (ends_line : Bool)
@@ -307,7 +248,6 @@ pub takes_half : (old mid new : InputState) (bytes : List ℕ) (front : FrontWor
     → TakesHalf old front.us new
 takes_half old mid new bytes front is passed fewer some counted = record {
   word = take front.len bytes;
-  digits = duration_parts (take front.len bytes) front.us is.spells;
   spells = is.spells;
   mid = mid;
   passed = passed;

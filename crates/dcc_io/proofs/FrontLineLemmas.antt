@@ -14,7 +14,7 @@ use Rattle.dcc_io.specs.ReaderState.{ReaderState}
 use Rattle.dcc_io.specs.TextPlace.{lines_with}
 use Rattle.dcc_io.specs.InputState.{closed_text, closing}
 use Rattle.dcc_io.specs.NumberedLines.{is_good}
-use Rattle.dcc_io.specs.Inner.NextLine.{has_line_feed, lines_within, EndsLine}
+use Rattle.dcc_io.specs.NextLine.{has_line_feed, lines_within, EndsLine}
 use Rattle.dcc_io.specs.PacketLines.{is_skipped}
 use Rattle.dcc_io.specs.Inner.FrontLine.{IsFrontLine, IsEndedLine}
 use Rattle.dcc_io.proofs.FrontLemmas.{state_of}

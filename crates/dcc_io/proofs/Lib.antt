@@ -2,10 +2,8 @@ pub mod BufferedLemmas
 pub mod InputLemmas
 pub mod WordsLemmas
 pub mod SpellsLemmas
-pub mod RunWordLemmas
 pub mod TookLemmas
 pub mod PassedLemmas
-pub mod CaptureLemmas
 pub mod WrittenLemmas
 pub mod HeldLemmas
 pub mod HandLemmas
@@ -16,12 +14,6 @@ pub mod ItemsLemmas
 pub mod PacketLineLemmas
 pub mod PacketReadLemmas
 pub mod LineCounts
-pub mod BitsLemmas
-pub mod PendingLemmas
-pub mod ReadLemmas
-pub mod DecoderTextLemmas
 pub mod DecimalLemmas
-mod BlankLines
-pub mod FirstLemmas
-pub mod BothLemmas
+pub mod LineEndLemmas
 pub mod CallLemmas

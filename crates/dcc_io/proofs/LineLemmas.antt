@@ -1,5 +1,5 @@
 -- A line that is being read, and what ends it.
-use Rattle.std.proofs.Common.{zero, suc, ◌≡◌, ℕ, ◌+◌, ◌-◌, ◌<◌, ◌≤◌, List, [], ◌∷◌, ◌++◌, length, Bool, true}
+use Rattle.std.proofs.Common.{zero, suc, ◌≡◌, ℕ, ◌+◌, ◌<◌, ◌≤◌, List, [], ◌∷◌, ◌++◌, length, Bool, true}
 use Rattle.std.proofs.Common.{false, eqb, Option, None, Some, Err, refl, sym, ap, ◌∙◌, subst, arith, append_assoc}
 use Rattle.std.proofs.Common.{length-append, ◌&&◌, ◌⊎◌, inl, inr, IfSome, IsSomeAnd}
 use Rattle.std.proofs.Math.Dec.{leb}
@@ -16,9 +16,9 @@ use Rattle.dcc_io.specs.TextPlace.{TextPlace, line_behind, lines_with, lines_thr
 use Rattle.dcc_io.specs.ReaderState.{BeginsWith, IsAtEnd}
 use Rattle.dcc_io.specs.InputState.{InputState, all_lines, TakesByte, AnswersByte}
 use Rattle.dcc_io.specs.NumberedLines.{is_good}
-use Rattle.dcc_io.specs.Inner.NextLine.{has_line_feed, lines_within, IsOneLine, EndsLine, EndsText, IsBadAt}
-use Rattle.dcc_io.specs.Inner.NextLine.{MeetsBadLine}
-use Rattle.dcc_io.specs.Inner.NextLine.{AnswersLine}
+use Rattle.dcc_io.specs.NextLine.{has_line_feed, lines_within, IsOneLine, EndsLine, EndsText, IsBadAt}
+use Rattle.dcc_io.specs.NextLine.{MeetsBadLine}
+use Rattle.dcc_io.specs.NextLine.{AnswersLine}
 use Rattle.dcc_io.specs.Took.{Uses, Took}
 use Rattle.dcc_io.proofs.TookLemmas.{if_some_map, if_some_all, Took-start, Took-closed, Took-join}
 use Rattle.dcc_io.proofs.TookLemmas.{took_byte, map_taken, fails_to_read, has_too_many}

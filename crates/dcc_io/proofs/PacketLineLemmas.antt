@@ -1,5 +1,5 @@
 -- What lines say of packets, or of anything else.
-use Rattle.std.proofs.Common.{◌≡◌, ℕ, ◌+◌, ◌-◌, List, [], ◌∷◌, ◌++◌, length, Bool, true, false, eqb}
+use Rattle.std.proofs.Common.{◌≡◌, ℕ, ◌+◌, List, [], ◌∷◌, ◌++◌, length, Bool, true, false, eqb}
 use Rattle.std.proofs.Common.{nat_le, Option, None, Some, Ok, Err, refl, sym, ap, ◌∙◌, append_assoc, IfSome}
 use Rattle.dcc_packet.specs.declared.fault.PacketFault.{PacketFault}
 use Rattle.dcc_packet.specs.declared.fault.PacketFault.TheVariants as faults
@@ -10,8 +10,8 @@ use Rattle.dcc_io.specs.TextPlace.{TextPlace}
 use Rattle.dcc_io.specs.ReaderState.{IsAtEnd}
 use Rattle.dcc_io.specs.InputState.{InputState}
 use Rattle.dcc_io.specs.NumberedLines.{NumberedLine, lines_from, onto_first_line, is_good}
-use Rattle.dcc_io.specs.Inner.NextLine.{has_line_feed, IsOneLine, EndsLine, EndsText, IsBadAt, MeetsBadLine}
-use Rattle.dcc_io.specs.Inner.NextLine.{FailsInLine, OverflowsInLine}
+use Rattle.dcc_io.specs.NextLine.{has_line_feed, IsOneLine, EndsLine, EndsText, IsBadAt, MeetsBadLine}
+use Rattle.dcc_io.specs.NextLine.{FailsInLine, OverflowsInLine}
 use Rattle.dcc_io.specs.Took.{Uses}
 use Rattle.dcc_io.specs.Items.{Items, items_behind, only_fault, Gave, StopsAt}
 use Rattle.dcc_io.specs.PacketLines.{is_skipped, Saying, behind_line, items_of, items_in, items_before_failure}

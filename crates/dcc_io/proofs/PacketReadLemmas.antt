@@ -7,7 +7,7 @@ use Rattle.dcc_io.specs.declared.text_line.TextLine.{TextLine}
 use Rattle.dcc_io.specs.declared.fault.KeptFault.{KeptFault}
 use Rattle.dcc_io.specs.declared.fault.KeptFault.TheVariants.{Number, Line, Read, TooMuch}
 use Rattle.dcc_io.specs.InputState.{InputState}
-use Rattle.dcc_io.specs.Inner.NextLine.{EndsLine, EndsText, AnswersLine}
+use Rattle.dcc_io.specs.NextLine.{EndsLine, EndsText, AnswersLine}
 use Rattle.dcc_io.specs.Items.{Gave, StopsAt}
 use Rattle.dcc_io.specs.PacketLines.{Saying, lines_by, is_skipped}
 use Rattle.dcc_io.specs.PacketRead.{AnswersSaid, ReadsSaid}

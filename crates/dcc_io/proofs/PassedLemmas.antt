@@ -1,5 +1,5 @@
 -- A word that is being read, and what ends it.
-use Rattle.std.proofs.Common.{◌≡◌, ℕ, ◌+◌, ◌-◌, ◌<◌, ◌≤◌, List, [], ◌∷◌, ◌++◌, Bool, true, false, not, None, Err}
+use Rattle.std.proofs.Common.{◌≡◌, ℕ, ◌+◌, ◌<◌, ◌≤◌, List, [], ◌∷◌, ◌++◌, Bool, true, false, not, None, Err}
 use Rattle.std.proofs.Common.{refl, sym, ap, ◌∙◌, subst, cond, eqb, arith, append_assoc, ◌||◌, IfSome}
 use Rattle.std.proofs.lemmas.List.{append-nil}
 use Rattle.dcc_io.specs.declared.word.RunWord.{RunWord}

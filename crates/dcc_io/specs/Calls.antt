@@ -33,11 +33,6 @@ pub record ReadsTo {A : Type 0} (reading : Reading A) (old : InputState) (fault 
   pub kept : new.fault ≡ Some fault
   pub items : ReadsUpTo reading old (Some fault) new fact
 
--- a fault that a capture may have: none refuses a line
-abbrev pub IsOfCapture : KeptFault → Type 0
-IsOfCapture (kept.Line line fault) = ⊥
-IsOfCapture fault = Unit {0}
-
 -- a fault that lines may have: none is a bad number
 abbrev pub IsOfLines : KeptFault → Type 0
 IsOfLines (kept.Number line) = ⊥

@@ -1,8 +1,9 @@
 -- What was read of an input, whatever is said of it.
 use Rattle.std.specs.Prelude.{◌≡◌, ℕ, ◌+◌, ◌-◌, ◌<◌, ◌≤◌, nat_le, ◌++◌, List, [], Option, None, Some, length, take}
 use Rattle.std.specs.Prelude.{IfSome, IsSomeAnd, if◌then◌else◌}
+use Rattle.dcc_packet.specs.declared.fault.PacketFault.TheVariants as faults
 use Rattle.dcc_io.specs.declared.fault.KeptFault.{KeptFault}
-use Rattle.dcc_io.specs.declared.fault.KeptFault.TheVariants.{Read, TooMuch}
+use Rattle.dcc_io.specs.declared.fault.KeptFault.TheVariants.{Line, Read, TooMuch}
 use Rattle.dcc_io.specs.Failures.{one_more}
 use Rattle.dcc_io.specs.InputState.{InputState, all_lines}
 
@@ -26,6 +27,11 @@ pub record Took (fact : List ℕ → Type 0) (old new : InputState) : Type 0 whe
 abbrev pub within_limit : {A : Type 0} → (List ℕ → Option KeptFault → A) → InputState → List ℕ → A
 within_limit said input text =
     if nat_le (length text) input.bytes then said text None else said (take (input.bytes - 1) text) (Some TooMuch)
+
+-- why a text is cut off that ends too early: by this fault, or else it lacks the line behind its last
+abbrev pub fault_at_end : ℕ → Option KeptFault → KeptFault
+fault_at_end line None = Line line faults.Word
+fault_at_end line (Some fault) = fault
 
 -- this fact holds of the bytes before the rest
 abbrev pub StandsBehind : (List ℕ → Type 0) → InputState → InputState → Type 0

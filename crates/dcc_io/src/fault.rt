@@ -85,12 +85,12 @@ pub enum KeptFault {
     TooMuch,
 }
 
-impl KeptFault {
-    /// The same fault, as a call answers it.
-    pub fn told(self) -> ToolFault
-        ensures { result ≡ as_tool_fault self }
-    {
-        match self {
+// The same fault, as a call answers it.
+impl From<KeptFault> for ToolFault {
+    ghost from_gives = { λ kept fault. fault ≡ as_tool_fault kept };
+
+    fn from(kept: KeptFault) -> ToolFault {
+        match kept {
             KeptFault::Number { line } => ToolFault::Number { line },
             KeptFault::Line { line, fault } => ToolFault::Line { line, fault },
             KeptFault::Read => ToolFault::Read,

@@ -8,11 +8,10 @@ ghost use Rattle.dcc_io.specs.Words.{comments, is_gap, ended_words};
 ghost use Rattle.dcc_io.specs.Inner.FrontWords.{BeginsWithWord, HasLineFeedAt, IsFrontWord};
 ghost use Rattle.dcc_io.specs.PassedWords.{AnswersWord, EndsWord, Passed};
 ghost use Rattle.dcc_io.specs.KeptAnswers.{AnswersKept};
-ghost use Rattle.dcc_io.specs.Inner.NextLine.{AnswersLine, EndsLine};
+ghost use Rattle.dcc_io.specs.NextLine.{AnswersLine, EndsLine};
 ghost use Rattle.dcc_io.specs.PacketRead.{AnswersPacket, ReadsPacket};
 ghost use Rattle.dcc_io.specs.Inner.FrontLine.{IsFrontLine};
-ghost use Rattle.dcc_io.specs.Capture.{AnswersRun, CountsRun};
-ghost use Rattle.dcc_io.specs.FirstRead.{AnswersFirst};
+ghost use Rattle.dcc_io.specs.Counted.{CountsRun, TakesHalf};
 ghost use Rattle.dcc_io.specs.InputState.{InputState, closed_text, closing, AnswersByte, HasCause, fresh};
 
 use crate::buffered::Buffered;
@@ -306,57 +305,12 @@ impl<R: Source> Input<R> {
         }
     }
 
-    /// The next run of halves, or none at the end. A fault is kept.
-    pub(crate) fn next_run(&mut self) -> Result<Option<Run>, KeptFault>
-        ensures kept { AnswersKept self.old result self.new }
-        ensures reads { self.old.fault ≡ None → AnswersRun self.old result self.new }
-    {
-        if let Some(fault) = self.fault {
-            return Err(fault);
-        }
-        match self.half_at_hand() {
-            Some(us) => Ok(Some(Run { us, n: 1 })),
-            None => self.run_of_next_word(),
-        }
-    }
-
-    /// The run that the next word spells, or none at the end. A fault is kept.
-    #[inline(always)]
-    pub(crate) fn read_run(&mut self) -> Result<Option<Run>, KeptFault>
-        ensures kept { AnswersKept self.old result self.new }
-        ensures reads { self.old.fault ≡ None → AnswersRun self.old result self.new }
-    {
-        match self.fault() {
-            Some(fault) => Err(fault),
-            None => self.run_of_next_word(),
-        }
-    }
-
-    /// The same, where no fault is kept.
-    #[inline(always)]
-    fn run_of_next_word(&mut self) -> Result<Option<Run>, KeptFault>
-        requires { self.old.fault ≡ None }
-        ensures { AnswersRun self.old result self.new }
-    {
-        match self.next_word() {
-            Ok(Some((line, word))) => match word.run() {
-                Some(run) => self.count_run(run),
-                None => Err(self.refuse(KeptFault::Number { line })),
-            },
-            Ok(None) => Ok(None),
-            Err(fault) => Err(fault),
-        }
-    }
-
     /// The next half, where its word is a duration alone that stands at the front of the bytes that were read and has ended.
     /// So most halves cost one look at each byte.
     #[inline(always)]
     pub(crate) fn half_at_hand(&mut self) -> Option<u16>
         requires { self.old.fault ≡ None }
-        ensures some { IfSome result (λ us. AnswersRun self.old (Ok (Some (record { us = us; n = 1 }))) self.new) }
-        ensures first { IfSome result
-            (λ us. (before : ℕ)
-            → AnswersFirst before self.old (Ok (Some (self.old.place.line, record { us = us; n = 1 }))) self.new) }
+        ensures some { IfSome result (λ us. TakesHalf self.old us self.new) }
         ensures none { IfNone result (self.new ≡ self.old) }
     {
         if self.in_comment || self.halves_left == 0 {
@@ -374,10 +328,7 @@ impl<R: Source> Input<R> {
         requires fault { self.old.fault ≡ None }
         requires no_comment { self.old.place.in_comment ≡ false }
         requires left { 0 < self.old.halves }
-        ensures some { IfSome result (λ us. AnswersRun self.old (Ok (Some (record { us = us; n = 1 }))) self.new) }
-        ensures first { IfSome result
-            (λ us. (before : ℕ)
-            → AnswersFirst before self.old (Ok (Some (self.old.place.line, record { us = us; n = 1 }))) self.new) }
+        ensures some { IfSome result (λ us. TakesHalf self.old us self.new) }
         ensures none { IfNone result (self.new ≡ self.old) }
     {
         let front = front_word(self.source.ahead())?;
@@ -391,10 +342,7 @@ impl<R: Source> Input<R> {
         requires no_comment { self.old.place.in_comment ≡ false }
         requires left { 0 < self.old.halves }
         requires front { IsFrontWord self.old.ahead front }
-        ensures some { IfSome result (λ us. AnswersRun self.old (Ok (Some (record { us = us; n = 1 }))) self.new) }
-        ensures first { IfSome result
-            (λ us. (before : ℕ)
-            → AnswersFirst before self.old (Ok (Some (self.old.place.line, record { us = us; n = 1 }))) self.new) }
+        ensures some { IfSome result (λ us. TakesHalf self.old us self.new) }
         ensures none { IfNone result (self.new ≡ self.old) }
     {
         // (the word, its gap, and a line feed behind that)

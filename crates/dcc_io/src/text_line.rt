@@ -21,7 +21,7 @@ pub struct TextLine {
 
 impl TextLine {
     /// A line of no bytes.
-    pub fn new(number: u64) -> TextLine
+    pub(crate) fn new(number: u64) -> TextLine
         ensures number { result.number ≡ number }
         ensures text { result.text.bytes ≡ [] }
     {
@@ -32,14 +32,14 @@ impl TextLine {
     }
 
     /// Whether the line stays good with this byte.
-    pub fn has_room_for(&self, byte: u8) -> bool
+    pub(crate) fn has_room_for(&self, byte: u8) -> bool
         ensures { result ≡ (nat_lt (array_string_len self.now.text) 512 && is_ascii byte) }
     {
         self.text.len() < 512 && byte.is_ascii()
     }
 
     /// Adds a byte with which the line stays good.
-    pub fn push(&mut self, byte: u8)
+    pub(crate) fn push(&mut self, byte: u8)
         requires { (nat_lt (array_string_len self.old.text) 512 && is_ascii byte) ≡ true }
         ensures number { self.new.number ≡ self.old.number }
         ensures text { self.new.text.bytes ≡ self.old.text.bytes ++ byte ∷ [] }
@@ -48,7 +48,7 @@ impl TextLine {
     }
 
     /// Whether the line says nothing: a blank one, or one that begins with `#`.
-    pub fn is_skipped(&self) -> bool
+    pub(crate) fn is_skipped(&self) -> bool
         ensures { result ≡ is_skipped self.now.text.bytes }
     {
         is_skipped(self.text.as_bytes())

@@ -32,7 +32,7 @@ impl RunWord {
     ghost use Rattle.dcc_io.specs.SpelledWords.{Spells};
 
     /// A word of no bytes.
-    pub fn new() -> RunWord
+    pub(crate) fn new() -> RunWord
         ensures { Spells result [] }
     {
         RunWord {
@@ -44,7 +44,7 @@ impl RunWord {
 
     /// Adds a byte.
     #[inline(always)]
-    pub fn push(&mut self, byte: u8)
+    pub(crate) fn push(&mut self, byte: u8)
         ensures { (word : List ℕ) → Spells self.old word → Spells self.new (word ++ byte ∷ []) }
     {
         self.all_dashes = still_dashes(self.all_dashes, byte);
@@ -65,7 +65,7 @@ impl RunWord {
 
     /// Whether it has no bytes.
     #[inline(always)]
-    pub fn is_empty(&self) -> bool
+    pub(crate) fn is_empty(&self) -> bool
         ensures { (word : List ℕ) → Spells self.now word → result ≡ not (is_some_byte word) }
     {
         self.duration.len() == 0 && self.count.is_none()

@@ -19,16 +19,16 @@ use Rattle.dcc_io.specs.Failures.{one_more, HasRisen}
 use Rattle.dcc_io.specs.InputState.{InputState, all_lines}
 use Rattle.dcc_io.specs.Words.{ended_words}
 use Rattle.dcc_io.specs.Items.{EndsWith, ReadsUpTo}
-use Rattle.dcc_io.specs.Capture.{captures, halves_of, capture_in, capture_before_failure}
+use Rattle.dcc_capture.specs.Capture.{captures, halves_of, capture_in, capture_before_failure}
 use Rattle.dcc_listen.specs.Gathered.{Gathered, GatherFails, StopsGathering}
-use Rattle.dcc_io.specs.BothCaptures.{Both, Said, fault_alone, in_front, only_second, both_from, in_limit}
-use Rattle.dcc_io.specs.FirstRead.{LeadsIn, Leads, first_so_far, first_is, AnswersFirst}
+use Rattle.dcc_capture.specs.BothCaptures.{Both, Said, fault_alone, in_front, only_second, both_from, in_limit}
+use Rattle.dcc_capture.specs.FirstRead.{LeadsIn, Leads, first_so_far, first_is, AnswersFirst}
 use Rattle.dcc_listen.specs.GatheredBoth.{both_in, both_before_failure, GatheredFirst, HoldBoth, GatheredBoth}
 use Rattle.dcc_listen.specs.GatheredBoth.{ReadsBothUpTo, StopsBothAt, BothFail}
 use Rattle.dcc_listen.proofs.ShowLemmas.{Answers}
 use Rattle.dcc_listen.proofs.GatherLemmas.{few_more}
 use Rattle.dcc_io.proofs.WrittenLemmas.{HasRisen-one_more}
-use Rattle.dcc_io.proofs.BothLemmas.{Leads-start, Leads-join, in_limit_of, second_behind}
+use Rattle.dcc_capture.proofs.BothLemmas.{Leads-start, Leads-join, in_limit_of, second_behind}
 
 -- so far these halves of the first capture were read, the last of them on this line, and their packets are held
 pub record GatheringFirst (start now : InputState) (before : ℕ) (framer : Framer) (packets : List Packet) : Type 0 where

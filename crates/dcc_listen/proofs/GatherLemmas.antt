@@ -12,7 +12,7 @@ use Rattle.dcc_io.specs.declared.word.Run.{Run}
 use Rattle.dcc_io.specs.declared.fault.KeptFault.{KeptFault}
 use Rattle.dcc_io.specs.Faults.{as_tool_fault}
 use Rattle.dcc_io.specs.InputState.{InputState}
-use Rattle.dcc_io.specs.Capture.{captures, GaveHalves, AnswersRun}
+use Rattle.dcc_capture.specs.Capture.{captures, GaveHalves, AnswersRun}
 use Rattle.dcc_listen.specs.Gathered.{Gathered, GatherFails, StopsGathering}
 use Rattle.dcc_listen.specs.Taking.{Gathering}
 use Rattle.dcc_io.proofs.CallLemmas.{gives_up}

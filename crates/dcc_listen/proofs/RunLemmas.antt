@@ -6,14 +6,15 @@ use Rattle.dcc_wire.specs.declared.framer.Framer.{Framer}
 use Rattle.dcc_io.specs.declared.fault.KeptFault.{KeptFault}
 use Rattle.dcc_io.specs.declared.fault.ToolFault.TheVariants as told
 use Rattle.dcc_io.specs.declared.stream.Failed.{Failed}
-use Rattle.dcc_io.specs.Calls.{ReadsTo, IsOfCapture}
+use Rattle.dcc_io.specs.Calls.{ReadsTo}
+use Rattle.dcc_capture.specs.Capture.{IsOfCapture}
 use Rattle.dcc_io.specs.Faults.{as_tool_fault}
 use Rattle.dcc_io.specs.InputState.{InputState}
 use Rattle.dcc_io.specs.Items.{Gave}
-use Rattle.dcc_io.specs.Capture.{captures, AnswersRun}
+use Rattle.dcc_capture.specs.Capture.{captures, AnswersRun}
 use Rattle.dcc_io.specs.WriterState.{WriterState}
 use Rattle.dcc_io.specs.WrittenBytes.{Writes}
-use Rattle.dcc_listen.specs.FleetText.{fleet_text}
+use Rattle.dcc_saved.specs.FleetText.{fleet_text}
 use Rattle.dcc_listen.specs.FleetRun.{Fleet, HaveHeard, HearsAll, Runs}
 use Rattle.dcc_io.proofs.CallLemmas.{gives_up}
 use Rattle.dcc_io.proofs.ItemsLemmas.{Gave-append, reads_up_to, up_to_fault, uses_all_lines}

@@ -15,20 +15,21 @@ use Rattle.dcc_io.specs.declared.fault.KeptFault.TheVariants.{Number, Line, Read
 use Rattle.dcc_io.specs.declared.fault.ToolFault.{ToolFault}
 use Rattle.dcc_io.specs.declared.fault.ToolFault.TheVariants.{Write}
 use Rattle.dcc_io.specs.Failures.{HasRisen}
-use Rattle.dcc_io.specs.Calls.{ReadsTo, IsOfCapture}
+use Rattle.dcc_io.specs.Calls.{ReadsTo}
+use Rattle.dcc_capture.specs.Capture.{IsOfCapture}
 use Rattle.dcc_io.specs.Faults.{as_tool_fault}
 use Rattle.dcc_io.specs.InputState.{InputState}
 use Rattle.dcc_io.specs.WriterState.{WriterState}
-use Rattle.dcc_io.specs.Capture.{captures, capture_in, GaveHalves, AnswersRun}
+use Rattle.dcc_capture.specs.Capture.{captures, capture_in, GaveHalves, AnswersRun}
 use Rattle.dcc_io.specs.Items.{Items, Gives, StopsAt}
-use Rattle.dcc_listen.specs.Listing.{IsListing}
+use Rattle.dcc_capture.specs.Listing.{IsListing}
 use Rattle.dcc_io.specs.WrittenBytes.{AppendsFront}
 use Rattle.dcc_listen.specs.Shown.{StopsWriting, Lists, ListsFront, Shows}
 use Rattle.dcc_io.specs.Held.{Holds}
 use Rattle.dcc_listen.specs.Inner.Held.{WritesRest}
 use Rattle.dcc_io.proofs.CallLemmas.{gives_up}
 use Rattle.dcc_io.proofs.ItemsLemmas.{Gave-none, Gave-append, in_whole, up_to_fault, reads_up_to, uses_all_lines}
-use Rattle.dcc_listen.proofs.ListingLaws.{IsListing-append}
+use Rattle.dcc_capture.proofs.ListingLaws.{IsListing-append}
 use Rattle.dcc_io.proofs.HeldLemmas.{Holds-same, Holds-wrote, Holds-append, Holds-fails, Holds-fails_with, Holds-rest}
 
 -- the halves of one more run add this outcome at its place

@@ -6,12 +6,13 @@ use Rattle.dcc_regs.specs.declared.register.Who.{Who}
 use Rattle.dcc_regs.specs.Result.{RegisterMap}
 use Rattle.dcc_order.specs.Hearing.{HasHeardHalves}
 use Rattle.dcc_io.specs.declared.fault.ToolFault.{ToolFault}
-use Rattle.dcc_io.specs.Calls.{EndsCall, ReadsAll, ReadsTo, IsOfCapture}
+use Rattle.dcc_io.specs.Calls.{EndsCall, ReadsAll, ReadsTo}
+use Rattle.dcc_capture.specs.Capture.{IsOfCapture}
 use Rattle.dcc_io.specs.InputState.{InputState}
-use Rattle.dcc_io.specs.Capture.{captures}
+use Rattle.dcc_capture.specs.Capture.{captures}
 use Rattle.dcc_io.specs.WriterState.{WriterState}
 use Rattle.dcc_io.specs.WrittenBytes.{AppendsFront}
-use Rattle.dcc_listen.specs.FleetText.{fleet_text}
+use Rattle.dcc_saved.specs.FleetText.{fleet_text}
 
 -- a fleet, from who each decoder is and what its registers hold
 abbrev pub Fleet : Type 0

@@ -8,7 +8,7 @@ use Rattle.dcc_io.specs.Faults.{GivesUp}
 use Rattle.dcc_io.specs.ReaderState.{IsAtEnd}
 use Rattle.dcc_io.specs.InputState.{InputState, UsesAllLines, HasCause}
 use Rattle.dcc_io.specs.Items.{ReadsUpTo}
-use Rattle.dcc_io.specs.Capture.{captures}
+use Rattle.dcc_capture.specs.Capture.{captures}
 
 -- the capture of an input was read to its end without a fault, and its halves hold these packets
 pub record Gathered (old : InputState) (packets : List Packet) (new : InputState) : Type 0 where

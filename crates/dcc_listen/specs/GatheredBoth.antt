@@ -9,8 +9,8 @@ use Rattle.dcc_io.specs.Faults.{GivesUp}
 use Rattle.dcc_io.specs.Failures.{HasRisen}
 use Rattle.dcc_io.specs.ReaderState.{IsAtEnd}
 use Rattle.dcc_io.specs.InputState.{InputState, UsesAllLines, HasCause}
-use Rattle.dcc_io.specs.BothCaptures.{Both, both_from, in_limit}
-use Rattle.dcc_io.specs.FirstRead.{EndsFirst}
+use Rattle.dcc_capture.specs.BothCaptures.{Both, both_from, in_limit}
+use Rattle.dcc_capture.specs.FirstRead.{EndsFirst}
 
 -- both captures of an input with this text, and of one whose reader fails behind these bytes
 abbrev pub both_in : InputState → List ℕ → Both

@@ -1,14 +1,9 @@
-pub mod FrameText
-pub mod Listing
-pub mod ListingLaws
 pub mod Gathered
 pub mod VerdictLine
 pub mod Compared
 pub mod Shown
-pub mod FleetText
 pub mod FleetRun
 pub mod GatheredBoth
 pub mod ComparedBoth
-pub mod ReadBack
 pub mod Taking
 pub mod Inner

@@ -5,11 +5,12 @@ use Rattle.dcc_wire.specs.declared.fault.Seen.{Seen}
 use Rattle.dcc_wire.specs.Framing.{seen}
 use Rattle.dcc_io.specs.declared.fault.ToolFault.{ToolFault}
 use Rattle.dcc_io.specs.declared.fault.KeptFault.{KeptFault}
-use Rattle.dcc_io.specs.Calls.{EndsCall, ReadsAll, ReadsTo, IsOfCapture}
+use Rattle.dcc_io.specs.Calls.{EndsCall, ReadsAll, ReadsTo}
+use Rattle.dcc_capture.specs.Capture.{IsOfCapture}
 use Rattle.dcc_io.specs.InputState.{InputState}
 use Rattle.dcc_io.specs.Items.{ReadsUpTo}
-use Rattle.dcc_io.specs.Capture.{captures, capture_in}
-use Rattle.dcc_listen.specs.Listing.{IsListing}
+use Rattle.dcc_capture.specs.Capture.{captures, capture_in}
+use Rattle.dcc_capture.specs.Listing.{IsListing}
 use Rattle.dcc_io.specs.WriterState.{WriterState}
 use Rattle.dcc_io.specs.WrittenBytes.{AppendsFront}
 

@@ -3,7 +3,7 @@ ghost use Rattle.std.specs.Prelude.{◌<◌, ◌^◌, IfOk, IfErr, length};
 ghost use Rattle.dcc_listen.specs.GatheredBoth.{BothFail, GatheredFirst};
 
 use crate::gathering::hold_seen;
-use dcc_io::reading::next_of_first;
+use dcc_capture::next_of_first;
 use dcc_io::{Input, Source, ToolFault};
 use dcc_packet::Packet;
 use dcc_wire::Framer;
@@ -19,7 +19,7 @@ pub fn gather_first<R: Source>(
     ensures fails { IfErr result (λ fault. BothFail input.old fault input.new) }
 {
     if let Some(fault) = input.fault() {
-        return Err(fault.told());
+        return Err(ToolFault::from(fault));
     }
     let most = input.halves_left();
     let mut framer = Framer::new();
@@ -36,7 +36,7 @@ pub fn gather_first<R: Source>(
                 }
             }
             Ok(None) => return Ok(packets),
-            Err(fault) => return Err(fault.told()),
+            Err(fault) => return Err(ToolFault::from(fault)),
         }
     }
 }

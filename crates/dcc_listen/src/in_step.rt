@@ -27,10 +27,10 @@ pub(crate) fn compare_in_step<L: Source, R: Source>(
     ensures fails { IfErr result (λ fault. OneFails left.old right.old fault left.new right.new) }
 {
     if let Some(fault) = left.fault() {
-        return Err(fault.told());
+        return Err(ToolFault::from(fault));
     }
     if let Some(fault) = right.fault() {
-        return Err(fault.told());
+        return Err(ToolFault::from(fault));
     }
     let most = left.halves_left();
     let other_most = right.halves_left();
@@ -49,7 +49,7 @@ pub(crate) fn compare_in_step<L: Source, R: Source>(
                         Err(_) => return Err(ToolFault::NoMemory),
                     }
                 }
-                Err(fault) => return Err(fault.told()),
+                Err(fault) => return Err(ToolFault::from(fault)),
             },
             Wants::Right => match next_packet(right, &mut right_framer) {
                 Ok(item) => {
@@ -59,19 +59,19 @@ pub(crate) fn compare_in_step<L: Source, R: Source>(
                         Err(_) => return Err(ToolFault::NoMemory),
                     }
                 }
-                Err(fault) => return Err(fault.told()),
+                Err(fault) => return Err(ToolFault::from(fault)),
             },
             Wants::Done(verdict) => {
                 if !left_ended {
                     match pass_rest(left, &mut left_framer) {
                         Ok(()) => (),
-                        Err(fault) => return Err(fault.told()),
+                        Err(fault) => return Err(ToolFault::from(fault)),
                     }
                 }
                 if !right_ended {
                     match pass_rest(right, &mut right_framer) {
                         Ok(()) => (),
-                        Err(fault) => return Err(fault.told()),
+                        Err(fault) => return Err(ToolFault::from(fault)),
                     }
                 }
                 return Ok(verdict);
@@ -95,7 +95,7 @@ pub(crate) fn compare_beside<R: Source>(
     ensures fails { IfErr result (λ fault. GatherFails input.old fault input.new) }
 {
     if let Some(fault) = input.fault() {
-        return Err(fault.told());
+        return Err(ToolFault::from(fault));
     }
     let most = input.halves_left();
     let mut framer = Framer::new();
@@ -129,13 +129,13 @@ pub(crate) fn compare_beside<R: Source>(
                         Err(_) => return Err(ToolFault::NoMemory),
                     }
                 }
-                Err(fault) => return Err(fault.told()),
+                Err(fault) => return Err(ToolFault::from(fault)),
             },
             Wants::Done(verdict) => {
                 if !ended {
                     match pass_rest(input, &mut framer) {
                         Ok(()) => (),
-                        Err(fault) => return Err(fault.told()),
+                        Err(fault) => return Err(ToolFault::from(fault)),
                     }
                 }
                 return Ok(verdict);

@@ -1,13 +1,9 @@
 //! What is made of captures: their listings, fleets that hear them, and whether two are alike for a decoder.
 #![tactic(auto)]
 
-mod decoder_rows;
 mod first_capture;
-mod fleet_text;
 mod gathering;
 mod in_step;
-pub mod laws;
-mod listing;
 mod run_call;
 mod same_call;
 mod same_input_call;

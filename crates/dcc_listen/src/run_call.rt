@@ -4,11 +4,11 @@ ghost use Rattle.dcc_io.specs.Faults.{as_tool_fault};
 ghost use Rattle.dcc_listen.specs.FleetRun.{Runs};
 ghost use Rattle.dcc_io.specs.InputState.{HasCause};
 
-use crate::fleet_text::write_fleet;
-use dcc_io::reading::{half_at_hand, read_run};
+use dcc_capture::{half_at_hand, read_run};
 use dcc_io::{Input, Sink, Source, ToolFault};
 use dcc_order::{hear_half, hear_half_run};
 use dcc_regs::Decoder;
+use dcc_saved::write_fleet;
 use dcc_wire::Framer;
 
 /// Plays a capture to a fleet, and writes the decoder text of the fleet afterwards.
@@ -33,7 +33,7 @@ pub fn run<R: Source, W: Sink>(
         (map (λ decoder. (who decoder, registers decoder)) decoders.new) input.new (W.state writer.new) }
 {
     if let Some(fault) = input.fault() {
-        return Err(fault.told());
+        return Err(ToolFault::from(fault));
     }
     let mut framer = Framer::new();
     'runs: loop {
@@ -46,7 +46,7 @@ pub fn run<R: Source, W: Sink>(
                     let _ = hear_half_run(decoders, &mut framer, run.us, run.n);
                 }
                 Ok(None) => break,
-                Err(fault) => return Err(fault.told()),
+                Err(fault) => return Err(ToolFault::from(fault)),
             },
         }
     }

@@ -42,10 +42,10 @@ pub fn same<L: Source, R: Source, W: Sink>(
     let left_fault = left.fault();
     let right_fault = right.fault();
     if let Some(fault) = left_fault {
-        return Err(fault.told());
+        return Err(ToolFault::from(fault));
     }
     if let Some(fault) = right_fault {
-        return Err(fault.told());
+        return Err(ToolFault::from(fault));
     }
     // (what Alike says of two lists)
     alike_is_the_verdict();

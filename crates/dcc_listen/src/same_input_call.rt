@@ -38,7 +38,7 @@ pub fn same_input<R: Source, W: Sink>(
         input.new (W.state writer.new) }
 {
     if let Some(fault) = input.fault() {
-        return Err(fault.told());
+        return Err(ToolFault::from(fault));
     }
     // (what Alike says of two lists)
     alike_is_the_verdict();

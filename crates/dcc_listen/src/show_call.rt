@@ -6,11 +6,10 @@ ghost use Rattle.dcc_listen.specs.Inner.Held.{HoldsListing, TakesRun, WritesRest
 ghost use Rattle.dcc_io.specs.Faults.{as_tool_fault};
 ghost use Rattle.dcc_io.specs.InputState.{HasCause};
 ghost use Rattle.dcc_io.specs.Words.{ended_words};
-ghost use Rattle.dcc_listen.specs.Listing.{IsLine};
+ghost use Rattle.dcc_capture.specs.Listing.{IsLine};
 ghost use Rattle.dcc_listen.specs.Shown.{Shows};
 
-use crate::listing::outcome_line;
-use dcc_io::reading::{half_at_hand, read_run};
+use dcc_capture::{half_at_hand, outcome_line, read_run};
 use dcc_io::{Failed, HeldLines, Input, KeptFault, Run, Sink, Source, ToolFault};
 use dcc_wire::{Framer, Seen};
 
@@ -39,7 +38,7 @@ pub fn show<R: Source, W: Sink>(
         input.new (W.state writer.new) }
 {
     if let Some(fault) = input.fault() {
-        return Err(fault.told());
+        return Err(ToolFault::from(fault));
     }
     let most = input.halves_left();
     let mut framer = Framer::new();
@@ -64,7 +63,7 @@ pub fn show<R: Source, W: Sink>(
                     }
                 }
                 Ok(Ok(None)) => return write_rest(&mut held, writer, Ok(())),
-                Ok(Err(fault)) => return write_rest(&mut held, writer, Err(fault.told())),
+                Ok(Err(fault)) => return write_rest(&mut held, writer, Err(ToolFault::from(fault))),
                 Err(_) => return Err(ToolFault::Write),
             },
         }

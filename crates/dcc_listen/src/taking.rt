@@ -6,7 +6,7 @@ ghost use Rattle.dcc_order.specs.Hearing.{AreSpelled, frames_of};
 ghost use Rattle.dcc_io.specs.InputState.{InputState};
 ghost use Rattle.dcc_listen.specs.Taking.{Gathering, PassesRest, TakesPacket};
 
-use dcc_io::reading::next_run;
+use dcc_capture::next_run;
 use dcc_io::{Input, KeptFault, Source};
 use dcc_packet::Packet;
 use dcc_wire::{Framer, Seen};

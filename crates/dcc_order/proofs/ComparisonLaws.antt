@@ -23,9 +23,8 @@ use Rattle.dcc_order.specs.declared.wants.Wants.TheVariants.{Left, Right, Done}
 use Rattle.dcc_order.specs.AlikeLists.{Cut, LastBlock, Block, cut, without_third_copies, in_first_block, cut_for}
 use Rattle.dcc_order.specs.AlikeLists.{AlikeBlocks}
 use Rattle.dcc_order.specs.OneMore.{ends_with_two, cut_more}
-use Rattle.dcc_order.specs.GivenLists.{Lists, no_lists, IsVerdictOfAll, writes_in, block_len, open_blocks_len}
+use Rattle.dcc_order.specs.GivenLists.{Lists, IsVerdictOfAll, writes_in, block_len, open_blocks_len}
 use Rattle.dcc_order.specs.GivenLists.{most_held}
-use Rattle.dcc_order.specs.Held.{nothing_held}
 use Rattle.dcc_order.specs.Comparisons.{StandsFor, GoesOn, WantsLeft, WantsRight, Stage, AlikeUpTo, open_cut}
 use Rattle.dcc_order.specs.Comparisons.{EndAlike, IsVerdictAtEnds, last_heard, heard_next, nothing_heard}
 use Rattle.dcc_order.specs.Inner.ComparisonSteps.{heard_left, heard_right, joined_left, closed_left, begun_block}
@@ -192,26 +191,6 @@ left_more lists p = record lists { left = lists.left ++ p ∷ [] }
 
 abbrev pub right_more : Lists → Packet → Lists
 right_more lists p = record lists { right = lists.right ++ p ∷ [] }
-
-pub nothing_given : (c : Comparison) → c.wants ≡ Left → c.block ≡ 0 → c.left_given ≡ 0 → c.right_given ≡ 0
-    → c.left_heard ≡ nothing_heard → c.right_heard ≡ nothing_heard → c.held ≡ nothing_held → StandsFor c no_lists
-nothing_given c wants block left right left_heard right_heard held = record {
-  left_given = left;
-  right_given = right;
-  stage = subst (λ w. Stage w c no_lists) (sym wants) (let w : WantsLeft c no_lists = record {
-    goes_on = record {
-      left_heard = left_heard;
-      right_heard = right_heard;
-      first_fits = subst (λ h. length h.first ≤ 0) (sym held) (omega arith);
-      second_fits = subst (λ h. length h.second ≤ 0) (sym held) (omega arith);
-    };
-    left_open = refl;
-    right_open = refl;
-    up_to = subst (λ k. AlikeUpTo k (LastBlock []) (LastBlock []) (LastBlock c.held.first) (LastBlock [])) (sym block)
-        (ap (λ h. LastBlock h.first) (sym held), refl);
-    none_yet = ap (λ h. h.second) held;
-  } in w);
-}
 
 module _ (c : Comparison) (lists : Lists) (p : Packet) (s : StandsFor c lists) where
   more_given : (n : ℕ) (l : List Packet) → n ≡ length l → n + 1 ≡ length (l ++ p ∷ [])

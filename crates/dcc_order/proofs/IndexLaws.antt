@@ -158,7 +158,3 @@ module _ (found then_found : ℕ → Option ℕ) (members : List Packet) (x : Pa
           (sym (same_number p x own frame (at_key (frame_number (spelling x)) (frame_number (spelling p)) e)))
       by_case false e =
           index p own ∙ other (differ e (same p x) refl) (eqb (member_number members p) (length members)) refl
-
--- nothing is found where there is nothing
-pub no_index : (found : ℕ → Option ℕ) → ((q : ℕ) → found q ≡ None) → IsIndex found []
-no_index found none p own = none (frame_number (spelling p))

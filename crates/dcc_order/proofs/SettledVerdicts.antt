@@ -1,17 +1,17 @@
 -- A verdict that is settled stays, whatever packets follow on a side that has not ended.
 use Rattle.std.proofs.Common.{◌≡◌, ◌∙◌, refl, sym, ap, subst, Bool, true, false, List, [], ◌++◌, append-nil, ℕ, zero}
-use Rattle.std.proofs.Common.{suc, ◌+◌, add-zero, ◌⊎◌, inl, inr, Option, Some, None, arith}
-use Rattle.std.specs.Prelude.{Contains, ◌≢◌}
+use Rattle.std.proofs.Common.{suc, ◌+◌, add-zero, inl, inr, Option, Some, None, arith}
+use Rattle.std.specs.Prelude.{Contains}
 use Rattle.std.proofs.lemmas.List.Elements.{Contains-append_left}
 use Rattle.dcc_packet.specs.declared.packet.Packet.{Packet}
 use Rattle.dcc_regs.specs.declared.register.Who.{Who}
 use Rattle.dcc_order.specs.declared.verdict.Verdict.{Verdict}
 use Rattle.dcc_order.specs.declared.verdict.Verdict.TheVariants.{Alike, Writes, Members, Order}
 use Rattle.dcc_order.specs.AlikeLists.{Cut, LastBlock, Block, cut_for, SameMembers}
-use Rattle.dcc_order.specs.Verdicts.{IsVerdictFrom, BlocksVerdict}
+use Rattle.dcc_order.specs.Verdicts.{IsVerdictFrom}
 use Rattle.dcc_order.specs.OneMore.{GoesOnAs}
 use Rattle.dcc_order.specs.GivenLists.{MayFollow}
-use Rattle.dcc_order.specs.Comparisons.{AlikeUpTo, open_cut, cut_then, BlocksDiffer, IsVerdictAtEnds}
+use Rattle.dcc_order.specs.Comparisons.{AlikeUpTo, open_cut, IsVerdictAtEnds}
 use Rattle.dcc_order.proofs.CutTests.{at_first}
 use Rattle.dcc_order.proofs.OneMorePacket.{finished_blocks_stay}
 use Rattle.dcc_order.proofs.AlikeBlocks.{true_is_not_false}
@@ -112,25 +112,6 @@ alike_at_ends k left right (Some w) (Some u) d = elim (d (LastBlock []) (Block [
   | inr (inr (m, o, inr (e, inr (inl bad)))) ↦ (let e : Alike ≡ Order (k + 1) = bad.2 in cc)
   | inr (inr (m, o, inr (e, inr (inr bad)))) ↦ (let e : Alike ≡ Writes = bad.2 in cc)
 ]
-
--- blocks that differ, however they end
-pub blocks_differ : (k : ℕ) (left right : List Packet) (w u : Option Packet) (v : Verdict) → BlocksDiffer k left right v
-    → IsVerdictAtEnds k left w right u v
-blocks_differ k left right w u v d = λ lefts rights. by_ends w u lefts rights
-  where
-    so : (further : Type 0) → BlocksVerdict k left right v further
-    so further = elim d [
-      | inl members ↦ inl members
-      | inr order ↦ inr (inl order)
-    ]
-
-    by_ends : (w u : Option Packet) (lefts rights : Cut)
-        → IsVerdictFrom k (cut_then left w lefts) (cut_then right u rights) v
-    by_ends None None lefts rights = so (v ≡ Alike)
-    by_ends None (Some u) lefts rights = so (v ≡ Writes)
-    by_ends (Some w) None lefts rights = so (v ≡ Writes)
-    by_ends (Some w) (Some u) lefts rights =
-        so (((w ≢ u) × (v ≡ Writes)) ⊎ ((w ≡ u) × IsVerdictFrom (k + 1) lefts rights v))
 
 foreign_stays : (left right more : List Packet) (x : Packet) → (Contains left x → ⊥) → Contains right x
     → SameMembers left (right ++ more) → ⊥

@@ -1,17 +1,23 @@
 -- A CV and its bits.
-use Rattle.std.proofs.Common.{◌≡◌, ℕ, zero, suc, ◌<◌, ◌≤◌, Bool, true, false, List, refl, sym, ◌∙◌, ap, arith}
+use Rattle.std.proofs.Common.{◌≡◌, ℕ, zero, suc, ◌-◌, ◌<◌, ◌≤◌, Bool, true, false, List, refl, sym, ◌∙◌, ap, arith}
 use Rattle.std.proofs.Common.{replicate, get_or}
 use Rattle.std.specs.Prelude.{None, Some, if◌then◌else◌}
 use Rattle.std.proofs.lemmas.Bool.Decides.{nat_tests}
 use mathlib.Core.Path.{fun_ext}
-use Rattle.dcc_regs.specs.declared.register.Register.TheVariants.{CvBit}
+use Rattle.dcc_regs.specs.declared.register.Register.{Register}
+use Rattle.dcc_regs.specs.declared.register.Register.TheVariants.{Speed as SpeedRegister, Direction, Function}
+use Rattle.dcc_regs.specs.declared.register.Register.TheVariants.{State as StateRegister, CvBit}
+use Rattle.dcc_regs.specs.declared.register.Register.TheVariants.{Pending as PendingRegister, Out, Position, Aspect}
+use Rattle.dcc_regs.specs.declared.register.Who.{Who}
+use Rattle.dcc_regs.specs.declared.register.Who.TheVariants.{Loco as LocoWho}
 use Rattle.dcc_regs.specs.declared.register.Speed.TheVariants.{Stop}
 use Rattle.dcc_regs.specs.declared.register.Value.TheVariants.{Flag}
 use Rattle.dcc_packet.specs.Bits.{is_one}
 use Rattle.dcc_regs.specs.Addresses.{active_address}
 use Rattle.dcc_packet.proofs.BitLemmas.{byte_of_bits, same_byte}
-use Rattle.dcc_packet.specs.Cvs.{cv_in}
-use Rattle.dcc_regs.specs.Loco.{LocoContent, loco_registers, is_cv_bit, holds_one, cv_held, start_content}
+use Rattle.dcc_packet.specs.Cvs.{IsCvs, cv_in}
+use Rattle.dcc_regs.specs.Loco.{LocoContent, loco_registers, is_cv_bit, holds_one, cv_held, start_content, powered_up}
+use Rattle.dcc_regs.specs.Result.{RegisterMap}
 
 bit_there : (cv place : ℕ) → 1 ≤ cv → cv ≤ 1024 → place ≤ 7 → is_cv_bit cv place ≡ true
 bit_there cv place a b h = grind (arith, nat_tests)
@@ -80,3 +86,32 @@ active_address-loco d a b c e =
     sym (active_address-same (cv_held (loco_registers d)) d.cvs
     (cv_of-loco d 1 (omega arith) (omega arith) a) (cv_of-loco d 17 (omega arith) (omega arith) b)
     (cv_of-loco d 18 (omega arith) (omega arith) c) (cv_of-loco d 29 (omega arith) (omega arith) e))
+
+started_at : (d : LocoContent) (r : Register) → loco_registers (start_content d.cvs) r ≡ powered_up (loco_registers d) r
+started_at d SpeedRegister = refl
+started_at d Direction = refl
+started_at d (Function n) = refl
+started_at d (StateRegister n) = refl
+started_at d (CvBit cv place) = refl
+started_at d PendingRegister = refl
+started_at d (Out n) = refl
+started_at d (Position n) = refl
+started_at d (Aspect n) = refl
+
+-- the registers of a decoder made with the CVs of another are those of the other powered up
+pub powered_up-loco : (m : RegisterMap) (d : LocoContent) (cvs bytes : List ℕ)
+    → m ≡ loco_registers (start_content (cv_in bytes)) → bytes ≡ cvs → d.cvs ≡ cv_in cvs
+    → m ≡ powered_up (loco_registers d)
+powered_up-loco m d cvs bytes made same is =
+    made ∙ ap (λ (now : List ℕ). loco_registers (start_content (cv_in now))) same
+    ∙ ap (λ (now : ℕ → ℕ). loco_registers (start_content now)) (sym is) ∙ fun_ext (started_at d)
+
+-- and it has the address that the other has then
+pub who-powered_up : (who : Who) (d : LocoContent) (cvs bytes : List ℕ) → IsCvs cvs
+    → who ≡ LocoWho (active_address (cv_in bytes)) → bytes ≡ cvs → d.cvs ≡ cv_in cvs
+    → who ≡ LocoWho (active_address (cv_held (loco_registers d)))
+who-powered_up who d cvs bytes ok made same is =
+    let small : (n : ℕ) → d.cvs n < 256 = λ n. rw is (ok.bytes (n - 1)) in
+    made ∙ ap (λ (now : List ℕ). LocoWho (active_address (cv_in now))) same
+    ∙ ap (λ (now : ℕ → ℕ). LocoWho (active_address now)) (sym is)
+    ∙ ap LocoWho (active_address-loco d (small 1) (small 17) (small 18) (small 29))

@@ -1,8 +1,11 @@
 -- An accessory decoder's state as plain data.
 use Rattle.std.specs.Prelude.{false, slice_index, slice_index_or}
 use Rattle.dcc_regs.specs.declared.board_state.BoardState.{BoardState}
+use Rattle.dcc_regs.specs.declared.register.Who.{Who}
+use Rattle.dcc_regs.specs.declared.register.Who.TheVariants.{Board as BoardWho}
 use Rattle.dcc_packet.specs.Bits.{is_one}
-use Rattle.dcc_regs.specs.Board.{BoardContent}
+use Rattle.dcc_regs.specs.Board.{BoardContent, board_registers}
+use Rattle.dcc_regs.specs.Result.{RegisterMap}
 
 -- what a decoder in this state holds
 abbrev pub content : BoardState → BoardContent
@@ -12,3 +15,10 @@ content s =
       positions = λ n. slice_index_or s.positions n false;
       aspects = λ n. slice_index s.aspects n;
     }
+
+-- who such a decoder is, and what its registers hold
+abbrev pub board_who : BoardState → Who
+board_who s = BoardWho s.board
+
+abbrev pub board_map : BoardState → RegisterMap
+board_map s = board_registers (content s)

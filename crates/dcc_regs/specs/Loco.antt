@@ -7,6 +7,7 @@ use Rattle.dcc_packet.specs.declared.instruction.What.TheVariants.{Reset, Speed2
 use Rattle.dcc_packet.specs.declared.instruction.What.TheVariants.{CvWrite, CvVerify, CvBitWrite, CvBitVerify}
 use Rattle.dcc_packet.specs.declared.packet.Packet.{Packet}
 use Rattle.dcc_packet.specs.declared.packet.Packet.TheVariants.{Idle, Loco as ToLoco, Accessory, Signal, Other}
+use Rattle.dcc_regs.specs.declared.register.Who.{Who}
 use Rattle.dcc_regs.specs.declared.register.Who.TheVariants.{Loco as LocoWho}
 use Rattle.dcc_regs.specs.declared.register.Speed.{Speed}
 use Rattle.dcc_regs.specs.declared.register.Speed.TheVariants.{Stop, Emergency, Step14, Step28, Step126}
@@ -17,6 +18,7 @@ use Rattle.dcc_regs.specs.declared.register.Value.{Value}
 use Rattle.dcc_regs.specs.declared.register.Value.TheVariants.{Speed as SpeedValue, Forward, Flag}
 use Rattle.dcc_regs.specs.declared.register.Value.TheVariants.{Pending as PendingValue}
 use Rattle.dcc_packet.specs.Bits.{is_one, byte_of}
+use Rattle.dcc_regs.specs.Addresses.{active_address}
 use Rattle.dcc_regs.specs.Heard.{hears}
 use Rattle.dcc_regs.specs.States.{is_binary_state}
 use Rattle.dcc_regs.specs.Writes.{is_own_write}
@@ -55,6 +57,13 @@ loco_registers d (Aspect n) = None
 abbrev pub start_content : (ℕ → ℕ) → LocoContent
 start_content cvs =
     record { speed = Stop; forward = true; functions = λ n. false; states = λ n. false; cvs = cvs; pending = None }
+
+-- who such a decoder is, and what its registers hold
+abbrev pub start_who : (ℕ → ℕ) → Who
+start_who cvs = LocoWho (active_address cvs)
+
+abbrev pub start_map : (ℕ → ℕ) → RegisterMap
+start_map cvs = loco_registers (start_content cvs)
 
 -- the steps of each speed mode
 abbrev pub is_speed : Speed → Bool
@@ -101,4 +110,4 @@ cv_held m cv = byte_of (λ place. holds_one (m (CvBit cv place)))
 -- the registers after power-up: those of a decoder just made with the CVs as they are
 abbrev pub powered_up : RegisterMap → RegisterMap
 powered_up m (CvBit cv place) = m (CvBit cv place)
-powered_up m r = loco_registers (start_content (cv_held m)) r
+powered_up m r = start_map (cv_held m) r

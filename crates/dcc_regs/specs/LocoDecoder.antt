@@ -10,6 +10,6 @@ content d = record {
   forward = d.forward;
   functions = λ n. slice_index_or d.functions n false;
   states = λ n. slice_index_or d.states n false;
-  cvs = cv_in d.cvs.bytes;
+  cvs = cv_in d.cvs;
   pending = d.pending;
 }

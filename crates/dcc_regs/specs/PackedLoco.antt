@@ -11,6 +11,6 @@ content d =
       forward = d.forward;
       functions = is_one d.functions;
       states = is_one d.states;
-      cvs = cv_in d.cvs.bytes;
+      cvs = cv_in d.cvs;
       pending = d.pending;
     }

@@ -7,7 +7,7 @@ ghost use Rattle.dcc_regs.specs.Loco.{is_speed, is_pending_for};
 ghost use Rattle.dcc_regs.specs.Speeds as table;
 ghost use Rattle.dcc_regs.specs.States.{is_binary_state, state_set as state_set_of};
 
-use crate::cvs::Cvs;
+use crate::cvs;
 use crate::decoder::Decoder;
 use crate::function_bits::function_set;
 use crate::heard::hears;
@@ -16,7 +16,7 @@ use crate::register::{Register, Speed, SpeedMode, Value, Who};
 use crate::speeds::{direction_set, speed_set};
 use crate::states::state_set;
 use crate::writes::leave_pending;
-use dcc_packet::{Address, CvNumber, Packet, PacketFault};
+use dcc_packet::{Address, CvNumber, Cvs, Packet, PacketFault};
 
 /// A locomotive decoder: its functions and binary states as truth values, its CVs as bytes.
 #[derive(Drop)]
@@ -34,22 +34,19 @@ pub struct LocoDecoder {
 }
 
 impl LocoDecoder {
-    ghost use Rattle.dcc_regs.specs.Addresses.{active_address};
     ghost use Rattle.dcc_packet.specs.Cvs.{cv_in};
-    ghost use Rattle.dcc_regs.specs.Loco.{cv_held, loco_registers, powered_up, start_content};
-    ghost use Rattle.dcc_regs.specs.LocoState.{is_state, content as content_of};
-    ghost use Rattle.dcc_regs.specs.declared.register.Who.TheVariants.{Loco as LocoWho};
+    ghost use Rattle.dcc_regs.specs.Loco.{cv_held, powered_up, start_map, start_who};
+    ghost use Rattle.dcc_regs.specs.LocoState.{is_state, loco_map, loco_who};
 
     /// A decoder powered up with these CVs.
     pub fn new(cvs: &[u8; 1024]) -> LocoDecoder
-        ensures who { ⟦<LocoDecoder as Decoder>⟧.who result ≡ LocoWho (active_address (cv_in cvs.now)) }
-        ensures registers { ⟦<LocoDecoder as Decoder>⟧.registers result ≡ loco_registers
-            (start_content (cv_in cvs.now)) }
+        ensures who { ⟦<LocoDecoder as Decoder>⟧.who result ≡ start_who (cv_in cvs.now) }
+        ensures registers { ⟦<LocoDecoder as Decoder>⟧.registers result ≡ start_map (cv_in cvs.now) }
         ensures bytes { (n : ℕ) → cv_in cvs.now n < 256 }
     {
-        let cvs = Cvs { bytes: *cvs };
+        let cvs = Cvs::new(cvs);
         LocoDecoder {
-            address: cvs.active_address(),
+            address: cvs::active_address(&cvs),
             speed: Speed::Stop,
             forward: true,
             functions: [false; 69],
@@ -63,9 +60,8 @@ impl LocoDecoder {
     pub fn restore(state: &LocoState) -> Result<LocoDecoder, PacketFault>
         ensures valid { IsOk result ↔ (is_state state.now ≡ true) }
         ensures fault { IfErr result (λ fault. fault ≡ PacketFault.State) }
-        ensures who { IfOk result (λ d. ⟦<LocoDecoder as Decoder>⟧.who d ≡ LocoWho state.now.address) }
-        ensures registers { IfOk result
-            (λ d. ⟦<LocoDecoder as Decoder>⟧.registers d ≡ loco_registers (content_of state.now)) }
+        ensures who { IfOk result (λ d. ⟦<LocoDecoder as Decoder>⟧.who d ≡ loco_who state.now) }
+        ensures registers { IfOk result (λ d. ⟦<LocoDecoder as Decoder>⟧.registers d ≡ loco_map state.now) }
     {
         if state.is_possible() {
             Ok(LocoDecoder {
@@ -74,7 +70,7 @@ impl LocoDecoder {
                 forward: state.forward,
                 functions: functions_of(state.functions),
                 states: states_of(state.states),
-                cvs: Cvs { bytes: state.cvs },
+                cvs: Cvs::new(&state.cvs),
                 pending: state.pending,
             })
         } else {
@@ -85,8 +81,8 @@ impl LocoDecoder {
     /// What the decoder holds, as plain data: of it `restore` makes a decoder that is as this one.
     pub fn state(&self) -> LocoState
         ensures possible { is_state result ≡ true }
-        ensures who { ⟦<LocoDecoder as Decoder>⟧.who self.now ≡ LocoWho result.address }
-        ensures registers { ⟦<LocoDecoder as Decoder>⟧.registers self.now ≡ loco_registers (content_of result) }
+        ensures who { ⟦<LocoDecoder as Decoder>⟧.who self.now ≡ loco_who result }
+        ensures registers { ⟦<LocoDecoder as Decoder>⟧.registers self.now ≡ loco_map result }
     {
         LocoState {
             address: self.address,
@@ -95,18 +91,18 @@ impl LocoDecoder {
             functions: packed(&self.functions),
             states: states_in(packed(&self.states)),
             pending: self.pending,
-            cvs: self.cvs.bytes,
+            cvs: *self.cvs.bytes(),
         }
     }
 
     /// Powers the decoder up: it is as `new` makes one of its present CVs.
     pub fn power_up(&mut self)
-        ensures who { ⟦<LocoDecoder as Decoder>⟧.who self.new ≡ LocoWho
-            (active_address (cv_held (⟦<LocoDecoder as Decoder>⟧.registers self.old))) }
+        ensures who { ⟦<LocoDecoder as Decoder>⟧.who self.new ≡ start_who
+            (cv_held (⟦<LocoDecoder as Decoder>⟧.registers self.old)) }
         ensures registers { ⟦<LocoDecoder as Decoder>⟧.registers self.new ≡ powered_up
             (⟦<LocoDecoder as Decoder>⟧.registers self.old) }
     {
-        *self = LocoDecoder::new(&self.cvs.bytes);
+        *self = LocoDecoder::new(self.cvs.bytes());
     }
 
     /// The value of a CV.
@@ -185,8 +181,8 @@ impl Decoder for LocoDecoder {
 
     fn apply(&mut self, packet: &Packet) {
         if hears(self.who(), packet) {
-            let mode = self.cvs.mode();
-            self.cvs.hear(&self.pending, packet);
+            let mode = cvs::mode(&self.cvs);
+            cvs::hear(&mut self.cvs, &self.pending, packet);
             self.obey(mode, packet);
             leave_pending(&mut self.pending, packet);
         }
@@ -198,7 +194,7 @@ impl Decoder for LocoDecoder {
             Register::Direction => Some(Value::Forward(self.forward)),
             Register::Function(n) if n <= 68 => Some(Value::Flag(self.functions[n as usize])),
             Register::State(n) => self.binary_state(n).map(Value::Flag),
-            Register::CvBit(cv, place) => self.cvs.bit(cv, place).map(Value::Flag),
+            Register::CvBit(cv, place) => cvs::bit(&self.cvs, cv, place).map(Value::Flag),
             Register::Pending => Some(Value::Pending(self.pending)),
             _ => None,
         }

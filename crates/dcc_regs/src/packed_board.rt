@@ -24,7 +24,7 @@ pub struct PackedBoard {
 }
 
 impl PackedBoard {
-    ghost use Rattle.dcc_regs.specs.BoardState.{content as content_of};
+    ghost use Rattle.dcc_regs.specs.BoardState.{board_map, board_who};
     ghost use Rattle.dcc_regs.specs.Board.{board_powered_up, board_registers, made};
     ghost use Rattle.dcc_regs.specs.declared.register.Who.TheVariants.{Board as BoardWho};
 
@@ -51,9 +51,8 @@ impl PackedBoard {
     pub fn restore(state: &BoardState) -> Result<PackedBoard, PacketFault>
         ensures valid { IsOk result ↔ (nat_le state.now.board.number 510 ≡ true) }
         ensures fault { IfErr result (λ fault. fault ≡ PacketFault.Board) }
-        ensures who { IfOk result (λ d. ⟦<PackedBoard as Decoder>⟧.who d ≡ BoardWho state.now.board) }
-        ensures registers { IfOk result
-            (λ d. ⟦<PackedBoard as Decoder>⟧.registers d ≡ board_registers (content_of state.now)) }
+        ensures who { IfOk result (λ d. ⟦<PackedBoard as Decoder>⟧.who d ≡ board_who state.now) }
+        ensures registers { IfOk result (λ d. ⟦<PackedBoard as Decoder>⟧.registers d ≡ board_map state.now) }
     {
         if state.board.number() <= 510 {
             Ok(PackedBoard {
@@ -70,8 +69,8 @@ impl PackedBoard {
     /// What the decoder holds, as plain data: of it `restore` makes a decoder that is as this one.
     pub fn state(&self) -> BoardState
         ensures possible { nat_le result.board.number 510 ≡ true }
-        ensures who { ⟦<PackedBoard as Decoder>⟧.who self.now ≡ BoardWho result.board }
-        ensures registers { ⟦<PackedBoard as Decoder>⟧.registers self.now ≡ board_registers (content_of result) }
+        ensures who { ⟦<PackedBoard as Decoder>⟧.who self.now ≡ board_who result }
+        ensures registers { ⟦<PackedBoard as Decoder>⟧.registers self.now ≡ board_map result }
     {
         BoardState {
             board: self.board,

@@ -7,7 +7,7 @@ ghost use Rattle.dcc_regs.specs.FunctionBits.{function_set as function_set_of};
 ghost use Rattle.dcc_regs.specs.Loco.{is_speed, is_pending_for};
 ghost use Rattle.dcc_regs.specs.States.{is_binary_state, state_set as state_set_of};
 
-use crate::cvs::Cvs;
+use crate::cvs;
 use crate::decoder::Decoder;
 use crate::function_bits::{function_range, function_set};
 use crate::heard::hears;
@@ -16,7 +16,7 @@ use crate::register::{Register, Speed, SpeedMode, Value, Who};
 use crate::speeds::{direction_set, speed_set};
 use crate::states::{state_set, turned_states};
 use crate::writes::leave_pending;
-use dcc_packet::{Address, CvNumber, Packet, PacketFault};
+use dcc_packet::{Address, CvNumber, Cvs, Packet, PacketFault};
 
 /// A locomotive decoder: bit n of `functions` is function n, bit n of `states` state n, its CVs are bytes. It
 /// keeps the contracts of `LocoDecoder`.
@@ -35,22 +35,19 @@ pub struct PackedLoco {
 }
 
 impl PackedLoco {
-    ghost use Rattle.dcc_regs.specs.Addresses.{active_address};
     ghost use Rattle.dcc_packet.specs.Cvs.{cv_in};
-    ghost use Rattle.dcc_regs.specs.Loco.{cv_held, loco_registers, powered_up, start_content};
-    ghost use Rattle.dcc_regs.specs.LocoState.{is_state, content as content_of};
-    ghost use Rattle.dcc_regs.specs.declared.register.Who.TheVariants.{Loco as LocoWho};
+    ghost use Rattle.dcc_regs.specs.Loco.{cv_held, powered_up, start_map, start_who};
+    ghost use Rattle.dcc_regs.specs.LocoState.{is_state, loco_map, loco_who};
 
     /// A decoder powered up with these CVs.
     pub fn new(cvs: &[u8; 1024]) -> PackedLoco
-        ensures who { ⟦<PackedLoco as Decoder>⟧.who result ≡ LocoWho (active_address (cv_in cvs.now)) }
-        ensures registers { ⟦<PackedLoco as Decoder>⟧.registers result ≡ loco_registers
-            (start_content (cv_in cvs.now)) }
+        ensures who { ⟦<PackedLoco as Decoder>⟧.who result ≡ start_who (cv_in cvs.now) }
+        ensures registers { ⟦<PackedLoco as Decoder>⟧.registers result ≡ start_map (cv_in cvs.now) }
         ensures bytes { (n : ℕ) → cv_in cvs.now n < 256 }
     {
-        let cvs = Cvs { bytes: *cvs };
+        let cvs = Cvs::new(cvs);
         PackedLoco {
-            address: cvs.active_address(),
+            address: cvs::active_address(&cvs),
             speed: Speed::Stop,
             forward: true,
             functions: 0,
@@ -64,9 +61,8 @@ impl PackedLoco {
     pub fn restore(state: &LocoState) -> Result<PackedLoco, PacketFault>
         ensures valid { IsOk result ↔ (is_state state.now ≡ true) }
         ensures fault { IfErr result (λ fault. fault ≡ PacketFault.State) }
-        ensures who { IfOk result (λ d. ⟦<PackedLoco as Decoder>⟧.who d ≡ LocoWho state.now.address) }
-        ensures registers { IfOk result
-            (λ d. ⟦<PackedLoco as Decoder>⟧.registers d ≡ loco_registers (content_of state.now)) }
+        ensures who { IfOk result (λ d. ⟦<PackedLoco as Decoder>⟧.who d ≡ loco_who state.now) }
+        ensures registers { IfOk result (λ d. ⟦<PackedLoco as Decoder>⟧.registers d ≡ loco_map state.now) }
     {
         if state.is_possible() {
             Ok(PackedLoco {
@@ -75,7 +71,7 @@ impl PackedLoco {
                 forward: state.forward,
                 functions: state.functions,
                 states: state.states,
-                cvs: Cvs { bytes: state.cvs },
+                cvs: Cvs::new(&state.cvs),
                 pending: state.pending,
             })
         } else {
@@ -86,8 +82,8 @@ impl PackedLoco {
     /// What the decoder holds, as plain data: of it `restore` makes a decoder that is as this one.
     pub fn state(&self) -> LocoState
         ensures possible { is_state result ≡ true }
-        ensures who { ⟦<PackedLoco as Decoder>⟧.who self.now ≡ LocoWho result.address }
-        ensures registers { ⟦<PackedLoco as Decoder>⟧.registers self.now ≡ loco_registers (content_of result) }
+        ensures who { ⟦<PackedLoco as Decoder>⟧.who self.now ≡ loco_who result }
+        ensures registers { ⟦<PackedLoco as Decoder>⟧.registers self.now ≡ loco_map result }
     {
         LocoState {
             address: self.address,
@@ -96,18 +92,18 @@ impl PackedLoco {
             functions: functions_in(self.functions),
             states: states_in(self.states),
             pending: self.pending,
-            cvs: self.cvs.bytes,
+            cvs: *self.cvs.bytes(),
         }
     }
 
     /// Powers the decoder up: it is as `new` makes one of its present CVs.
     pub fn power_up(&mut self)
-        ensures who { ⟦<PackedLoco as Decoder>⟧.who self.new ≡ LocoWho
-            (active_address (cv_held (⟦<PackedLoco as Decoder>⟧.registers self.old))) }
+        ensures who { ⟦<PackedLoco as Decoder>⟧.who self.new ≡ start_who
+            (cv_held (⟦<PackedLoco as Decoder>⟧.registers self.old)) }
         ensures registers { ⟦<PackedLoco as Decoder>⟧.registers self.new ≡ powered_up
             (⟦<PackedLoco as Decoder>⟧.registers self.old) }
     {
-        *self = PackedLoco::new(&self.cvs.bytes);
+        *self = PackedLoco::new(self.cvs.bytes());
     }
 
     /// The value of a CV.
@@ -191,8 +187,8 @@ impl Decoder for PackedLoco {
 
     fn apply(&mut self, packet: &Packet) {
         if hears(self.who(), packet) {
-            let mode = self.cvs.mode();
-            self.cvs.hear(&self.pending, packet);
+            let mode = cvs::mode(&self.cvs);
+            cvs::hear(&mut self.cvs, &self.pending, packet);
             self.speed = speed_set(mode, packet).unwrap_or(self.speed);
             self.forward = direction_set(packet).unwrap_or(self.forward);
             self.functions = functions_after(self.functions, mode, packet);
@@ -207,7 +203,7 @@ impl Decoder for PackedLoco {
             Register::Direction => Some(Value::Forward(self.forward)),
             Register::Function(n) if n <= 68 => Some(Value::Flag(self.functions >> n & 1 == 1)),
             Register::State(n) => state(self.states, n).map(Value::Flag),
-            Register::CvBit(cv, place) => self.cvs.bit(cv, place).map(Value::Flag),
+            Register::CvBit(cv, place) => cvs::bit(&self.cvs, cv, place).map(Value::Flag),
             Register::Pending => Some(Value::Pending(self.pending)),
             _ => None,
         }

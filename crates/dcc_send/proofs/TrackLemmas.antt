@@ -5,6 +5,7 @@ use Rattle.std.proofs.Common.{subst, append_assoc, arith}
 use Rattle.std.proofs.lemmas.List.{append-nil, take_all, take_at, take-append-drop, take-replicate}
 use Rattle.std.proofs.lemmas.List.{replicate-append-replicate, length-append}
 use Rattle.std.specs.Io.KnownBytes.{Appends}
+use Rattle.std.specs.Option.{option_map, option_map_or}
 use Rattle.dcc_packet.specs.declared.cv.CvNumber.{CvNumber}
 use Rattle.dcc_service.specs.declared.packet.ServicePacket.{ServicePacket}
 use Rattle.dcc_service.specs.declared.packet.ServicePacket.TheVariants.{Write, Verify, BitWrite, BitVerify}
@@ -13,12 +14,12 @@ use Rattle.dcc_service.specs.declared.reader.Reading.TheVariants.{More, Value, N
 use Rattle.dcc_service.specs.Bits.{bits_from_lowest, number_from_lowest}
 use Rattle.dcc_service.specs.CvAnswers.{CvAnswers, Asks, question_frame}
 use Rattle.dcc_packet.specs.Cvs.{cv_in}
-use Rattle.dcc_service.specs.Cvs.{IsCvs}
+use Rattle.dcc_packet.specs.Cvs.{IsCvs}
 use Rattle.dcc_service.specs.Machine.{ServiceState, is_acknowledged}
 use Rattle.dcc_service.specs.Question.{after_question}
 use Rattle.dcc_service.specs.ReadingLaws.{AreFirstOf}
 use Rattle.dcc_service.specs.Readings.{Comes}
-use Rattle.dcc_service.proofs.ReadingLemmas.{next_is_true, truth_is_the_value, silence_is_no_answer}
+use Rattle.dcc_service.proofs.ReadingLemmas.{asks_only, next_is_true, truth_is_the_value, silence_is_no_answer}
 use Rattle.dcc_io.specs.declared.fault.ToolFault.{ToolFault}
 use Rattle.dcc_io.specs.declared.fault.ToolFault.TheVariants as faults
 use Rattle.dcc_io.specs.Failures.{HasRisen}
@@ -29,7 +30,7 @@ use Rattle.dcc_send.specs.ProgrammingTrackReading.{value_line, reading_text, aft
 use Rattle.dcc_io.specs.WriterState.{WriterState}
 use Rattle.dcc_io.specs.WrittenBytes.{AppendsFront}
 use Rattle.dcc_io.proofs.WrittenLemmas.{AppendsFront-more}
-use Rattle.dcc_io.proofs.WrittenLemmas.{Appends-none, Appends-append, front_behind}
+use Rattle.dcc_io.proofs.WrittenLemmas.{Appends-append, front_behind}
 
 -- the lines of some answers and then of others
 lines-append : (so_far : CvAnswers) (xs ys : List Bool)
@@ -82,7 +83,8 @@ written_more : (cv : CvNumber) (so_far : CvAnswers) (answer : Bool) (before mid 
     → Appends mid.contents after.contents (answered_line (question_frame so_far) answer)
     → Appends before.contents after.contents (answered_lines (no_answers cv) (so_far.answers ++ answer ∷ []))
 written_more cv so_far answer before mid after same first second =
-    let lines : answered_lines (no_answers cv) (so_far.answers ++ answer ∷ []) ≡ answered_lines (no_answers cv) so_far.answers ++ answered_line (question_frame so_far) answer =
+    let lines : answered_lines (no_answers cv) (so_far.answers ++ answer ∷ []) ≡ answered_lines (no_answers cv)
+    so_far.answers ++ answered_line (question_frame so_far) answer =
     ap (λ c. answered_lines (no_answers c) (so_far.answers ++ answer ∷ [])) (sym same) ∙ lines-one so_far answer
     ∙ ap (λ c. answered_lines (no_answers c) so_far.answers ++ answered_line (question_frame so_far) answer) same in
     subst (λ (bytes : List ℕ). Appends before.contents after.contents bytes) (sym lines)
@@ -113,12 +115,14 @@ pub fails_in_line : (track : Option (List ℕ)) (cv : CvNumber) (so_far : CvAnsw
     → ReadsCv track cv before (Err faults.Write) after
 fails_in_line track cv so_far answer before mid after reading first front risen =
     let rest = first_lines cv (so_far.answers ++ answer ∷ []) (answers_on track cv) first in
-    let lines : answered_lines (no_answers cv) (so_far.answers ++ answer ∷ []) ≡ answered_lines (no_answers cv) so_far.answers ++ answered_line (question_frame so_far) answer =
+    let lines : answered_lines (no_answers cv) (so_far.answers ++ answer ∷ []) ≡ answered_lines (no_answers cv)
+    so_far.answers ++ answered_line (question_frame so_far) answer =
     ap (λ c. answered_lines (no_answers c) (so_far.answers ++ answer ∷ [])) (sym reading.same_cv)
     ∙ lines-one so_far answer
     ∙ ap (λ c. answered_lines (no_answers c) so_far.answers ++ answered_line (question_frame so_far) answer)
     reading.same_cv in
-    let whole : reading_text track cv ≡ answered_lines (no_answers cv) so_far.answers ++ answered_line (question_frame so_far) answer ++ rest.0 ++ value_line (value_on track cv) =
+    let whole : reading_text track cv ≡ answered_lines (no_answers cv) so_far.answers ++ answered_line
+    (question_frame so_far) answer ++ rest.0 ++ value_line (value_on track cv) =
     ap (λ (bytes : List ℕ). bytes ++ value_line (value_on track cv))
     (rest.1 ∙ ap (λ (bytes : List ℕ). bytes ++ rest.0) lines) in
     let written = front_behind before mid after (answered_lines (no_answers cv) so_far.answers)
@@ -244,7 +248,7 @@ byte_asked so_far (Verify c x) cv value asks same_cv all is =
     ap (λ n. Verify n x) (asks.0 ∙ same_cv) ∙ ap (λ (v : ℕ). Verify cv v) (asks.2 ∙ sym is)
 
 -- a decoder that has told its value was asked for the byte last
-pub asked_last : (so_far : CvAnswers) (question : ServicePacket) (before now new : ServiceState) (cv : CvNumber)
+asked_last : (so_far : CvAnswers) (question : ServicePacket) (before now new : ServiceState) (cv : CvNumber)
     (answer : Bool) (told : Option ℕ) → Asks so_far question → so_far.cv ≡ cv
     → IsCvs before.cvs → now.cvs ≡ before.cvs → new ≡ after_question now question
     → AreFirstOf (so_far.answers ++ answer ∷ []) (answers_on (Some before.cvs) cv)
@@ -269,12 +273,8 @@ pub on_ok : (result : Result (Option ℕ) ToolFault) (P : Type 0) → P → OnOk
 on_ok (Ok value) P fact = fact
 on_ok (Err fault) P fact = tt
 
-pub on_ok_map : (result : Result (Option ℕ) ToolFault) (P Q : Type 0) → (P → Q) → OnOk result P → OnOk result Q
-on_ok_map (Ok value) P Q each fact = each fact
-on_ok_map (Err fault) P Q each fact = tt
-
 -- a decoder's answer to the question behind true answers is the next one
-pub true_answer : (so_far : CvAnswers) (question : ServicePacket) (cvs now : List ℕ) (cv : CvNumber) (answer : Bool)
+true_answer : (so_far : CvAnswers) (question : ServicePacket) (cvs now : List ℕ) (cv : CvNumber) (answer : Bool)
     → now ≡ cvs → so_far.cv ≡ cv → IsCvs now → Asks so_far question
     → AreFirstOf so_far.answers (answers_on (Some cvs) cv) → answer ≡ is_acknowledged question now
     → AreFirstOf (so_far.answers ++ answer ∷ []) (answers_on (Some cvs) cv)
@@ -287,7 +287,7 @@ true_answer so_far question cvs now cv answer same same_cv ok asks first is =
     subst Q all (subst R (sym is) (next_is_true so_far question now ok asks (subst P (sym all) first)))
 
 -- silence is the next answer of an empty track
-pub next_is_no : (answers : List Bool) → length answers ≤ 8 → AreFirstOf answers (replicate 9 false)
+next_is_no : (answers : List Bool) → length answers ≤ 8 → AreFirstOf answers (replicate 9 false)
     → AreFirstOf (answers ++ false ∷ []) (replicate 9 false)
 next_is_no answers few first =
     let n : ℕ = length answers in
@@ -295,3 +295,52 @@ next_is_no answers few first =
     ap (λ (xs : List Bool). xs ++ false ∷ []) (first ∙ take-replicate n 9 false (omega arith))
     ∙ replicate-append-replicate n 1 false
     ∙ sym (take-replicate (n + 1) 9 false (omega arith)) ∙ ap (λ (m : ℕ). take m (replicate 9 false)) (sym longer)
+
+-- the CVs of the decoder on a track
+abbrev pub cvs_on : Option ServiceState → Option (List ℕ)
+cvs_on track = option_map (λ d. d.cvs) track
+
+-- what a track answers to the question behind true answers is the next one
+pub next_answer : (so_far : CvAnswers) (question : ServicePacket) (before now : Option ServiceState) (cv : CvNumber)
+    (answer : Bool) → cvs_on now ≡ cvs_on before → so_far.cv ≡ cv → IfSome now (λ d. IsCvs d.cvs)
+    → Asks so_far question → length so_far.answers ≤ 8 → AreFirstOf so_far.answers (answers_on (cvs_on before) cv)
+    → answer ≡ option_map_or (λ d. is_acknowledged question d.cvs) now false
+    → AreFirstOf (so_far.answers ++ answer ∷ []) (answers_on (cvs_on before) cv)
+next_answer so_far question None None cv answer same same_cv ok asks few first is =
+    subst (λ b. AreFirstOf (so_far.answers ++ b ∷ []) (replicate 9 false)) (sym is)
+    (next_is_no so_far.answers few first)
+next_answer so_far question (Some before) (Some now) cv answer same same_cv ok asks few first is =
+    true_answer so_far question before.cvs now.cvs cv answer (cc) same_cv ok asks first is
+next_answer so_far question None (Some now) cv answer same same_cv ok asks few first is = absurd (cc)
+next_answer so_far question (Some before) None cv answer same same_cv ok asks few first is = absurd (cc)
+
+-- a question changes no CV
+pub cvs_stay : (so_far : CvAnswers) (question : ServicePacket) (before now new : Option ServiceState)
+    → Asks so_far question → new ≡ option_map (λ d. after_question d question) now → cvs_on now ≡ cvs_on before
+    → cvs_on new ≡ cvs_on before
+cvs_stay so_far question before None new asks is same = ap cvs_on is ∙ same
+cvs_stay so_far question before (Some now) new asks is same =
+    ap cvs_on is ∙ ap (λ (cvs : List ℕ). Some cvs) (asks_only so_far question now.cvs asks) ∙ same
+
+-- CVs that stay have their sizes
+pub sizes_stay : (before now : Option ServiceState) → cvs_on now ≡ cvs_on before → IfSome now (λ d. IsCvs d.cvs)
+    → IfSome (cvs_on before) IsCvs
+sizes_stay None now same ok = tt
+sizes_stay (Some before) None same ok = absurd (cc)
+sizes_stay (Some before) (Some now) same ok = let e : now.cvs ≡ before.cvs = cc in subst IsCvs e ok
+
+-- a track whose value is told was asked for the byte last, where a decoder is on it
+pub track_asked_last : (so_far : CvAnswers) (question : ServicePacket) (before now new : Option ServiceState)
+    (cv : CvNumber) (answer : Bool) (told : Option ℕ) → Asks so_far question → so_far.cv ≡ cv
+    → IfSome now (λ d. IsCvs d.cvs) → cvs_on now ≡ cvs_on before
+    → new ≡ option_map (λ d. after_question d question) now
+    → AreFirstOf (so_far.answers ++ answer ∷ []) (answers_on (cvs_on before) cv)
+    → Comes so_far.cv (so_far.answers ++ answer ∷ []) (reading_of told)
+    → new ≡ option_map (λ d. after_reading d cv) before
+track_asked_last so_far question None None new cv answer told asks same_cv ok same is first comes = is
+track_asked_last so_far question (Some before) (Some now) new cv answer told asks same_cv ok same is first comes =
+    let e : now.cvs ≡ before.cvs = cc in
+    is ∙ ap (λ d. Some d) (asked_last so_far question before now (after_question now question) cv answer told asks
+    same_cv (subst IsCvs e ok) e refl first comes)
+track_asked_last so_far question None (Some now) new cv answer told asks same_cv ok same is first comes = absurd (cc)
+track_asked_last so_far question (Some before) None new cv answer told asks same_cv ok same is first comes = absurd (cc)

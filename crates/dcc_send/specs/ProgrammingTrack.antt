@@ -1,7 +1,7 @@
 -- The programming track of saved decoders.
 use Rattle.std.specs.Prelude.{ℕ, List, [], ◌∷◌, Option, None, Some}
-use Rattle.dcc_io.specs.declared.saved.Saved.{Saved}
-use Rattle.dcc_io.specs.declared.saved.Saved.TheVariants.{Loco, Board}
+use Rattle.dcc_saved.specs.declared.saved.Saved.{Saved}
+use Rattle.dcc_saved.specs.declared.saved.Saved.TheVariants.{Loco, Board}
 
 -- the CVs of the first locomotive, which is the decoder on the programming track
 abbrev pub first_cvs : List Saved → Option (List ℕ)

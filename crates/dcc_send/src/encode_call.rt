@@ -82,7 +82,7 @@ fn encode_packets<R: Source, W: Sink>(
         input.new (W.state writer.new) }
 {
     if let Some(fault) = input.fault() {
-        return Err(fault.told());
+        return Err(ToolFault::from(fault));
     }
     let mut held = HeldLines::new();
     'packets: loop {
@@ -92,7 +92,7 @@ fn encode_packets<R: Source, W: Sink>(
                 Err(_) => return Err(ToolFault::Write),
             },
             Ok(Ok(None)) => return Ok(()),
-            Ok(Err(fault)) => return Err(fault.told()),
+            Ok(Err(fault)) => return Err(ToolFault::from(fault)),
             Err(_) => return Err(ToolFault::Write),
         }
     }

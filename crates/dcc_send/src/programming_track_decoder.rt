@@ -2,8 +2,9 @@
 ghost use Rattle.std.specs.Prelude.{◌≡◌, None, Some, MatchResult, false};
 ghost use Rattle.dcc_send.specs.ProgrammingTrack.{first_cvs};
 
-use dcc_io::{Saved, ToolFault};
+use dcc_io::ToolFault;
 use dcc_packet::PacketFault;
+use dcc_saved::Saved;
 use dcc_service::ServiceDecoder;
 
 /// The first locomotive of a decoder text on the programming track: a decoder out of service with its CVs. Where there

@@ -1,7 +1,10 @@
 //! The reading of a variable on the programming track.
-ghost use Rattle.std.specs.Prelude.{◌≡◌, None, Some, OnOk};
-ghost use Rattle.std.specs.Option.{option_map, option_copied_mut};
+ghost use Rattle.std.specs.Prelude.{◌≡◌, Option, None, Some, IfSome, OnOk, false};
+ghost use Rattle.std.specs.Option.{option_map, option_map_or, option_copied_mut};
 ghost use Rattle.dcc_service.specs.CvAnswers.{Asks};
+ghost use Rattle.dcc_packet.specs.Cvs.{IsCvs};
+ghost use Rattle.dcc_service.specs.Machine.{ServiceState, is_acknowledged};
+ghost use Rattle.dcc_service.specs.Question.{after_question};
 ghost use Rattle.dcc_send.specs.Loan.{left_in};
 ghost use Rattle.dcc_send.specs.Inner.ProgrammingTrackAnswers.{TakesAnswer, Tells};
 ghost use Rattle.dcc_send.specs.ProgrammingTrackReading.{ReadsCv, after_reading};
@@ -33,43 +36,59 @@ pub fn readcv<W: Sink>(
         (left_in decoder.exit ≡ option_map (λ d. after_reading d cv) (option_copied_mut decoder.entry)) }
 {
     match decoder {
-        Some(decoder) => read_decoder(decoder, cv, writer),
-        None => read_empty_track(cv, writer),
+        Some(decoder) => read(decoder, cv, writer),
+        None => read(&mut EmptyTrack, cv, writer),
     }
 }
 
-/// Reads a CV of a decoder.
-fn read_decoder<W: Sink>(
-    decoder: &mut ServiceDecoder,
+/// A programming track, which has a decoder or none: what questions are put to.
+trait ProgrammingTrack {
+    // The decoder on it, where there is one.
+    ghost decoder: { Self → Option ServiceState };
+
+    /// Puts a question, and answers whether it was acknowledged.
+    fn put(&mut self, question: &ServicePacket) -> bool
+        ensures answer { result ≡ option_map_or (λ d. is_acknowledged question.now d.cvs) (decoder self.old) false }
+        ensures after { decoder self.new ≡ option_map (λ d. after_question d question.now) (decoder self.old) }
+        ensures cvs { IfSome (decoder self.old) (λ d. IsCvs d.cvs) };
+}
+
+impl ProgrammingTrack for ServiceDecoder {
+    ghost decoder = { λ decoder. Some decoder };
+
+    fn put(&mut self, question: &ServicePacket) -> bool {
+        ask(self, question)
+    }
+}
+
+/// A track without a decoder, where nobody answers.
+#[derive(Drop)]
+struct EmptyTrack;
+
+impl ProgrammingTrack for EmptyTrack {
+    ghost decoder = { λ track. None };
+
+    fn put(&mut self, _question: &ServicePacket) -> bool {
+        false
+    }
+}
+
+/// Puts the questions about a CV to a track.
+fn read<T: ProgrammingTrack, W: Sink>(
+    track: &mut T,
     cv: CvNumber,
     writer: &mut W,
 ) -> Result<Option<u8>, ToolFault>
-    ensures tells { ReadsCv (Some decoder.old.cvs) cv (W.state writer.old) result
+    ensures reads { ReadsCv (option_map (λ d. d.cvs) (T.decoder track.old)) cv (W.state writer.old) result
         (W.state writer.new) }
-    ensures cvs { decoder.new.cvs ≡ decoder.old.cvs }
-    ensures asked { OnOk result (decoder.new ≡ after_reading decoder.old cv) }
+    ensures cvs { option_map (λ d. d.cvs) (T.decoder track.new) ≡ option_map (λ d. d.cvs) (T.decoder track.old) }
+    ensures asked { OnOk result (T.decoder track.new ≡ option_map (λ d. after_reading d cv) (T.decoder track.old)) }
 {
     let mut reader = CvReader::new(cv);
     'questions: loop {
         let question = reader.question();
-        let yes = ask(decoder, &question);
+        let yes = track.put(&question);
         match take_answer(reader, &question, yes, writer) {
-            Ok(Reading::More(next)) => reader = next,
-            Ok(Reading::Value(value)) => return tell(Some(value), writer),
-            Ok(Reading::NoAnswer) => return tell(None, writer),
-            Err(_) => return Err(ToolFault::Write),
-        }
-    }
-}
-
-/// Puts the questions about a CV to a track where nobody answers.
-fn read_empty_track<W: Sink>(cv: CvNumber, writer: &mut W) -> Result<Option<u8>, ToolFault>
-    ensures { ReadsCv None cv (W.state writer.old) result (W.state writer.new) }
-{
-    let mut reader = CvReader::new(cv);
-    'questions: loop {
-        let question = reader.question();
-        match take_answer(reader, &question, false, writer) {
             Ok(Reading::More(next)) => reader = next,
             Ok(Reading::Value(value)) => return tell(Some(value), writer),
             Ok(Reading::NoAnswer) => return tell(None, writer),

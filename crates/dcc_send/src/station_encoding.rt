@@ -32,7 +32,7 @@ pub(crate) fn encode_by_station<R: Source, W: Sink>(
         input.new (W.state writer.new) }
 {
     if let Some(fault) = input.fault() {
-        return Err(fault.told());
+        return Err(ToolFault::from(fault));
     }
     let mut held = HeldLines::new();
     'lines: loop {
@@ -42,7 +42,7 @@ pub(crate) fn encode_by_station<R: Source, W: Sink>(
                 Err(_) => return Err(ToolFault::Write),
             },
             Ok(Ok(None)) => return Ok(()),
-            Ok(Err(fault)) => return Err(fault.told()),
+            Ok(Err(fault)) => return Err(ToolFault::from(fault)),
             Err(_) => return Err(ToolFault::Write),
         }
     }

@@ -10,8 +10,7 @@ use Rattle.dcc_packet.specs.Rows.{bit}
 use Rattle.dcc_packet.specs.declared.cv.CvNumber.{CvNumber}
 use Rattle.dcc_service.specs.declared.packet.ServicePacket.TheVariants.{Write, Verify, BitWrite, BitVerify}
 use Rattle.dcc_service.specs.Bits.{number_from_lowest}
-use Rattle.dcc_packet.specs.Cvs.{cv_in}
-use Rattle.dcc_service.specs.Cvs.{IsCvs, is_writable, written}
+use Rattle.dcc_packet.specs.Cvs.{IsCvs, cv_in, is_writable, written}
 use Rattle.dcc_service.specs.Machine.{ServiceState}
 use Rattle.dcc_service.specs.Question.{four_no_then}
 use Rattle.dcc_service.specs.QuestionLaws.{QuestionsAreAnswered, VerifiesTell, BitVerifiesTell, WritesAreDone}

@@ -6,7 +6,7 @@ use Rattle.std.specs.List.{list_any}
 use Rattle.std.proofs.lemmas.List.{get_or-set_same, set-get_or}
 use Rattle.dcc_service.specs.declared.packet.ServicePacket.{ServicePacket}
 use Rattle.dcc_service.specs.declared.packet.ServicePacket.TheVariants.{Write, Verify, BitWrite, BitVerify}
-use Rattle.dcc_service.specs.Cvs.{is_writable}
+use Rattle.dcc_packet.specs.Cvs.{is_writable}
 use Rattle.dcc_service.specs.Machine.{ServiceState, Step, reset_bytes, acted_on, is_acknowledged}
 use Rattle.dcc_service.specs.Question.{question_bytes, Steps, after_question, four_no_then}
 use Rattle.dcc_service.specs.Table.{spelling}

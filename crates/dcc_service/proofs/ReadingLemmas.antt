@@ -14,8 +14,7 @@ use Rattle.dcc_service.specs.declared.reader.Reading.{Reading}
 use Rattle.dcc_service.specs.declared.reader.Reading.TheVariants.{More, Value, NoAnswer}
 use Rattle.dcc_service.specs.Bits.{bits_from_lowest, number_from_lowest}
 use Rattle.dcc_service.specs.CvAnswers.{CvAnswers, Asks, question_frame}
-use Rattle.dcc_packet.specs.Cvs.{cv_in}
-use Rattle.dcc_service.specs.Cvs.{IsCvs}
+use Rattle.dcc_packet.specs.Cvs.{IsCvs, cv_in}
 use Rattle.dcc_service.specs.Machine.{is_acknowledged, acted_on}
 use Rattle.dcc_service.specs.ReadingLaws.{true_answers, AreFirstOf}
 use Rattle.dcc_service.specs.Readings.{Comes}

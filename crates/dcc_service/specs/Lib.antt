@@ -1,5 +1,4 @@
 pub mod Table
-pub mod Cvs
 pub mod Machine
 pub mod Question
 pub mod Bits

@@ -6,8 +6,7 @@ use Rattle.dcc_packet.specs.Bits.{with_bit}
 use Rattle.dcc_packet.specs.Rows.{bit}
 use Rattle.dcc_service.specs.declared.packet.ServicePacket.{ServicePacket}
 use Rattle.dcc_service.specs.declared.packet.ServicePacket.TheVariants.{Write, Verify, BitWrite, BitVerify}
-use Rattle.dcc_packet.specs.Cvs.{cv_in}
-use Rattle.dcc_service.specs.Cvs.{is_writable, written}
+use Rattle.dcc_packet.specs.Cvs.{cv_in, is_writable, written}
 use Rattle.dcc_service.specs.Table.{spelling}
 
 -- what a decoder on the programming track has

@@ -6,8 +6,7 @@ use Rattle.dcc_packet.specs.declared.cv.CvNumber.{CvNumber}
 use Rattle.dcc_packet.specs.declared.cv.BitPlace.{BitPlace}
 use Rattle.dcc_service.specs.declared.packet.ServicePacket.{ServicePacket}
 use Rattle.dcc_service.specs.declared.packet.ServicePacket.TheVariants.{Write, Verify, BitWrite, BitVerify}
-use Rattle.dcc_packet.specs.Cvs.{cv_in, is_read_only}
-use Rattle.dcc_service.specs.Cvs.{IsCvs}
+use Rattle.dcc_packet.specs.Cvs.{IsCvs, cv_in, is_read_only}
 use Rattle.dcc_service.specs.Machine.{ServiceState, Step, is_acknowledged}
 use Rattle.dcc_service.specs.Question.{Steps, question_bytes, after_question, four_no_then}
 

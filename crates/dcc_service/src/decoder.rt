@@ -4,7 +4,7 @@ ghost use Rattle.std.specs.Prelude.{◌≡◌, ◌↔◌, IsTrue};
 ghost use Rattle.dcc_service.specs.Machine.{reset_bytes};
 
 use crate::ServicePacket;
-use crate::cvs::Cvs;
+use dcc_packet::Cvs;
 use dcc_wire::Frame;
 use std::marker::Model;
 
@@ -27,7 +27,7 @@ impl Model for ServiceDecoder {
 
 impl ServiceDecoder {
     ghost use Rattle.std.specs.Prelude.{◌≡◌, ◌↔◌, IsTrue, Some, None, true, false};
-    ghost use Rattle.dcc_service.specs.Cvs.{IsCvs};
+    ghost use Rattle.dcc_packet.specs.Cvs.{IsCvs};
     ghost use Rattle.dcc_service.specs.Machine.{Step, acted_on, is_acknowledged};
 
     /// A decoder out of service with these CVs, that of CV1 first.
@@ -111,14 +111,14 @@ impl ServiceDecoder {
         ensures answer { result ≡ is_acknowledged packet.now self.old.cvs }
     {
         match packet {
-            ServicePacket::Write { cv, value } => self.cvs.write(cv, *value),
-            ServicePacket::Verify { cv, value } => self.cvs.value(cv) == *value,
+            ServicePacket::Write { cv, value } => self.cvs.write(*cv, *value),
+            ServicePacket::Verify { cv, value } => self.cvs.value(*cv) == *value,
             ServicePacket::BitWrite { cv, place, one } => {
-                let value = place.with_bit(self.cvs.value(cv), *one);
-                self.cvs.write(cv, value)
+                let value = place.with_bit(self.cvs.value(*cv), *one);
+                self.cvs.write(*cv, value)
             }
             ServicePacket::BitVerify { cv, place, one } => {
-                place.is_set(self.cvs.value(cv)) == *one
+                place.is_set(self.cvs.value(*cv)) == *one
             }
         }
     }

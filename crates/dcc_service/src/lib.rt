@@ -3,7 +3,6 @@
 //! silence. Nothing here takes memory.
 #![tactic(auto)]
 
-mod cvs;
 mod decoder;
 mod from_frame;
 pub mod laws;

@@ -2,7 +2,7 @@
 
 ghost use Rattle.std.specs.Prelude.{◌≡◌};
 ghost use Rattle.dcc_service.specs.Machine.{reset_bytes, is_acknowledged};
-ghost use Rattle.dcc_service.specs.Cvs.{IsCvs};
+ghost use Rattle.dcc_packet.specs.Cvs.{IsCvs};
 ghost use Rattle.dcc_service.specs.Question.{question_bytes, after_question};
 
 use crate::{ServiceDecoder, ServicePacket};

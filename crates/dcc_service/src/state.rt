@@ -1,7 +1,7 @@
 //! A decoder on the programming track that is put away and taken up again.
 
-use crate::cvs::Cvs;
 use crate::{ServiceDecoder, ServicePacket};
+use dcc_packet::Cvs;
 
 impl ServiceDecoder {
     ghost use Rattle.std.specs.Prelude.{◌≡◌};

@@ -16,10 +16,6 @@ pub record Passed (p : Packet) (i : ℕ) (old now : List Packet) (capacity : ℕ
   pub leaves : (rest : List Packet) → Leaves p (drop i old) rest → Leaves p old (kept ++ rest)
   pub fits : length now ≤ capacity
 
-pub passed_none : (p : Packet) (old : List Packet) (capacity : ℕ) → length old ≤ capacity → Passed p 0 old old capacity
-passed_none p old capacity fits =
-    record { kept = []; now_is = sym (append-nil old); leaves = λ rest left. left; fits = fits }
-
 pub passed_all : (p : Packet) (i : ℕ) (old now : List Packet) (capacity : ℕ) → length old ≤ i
     → Passed p i old now capacity → Leaves p old now
 passed_all p i old now capacity past passed =

@@ -1,8 +1,7 @@
 -- How a station hands out a packet, as the code does.
-use Rattle.std.proofs.Common.{◌≡◌, refl, subst, List, [], ◌∷◌, ◌++◌, Some, None, drop, ℕ, zero, suc, arith}
+use Rattle.std.proofs.Common.{◌≡◌, refl, subst, List, [], ◌∷◌, Some, None, drop, ℕ, zero, suc, arith}
 use Rattle.std.specs.Prelude.{slice_get, ◌≢◌}
 use Rattle.dcc_packet.specs.declared.packet.Packet.{Packet}
-use Rattle.dcc_packet.specs.declared.packet.Packet.TheVariants.{Idle}
 use Rattle.dcc_station.specs.Sending.{Sending, HandsOut, Refreshes, EntriesAfter, sent_once_more}
 
 pub hands_out_command : (waiting entries : List Packet) (s : Sending) (p : Packet) (new : Sending)
@@ -19,21 +18,6 @@ hands_out_command (q ∷ rest) entries s p new front after changed is =
         subst (λ x. new ≡ sent_once_more s x rest after) e is,
       ),
     )
-
-pub hands_out_entry : (waiting entries : List Packet) (s : Sending) (e : Packet) (new : Sending) → waiting ≡ []
-    → slice_get entries 0 ≡ Some e →
-    new ≡ record s { entries = drop 1 entries ++ e ∷ [] } → HandsOut waiting entries s e new
-hands_out_entry (p ∷ rest) entries s e new none front is = cc
-hands_out_entry [] [] s e new none front is = cc
-hands_out_entry [] (x ∷ later) s e new none front is =
-    let h : e ≡ x = (let k : Some x ≡ Some e = front in cc) in
-    (h, subst (λ y. new ≡ record s { entries = later ++ y ∷ [] }) h is)
-
-pub hands_out_idle : (waiting entries : List Packet) (s new : Sending) → waiting ≡ [] → slice_get entries 0 ≡ None
-    → new ≡ s → HandsOut waiting entries s Idle new
-hands_out_idle (p ∷ rest) entries s new none front is = cc
-hands_out_idle [] (x ∷ later) s new none front is = cc
-hands_out_idle [] [] s new none front is = (refl, is)
 
 pub nothing_waits : (l : List Packet) → slice_get l 0 ≡ None → l ≡ []
 nothing_waits [] h = refl

@@ -1,7 +1,8 @@
 //! Decoder texts that are refused: which fault, and in which line.
 
 use crate::rows::{column, number, rows_hold_in};
-use dcc_io::{Counted, Input, Limits, read_decoders};
+use dcc_io::{Counted, Input, Limits};
+use dcc_saved::read_decoders;
 use std::alloc::Global;
 use std::process::Abort;
 use std::test::Fail;

@@ -1,9 +1,10 @@
 //! The word that names a decoder.
 
 use crate::rows::{column, rows_hold};
-use dcc_io::{ToolFault, Usage, read_who};
+use dcc_io::{ToolFault, Usage};
 use dcc_packet::{Address, Board};
 use dcc_regs::Who;
+use dcc_saved::read_who;
 
 const NAMES: &str = "\
     none | none | 0

@@ -2,10 +2,10 @@
 
 use crate::order_rows::{is_told, packet_of};
 use crate::rows::{column, number, rows_hold_in};
-use dcc_io::read_who;
 use dcc_order::*;
 use dcc_packet::{Packet, PacketFault};
 use dcc_regs::Who;
+use dcc_saved::read_who;
 use std::alloc::Global;
 use std::test::Fail;
 

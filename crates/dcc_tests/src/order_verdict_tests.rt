@@ -2,10 +2,10 @@
 
 use crate::order_rows::{is_told, packets_of};
 use crate::rows::{column, rows_hold_in};
-use dcc_io::read_who;
 use dcc_order::*;
 use dcc_packet::Packet;
 use dcc_regs::Who;
+use dcc_saved::read_who;
 use dcc_wire::{Frame, FrameFault};
 use std::alloc::Global;
 use std::process::Abort;

@@ -1,9 +1,9 @@
 //! Worked examples of the definitions: who hears what, what is told, which packets conflict.
 
 use crate::rows::{column, rows_hold, rows_hold_in};
-use dcc_io::read_who;
 use dcc_packet::{Packet, PacketFault};
 use dcc_regs::*;
+use dcc_saved::read_who;
 use std::alloc::Global;
 use std::test::Fail;
 

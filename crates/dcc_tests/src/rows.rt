@@ -1,4 +1,7 @@
 //! Tables of worked examples: a row a line, its columns between bars.
+//!
+//! `column` and `number` stand in `dcc_tool_tests` too: tests give no items to another crate, and a crate below both
+//! would be one more to prove.
 
 use dcc_wire::Frame;
 use std::alloc::{AllocError, Global};

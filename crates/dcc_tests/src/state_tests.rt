@@ -7,11 +7,12 @@ use crate::regs_examples::*;
 use crate::regs_tests::{conflict_or_not, is_noted};
 use crate::rows::{column, rows_hold, rows_hold_in};
 use crate::station_tests::goes_on;
-use dcc_io::{Counted, Input, Limits, Saved, read_decoders};
+use dcc_io::{Counted, Input, Limits};
 use dcc_packet::{Address, PacketFault, StateNumber, What};
 use dcc_regs::{
     Decoder, LastNote, LocoDecoder, LocoState, PackedLoco, Register, Speed, same_registers,
 };
+use dcc_saved::{Saved, read_decoders};
 use std::alloc::Global;
 use std::process::Abort;
 use std::test::Fail;

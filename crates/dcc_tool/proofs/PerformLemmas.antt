@@ -9,7 +9,7 @@ use Rattle.dcc_regs.specs.Result.{RegisterMap}
 use Rattle.dcc_io.specs.declared.fault.KeptFault.{KeptFault}
 use Rattle.dcc_io.specs.declared.fault.ToolFault.{ToolFault}
 use Rattle.dcc_io.specs.declared.fault.ToolFault.TheVariants as told
-use Rattle.dcc_io.specs.declared.saved.Saved.{Saved}
+use Rattle.dcc_saved.specs.declared.saved.Saved.{Saved}
 use Rattle.dcc_io.specs.Faults.{as_tool_fault}
 use Rattle.dcc_io.specs.InputState.{InputState, HasCause}
 use Rattle.dcc_io.specs.WriterState.{WriterState}
@@ -19,9 +19,9 @@ use Rattle.dcc_send.specs.declared.encoding.Encode.{Encode}
 use Rattle.dcc_send.specs.Encoded.{EncodesText}
 use Rattle.dcc_send.specs.EncodeStation.{is_past_limits, has_begun}
 use Rattle.dcc_send.specs.StationEncoded.{StationText}
-use Rattle.dcc_io.specs.DecoderText.{decoder_text}
-use Rattle.dcc_io.specs.PossibleLines.{is_possible}
-use Rattle.dcc_io.specs.TextRead.{Answers, UsedWholeLines}
+use Rattle.dcc_saved.specs.DecoderText.{decoder_text}
+use Rattle.dcc_saved.specs.PossibleLines.{is_possible}
+use Rattle.dcc_saved.specs.TextRead.{Answers, UsedWholeLines}
 use Rattle.dcc_listen.specs.FleetRun.{Fleet, Runs}
 use Rattle.dcc_tool.specs.Performs.{Streams, EncodesLines, SavesThese, RunsText, RunsDecoders, decoder_of}
 

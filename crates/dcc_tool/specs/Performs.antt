@@ -15,15 +15,15 @@ use Rattle.dcc_station.specs.Sending.{idle_sending}
 use Rattle.dcc_io.specs.declared.fault.ToolFault.{ToolFault}
 use Rattle.dcc_io.specs.declared.fault.ToolFault.TheVariants as told
 use Rattle.dcc_io.specs.declared.fault.Usage.TheVariants as usages
-use Rattle.dcc_io.specs.declared.saved.Saved.{Saved}
-use Rattle.dcc_io.specs.declared.saved.Saved.TheVariants as saved
+use Rattle.dcc_saved.specs.declared.saved.Saved.{Saved}
+use Rattle.dcc_saved.specs.declared.saved.Saved.TheVariants as saved
 use Rattle.dcc_io.specs.Faults.{as_tool_fault}
 use Rattle.dcc_io.specs.InputState.{InputState, HasCause}
 use Rattle.dcc_io.specs.WriterState.{WriterState}
-use Rattle.dcc_io.specs.DecoderText.{decoder_text}
-use Rattle.dcc_io.specs.PossibleLines.{is_possible}
-use Rattle.dcc_io.specs.TextRead.{Answers, UsedWholeLines}
-use Rattle.dcc_io.specs.TextReadOrNoMemory.{ReadFails}
+use Rattle.dcc_saved.specs.DecoderText.{decoder_text}
+use Rattle.dcc_saved.specs.PossibleLines.{is_possible}
+use Rattle.dcc_saved.specs.TextRead.{Answers, UsedWholeLines}
+use Rattle.dcc_saved.specs.TextReadOrNoMemory.{ReadFails}
 use Rattle.dcc_listen.specs.Shown.{Shows}
 use Rattle.dcc_listen.specs.FleetRun.{Fleet, Runs}
 use Rattle.dcc_listen.specs.ComparedBoth.{ComparesBoth}

@@ -1,17 +1,15 @@
 //! The calls that requests ask for.
 ghost use Rattle.std.specs.Prelude.{◌≡◌, nat_le, true};
-ghost use Rattle.dcc_regs.specs.declared.register.Who.TheVariants.{Loco as LocoWho, Board as BoardWho};
-ghost use Rattle.dcc_regs.specs.LocoState.{is_state, content as loco_content};
-ghost use Rattle.dcc_regs.specs.BoardState.{content as board_content};
-ghost use Rattle.dcc_regs.specs.Loco.{loco_registers};
-ghost use Rattle.dcc_regs.specs.Board.{board_registers};
+ghost use Rattle.dcc_regs.specs.LocoState.{is_state, loco_map, loco_who};
+ghost use Rattle.dcc_regs.specs.BoardState.{board_map, board_who};
 ghost use Rattle.dcc_tool.specs.Performs.{Performs, ReadsTrack, RunsText};
 
 use crate::ending::Ending;
-use dcc_io::{Input, Saved, Sink, Source, ToolFault, read_decoders};
+use dcc_io::{Input, Sink, Source, ToolFault};
 use dcc_listen::{run, same_input, show};
 use dcc_packet::CvNumber;
 use dcc_regs::{BoardState, Decoder, LocoState, PackedBoard, PackedLoco, Who};
+use dcc_saved::{Saved, read_decoders};
 use dcc_send::{Encode, encode, programming_track, readcv};
 use std::alloc::Global;
 
@@ -89,8 +87,8 @@ fn read_on_track<R: Source, W: Sink>(
 /// The locomotive decoder that was saved.
 fn loco_of(state: &LocoState) -> PackedLoco
     requires { is_state state.now ≡ true }
-    ensures who { ⟦<PackedLoco as Decoder>⟧.who result ≡ LocoWho state.now.address }
-    ensures registers { ⟦<PackedLoco as Decoder>⟧.registers result ≡ loco_registers (loco_content state.now) }
+    ensures who { ⟦<PackedLoco as Decoder>⟧.who result ≡ loco_who state.now }
+    ensures registers { ⟦<PackedLoco as Decoder>⟧.registers result ≡ loco_map state.now }
 {
     match PackedLoco::restore(state) {
         Ok(decoder) => decoder,
@@ -101,8 +99,8 @@ fn loco_of(state: &LocoState) -> PackedLoco
 /// The accessory decoder that was saved.
 fn board_of(state: &BoardState) -> PackedBoard
     requires { nat_le state.now.board.number 510 ≡ true }
-    ensures who { ⟦<PackedBoard as Decoder>⟧.who result ≡ BoardWho state.now.board }
-    ensures registers { ⟦<PackedBoard as Decoder>⟧.registers result ≡ board_registers (board_content state.now) }
+    ensures who { ⟦<PackedBoard as Decoder>⟧.who result ≡ board_who state.now }
+    ensures registers { ⟦<PackedBoard as Decoder>⟧.registers result ≡ board_map state.now }
 {
     match PackedBoard::restore(state) {
         Ok(decoder) => decoder,

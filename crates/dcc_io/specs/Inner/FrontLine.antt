@@ -1,6 +1,6 @@
 -- A line at the front of some bytes.
 use Rattle.std.specs.Prelude.{◌≡◌, ℕ, ◌<◌, ◌∷◌, ◌++◌, List, false, length, take, slice_index_or}
-use Rattle.dcc_io.specs.Inner.NextLine.{IsOneLine}
+use Rattle.dcc_io.specs.NextLine.{IsOneLine}
 use Rattle.dcc_io.specs.PacketLines.{is_skipped}
 
 -- these bytes begin with a good line that says something, and the line feed that ends it

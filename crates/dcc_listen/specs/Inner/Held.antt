@@ -9,8 +9,8 @@ use Rattle.dcc_io.specs.declared.fault.KeptFault.{KeptFault}
 use Rattle.dcc_io.specs.declared.word.Run.{Run}
 use Rattle.dcc_io.specs.Failures.{HasRisen}
 use Rattle.dcc_io.specs.InputState.{InputState}
-use Rattle.dcc_io.specs.Capture.{AnswersRun}
-use Rattle.dcc_listen.specs.Listing.{IsListing}
+use Rattle.dcc_capture.specs.Capture.{AnswersRun}
+use Rattle.dcc_capture.specs.Listing.{IsListing}
 use Rattle.dcc_io.specs.WriterState.{WriterState}
 use Rattle.dcc_io.specs.WrittenBytes.{AppendsFront}
 use Rattle.dcc_io.specs.Held.{Holds, HoldsOrFails}

@@ -28,7 +28,7 @@ returns-in-Ok-None-clause-gathers g c =
 
 pub returns-in-Err-clause-fails : goal.returns-in-Err-clause-fails
 returns-in-Err-clause-fails g c =
-    rw c.told-in-Err.ensures
+    rw c.from-in-Err.ensures
     (first_stops c.args.input.now c.runs.input c.next_of_first.new.input c.runs.before c.runs.framer
     c.runs.packets.items c.in-Err.fault
     (sym c.fault.ensures.fault ∙ c.in_default.is) c.runs.invariant

@@ -31,7 +31,8 @@ returns-in-Done-clause-compared g c =
     let s = c.packets.invariant.in_step in
     let left_none = sym c.fault.ensures.fault ∙ c.in_default.is in
     let right_none = sym c.fault-2.ensures.fault ∙ c.in_default-fault.is in
-    let left : Rest s.lists.left_ended c.args.left.now c.if-not-left_ended.left s.lists.left = elim c.if-not-left_ended.branch [
+    let left : Rest s.lists.left_ended c.args.left.now c.if-not-left_ended.left s.lists.left = elim
+    c.if-not-left_ended.branch [
       | then-not-left_ended+in-Ok-pass_rest w ↦ subst (λ now. Rest s.lists.left_ended c.args.left.now now s.lists.left)
           (sym w.left-is)
           (rest_behind s.lists.left_ended c.packets.left_ended c.args.left.now w.pass_rest.new.input s.lists.left
@@ -43,7 +44,8 @@ returns-in-Done-clause-compared g c =
           (nothing_behind s.lists.left_ended c.packets.left_ended c.args.left.now c.packets.left c.packets.left_framer
           s.lists.left s.left_is w.if-not-left_ended.false s.left_read)
     ] in
-    let right : Rest s.lists.right_ended c.args.right.now c.if-not-right_ended.right s.lists.right = elim c.if-not-right_ended.branch [
+    let right : Rest s.lists.right_ended c.args.right.now c.if-not-right_ended.right s.lists.right = elim
+    c.if-not-right_ended.branch [
       | then-not-right_ended+in-Ok-pass_rest-2 w ↦ subst
           (λ now. Rest s.lists.right_ended c.args.right.now now s.lists.right) (sym w.right-is)
           (rest_behind s.lists.right_ended c.packets.right_ended c.args.right.now

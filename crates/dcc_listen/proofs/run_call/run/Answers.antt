@@ -3,7 +3,7 @@ use Rattle.dcc_regs.specs.declared.register.Who.{Who}
 use Rattle.dcc_regs.specs.Result.{RegisterMap}
 use Rattle.dcc_order.specs.Hearing.{HasHeardHalves}
 use Rattle.dcc_order.proofs.HearingLemmas.{no_halves_heard}
-use Rattle.dcc_io.specs.Capture.{captures}
+use Rattle.dcc_capture.specs.Capture.{captures}
 use Rattle.dcc_io.specs.InputState.{InputState}
 use Rattle.dcc_io.specs.Items.{Gave}
 use Rattle.dcc_io.proofs.ItemsLemmas.{Gave-none, Gave-append}
@@ -63,7 +63,7 @@ returns-in-Err-clause-runs g c none =
     let halves : List ℕ = before.halves in
     let gave = subst (λ (now : InputState). Gave captures c.args.input.now halves now) (sym c.in-None.ensures.none)
     before.gave in
-    rw c.told-in-Err.ensures
+    rw c.from-in-Err.ensures
     (hears_up_to
     (map (λ decoder. let is = goal.Decoder-dyn g (decoder.vtable, decoder.value) in
     (is.who decoder.value, is.registers decoder.value)) c.args.decoders.now)

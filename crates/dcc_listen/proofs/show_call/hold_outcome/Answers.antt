@@ -1,5 +1,5 @@
 use Rattle.std.proofs.Common.{List, ℕ, subst, sym}
-use Rattle.dcc_listen.specs.Listing.{IsLine}
+use Rattle.dcc_capture.specs.Listing.{IsLine}
 use Rattle.dcc_listen.proofs.show_call.hold_outcome.Goals as goal
 
 pub returns : goal.returns

@@ -1,4 +1,4 @@
-use Rattle.dcc_listen.proofs.ListingLaws.{IsListing-reported}
+use Rattle.dcc_capture.proofs.ListingLaws.{IsListing-reported}
 use Rattle.dcc_listen.proofs.show_call.hold_seen.Goals as goal
 
 pub returns-in-Packet : goal.returns-in-Packet

@@ -120,7 +120,7 @@ returns-in-Ok-Err-clause-shows g c fault =
     let took = rw c.in-Ok-Err.field-0-is at c.in-Ok-Err.ensures in
     let showing = Showing-wrote c.args.words c.args.input.now c.half_at_hand.new.input c.runs.framer c.runs.held
     c.next_run.new.held _ _ _ before took.1 took.2 in
-    let rest = rw c.told-in-Ok-Err.ensures at c.write_rest-in-Ok-Err.ensures in
+    let rest = rw c.from-in-Ok-Err.ensures at c.write_rest-in-Ok-Err.ensures in
     stops_at_fault c.args.words c.args.input.now c.half_at_hand.new.input c.next_run.new.input c.runs.framer
     c.next_run.new.held _ _ _ c.in-Ok-Err.fault
     c.write_rest-in-Ok-Err.result showing took.0 rest

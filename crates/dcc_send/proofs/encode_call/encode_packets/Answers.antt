@@ -37,6 +37,6 @@ returns-in-Err-clause-encodes g c fault =
 pub returns-in-Ok-Err-clause-encodes : goal.returns-in-Ok-Err-clause-encodes
 returns-in-Ok-Err-clause-encodes g c fault =
     let took = rw c.in-Ok-Err.field-0-is at c.in-Ok-Err.ensures in
-    rw c.told-in-Ok-Err.ensures
+    rw c.from-in-Ok-Err.ensures
     (encodes_up_to c.args.how c.args.input.now c.packets.input c.next_packet.new.input c.packets.held
     c.next_packet.new.held _ _ _ c.in-Ok-Err.fault c.packets.invariant took.0 took.1)

@@ -37,6 +37,6 @@ returns-in-Err-clause-answers g c fault =
 pub returns-in-Ok-Err-clause-answers : goal.returns-in-Ok-Err-clause-answers
 returns-in-Ok-Err-clause-answers g c fault =
     let took = rw c.in-Ok-Err.field-0-is at c.in-Ok-Err.ensures in
-    rw c.told-in-Ok-Err.ensures
+    rw c.from-in-Ok-Err.ensures
     (answers_up_to c.args.how c.args.station.now c.lines.station c.args.input.now c.lines.input c.next_line.new.input
     c.lines.held c.next_line.new.held _ _ _ c.in-Ok-Err.fault c.lines.invariant took.0 took.1)

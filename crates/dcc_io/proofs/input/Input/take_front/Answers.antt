@@ -1,6 +1,6 @@
 use Rattle.std.proofs.Common.{◌-◌, ap, arith}
 use Rattle.dcc_io.specs.InputState.{InputState}
-use Rattle.dcc_io.proofs.FrontLemmas.{begins_with, takes_half, run_taken, first_taken}
+use Rattle.dcc_io.proofs.FrontLemmas.{begins_with, takes_half}
 use Rattle.dcc_io.proofs.input.Input.take_front.Goals as goal
 
 -- the same with one half less
@@ -24,15 +24,5 @@ unfolding one_less
 returns-clause-some g c =
     let passed = c.pass_word_and_gap.ensures.passed in
     let left = c.requires.left in
-    run_taken _ _ c.args.front.us
-    (takes_half c.args.self.now c.pass_word_and_gap.new.self _ c.args.self.now.ahead c.args.front c.requires.front
-    passed c.pass_word_and_gap.ensures.fewer (omega (arith, passed.halves, left)) (ap one_less c.self-2.view_is))
-
-pub returns-clause-first : goal.returns-clause-first
-unfolding one_less
-returns-clause-first g c = λ before.
-    let passed = c.pass_word_and_gap.ensures.passed in
-    let left = c.requires.left in
-    first_taken before _ _ c.args.front.us c.requires.fault
-    (takes_half c.args.self.now c.pass_word_and_gap.new.self _ c.args.self.now.ahead c.args.front c.requires.front
-    passed c.pass_word_and_gap.ensures.fewer (omega (arith, passed.halves, left)) (ap one_less c.self-2.view_is))
+    takes_half c.args.self.now c.pass_word_and_gap.new.self _ c.args.self.now.ahead c.args.front c.requires.front
+    passed c.pass_word_and_gap.ensures.fewer (omega (arith, passed.halves, left)) (ap one_less c.self-2.view_is)

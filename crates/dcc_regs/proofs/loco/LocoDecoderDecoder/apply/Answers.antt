@@ -21,7 +21,7 @@ returns-then-hears-clause-step c =
       forward = c.obey.new.self.forward;
       functions = λ n. slice_index_or c.obey.new.self.functions n false;
       states = λ n. slice_index_or c.obey.new.self.states n false;
-      cvs = cv_in c.obey.new.self.cvs.bytes;
+      cvs = cv_in c.obey.new.self.cvs;
       pending = c.leave_pending.new.pending;
     } in
     step-heard (LocoWho c.args.self.now.address) c.args.packet.now c.mode-mode.result (content c.args.self.now) is heard

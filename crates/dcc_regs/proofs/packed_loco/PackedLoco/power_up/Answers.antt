@@ -1,12 +1,14 @@
-use Rattle.std.proofs.Common.{ap, ◌∙◌}
-use Rattle.dcc_regs.specs.declared.register.Who.TheVariants.{Loco as LocoWho}
+use Rattle.std.proofs.Common.{refl}
 use Rattle.dcc_regs.specs.PackedLoco.{content}
-use Rattle.dcc_regs.proofs.CvLemmas.{active_address-loco}
+use Rattle.dcc_regs.proofs.CvLemmas.{powered_up-loco, who-powered_up}
 use Rattle.dcc_regs.proofs.packed_loco.PackedLoco.power_up.Goals as goal
 
 pub returns-clause-who : goal.returns-clause-who
 returns-clause-who c =
-    c.new.ensures.who
-    ∙ ap LocoWho
-    (active_address-loco (content c.args.self.now) (c.new.ensures.bytes 1) (c.new.ensures.bytes 17)
-    (c.new.ensures.bytes 18) (c.new.ensures.bytes 29))
+    who-powered_up _ (content c.args.self.now) c.args.self.now.cvs c.bytes.result.now c.bytes.ensures.bytes
+    c.new.ensures.who c.bytes.ensures.value refl
+
+pub returns-clause-registers : goal.returns-clause-registers
+returns-clause-registers c =
+    powered_up-loco _ (content c.args.self.now) c.args.self.now.cvs c.bytes.result.now c.new.ensures.registers
+    c.bytes.ensures.value refl

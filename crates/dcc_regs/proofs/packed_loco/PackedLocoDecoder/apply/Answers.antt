@@ -20,7 +20,7 @@ returns-then-hears-clause-step c =
       forward = c.unwrap_or-self-then-hears.result;
       functions = is_one c.functions_after-self.result;
       states = is_one c.states_after-self.result;
-      cvs = cv_in c.hear.new.self.bytes;
+      cvs = cv_in c.hear.new.cvs;
       pending = c.leave_pending.new.pending;
     } in
     step-heard (LocoWho c.args.self.now.address) c.args.packet.now c.mode-mode.result (content c.args.self.now) is heard

@@ -1,0 +1,76 @@
+-- What the half of a word at hand says of a capture.
+use Rattle.std.proofs.Common.{◌≡◌, ℕ, ◌≤◌, List, [], ◌∷◌, length, Bool, true, false, eqb, ◌&&◌, Option, None}
+use Rattle.std.proofs.Common.{Some, Ok, IfSome, refl, ap, arith}
+use Rattle.std.proofs.lemmas.Bool.{ne_eqb}
+use Rattle.std.proofs.lemmas.Bool.Decides.{nat_tests}
+use Rattle.std.specs.List.{list_all}
+use Rattle.std.specs.Char.{is_ascii_digit}
+use Rattle.dcc_io.specs.InputState.{InputState}
+use Rattle.dcc_io.specs.Words.{is_dash, is_mark}
+use Rattle.dcc_io.specs.Counted.{TakesHalf}
+use Rattle.dcc_io.proofs.FrontLemmas.{IsDuration, duration_parts}
+use Rattle.dcc_capture.specs.Capture.{AnswersRun}
+use Rattle.dcc_capture.specs.FirstRead.{AnswersFirst}
+use Rattle.dcc_capture.proofs.RunWordLemmas.{run_of_duration}
+use Rattle.dcc_capture.proofs.CaptureLemmas.{Gave-word}
+use Rattle.dcc_capture.proofs.BothLemmas.{counts}
+
+digit_bounds : (byte : ℕ) → is_ascii_digit byte ≡ true → (48 ≤ byte) × (byte ≤ 57)
+digit_bounds byte digit = (grind (arith, nat_tests), grind (arith, nat_tests))
+
+both : (a b : Bool) → (a && b) ≡ true → (a ≡ true) × (b ≡ true)
+both true b all = (refl, all)
+both false b all = cc
+
+-- as a run of one half
+pub run_taken : (old new : InputState) (us : ℕ) → TakesHalf old us new
+    → AnswersRun old (Ok (Some (record { us = us; n = 1 }))) new
+run_taken old new us takes = let some = takes.some in (
+  Gave-word old takes.mid new old.place.line (record { us = us; n = 1 }) takes.word takes.passed
+      (run_of_duration takes.word us (duration_parts takes.word us takes.spells).digits takes.spells)
+      (omega (arith, some)) takes.counted,
+  omega arith,
+  takes.fewer,
+)
+
+no_dash : (byte : ℕ) → is_ascii_digit byte ≡ true → is_dash byte ≡ false
+no_dash byte digit = let bounds = digit_bounds byte digit in ne_eqb byte 45 (λ same. omega (arith, bounds))
+
+no_mark : (word : List ℕ) → IsDuration word → is_mark word ≡ false
+no_mark [] is = absurd (let some = is.some in omega (arith, some))
+no_mark (byte ∷ word) is =
+    let parts = both (is_ascii_digit byte) (list_all is_ascii_digit word) is.digits in
+    rw (no_dash byte parts.0) (never (eqb (length (byte ∷ word)) 3))
+  where
+    never : (a : Bool) → (a && false) ≡ false
+    never true = refl
+    never false = refl
+
+-- as a half of the first of two captures
+pub first_taken : (before : ℕ) (old new : InputState) (us : ℕ) → old.fault ≡ None → TakesHalf old us new
+    → AnswersFirst before old (Ok (Some (old.place.line, record { us = us; n = 1 }))) new
+first_taken before old new us none takes =
+    let some = takes.some in
+    let fewer = takes.fewer in
+    let bytes : new.bytes ≡ takes.mid.bytes = ap (λ (state : InputState). state.bytes) takes.counted in
+    counts before old.place.line takes.word old takes.mid none takes.passed new
+    (Ok (Some (old.place.line, record { us = us; n = 1 })))
+    (rw (no_mark takes.word (duration_parts takes.word us takes.spells)) refl) (omega (arith, fewer, bytes)) (
+      refl,
+      run_of_duration takes.word us (duration_parts takes.word us takes.spells).digits takes.spells,
+      omega (arith, some),
+      takes.counted,
+    )
+
+-- both, of a half that is at hand or not
+pub run_at_hand : (old new : InputState) (half : Option ℕ) → IfSome half (λ us. TakesHalf old us new)
+    → IfSome half (λ us. AnswersRun old (Ok (Some (record { us = us; n = 1 }))) new)
+run_at_hand old new None takes = tt
+run_at_hand old new (Some us) takes = run_taken old new us takes
+
+pub first_at_hand : (old new : InputState) (half : Option ℕ) → old.fault ≡ None
+    → IfSome half (λ us. TakesHalf old us new)
+    → IfSome half (λ us. (before : ℕ)
+    → AnswersFirst before old (Ok (Some (old.place.line, record { us = us; n = 1 }))) new)
+first_at_hand old new None none takes = tt
+first_at_hand old new (Some us) none takes = λ before. first_taken before old new us none takes

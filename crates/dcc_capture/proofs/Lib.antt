@@ -1,0 +1,5 @@
+pub mod RunWordLemmas
+pub mod CaptureLemmas
+pub mod BothLemmas
+pub mod HalfLemmas
+pub mod ListingLaws

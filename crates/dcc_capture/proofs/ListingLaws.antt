@@ -1,0 +1,90 @@
+-- What is a listing, and that outcomes have one.
+use Rattle.std.proofs.Common.{◌≡◌, ℕ, ◌+◌, ◌++◌, ◌∷◌, Bool, true, false, List, [], ◌⊎◌, inl, inr, refl, sym, ap, ◌∙◌}
+use Rattle.std.proofs.Common.{subst, append_assoc}
+use Rattle.std.proofs.lemmas.List.{append-nil}
+use Rattle.dcc_wire.specs.declared.fault.Seen.{Seen}
+use Rattle.dcc_wire.specs.declared.fault.Seen.TheVariants.{Nothing, Packet, Refused}
+use Rattle.dcc_wire.specs.declared.fault.Fault.{Fault}
+use Rattle.dcc_wire.specs.declared.frame.Frame.{Frame}
+use Rattle.dcc_wire.specs.Framing.{report_at}
+use Rattle.dcc_packet.specs.Written.{written_line}
+use Rattle.dcc_packet.proofs.OneSpelling.{one_packet}
+use Rattle.dcc_capture.specs.FrameText.{IsFrameText}
+use Rattle.dcc_capture.specs.Listing.{IsOutcomeText, IsLine, IsListing, numbered_text, outcome_text, listing}
+use Rattle.dcc_capture.specs.ListingLaws.{OneListing, ListsInHex}
+
+-- the listings of outcomes and of later ones, one behind the other
+pub IsListing-append : (words : Bool) (outcomes later : List (ℕ × Seen)) (text more : List ℕ)
+    → IsListing words outcomes text → IsListing words later more
+    → IsListing words (outcomes ++ later) (text ++ more)
+IsListing-append words [] later text more first second = rw first second
+IsListing-append words (found ∷ outcomes) later text more first second = (
+  first.0,
+  first.1 ++ more,
+  first.2,
+  IsListing-append words outcomes later first.1 more first.3 second,
+  ap (λ (bytes : List ℕ). bytes ++ more) first.4 ∙ append_assoc first.0 first.1 more,
+)
+
+-- the listing of one outcome is its line
+pub IsListing-one : (words : Bool) (place : ℕ) (outcome : Seen) (line : List ℕ) → IsLine words (place + 1) outcome line
+    → IsListing words ((place, outcome) ∷ []) line
+IsListing-one words place outcome line is_line = (line, [], is_line, refl, sym (append-nil line))
+
+-- what a half showed is listed by its line
+pub IsListing-reported : (words : Bool) (place half : ℕ) (outcome : Seen) (line : List ℕ)
+    → ((frame : Frame) × (outcome ≡ Packet frame)) ⊎ ((fault : Fault) × (outcome ≡ Refused fault))
+    → half ≡ place + 1 → IsLine words half outcome line → IsListing words (report_at place outcome) line
+unfolding report_at
+IsListing-reported words place half Nothing line (inl shown) same is_line = let e = shown.1 in cc
+IsListing-reported words place half Nothing line (inr shown) same is_line = let e = shown.1 in cc
+IsListing-reported words place half (Packet frame) line shown same is_line =
+    IsListing-one words place (Packet frame) line (subst (λ (n : ℕ). IsLine words n (Packet frame) line) same is_line)
+IsListing-reported words place half (Refused fault) line shown same is_line =
+    IsListing-one words place (Refused fault) line (subst (λ (n : ℕ). IsLine words n (Refused fault) line) same is_line)
+
+one_frame_text : (words : Bool) (frame one other : List ℕ) → IsFrameText words frame one → IsFrameText words frame other
+    → one ≡ other
+one_frame_text false frame one other first second = first ∙ sym second
+one_frame_text true frame one other first second =
+    first.2 ∙ ap written_line (one_packet first.0 second.0 (first.1 ∙ sym second.1)) ∙ sym second.2
+
+one_outcome_text : (words : Bool) (outcome : Seen) (one other : List ℕ) → IsOutcomeText words outcome one
+    → IsOutcomeText words outcome other → one ≡ other
+one_outcome_text words Nothing one other first second = first ∙ sym second
+one_outcome_text words (Packet frame) one other first second = one_frame_text words frame one other first second
+one_outcome_text words (Refused fault) one other first second = first ∙ sym second
+
+one_line : (words : Bool) (half : ℕ) (outcome : Seen) (one other : List ℕ) → IsLine words half outcome one
+    → IsLine words half outcome other → one ≡ other
+one_line words half outcome one other first second =
+    first.2 ∙ ap (numbered_text half) (one_outcome_text words outcome first.0 second.0 first.1 second.1) ∙ sym second.2
+
+pub one_listing : OneListing
+one_listing words [] one other first second = first ∙ sym second
+one_listing words (found ∷ more) one other first second =
+    let line = one_line words (found.0 + 1) found.1 first.0 second.0 first.2 second.2 in
+    let rest = one_listing words more first.1 second.1 first.3 second.3 in
+    first.4 ∙ ap (λ (bytes : List ℕ). bytes ++ first.1) line ∙ ap (λ (bytes : List ℕ). second.0 ++ bytes) rest
+    ∙ sym second.4
+
+outcome_in_hex : (outcome : Seen) → IsOutcomeText false outcome (outcome_text outcome)
+outcome_in_hex Nothing = refl
+outcome_in_hex (Packet frame) = refl
+outcome_in_hex (Refused fault) = refl
+
+listing_in_hex : (outcomes : List (ℕ × Seen)) → IsListing false outcomes (listing outcomes)
+listing_in_hex [] = refl
+listing_in_hex (found ∷ more) = (
+  numbered_text (found.0 + 1) (outcome_text found.1),
+  listing more,
+  (outcome_text found.1, outcome_in_hex found.1, refl),
+  listing_in_hex more,
+  refl,
+)
+
+pub lists_in_hex : ListsInHex
+lists_in_hex outcomes text = (
+  λ lists. one_listing false outcomes text (listing outcomes) lists (listing_in_hex outcomes),
+  λ same. rw same (listing_in_hex outcomes),
+)

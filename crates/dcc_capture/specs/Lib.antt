@@ -1,0 +1,7 @@
+pub mod Capture
+pub mod BothCaptures
+pub mod FirstRead
+pub mod FrameText
+pub mod Listing
+pub mod ListingLaws
+pub mod Inner

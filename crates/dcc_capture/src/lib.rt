@@ -1,0 +1,12 @@
+//! What a capture says: its runs of halves, those of the first of two captures in one input, and the line of each
+//! outcome in a listing.
+#![tactic(auto)]
+
+mod first_capture;
+pub mod laws;
+mod listing;
+mod runs;
+
+pub use first_capture::next_of_first;
+pub use listing::outcome_line;
+pub use runs::{half_at_hand, next_run, read_run};

@@ -1,0 +1,66 @@
+//! The runs of a capture.
+
+// (faults are handed on by `match`: behind `?` the checker knows of an error only that `From` made it)
+ghost use Rattle.std.specs.Prelude.{◌≡◌, ℕ, None, Ok, Some, IfSome, IfNone};
+ghost use Rattle.dcc_io.specs.KeptAnswers.{AnswersKept};
+ghost use Rattle.dcc_capture.specs.Capture.{AnswersRun};
+ghost use Rattle.dcc_capture.specs.FirstRead.{AnswersFirst};
+
+use dcc_io::reading::{count_run, next_word, refuse_number};
+use dcc_io::{Input, KeptFault, Run, Source};
+
+/// The next half, where its word is a duration alone that stands at the front of the bytes that were read and has ended.
+/// So most halves cost one look at each byte.
+#[inline(always)]
+pub fn half_at_hand<R: Source>(input: &mut Input<R>) -> Option<u16>
+    requires { input.old.fault ≡ None }
+    ensures some { IfSome result (λ us. AnswersRun input.old (Ok (Some (record { us = us; n = 1 }))) input.new) }
+    ensures first { IfSome result
+        (λ us. (before : ℕ)
+        → AnswersFirst before input.old (Ok (Some (input.old.place.line, record { us = us; n = 1 }))) input.new) }
+    ensures none { IfNone result (input.new ≡ input.old) }
+{
+    dcc_io::reading::half_at_hand(input)
+}
+
+/// The run that the next word spells, or none at the end. A fault is kept.
+#[inline(always)]
+pub fn read_run<R: Source>(input: &mut Input<R>) -> Result<Option<Run>, KeptFault>
+    ensures kept { AnswersKept input.old result input.new }
+    ensures reads { input.old.fault ≡ None → AnswersRun input.old result input.new }
+{
+    match input.fault() {
+        Some(fault) => Err(fault),
+        None => run_of_next_word(input),
+    }
+}
+
+/// The same, where no fault is kept.
+#[inline(always)]
+fn run_of_next_word<R: Source>(input: &mut Input<R>) -> Result<Option<Run>, KeptFault>
+    requires { input.old.fault ≡ None }
+    ensures { AnswersRun input.old result input.new }
+{
+    match next_word(input) {
+        Ok(Some((line, word))) => match word.run() {
+            Some(run) => count_run(input, run),
+            None => Err(refuse_number(input, line)),
+        },
+        Ok(None) => Ok(None),
+        Err(fault) => Err(fault),
+    }
+}
+
+/// The next run of halves, or none at the end. A fault is kept.
+pub fn next_run<R: Source>(input: &mut Input<R>) -> Result<Option<Run>, KeptFault>
+    ensures kept { AnswersKept input.old result input.new }
+    ensures reads { input.old.fault ≡ None → AnswersRun input.old result input.new }
+{
+    if let Some(fault) = input.fault() {
+        return Err(fault);
+    }
+    match half_at_hand(input) {
+        Some(us) => Ok(Some(Run { us, n: 1 })),
+        None => run_of_next_word(input),
+    }
+}

@@ -1,7 +1,0 @@
-use Rattle.dcc_io.proofs.DecoderTextLemmas.{ReadFails-told}
-use Rattle.dcc_io.proofs.saved_decoders.read_decoders.Goals as goal
-
-pub returns-in-Err-fill-clause-reads : goal.returns-in-Err-fill-clause-reads
-returns-in-Err-fill-clause-reads g c =
-    λ none. rw c.told-in-Err-fill.ensures
-    (ReadFails-told c.args.input.now c.fill.new.input c.in-Err-fill.fault c.in-Err-fill.ensures.reads)

@@ -1,0 +1,26 @@
+-- What was counted of the halves that may be taken of an input.
+use Rattle.std.specs.Prelude.{◌≡◌, ℕ, ◌-◌, ◌<◌, ◌≤◌, ◌∷◌, List, [], Option, None, Some, Result, Ok, Err}
+use Rattle.dcc_io.specs.declared.fault.KeptFault.{KeptFault}
+use Rattle.dcc_io.specs.declared.fault.KeptFault.TheVariants.{TooMuch}
+use Rattle.dcc_io.specs.declared.word.Run.{Run}
+use Rattle.dcc_io.specs.InputState.{InputState}
+use Rattle.dcc_io.specs.Words.{duration_of}
+use Rattle.dcc_io.specs.PassedWords.{Passed}
+
+-- the halves of a run count, unless fewer may be taken
+abbrev pub CountsRun : InputState → Run → Result (Option Run) KeptFault → InputState → Type 0
+CountsRun old run (Ok (Some taken)) new =
+    (taken ≡ run) × (run.n ≤ old.halves) × (new ≡ record old { halves = old.halves - run.n })
+CountsRun old run (Ok None) new = ⊥
+CountsRun old run (Err fault) new =
+    (fault ≡ TooMuch) × (old.halves < run.n) × (new ≡ record old { fault = Some TooMuch })
+
+-- a word on the line of the input was passed, which is this duration alone, and one half counts
+pub record TakesHalf (old : InputState) (us : ℕ) (new : InputState) : Type 0 where
+  pub word : List ℕ
+  pub spells : duration_of word ≡ Some us
+  pub mid : InputState
+  pub passed : Passed old (record { line = old.place.line; bytes = word } ∷ []) mid
+  pub some : 0 < mid.halves
+  pub counted : new ≡ record mid { halves = mid.halves - 1 }
+  pub fewer : new.bytes < old.bytes

@@ -1,0 +1,51 @@
+-- A blank line is no line of a decoder text.
+use Rattle.std.proofs.Common.{◌≡◌, ℕ, Bool, List, [], Option, Ok}
+use Rattle.dcc_packet.specs.declared.address.Address.{Address}
+use Rattle.dcc_packet.specs.declared.packet.Packet.{Packet}
+use Rattle.dcc_packet.specs.Words.{words}
+use Rattle.dcc_regs.specs.declared.register.Speed.{Speed}
+use Rattle.dcc_saved.specs.declared.decoder_line.Head.{Head}
+use Rattle.dcc_saved.specs.declared.decoder_line.LocoLine.{LocoLine}
+use Rattle.dcc_saved.specs.declared.decoder_line.Version.{Version}
+use Rattle.dcc_saved.specs.DecoderLines.{version_line, head_line, speed_line, functions_line, states_line, pending_line}
+use Rattle.dcc_saved.specs.DecoderLines.{loco_line, outs_line, positions_line, aspects_line}
+
+pub blank_version : (x : Version) → version_line (words []) ≡ Ok x → ⊥
+unfolding version_line
+blank_version x e = cc
+
+pub blank_head : (x : Head) → head_line (words []) ≡ Ok x → ⊥
+unfolding head_line
+blank_head x e = cc
+
+pub blank_speed : (x : Speed × Bool) → speed_line (words []) ≡ Ok x → ⊥
+unfolding speed_line
+blank_speed x e = cc
+
+pub blank_functions : (x : ℕ) → functions_line (words []) ≡ Ok x → ⊥
+unfolding functions_line
+blank_functions x e = cc
+
+pub blank_states : (x : ℕ) → states_line (words []) ≡ Ok x → ⊥
+unfolding states_line
+blank_states x e = cc
+
+pub blank_pending : (active : Option Address) (x : Option Packet) → pending_line active (words []) ≡ Ok x → ⊥
+unfolding pending_line
+blank_pending active x e = cc
+
+pub blank_loco : (least : ℕ) (x : LocoLine) → loco_line least (words []) ≡ Ok x → ⊥
+unfolding loco_line
+blank_loco least x e = cc
+
+pub blank_outs : (x : ℕ) → outs_line (words []) ≡ Ok x → ⊥
+unfolding outs_line
+blank_outs x e = cc
+
+pub blank_positions : (x : List Bool) → positions_line (words []) ≡ Ok x → ⊥
+unfolding positions_line
+blank_positions x e = cc
+
+pub blank_aspects : (x : List ℕ) → aspects_line (words []) ≡ Ok x → ⊥
+unfolding aspects_line
+blank_aspects x e = cc

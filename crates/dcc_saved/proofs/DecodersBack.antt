@@ -1,0 +1,191 @@
+-- Decoders are read again, each behind its first line and up to the first line of the next.
+use Rattle.std.proofs.Common.{◌≡◌, ℕ, ◌+◌, List, [], ◌∷◌, ◌++◌, codes, Option, Ok, refl, sym, ap, ◌∙◌, arith}
+use Rattle.std.specs.Fmt.{decimal}
+use Rattle.std.proofs.lemmas.List.{append-nil}
+use Rattle.dcc_packet.specs.declared.accessory.Board.{Board}
+use Rattle.dcc_packet.specs.declared.address.Address.{Address}
+use Rattle.dcc_packet.specs.declared.packet.Packet.{Packet}
+use Rattle.dcc_packet.specs.Written.{spaced_words}
+use Rattle.dcc_regs.specs.declared.register.Register.TheVariants as registers
+use Rattle.dcc_regs.specs.declared.register.Speed.{Speed}
+use Rattle.dcc_regs.specs.declared.register.Who.{Who}
+use Rattle.dcc_regs.specs.declared.register.Who.TheVariants as who
+use Rattle.dcc_regs.specs.Loco.{holds_one, cv_held}
+use Rattle.dcc_regs.specs.Possible.{IsPossible}
+use Rattle.dcc_regs.specs.Result.{RegisterMap}
+use Rattle.dcc_saved.specs.declared.saved.Saved.{Saved}
+use Rattle.dcc_saved.specs.declared.saved.Saved.TheVariants as saved
+use Rattle.dcc_saved.specs.declared.decoder_line.Head.{Head}
+use Rattle.dcc_saved.specs.declared.decoder_line.Head.TheVariants as heads
+use Rattle.dcc_saved.specs.declared.decoder_line.LocoLine.TheVariants as behind
+use Rattle.dcc_saved.specs.declared.decoder_line.Version.TheVariants as versions
+use Rattle.dcc_saved.specs.DecoderLines.{head_line, loco_line, speed_line, functions_line, pending_line, outs_line}
+use Rattle.dcc_saved.specs.DecoderLines.{positions_line, aspects_line}
+use Rattle.dcc_saved.specs.DecoderText.{decoder_lines, states_by, cvs_lines, loco_lines, board_lines}
+use Rattle.dcc_saved.specs.FleetText.{own_address_word, cvs_text, speed_held, forward_held, pending_held}
+use Rattle.dcc_saved.specs.FleetText.{loco_address_line, board_line}
+use Rattle.dcc_saved.specs.FleetText.{written_speed as speed_bytes, written_functions as functions_bytes}
+use Rattle.dcc_saved.specs.FleetText.{written_states as states_bytes, written_pending as pending_bytes}
+use Rattle.dcc_saved.specs.FleetText.{written_outs as outs_bytes, written_positions as positions_bytes}
+use Rattle.dcc_saved.specs.FleetText.{written_aspects as aspects_bytes}
+use Rattle.dcc_saved.specs.ReadBack.{Saves}
+use Rattle.dcc_saved.specs.TextReader.{line_by}
+use Rattle.dcc_saved.proofs.BoardMapsBack.{four_of, sides_of, positions_of, aspects_of, board_state, sides_are}
+use Rattle.dcc_saved.proofs.BoardMapsBack.{aspects_small, same_board}
+use Rattle.dcc_saved.proofs.CvsBack.{IsHeadLine, all_cvs}
+use Rattle.dcc_saved.proofs.DecoderTextLemmas.{behind_board_head, behind_aspects, behind_positions, behind_outs}
+use Rattle.dcc_saved.proofs.DecoderTextLemmas.{behind_cvs, behind_pending, behind_states, behind_functions}
+use Rattle.dcc_saved.proofs.DecoderTextLemmas.{behind_speed}
+use Rattle.dcc_saved.proofs.LinesBack.{at, few_back, then_back}
+use Rattle.dcc_saved.proofs.MapsBack.{speed_is, pending_is, no_state_0, byte_small, loco_state, same_loco}
+use Rattle.dcc_saved.proofs.RowsBack.{fed, functions_read, states_read, outs_read, speed_read, pending_read}
+use Rattle.dcc_saved.proofs.RowsBack.{aspects_read, positions_read}
+use Rattle.dcc_saved.proofs.RulesBack.{loco_back, board_head_back, end_back, loco_behind, board_behind, end_behind}
+use Rattle.dcc_saved.proofs.TokensBack.{keyword_token, decimal_token, address_token}
+
+-- a text whose first line says what follows the decoder before it
+pub record BeginsWith (bytes : List ℕ) (head : Head) (rest : List ℕ) : Type 0 where
+  pub first : (n : ℕ) → line_by head_line (at n bytes) ≡ Ok (head, at (n + 1) rest)
+  pub behind_cv : IsHeadLine bytes head rest
+
+pub loco_begins : (address : Option Address) (text : List ℕ) (m : RegisterMap) → IsPossible (who.Loco address) m
+    → BeginsWith (loco_address_line address ++ text) (heads.Decoder (who.Loco address)) text
+loco_begins address text m possible =
+    let line : List ℕ = codes "loco " ++ own_address_word address in
+    let is : line ≡ codes "loco" ++ spaced_words (own_address_word address ∷ []) =
+    ap (λ (xs : List ℕ). codes "loco " ++ xs) (sym (append-nil (own_address_word address))) in
+    let token = keyword_token (codes "loco") (omega arith) refl refl (omega arith) in
+    record {
+      first = λ n. ap (λ (bytes : List ℕ). line_by head_line (at n bytes)) (fed line text)
+          ∙ few_back head_line (heads.Decoder (who.Loco address)) n line (codes "loco") (own_address_word address ∷ [])
+          text is token (address_token address, tt) (omega arith) (loco_back address possible.decoder);
+      behind_cv = λ least n. ap (λ (bytes : List ℕ). line_by (loco_line least) (at n bytes)) (fed line text)
+          ∙ few_back (loco_line least) (behind.Head (heads.Decoder (who.Loco address))) n line (codes "loco")
+          (own_address_word address ∷ []) text is token (address_token address, tt) (omega arith)
+          (loco_behind least address possible.decoder);
+    }
+
+pub board_begins : (board : Board) (text : List ℕ) (m : RegisterMap) → IsPossible (who.Board board) m
+    → BeginsWith (board_line board ++ text) (heads.Decoder (who.Board board)) text
+board_begins board text m possible =
+    let range = board.in_range in
+    let line : List ℕ = codes "board " ++ decimal board.number in
+    let is : line ≡ codes "board" ++ spaced_words (decimal board.number ∷ []) =
+    ap (λ (xs : List ℕ). codes "board " ++ xs) (sym (append-nil (decimal board.number))) in
+    let token = keyword_token (codes "board") (omega arith) refl refl (omega arith) in
+    let number = decimal_token board.number (omega (arith, range)) in
+    record {
+      first = λ n. ap (λ (bytes : List ℕ). line_by head_line (at n bytes)) (fed line text)
+          ∙ few_back head_line (heads.Decoder (who.Board board)) n line (codes "board") (decimal board.number ∷ []) text
+          is token (number, tt) (omega arith) (board_head_back board possible.decoder);
+      behind_cv = λ least n. ap (λ (bytes : List ℕ). line_by (loco_line least) (at n bytes)) (fed line text)
+          ∙ few_back (loco_line least) (behind.Head (heads.Decoder (who.Board board))) n line (codes "board")
+          (decimal board.number ∷ []) text is token (number, tt) (omega arith)
+          (board_behind least board possible.decoder);
+    }
+
+pub end_begins : (text : List ℕ) → BeginsWith (codes "end\n" ++ text) heads.End text
+end_begins text =
+    let token = keyword_token (codes "end") (omega arith) refl refl (omega arith) in
+    record {
+      first = λ n. few_back head_line heads.End n (codes "end") (codes "end") [] text refl token tt (omega arith)
+          end_back;
+      behind_cv =
+          λ least n. few_back (loco_line least) (behind.Head heads.End) n (codes "end") (codes "end") [] text refl token
+          tt (omega arith) (end_behind least);
+    }
+
+-- a decoder that its lines save, and the first line behind them
+pub record GivesDecoder (decoder : Who × RegisterMap) (n : ℕ) (bytes : List ℕ) (head : Head) (rest : List ℕ) : Type 0
+  where
+    pub state : Saved
+    pub line : ℕ
+    pub reads : decoder_lines versions.Two decoder.0 (at n bytes) ≡ Ok ((state, head), at line rest)
+    pub saves : Saves state decoder
+
+pub board_given : (board : Board) (m : RegisterMap) (n : ℕ) (bytes : List ℕ) (head : Head) (rest : List ℕ)
+    → IsPossible (who.Board board) m → BeginsWith bytes head rest
+    → GivesDecoder (who.Board board, m) n (outs_bytes m ++ (positions_bytes m ++ (aspects_bytes m ++ bytes))) head rest
+unfolding board_lines
+board_given board m n bytes head rest possible begins =
+    let outs = outs_read (λ k. holds_one (m (registers.Out k))) 8 n (positions_bytes m ++ (aspects_bytes m ++ bytes))
+    (omega arith) in
+    let state : Saved = saved.Board (board_state board m outs.value) in
+    record {
+      state = state;
+      line = n + 1 + 1 + 1 + 1;
+      reads =
+          then_back (line_by outs_line) (behind_outs board) outs.value
+          (at n (outs_bytes m ++ (positions_bytes m ++ (aspects_bytes m ++ bytes))))
+          (at (n + 1) (positions_bytes m ++ (aspects_bytes m ++ bytes)))
+          (Ok ((state, head), at (n + 1 + 1 + 1 + 1) rest)) outs.reads
+          (then_back (line_by positions_line) (behind_positions board outs.value) (four_of (sides_of m))
+          (at (n + 1) (positions_bytes m ++ (aspects_bytes m ++ bytes)))
+          (at (n + 1 + 1) (aspects_bytes m ++ bytes)) (Ok ((state, head), at (n + 1 + 1 + 1 + 1) rest))
+          (positions_read (positions_of m) (sides_of m) (n + 1) (aspects_bytes m ++ bytes) (sides_are board m possible))
+          (then_back (line_by aspects_line) (behind_aspects board outs.value (four_of (sides_of m)))
+          (four_of (aspects_of m)) (at (n + 1 + 1) (aspects_bytes m ++ bytes)) (at (n + 1 + 1 + 1) bytes)
+          (Ok ((state, head), at (n + 1 + 1 + 1 + 1) rest))
+          (aspects_read (aspects_of m) (n + 1 + 1) bytes (aspects_small board m possible))
+          (then_back (line_by head_line)
+          (behind_board_head board outs.value (four_of (sides_of m)) (four_of (aspects_of m))) head
+          (at (n + 1 + 1 + 1) bytes) (at (n + 1 + 1 + 1 + 1) rest)
+          (Ok ((state, head), at (n + 1 + 1 + 1 + 1) rest))
+          (begins.first (n + 1 + 1 + 1)) refl)));
+      saves = (refl, same_board board m possible outs.value outs.bits);
+    }
+
+pub loco_given : (address : Option Address) (m : RegisterMap) (n : ℕ) (bytes : List ℕ) (head : Head) (rest : List ℕ)
+    → IsPossible (who.Loco address) m → BeginsWith bytes head rest
+    → GivesDecoder (who.Loco address, m) n
+    (speed_bytes m
+    ++ (functions_bytes m ++ (states_bytes m ++ (pending_bytes m ++ (cvs_text (cv_held m) 1024 ++ bytes))))) head
+    rest
+unfolding loco_lines
+loco_given address m n bytes head rest possible begins =
+    let speed : Speed = speed_held (m registers.Speed) in
+    let pending : Option Packet = pending_held (m registers.Pending) in
+    let cvs_and : List ℕ = cvs_text (cv_held m) 1024 ++ bytes in
+    let pending_and : List ℕ = pending_bytes m ++ cvs_and in
+    let states_and : List ℕ = states_bytes m ++ pending_and in
+    let functions = functions_read (λ k. holds_one (m (registers.Function k))) 69 (n + 1) states_and (omega arith) in
+    let states = states_read (λ k. holds_one (m (registers.State k))) (n + 1 + 1) pending_and
+    (no_state_0 address (m (registers.State 0)) (possible.registers (registers.State 0))) in
+    let cvs = all_cvs (cv_held m) (λ k. byte_small (λ place. holds_one (m (registers.CvBit k place)))) bytes head rest
+    begins.behind_cv (n + 1 + 1 + 1 + 1) in
+    let state : Saved = saved.Loco (loco_state address m functions.value states.value cvs.given) in
+    let line : ℕ = cvs.behind_line in
+    record {
+      state = state;
+      line = line;
+      reads =
+          then_back (line_by speed_line) (behind_speed versions.Two address)
+          (speed, forward_held (m registers.Direction)) (at n (speed_bytes m ++ (functions_bytes m ++ states_and)))
+          (at (n + 1) (functions_bytes m ++ states_and)) (Ok ((state, head), at line rest))
+          (speed_read speed (forward_held (m registers.Direction)) n (functions_bytes m ++ states_and)
+          (speed_is address (m registers.Speed) (possible.registers registers.Speed)).1)
+          (then_back (line_by functions_line)
+          (behind_functions versions.Two address (speed, forward_held (m registers.Direction))) functions.value
+          (at (n + 1) (functions_bytes m ++ states_and)) (at (n + 1 + 1) states_and)
+          (Ok ((state, head), at line rest))
+          functions.reads
+          (then_back (states_by versions.Two)
+          (behind_states address (speed, forward_held (m registers.Direction)) functions.value) states.value
+          (at (n + 1 + 1) states_and) (at (n + 1 + 1 + 1) pending_and) (Ok ((state, head), at line rest))
+          states.reads
+          (then_back (line_by (pending_line address))
+          (behind_pending address (speed, forward_held (m registers.Direction)) functions.value states.value)
+          pending (at (n + 1 + 1 + 1) pending_and) (at (n + 1 + 1 + 1 + 1) cvs_and)
+          (Ok ((state, head), at line rest))
+          (pending_read address pending (n + 1 + 1 + 1) cvs_and
+          (pending_is address (m registers.Pending) (possible.registers registers.Pending)).1)
+          (then_back cvs_lines
+          (behind_cvs address (speed, forward_held (m registers.Direction)) functions.value states.value
+          pending) (cvs.given, head) (at (n + 1 + 1 + 1 + 1) cvs_and) (at line rest)
+          (Ok ((state, head), at line rest))
+          cvs.reads refl))));
+      saves = (
+        refl,
+        same_loco address m possible functions.value functions.bits states.value states.bits cvs.given cvs.each,
+      );
+    }

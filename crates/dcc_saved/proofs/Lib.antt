@@ -1,0 +1,19 @@
+pub mod BitsLemmas
+pub mod PendingLemmas
+pub mod ReadLemmas
+pub mod DecoderTextLemmas
+mod BlankLines
+pub mod RowsLemmas
+pub mod FleetLemmas
+pub mod LinesBack
+pub mod RulesBack
+pub mod NumbersBack
+pub mod PendingBack
+pub mod CvsBack
+pub mod TokensBack
+pub mod RowsBack
+pub mod MapsBack
+pub mod BoardMapsBack
+pub mod LinesKept
+pub mod DecodersBack
+pub mod ReadBackLaws

@@ -1,0 +1,110 @@
+-- A line that was written is read again by its rule.
+use Rattle.std.proofs.Common.{◌≡◌, ℕ, ◌+◌, ◌*◌, ◌≤◌, Bool, true, not, ◌&&◌, eqb, nat_le, List, [], ◌∷◌, ◌++◌, length}
+use Rattle.std.proofs.Common.{Option, Some, Result, Ok, Err, if◌then◌else◌, refl, ap, ◌∙◌, arith, length-append}
+use Rattle.std.specs.Char.{is_ascii}
+use Rattle.std.specs.List.{list_all, AllByRecursion}
+use Rattle.std.proofs.lemmas.Bool.{and_parts, le-leb}
+use Rattle.std.proofs.lemmas.List.Folds.{list_all-append}
+use Rattle.dcc_packet.specs.declared.fault.PacketFault.{PacketFault}
+use Rattle.dcc_packet.specs.declared.fault.PacketFault.TheVariants as faults
+use Rattle.dcc_packet.specs.Words.{Word, words}
+use Rattle.dcc_packet.specs.Written.{spaced_words}
+use Rattle.dcc_packet.proofs.WrittenWords.{IsWord, not_true, words_spaced}
+use Rattle.dcc_io.specs.NumberedLines.{is_good}
+use Rattle.dcc_saved.specs.TextReader.{Text, Stop, Reader, ◌>>=◌, read_on, first_line, behind_line, ended_line, line_by}
+use Rattle.dcc_saved.specs.TextReader.Stop.{refused}
+
+-- a byte that may stand in a line
+abbrev pub is_plain : ℕ → Bool
+is_plain b = is_ascii b && not (eqb b 10)
+
+plain_is_ascii : (line : List ℕ) → list_all is_plain line ≡ true → list_all is_ascii line ≡ true
+plain_is_ascii [] h = refl
+plain_is_ascii (b ∷ bs) h =
+    let parts = and_parts (is_plain b) (list_all is_plain bs) h in
+    let byte = and_parts (is_ascii b) (not (eqb b 10)) parts.0 in
+    rw (byte.0, plain_is_ascii bs parts.1) refl
+
+first_line_is : (line rest : List ℕ) → list_all is_plain line ≡ true → first_line (line ++ 10 ∷ rest) ≡ line
+first_line_is [] rest h = refl
+first_line_is (b ∷ bs) rest h =
+    let parts = and_parts (is_plain b) (list_all is_plain bs) h in
+    let byte = and_parts (is_ascii b) (not (eqb b 10)) parts.0 in
+    rw (not_true (eqb b 10) byte.1) (ap (λ (xs : List ℕ). b ∷ xs) (first_line_is bs rest parts.1))
+
+behind_line_is : (line rest : List ℕ) → list_all is_plain line ≡ true → behind_line (line ++ 10 ∷ rest) ≡ Some rest
+behind_line_is [] rest h = refl
+behind_line_is (b ∷ bs) rest h =
+    let parts = and_parts (is_plain b) (list_all is_plain bs) h in
+    let byte = and_parts (is_ascii b) (not (eqb b 10)) parts.0 in
+    rw (not_true (eqb b 10) byte.1) (behind_line_is bs rest parts.1)
+
+-- a word of a written line
+pub record IsToken (word : Word) : Type 0 where
+  pub word_is : IsWord word
+  pub plain : list_all is_plain word ≡ true
+  pub short : length word ≤ 12
+
+both : (a b : Bool) → a ≡ true → b ≡ true → (a && b) ≡ true
+both a b e f = rw (e, f) refl
+
+pub append_plain : (xs ys : List ℕ) → list_all is_plain xs ≡ true → list_all is_plain ys ≡ true
+    → list_all is_plain (xs ++ ys) ≡ true
+append_plain xs ys first second =
+    list_all-append is_plain xs ys ∙ both (list_all is_plain xs) (list_all is_plain ys) first second
+
+pub spaced_plain : (ws : List Word) → AllByRecursion IsToken ws → list_all is_plain (spaced_words ws) ≡ true
+spaced_plain [] h = refl
+spaced_plain (w ∷ ws) h = append_plain w (spaced_words ws) h.0.plain (spaced_plain ws h.1)
+
+all_words : (ws : List Word) → AllByRecursion IsToken ws → AllByRecursion IsWord ws
+all_words [] h = tt
+all_words (w ∷ ws) h = (h.0.word_is, all_words ws h.1)
+
+spaced_short : (ws : List Word) → AllByRecursion IsToken ws → length (spaced_words ws) ≤ 13 * length ws
+spaced_short [] h = omega arith
+spaced_short (w ∷ ws) h = omega (arith, h.0.short, spaced_short ws h.1, length-append w (spaced_words ws))
+
+short_line : (line : List ℕ) (word : Word) (ws : List Word) → line ≡ word ++ spaced_words ws → IsToken word
+    → AllByRecursion IsToken ws → length ws ≤ 38 → length line ≤ 512
+short_line line word ws is token tokens few =
+    omega (arith, ap length is, token.short, spaced_short ws tokens, few, length-append word (spaced_words ws))
+
+-- a text at this line
+abbrev pub at : ℕ → List ℕ → Text
+at n bytes = record { line = n; bytes = bytes }
+
+good_is_read : {A : Type 0} (rule : List Word → Result A PacketFault) (x : A) (n : ℕ) (line rest first : List ℕ)
+    (behind : Option (List ℕ)) → first ≡ line → behind ≡ Some rest → is_good line ≡ true → rule (words line) ≡ Ok x
+    → (if is_good first then ended_line rule n first behind else Err (refused n faults.Word)) ≡ Ok (x, at (n + 1) rest)
+good_is_read rule x n line rest first behind is_first is_behind good says = rw (is_first, is_behind, good, says) refl
+
+-- the words of a line, by which its rule gives this value
+pub line_back : {A : Type 0} (rule : List Word → Result A PacketFault) (x : A) (n : ℕ) (line : List ℕ) (word : Word)
+    (ws : List Word) (rest : List ℕ)
+    → line ≡ word ++ spaced_words ws → IsToken word → AllByRecursion IsToken ws → length line ≤ 512
+    → rule (word ∷ ws) ≡ Ok x
+    → line_by rule (at n (line ++ 10 ∷ rest)) ≡ Ok (x, at (n + 1) rest)
+line_back rule x n line word ws rest is token tokens short says =
+    let plain : list_all is_plain line ≡ true =
+    ap (list_all is_plain) is ∙ append_plain word (spaced_words ws) token.plain (spaced_plain ws tokens) in
+    let good : is_good line ≡ true =
+    both (nat_le (length line) 512) (list_all is_ascii line) (le-leb (length line) 512 short)
+    (plain_is_ascii line plain) in
+    let split : words line ≡ word ∷ ws = ap words is ∙ words_spaced word ws token.word_is (all_words ws tokens) in
+    good_is_read rule x n line rest (first_line (line ++ 10 ∷ rest)) (behind_line (line ++ 10 ∷ rest))
+    (first_line_is line rest plain) (behind_line_is line rest plain) good (ap rule split ∙ says)
+
+-- a line of a few words
+pub few_back : {A : Type 0} (rule : List Word → Result A PacketFault) (x : A) (n : ℕ) (line : List ℕ) (word : Word)
+    (ws : List Word) (rest : List ℕ)
+    → line ≡ word ++ spaced_words ws → IsToken word → AllByRecursion IsToken ws → length ws ≤ 38
+    → rule (word ∷ ws) ≡ Ok x
+    → line_by rule (at n (line ++ 10 ∷ rest)) ≡ Ok (x, at (n + 1) rest)
+few_back rule x n line word ws rest is token tokens few says =
+    line_back rule x n line word ws rest is token tokens (short_line line word ws is token tokens few) says
+
+-- a reader behind one that gave a value
+pub then_back : {A B : Type 0} (first : Reader A) (next : A → Reader B) (x : A) (text mid : Text)
+    (result : Result (B × Text) Stop) → first text ≡ Ok (x, mid) → next x mid ≡ result → (first >>= next) text ≡ result
+then_back first next x text mid result one two = ap (λ read. read_on read next) one ∙ two

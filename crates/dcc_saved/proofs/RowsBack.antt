@@ -1,0 +1,256 @@
+-- Each line of a decoder is read again.
+use Rattle.std.proofs.Common.{◌≡◌, ℕ, ◌+◌, ◌<◌, ◌≤◌, Bool, true, false, nat_le, ◌&&◌, List, [], ◌∷◌, ◌++◌, length}
+use Rattle.std.proofs.Common.{codes, Option, Result, Ok, if◌then◌else◌, refl, sym, ap, ◌∙◌, arith, append_assoc}
+use Rattle.std.proofs.Common.{length-append}
+use Rattle.std.specs.Fmt.{decimal}
+use Rattle.std.proofs.lemmas.Fmt.{decimal_digit}
+use Rattle.std.proofs.lemmas.Bool.{and_parts, leb-true}
+use Rattle.std.specs.List.{AllByRecursion}
+use Rattle.std.proofs.lemmas.List.{append-nil}
+use Rattle.dcc_packet.specs.declared.address.Address.{Address}
+use Rattle.dcc_packet.specs.declared.packet.Packet.{Packet}
+use Rattle.dcc_packet.specs.declared.fault.PacketFault.{PacketFault}
+use Rattle.dcc_packet.specs.Words.{Word}
+use Rattle.dcc_packet.specs.Written.{spaced_words, direction_word, state_word}
+use Rattle.dcc_regs.specs.declared.register.Speed.{Speed}
+use Rattle.dcc_regs.specs.declared.register.Speed.TheVariants.{Stop, Emergency, Step14, Step28, Step126}
+use Rattle.dcc_packet.specs.Bits.{is_one}
+use Rattle.dcc_regs.specs.Loco.{is_speed, is_pending_for}
+use Rattle.dcc_saved.specs.DecoderLines.{functions_line, states_line, outs_line, speed_line, pending_line}
+use Rattle.dcc_saved.specs.DecoderLines.{positions_line, aspects_line}
+use Rattle.dcc_saved.specs.FleetText.{numbers_below, speed_text, pending_text, four_numbers}
+use Rattle.dcc_saved.specs.TextReader.{line_by}
+use Rattle.dcc_saved.proofs.LinesBack.{IsToken, at, line_back, few_back}
+use Rattle.dcc_saved.proofs.NumbersBack.{on_words, value_of, numbers_are, ons_short, functions_are, states_short}
+use Rattle.dcc_saved.proofs.NumbersBack.{states_are, outs_are, value_bits}
+use Rattle.dcc_saved.proofs.PendingBack.{pending_back}
+use Rattle.dcc_saved.proofs.RulesBack.{speed_words, speed_back, positions_back, aspects_back}
+use Rattle.dcc_saved.proofs.TokensBack.{keyword_token, decimal_token, direction_token, state_token, on_tokens}
+use Rattle.dcc_saved.proofs.TokensBack.{pending_token}
+
+-- the line feed behind a line, and the text behind that
+pub fed : (line text : List ℕ) → (line ++ codes "\n") ++ text ≡ line ++ 10 ∷ text
+fed line text = append_assoc line (codes "\n") text
+
+-- a line of numbers that are on
+pub record GivesBits (rule : List Word → Result ℕ PacketFault) (on : ℕ → Bool) (c n : ℕ) (bytes text : List ℕ) : Type 0
+  where
+    pub value : ℕ
+    pub reads : line_by rule (at n bytes) ≡ Ok (value, at (n + 1) text)
+    pub bits : (j : ℕ) → j < c → is_one value j ≡ on j
+
+row_bits : (on : ℕ → Bool) (c j : ℕ) → j < c → is_one (value_of on 0 c 1) j ≡ on j
+row_bits on c j within = value_bits on 0 c j within ∙ ap on (from_none j)
+  where
+    from_none : (n : ℕ) → 0 + n ≡ n
+    from_none n = omega arith
+
+functions_say : (on : ℕ → Bool) (c : ℕ) → c ≤ 69
+    → functions_line (codes "on" ∷ on_words on 0 c) ≡ Ok (value_of on 0 c 1)
+unfolding functions_line
+functions_say on c few = functions_are on 0 0 c (omega arith) (omega (arith, few))
+
+states_say : (on : ℕ → Bool) → on 0 ≡ false
+    → states_line (codes "states" ∷ on_words on 0 128) ≡ Ok (value_of on 0 128 1)
+unfolding states_line
+states_say on none = states_are on none 0 0 128 (omega arith) (omega arith)
+
+outs_say : (on : ℕ → Bool) (c : ℕ) → c ≤ 8 → outs_line (codes "out" ∷ on_words on 0 c) ≡ Ok (value_of on 0 c 1)
+unfolding outs_line
+outs_say on c few = outs_are on 0 0 c (omega arith) (omega (arith, few))
+
+pub functions_read : (on : ℕ → Bool) (c n : ℕ) (text : List ℕ) → c ≤ 69
+    → GivesBits functions_line on c n (((codes "on" ++ numbers_below on c) ++ codes "\n") ++ text) text
+functions_read on c n text few = record {
+  value = value_of on 0 c 1;
+  reads = ap (λ (bytes : List ℕ). line_by functions_line (at n bytes)) (fed (codes "on" ++ numbers_below on c) text)
+      ∙ line_back functions_line (value_of on 0 c 1) n (codes "on" ++ numbers_below on c) (codes "on") (on_words on 0 c)
+      text
+      (ap (λ (xs : List ℕ). codes "on" ++ xs) (numbers_are on c))
+      (keyword_token (codes "on") (omega arith) refl refl (omega arith)) (on_tokens on 0 c (omega (arith, few)))
+      (omega (
+        arith,
+        few,
+        ap length (numbers_are on c),
+        ons_short on 0 c (omega (arith, few)),
+        length-append (codes "on") (numbers_below on c),
+      ))
+      (functions_say on c few);
+  bits = row_bits on c;
+}
+
+pub states_read : (on : ℕ → Bool) (n : ℕ) (text : List ℕ) → on 0 ≡ false
+    → GivesBits states_line on 128 n (((codes "states" ++ numbers_below on 128) ++ codes "\n") ++ text) text
+states_read on n text none = record {
+  value = value_of on 0 128 1;
+  reads = ap (λ (bytes : List ℕ). line_by states_line (at n bytes)) (fed (codes "states" ++ numbers_below on 128) text)
+      ∙ line_back states_line (value_of on 0 128 1) n (codes "states" ++ numbers_below on 128) (codes "states")
+      (on_words on 0 128) text
+      (ap (λ (xs : List ℕ). codes "states" ++ xs) (numbers_are on 128))
+      (keyword_token (codes "states") (omega arith) refl refl (omega arith)) (on_tokens on 0 128 (omega arith))
+      (omega (
+        arith,
+        ap length (numbers_are on 128),
+        states_short on,
+        length-append (codes "states") (numbers_below on 128),
+      ))
+      (states_say on none);
+  bits = row_bits on 128;
+}
+
+pub outs_read : (on : ℕ → Bool) (c n : ℕ) (text : List ℕ) → c ≤ 8
+    → GivesBits outs_line on c n (((codes "out" ++ numbers_below on c) ++ codes "\n") ++ text) text
+outs_read on c n text few = record {
+  value = value_of on 0 c 1;
+  reads = ap (λ (bytes : List ℕ). line_by outs_line (at n bytes)) (fed (codes "out" ++ numbers_below on c) text)
+      ∙ line_back outs_line (value_of on 0 c 1) n (codes "out" ++ numbers_below on c) (codes "out") (on_words on 0 c)
+      text
+      (ap (λ (xs : List ℕ). codes "out" ++ xs) (numbers_are on c))
+      (keyword_token (codes "out") (omega arith) refl refl (omega arith)) (on_tokens on 0 c (omega (arith, few)))
+      (omega (
+        arith,
+        few,
+        ap length (numbers_are on c),
+        ons_short on 0 c (omega (arith, few)),
+        length-append (codes "out") (numbers_below on c),
+      ))
+      (outs_say on c few);
+  bits = row_bits on c;
+}
+
+-- the speed
+speed_line_is : (speed : Speed) (word : Word)
+    → (codes "speed " ++ speed_text speed) ++ (32 ∷ word) ≡ codes "speed"
+    ++ spaced_words (speed_words speed (word ∷ []))
+speed_line_is Stop word = ap (λ (xs : List ℕ). codes "speed stop " ++ xs) (sym (append-nil word))
+speed_line_is Emergency word = ap (λ (xs : List ℕ). codes "speed emergency " ++ xs) (sym (append-nil word))
+speed_line_is (Step14 n) word =
+    ap (λ (xs : List ℕ). codes "speed 14 " ++ (decimal n ++ 32 ∷ xs)) (sym (append-nil word))
+speed_line_is (Step28 n) word =
+    ap (λ (xs : List ℕ). codes "speed 28 " ++ (decimal n ++ 32 ∷ xs)) (sym (append-nil word))
+speed_line_is (Step126 n) word =
+    ap (λ (xs : List ℕ). codes "speed 126 " ++ (decimal n ++ 32 ∷ xs)) (sym (append-nil word))
+
+step_small : (n last : ℕ) → last ≤ 126 → (nat_le 1 n && nat_le n last) ≡ true → n < 65536
+step_small n last few h =
+    let most = leb-true n last (and_parts (nat_le 1 n) (nat_le n last) h).1 in omega (arith, most, few)
+
+speed_tokens : (speed : Speed) (word : Word) → is_speed speed ≡ true → IsToken word
+    → AllByRecursion IsToken (speed_words speed (word ∷ []))
+speed_tokens Stop word h token = (keyword_token (codes "stop") (omega arith) refl refl (omega arith), (token, tt))
+speed_tokens Emergency word h token =
+    (keyword_token (codes "emergency") (omega arith) refl refl (omega arith), (token, tt))
+speed_tokens (Step14 n) word h token = (
+  keyword_token (codes "14") (omega arith) refl refl (omega arith),
+  (decimal_token n (step_small n 14 (omega arith) h), (token, tt)),
+)
+speed_tokens (Step28 n) word h token = (
+  keyword_token (codes "28") (omega arith) refl refl (omega arith),
+  (decimal_token n (step_small n 28 (omega arith) h), (token, tt)),
+)
+speed_tokens (Step126 n) word h token = (
+  keyword_token (codes "126") (omega arith) refl refl (omega arith),
+  (decimal_token n (step_small n 126 (omega arith) h), (token, tt)),
+)
+
+few_words : (speed : Speed) (word : Word) → length (speed_words speed (word ∷ [])) ≤ 38
+few_words Stop word = omega arith
+few_words Emergency word = omega arith
+few_words (Step14 n) word = omega arith
+few_words (Step28 n) word = omega arith
+few_words (Step126 n) word = omega arith
+
+pub speed_read : (speed : Speed) (forward : Bool) (n : ℕ) (text : List ℕ) → is_speed speed ≡ true
+    → line_by speed_line
+    (at n (((codes "speed " ++ speed_text speed) ++ (32 ∷ direction_word forward ++ codes "\n")) ++ text)) ≡ Ok
+    ((speed, forward), at (n + 1) text)
+speed_read speed forward n text h =
+    let front : List ℕ = codes "speed " ++ speed_text speed in
+    ap (λ (bytes : List ℕ). line_by speed_line (at n bytes))
+    (ap (λ (bytes : List ℕ). bytes ++ text) (sym (append_assoc front (32 ∷ direction_word forward) (codes "\n")))
+    ∙ fed (front ++ (32 ∷ direction_word forward)) text)
+    ∙ few_back speed_line (speed, forward) n (front ++ (32 ∷ direction_word forward)) (codes "speed")
+    (speed_words speed (direction_word forward ∷ [])) text
+    (speed_line_is speed (direction_word forward)) (keyword_token (codes "speed") (omega arith) refl refl (omega arith))
+    (speed_tokens speed (direction_word forward) h (direction_token forward))
+    (few_words speed (direction_word forward))
+    (speed_back speed forward h)
+
+pub pending_read : (active : Option Address) (pending : Option Packet) (n : ℕ) (text : List ℕ)
+    → is_pending_for active pending ≡ true
+    → line_by (pending_line active) (at n (((codes "pending " ++ pending_text pending) ++ codes "\n") ++ text)) ≡ Ok
+    (pending, at (n + 1) text)
+pending_read active pending n text h =
+    ap (λ (bytes : List ℕ). line_by (pending_line active) (at n bytes))
+    (fed (codes "pending " ++ pending_text pending) text)
+    ∙ few_back (pending_line active) pending n (codes "pending " ++ pending_text pending) (codes "pending")
+    (pending_text pending ∷ []) text
+    (ap (λ (xs : List ℕ). codes "pending " ++ xs) (sym (append-nil (pending_text pending))))
+    (keyword_token (codes "pending") (omega arith) refl refl (omega arith)) (pending_token active pending h, tt)
+    (omega arith)
+    (pending_back active pending h)
+
+-- four numbers
+four_are : (word : Word) (a b c d text : List ℕ)
+    → (word ++ ((32 ∷ a) ++ ((32 ∷ b) ++ ((32 ∷ c) ++ ((32 ∷ d) ++ codes "\n")))))
+    ++ text ≡ (word ++ spaced_words (a ∷ b ∷ c ∷ d ∷ [])) ++ 10 ∷ text
+four_are word a b c d text = simp (append_assoc, append-nil) refl
+
+pub aspects_read : (numbers : ℕ → ℕ) (n : ℕ) (text : List ℕ) → ((k : ℕ) → k ≤ 3 → numbers k < 256)
+    → line_by aspects_line (at n ((codes "aspect" ++ four_numbers numbers) ++ text)) ≡ Ok
+    (numbers 0 ∷ numbers 1 ∷ numbers 2 ∷ numbers 3 ∷ [], at (n + 1) text)
+aspects_read numbers n text small =
+    let a = small 0 (omega arith) in
+    let b = small 1 (omega arith) in
+    let c = small 2 (omega arith) in
+    let d = small 3 (omega arith) in
+    let ws : List Word = decimal (numbers 0) ∷ decimal (numbers 1) ∷ decimal (numbers 2) ∷ decimal (numbers 3) ∷ [] in
+    ap (λ (bytes : List ℕ). line_by aspects_line (at n bytes))
+    (four_are (codes "aspect") (decimal (numbers 0)) (decimal (numbers 1)) (decimal (numbers 2))
+    (decimal (numbers 3)) text)
+    ∙ few_back aspects_line (numbers 0 ∷ numbers 1 ∷ numbers 2 ∷ numbers 3 ∷ []) n (codes "aspect" ++ spaced_words ws)
+    (codes "aspect") ws text refl
+    (keyword_token (codes "aspect") (omega arith) refl refl (omega arith)) (
+      decimal_token (numbers 0) (omega (arith, a)),
+      (
+        decimal_token (numbers 1) (omega (arith, b)),
+        (decimal_token (numbers 2) (omega (arith, c)), (decimal_token (numbers 3) (omega (arith, d)), tt)),
+      ),
+    )
+    (omega arith)
+    (aspects_back (numbers 0) (numbers 1) (numbers 2) (numbers 3) a b c d)
+
+-- a side in decimal
+abbrev pub side_number : Bool → ℕ
+side_number one = if one then 1 else 0
+
+side_word : (one : Bool) → decimal (side_number one) ≡ state_word one
+side_word true = decimal_digit 1 (omega arith)
+side_word false = decimal_digit 0 (omega arith)
+
+same_line : (a b c d e f g h : Word) (text : List ℕ) → a ≡ e → b ≡ f → c ≡ g → d ≡ h
+    → (codes "position" ++ spaced_words (a ∷ b ∷ c ∷ d ∷ []))
+    ++ 10 ∷ text ≡ (codes "position" ++ spaced_words (e ∷ f ∷ g ∷ h ∷ []))
+    ++ 10 ∷ text
+same_line a b c d e f g h text one two three four = rw (one, two, three, four) refl
+
+pub positions_read : (numbers : ℕ → ℕ) (sides : ℕ → Bool) (n : ℕ) (text : List ℕ)
+    → ((k : ℕ) → k ≤ 3 → numbers k ≡ side_number (sides k))
+    → line_by positions_line (at n ((codes "position" ++ four_numbers numbers) ++ text)) ≡ Ok
+    (sides 0 ∷ sides 1 ∷ sides 2 ∷ sides 3 ∷ [], at (n + 1) text)
+positions_read numbers sides n text are =
+    let word : (k : ℕ) → k ≤ 3 → decimal (numbers k) ≡ state_word (sides k) =
+    λ k few. ap decimal (are k few) ∙ side_word (sides k) in
+    let ws : List Word =
+    state_word (sides 0) ∷ state_word (sides 1) ∷ state_word (sides 2) ∷ state_word (sides 3) ∷ [] in
+    ap (λ (bytes : List ℕ). line_by positions_line (at n bytes))
+    (four_are (codes "position") (decimal (numbers 0)) (decimal (numbers 1)) (decimal (numbers 2)) (decimal (numbers 3))
+    text
+    ∙ same_line (decimal (numbers 0)) (decimal (numbers 1)) (decimal (numbers 2)) (decimal (numbers 3))
+    (state_word (sides 0)) (state_word (sides 1)) (state_word (sides 2)) (state_word (sides 3)) text
+    (word 0 (omega arith)) (word 1 (omega arith)) (word 2 (omega arith)) (word 3 (omega arith)))
+    ∙ few_back positions_line (sides 0 ∷ sides 1 ∷ sides 2 ∷ sides 3 ∷ []) n (codes "position" ++ spaced_words ws)
+    (codes "position") ws text refl
+    (keyword_token (codes "position") (omega arith) refl refl (omega arith))
+    (state_token (sides 0), (state_token (sides 1), (state_token (sides 2), (state_token (sides 3), tt)))) (omega arith)
+    (positions_back (sides 0) (sides 1) (sides 2) (sides 3))

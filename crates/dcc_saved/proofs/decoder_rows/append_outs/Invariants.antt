@@ -1,0 +1,13 @@
+use Rattle.std.proofs.Common.{◌≡◌, ◌+◌, ◌*◌, ◌≤◌, ◌++◌, codes}
+use Rattle.arrayvec.specs.ArrayVec.{array_vec_len}
+use Rattle.dcc_regs.specs.declared.register.Register.TheVariants as registers
+use Rattle.dcc_regs.specs.Loco.{holds_one}
+use Rattle.dcc_saved.specs.FleetText.{numbers_below}
+use Rattle.dcc_saved.proofs.decoder_rows.append_outs.Given as goal
+
+abbrev pub invariant-loop-n : goal.invariant-loop-n
+invariant-loop-n g l =
+    let is = goal.Decoder-dyn g l.decoder.now in
+    (l.rows.items ≡ l.fn.rows.items
+    ++ (codes "out" ++ numbers_below (λ n. holds_one (is.registers l.decoder.now.1 (registers.Out n))) l.n))
+    × (array_vec_len l.rows ≤ array_vec_len l.fn.rows + 3 + 11 * l.n)

@@ -1,0 +1,30 @@
+use Rattle.std.proofs.Common.{◌≡◌, ℕ, Bool, codes, arith, ap, sym, ◌∙◌}
+use Rattle.dcc_regs.specs.declared.register.Register.TheVariants as registers
+use Rattle.dcc_regs.specs.Loco.{holds_one}
+use Rattle.dcc_saved.proofs.RowsLemmas.{numbers_none, row_on, row_off}
+use Rattle.dcc_saved.proofs.decoder_rows.append_states.Goals as goal
+use Rattle.dcc_saved.proofs.decoder_rows.append_states.Goals.{then-is_on, else-is_on}
+
+pub loop-n-init : goal.loop-n-init
+loop-n-init g c =
+    let is = goal.Decoder-dyn g c.args.decoder.now in
+    let on : ℕ → Bool = λ n. holds_one (is.registers c.args.decoder.now.1 (registers.State n)) in
+    (rw (numbers_none on) c.append.ensures.items, omega (arith, c.append.ensures.len))
+
+pub loop-n-preserved : goal.loop-n-preserved
+loop-n-preserved g c =
+    let is = goal.Decoder-dyn g c.args.decoder.now in
+    let on : ℕ → Bool = λ n. holds_one (is.registers c.args.decoder.now.1 (registers.State n)) in
+    let told : on c.loop-n.n ≡ c.is_on.result = sym (c.is_on.ensures ∙ ap holds_one c.get.ensures) in
+    elim c.if-is_on.branch [
+      | then-is_on w ↦ rw w.rows-is (
+        row_on on c.args.rows.now.items (codes "states") c.loop-n.rows.items w.append_number.new.rows.items c.loop-n.n
+            c.loop-n.invariant.0 (rw w.from.ensures at w.append_number.ensures.items) (told ∙ w.if-is_on.true),
+        omega (arith, c.loop-n.invariant.1, w.append_number.ensures.len),
+      )
+      | else-is_on w ↦ rw w.rows-is (
+        row_off on c.args.rows.now.items (codes "states") c.loop-n.rows.items c.loop-n.n c.loop-n.invariant.0
+            (told ∙ w.if-is_on.false),
+        omega (arith, c.loop-n.invariant.1),
+      )
+    ]

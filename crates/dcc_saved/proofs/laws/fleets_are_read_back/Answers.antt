@@ -1,0 +1,5 @@
+use Rattle.dcc_saved.proofs.ReadBackLaws.{fleets_read_back}
+use Rattle.dcc_saved.proofs.laws.fleets_are_read_back.Goals as goal
+
+pub returns : goal.returns
+returns c = fleets_read_back

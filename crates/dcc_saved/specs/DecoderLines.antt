@@ -1,0 +1,246 @@
+-- The lines of a decoder text: what the words of each say, or the first fault from left to right. Of one
+-- word first the number decides, then its range, then its order.
+use Rattle.std.specs.Prelude.{ℕ, ◌+◌, ◌^◌, ◌==◌, nat_lt, Bool, List, [], ◌∷◌, codes, Option, None, Some, Result, Ok}
+use Rattle.std.specs.Prelude.{Err, if◌then◌else◌}
+use Rattle.dcc_packet.specs.declared.accessory.Board.{Board}
+use Rattle.dcc_packet.specs.declared.address.Address.{Address}
+use Rattle.dcc_packet.specs.declared.packet.Packet.{Packet}
+use Rattle.dcc_packet.specs.declared.fault.PacketFault.{PacketFault}
+use Rattle.dcc_packet.specs.declared.fault.PacketFault.TheVariants as faults
+use Rattle.dcc_packet.specs.Words.{Word, is_word}
+use Rattle.dcc_packet.specs.LineWords.{◌>>=◌, small_number, address, direction, cv_number, bit_state, board_number}
+use Rattle.dcc_packet.specs.LineWords.{output_number, hex_frame}
+use Rattle.dcc_packet.specs.Line.{word_and_rest, no_more_words}
+use Rattle.dcc_regs.specs.declared.register.Who.TheVariants as who
+use Rattle.dcc_regs.specs.declared.register.Speed.{Speed}
+use Rattle.dcc_regs.specs.declared.register.Speed.TheVariants as speeds
+use Rattle.dcc_saved.specs.declared.decoder_line.Head.{Head}
+use Rattle.dcc_saved.specs.declared.decoder_line.Head.TheVariants as heads
+use Rattle.dcc_saved.specs.declared.decoder_line.Version.{Version}
+use Rattle.dcc_saved.specs.declared.decoder_line.Version.TheVariants as versions
+use Rattle.dcc_saved.specs.declared.decoder_line.LocoLine.{LocoLine}
+use Rattle.dcc_saved.specs.declared.decoder_line.LocoLine.TheVariants as behind
+use Rattle.dcc_saved.specs.PendingWrite.{pending_write}
+
+-- the word that begins a line of this kind
+abbrev pub keyword : List ℕ → Word → Result (Unit {0}) PacketFault
+keyword name word = if is_word word name then Ok tt else Err faults.Word
+
+-- numbers ascend: each is at least the one after the number before it
+abbrev pub in_order : ℕ → ℕ → Result (Unit {0}) PacketFault
+in_order least n = if nat_lt n least then Err faults.Word else Ok tt
+
+-- VERSION, 1 or 2, as a word
+abbrev pub version_number : Word → Result Version PacketFault
+version_number word =
+    if is_word word (codes "1") then Ok versions.One
+    else if is_word word (codes "2") then Ok versions.Two
+    else Err faults.Word
+
+-- dcc-decoders VERSION
+unfoldable pub version_line : List Word → Result Version PacketFault
+version_line line = do
+  key ← word_and_rest (keyword (codes "dcc-decoders")) line
+  version ← word_and_rest version_number key.1
+  end ← no_more_words version.1
+  Ok version.0
+
+abbrev pub some_address : Word → Result (Option Address) PacketFault
+some_address word = do
+  to ← address word
+  Ok (Some to)
+
+-- the active address: `none`, or `s` or `l` and a number
+abbrev pub own_address : Word → Result (Option Address) PacketFault
+own_address word =
+    if is_word word (codes "none") then Ok None
+    else if is_word word (codes "all") then Err faults.Word
+    else some_address word
+
+-- a board that an accessory decoder can be: 511 is the broadcast
+abbrev pub own_board : Word → Result Board PacketFault
+own_board word = do
+  board ← board_number word
+  if board.number == 511 then Err faults.Board else Ok board
+
+abbrev pub loco_head : List Word → Result Head PacketFault
+loco_head rest = do
+  address ← word_and_rest own_address rest
+  end ← no_more_words address.1
+  Ok (heads.Decoder (who.Loco address.0))
+
+abbrev pub board_head : List Word → Result Head PacketFault
+board_head rest = do
+  board ← word_and_rest own_board rest
+  end ← no_more_words board.1
+  Ok (heads.Decoder (who.Board board.0))
+
+abbrev pub end_head : List Word → Result Head PacketFault
+end_head rest = do
+  end ← no_more_words rest
+  Ok heads.End
+
+abbrev pub head_after : Word → List Word → Result Head PacketFault
+head_after word rest =
+    if is_word word (codes "loco") then loco_head rest
+    else if is_word word (codes "board") then board_head rest
+    else if is_word word (codes "end") then end_head rest
+    else Err faults.Word
+
+-- loco ADDRESS, board BOARD or end
+unfoldable pub head_line : List Word → Result Head PacketFault
+head_line [] = Err faults.Word
+head_line (word ∷ rest) = head_after word rest
+
+-- a step from 1 to the last one
+abbrev pub step_up_to : ℕ → Word → Result ℕ PacketFault
+step_up_to last word = do
+  n ← small_number word
+  if nat_lt n 1 then Err faults.State else if nat_lt last n then Err faults.State else Ok n
+
+abbrev pub speed_step : (ℕ → Speed) → ℕ → List Word → Result (Speed × List Word) PacketFault
+speed_step step last rest = do
+  n ← word_and_rest (step_up_to last) rest
+  Ok (step n.0, n.1)
+
+abbrev pub speed_after : Word → List Word → Result (Speed × List Word) PacketFault
+speed_after word rest =
+    if is_word word (codes "stop") then Ok (speeds.Stop, rest)
+    else if is_word word (codes "emergency") then Ok (speeds.Emergency, rest)
+    else if is_word word (codes "14") then speed_step (λ n. speeds.Step14 n) 14 rest
+    else if is_word word (codes "28") then speed_step (λ n. speeds.Step28 n) 28 rest
+    else if is_word word (codes "126") then speed_step (λ n. speeds.Step126 n) 126 rest
+    else Err faults.Word
+
+-- stop, emergency, 14 STEP, 28 STEP or 126 STEP, and the words after it
+abbrev pub speed_of : List Word → Result (Speed × List Word) PacketFault
+speed_of [] = Err faults.Word
+speed_of (word ∷ rest) = speed_after word rest
+
+-- speed SPEED f|r
+unfoldable pub speed_line : List Word → Result (Speed × Bool) PacketFault
+speed_line line = do
+  key ← word_and_rest (keyword (codes "speed")) line
+  speed ← speed_of key.1
+  forward ← word_and_rest direction speed.1
+  end ← no_more_words forward.1
+  Ok (speed.0, forward.0)
+
+-- a function of a locomotive decoder, 0 to 68
+abbrev pub function_number : Word → Result ℕ PacketFault
+function_number word = do
+  n ← small_number word
+  if nat_lt 68 n then Err faults.State else Ok n
+
+-- the functions that are on, as bits, in ascending order from this one on
+abbrev pub functions_from : ℕ → List Word → Result ℕ PacketFault
+functions_from least [] = Ok 0
+functions_from least (word ∷ rest) = do
+  n ← function_number word
+  ordered ← in_order least n
+  others ← functions_from (n + 1) rest
+  Ok (2 ^ n + others)
+
+-- on FUNCTION ..
+unfoldable pub functions_line : List Word → Result ℕ PacketFault
+functions_line line = do
+  key ← word_and_rest (keyword (codes "on")) line
+  functions_from 0 key.1
+
+-- a binary state of a locomotive decoder, 1 to 127
+abbrev pub binary_state : Word → Result ℕ PacketFault
+binary_state word = do
+  n ← small_number word
+  if nat_lt n 1 then Err faults.StateNumber else if nat_lt 127 n then Err faults.StateNumber else Ok n
+
+-- the binary states that are on, as bits, in ascending order from this one on
+abbrev pub states_from : ℕ → List Word → Result ℕ PacketFault
+states_from least [] = Ok 0
+states_from least (word ∷ rest) = do
+  n ← binary_state word
+  ordered ← in_order least n
+  others ← states_from (n + 1) rest
+  Ok (2 ^ n + others)
+
+-- states STATE ..
+unfoldable pub states_line : List Word → Result ℕ PacketFault
+states_line line = do
+  key ← word_and_rest (keyword (codes "states")) line
+  states_from 0 key.1
+
+abbrev pub framed_write : Option Address → Word → Result (Option Packet) PacketFault
+framed_write active word = do
+  frame ← hex_frame word
+  packet ← pending_write active frame
+  Ok (Some packet)
+
+-- `none`, or the frame of a CV write to the decoder's address
+abbrev pub pending_word : Option Address → Word → Result (Option Packet) PacketFault
+pending_word active word = if is_word word (codes "none") then Ok None else framed_write active word
+
+-- pending PACKET
+unfoldable pub pending_line : Option Address → List Word → Result (Option Packet) PacketFault
+pending_line active line = do
+  key ← word_and_rest (keyword (codes "pending")) line
+  packet ← word_and_rest (pending_word active) key.1
+  end ← no_more_words packet.1
+  Ok packet.0
+
+-- CV VALUE, the CV not below this one
+abbrev pub cv_words : ℕ → List Word → Result LocoLine PacketFault
+cv_words least rest = do
+  cv ← word_and_rest cv_number rest
+  ordered ← in_order least cv.0.number
+  value ← word_and_rest small_number cv.1
+  end ← no_more_words value.1
+  Ok (behind.Cv cv.0 value.0)
+
+abbrev pub head_behind : Word → List Word → Result LocoLine PacketFault
+head_behind word rest = do
+  head ← head_after word rest
+  Ok (behind.Head head)
+
+abbrev pub loco_line_after : ℕ → Word → List Word → Result LocoLine PacketFault
+loco_line_after least word rest = if is_word word (codes "cv") then cv_words least rest else head_behind word rest
+
+-- cv CV VALUE, or what stands behind the CVs
+unfoldable pub loco_line : ℕ → List Word → Result LocoLine PacketFault
+loco_line least [] = Err faults.Word
+loco_line least (word ∷ rest) = loco_line_after least word rest
+
+-- the outputs that are on, as bits, in ascending order from this one on
+abbrev pub outs_from : ℕ → List Word → Result ℕ PacketFault
+outs_from least [] = Ok 0
+outs_from least (word ∷ rest) = do
+  output ← output_number word
+  ordered ← in_order least output.number
+  others ← outs_from (output.number + 1) rest
+  Ok (2 ^ output.number + others)
+
+-- out OUTPUT ..
+unfoldable pub outs_line : List Word → Result ℕ PacketFault
+outs_line line = do
+  key ← word_and_rest (keyword (codes "out")) line
+  outs_from 0 key.1
+
+-- position SIDE SIDE SIDE SIDE
+unfoldable pub positions_line : List Word → Result (List Bool) PacketFault
+positions_line line = do
+  key ← word_and_rest (keyword (codes "position")) line
+  first ← word_and_rest bit_state key.1
+  second ← word_and_rest bit_state first.1
+  third ← word_and_rest bit_state second.1
+  fourth ← word_and_rest bit_state third.1
+  end ← no_more_words fourth.1
+  Ok (first.0 ∷ second.0 ∷ third.0 ∷ fourth.0 ∷ [])
+
+-- aspect ASPECT ASPECT ASPECT ASPECT
+unfoldable pub aspects_line : List Word → Result (List ℕ) PacketFault
+aspects_line line = do
+  key ← word_and_rest (keyword (codes "aspect")) line
+  first ← word_and_rest small_number key.1
+  second ← word_and_rest small_number first.1
+  third ← word_and_rest small_number second.1
+  fourth ← word_and_rest small_number third.1
+  end ← no_more_words fourth.1
+  Ok (first.0 ∷ second.0 ∷ third.0 ∷ fourth.0 ∷ [])

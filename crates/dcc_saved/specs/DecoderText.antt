@@ -1,0 +1,89 @@
+-- The decoder text, versions 1 and 2.
+use Rattle.std.specs.Prelude.{zero, suc, ℕ, ◌+◌, ◌-◌, List, [], ◌∷◌, ◌++◌, Option, replicate, slice_set}
+use Rattle.dcc_packet.specs.declared.accessory.Board.{Board}
+use Rattle.dcc_packet.specs.declared.address.Address.{Address}
+use Rattle.dcc_regs.specs.declared.register.Who.{Who}
+use Rattle.dcc_regs.specs.declared.register.Who.TheVariants as who
+use Rattle.dcc_saved.specs.declared.saved.Saved.{Saved}
+use Rattle.dcc_saved.specs.declared.saved.Saved.TheVariants as saved
+use Rattle.dcc_saved.specs.declared.decoder_line.Head.{Head}
+use Rattle.dcc_saved.specs.declared.decoder_line.Head.TheVariants as heads
+use Rattle.dcc_saved.specs.declared.decoder_line.Version.{Version}
+use Rattle.dcc_saved.specs.declared.decoder_line.Version.TheVariants as versions
+use Rattle.dcc_saved.specs.declared.decoder_line.LocoLine.{LocoLine}
+use Rattle.dcc_saved.specs.declared.decoder_line.LocoLine.TheVariants as behind
+use Rattle.dcc_saved.specs.DecoderLines.{version_line, head_line, speed_line, functions_line, states_line, pending_line}
+use Rattle.dcc_saved.specs.DecoderLines.{loco_line, outs_line, positions_line, aspects_line}
+use Rattle.dcc_saved.specs.TextReader.{Reader, ◌>>=◌, done, stop_at, line_by}
+use Rattle.dcc_saved.specs.TextReader.Stop.{too_many}
+
+-- a line of a CV, which is given its value, or the line behind the CVs
+abbrev pub behind_loco_line : (ℕ → List ℕ → Reader (List ℕ × Head)) → List ℕ → LocoLine → Reader (List ℕ × Head)
+behind_loco_line again cvs (behind.Cv cv value) = again (cv.number + 1) (slice_set cvs (cv.number - 1) value)
+behind_loco_line again cvs (behind.Head head) = done (cvs, head)
+
+-- the CVs of the lines from here on, ascending from this one on, and the line behind them; at most so
+-- many lines, since no more can ascend
+abbrev pub cvs_from : ℕ → ℕ → List ℕ → Reader (List ℕ × Head)
+cvs_from zero least cvs = stop_at too_many
+cvs_from (suc most) least cvs = line_by (loco_line least) >>= behind_loco_line (cvs_from most) cvs
+
+-- CV1 to CV1024, of which those that are not listed are 0, and the line behind them
+unfoldable pub cvs_lines : Reader (List ℕ × Head)
+cvs_lines = cvs_from 1025 1 (replicate 1024 0)
+
+-- the line of the binary states that are on. Version 1 has none, and there all are off
+abbrev pub states_by : Version → Reader ℕ
+states_by versions.One = done 0
+states_by versions.Two = line_by states_line
+
+-- the lines of a locomotive decoder behind its first, and the line behind them
+unfoldable pub loco_lines : Version → Option Address → Reader (Saved × Head)
+loco_lines version address = do
+  speed ← line_by speed_line
+  functions ← line_by functions_line
+  states ← states_by version
+  pending ← line_by (pending_line address)
+  cvs ← cvs_lines
+  done (
+    saved.Loco
+        (record {
+          address = address;
+          speed = speed.0;
+          forward = speed.1;
+          functions = functions;
+          states = states;
+          pending = pending;
+          cvs = cvs.0;
+        }),
+    cvs.1,
+  )
+
+-- the lines of an accessory decoder behind its first, and the line behind them
+unfoldable pub board_lines : Board → Reader (Saved × Head)
+board_lines board = do
+  outs ← line_by outs_line
+  positions ← line_by positions_line
+  aspects ← line_by aspects_line
+  head ← line_by head_line
+  done (saved.Board (record { board = board; outs = outs; positions = positions; aspects = aspects }), head)
+
+-- the lines of a decoder behind its first, and the line behind them
+abbrev pub decoder_lines : Version → Who → Reader (Saved × Head)
+decoder_lines version (who.Loco address) = loco_lines version address
+decoder_lines version (who.Board board) = board_lines board
+
+-- these decoders, and at most so many more from this line on
+abbrev pub decoders_from : Version → ℕ → List Saved → Head → Reader (List Saved)
+decoders_from version room before heads.End = done before
+decoders_from version zero before (heads.Decoder next) = stop_at too_many
+decoders_from version (suc room) before (heads.Decoder next) = do
+  decoder ← decoder_lines version next
+  decoders_from version room (before ++ decoder.0 ∷ []) decoder.1
+
+-- the decoders of a text, at most 64
+unfoldable pub decoder_text : Reader (List Saved)
+decoder_text = do
+  version ← line_by version_line
+  head ← line_by head_line
+  decoders_from version 64 [] head

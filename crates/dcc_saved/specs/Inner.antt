@@ -1,0 +1,3 @@
+-- What the contracts of private functions cite, and no public one.
+pub mod DecoderWords
+pub mod RequiredLine

@@ -1,0 +1,30 @@
+-- A line that has to stand where it is read.
+use Rattle.std.specs.Prelude.{◌≡◌, ◌⊎◌, ℕ, [], Some, Result, Ok, Err, IfSome}
+use Rattle.dcc_packet.specs.declared.fault.PacketFault.{PacketFault}
+use Rattle.dcc_packet.specs.declared.fault.PacketFault.TheVariants as faults
+use Rattle.dcc_io.specs.declared.text_line.TextLine.{TextLine}
+use Rattle.dcc_io.specs.declared.fault.KeptFault.{KeptFault}
+use Rattle.dcc_io.specs.declared.fault.KeptFault.TheVariants.{Number, Line, Read, TooMuch}
+use Rattle.dcc_io.specs.InputState.{InputState}
+use Rattle.dcc_io.specs.NextLine.{EndsLine, IsBadAt, FailsInLine, OverflowsInLine}
+
+-- the next line is bad, or there is none
+pub record MissesLine (old : InputState) (number : ℕ) (new : InputState) : Type 0 where
+  pub at : number ≡ old.place.line
+  pub text : IfSome old.text (λ text. IsBadAt old text ⊎ (text ≡ []))
+  pub fault : new.fault ≡ Some (Line number faults.Word)
+  pub failures : new.failures ≡ old.failures
+
+-- the next line was taken, or why not
+abbrev pub TakesLine : InputState → Result TextLine KeptFault → InputState → Type 0
+TakesLine old (Ok line) new = EndsLine old line.number line.text.bytes new
+TakesLine old (Err (Line number fault)) new = (fault ≡ faults.Word) × MissesLine old number new
+TakesLine old (Err Read) new = FailsInLine old new
+TakesLine old (Err TooMuch) new = OverflowsInLine old new
+TakesLine old (Err (Number line)) new = ⊥
+
+-- what was read of a line on its own is answered, and a fault is kept
+abbrev pub Judges : {A : Type 0} → InputState → ℕ → Result A PacketFault → Result A KeptFault → InputState → Type 0
+Judges old line (Ok x) result new = (result ≡ Ok x) × (new ≡ old)
+Judges old line (Err fault) result new =
+    (result ≡ Err (Line line fault)) × (new ≡ record old { fault = Some (Line line fault) })

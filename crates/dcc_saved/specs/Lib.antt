@@ -1,0 +1,11 @@
+pub mod PendingWrite
+pub mod DecoderLines
+pub mod TextReader
+pub mod DecoderText
+pub mod TextRead
+pub mod PossibleLines
+pub mod TextReadOrNoMemory
+pub mod WhoWord
+pub mod FleetText
+pub mod ReadBack
+pub mod Inner

@@ -1,0 +1,25 @@
+-- What the lines of a decoder text can say.
+use Rattle.std.specs.Prelude.{◌≡◌, ◌≤◌, ℕ, Bool, true, nat_le}
+use Rattle.dcc_regs.specs.LocoState.{is_state}
+use Rattle.dcc_regs.specs.Possible.{is_decoder}
+use Rattle.dcc_saved.specs.declared.saved.Saved.{Saved}
+use Rattle.dcc_saved.specs.declared.saved.Saved.TheVariants as saved
+use Rattle.dcc_saved.specs.declared.decoder_line.Head.{Head}
+use Rattle.dcc_saved.specs.declared.decoder_line.Head.TheVariants as heads
+use Rattle.dcc_saved.specs.declared.decoder_line.LocoLine.{LocoLine}
+use Rattle.dcc_saved.specs.declared.decoder_line.LocoLine.TheVariants as behind
+
+-- `restore` makes a decoder of it
+abbrev pub is_possible : Saved → Bool
+is_possible (saved.Loco state) = is_state state
+is_possible (saved.Board state) = nat_le state.board.number 510
+
+-- the address of a decoder is one that a decoder may have
+abbrev pub IsPossibleHead : Head → Type 0
+IsPossibleHead (heads.Decoder who) = is_decoder who ≡ true
+IsPossibleHead heads.End = Unit {0}
+
+-- CVs ascend, and behind them stands such a line
+abbrev pub IsSoundLine : ℕ → LocoLine → Type 0
+IsSoundLine least (behind.Cv cv value) = least ≤ cv.number
+IsSoundLine least (behind.Head head) = IsPossibleHead head

@@ -1,0 +1,58 @@
+-- The text that is written for a fleet is read back as the same decoders.
+use Rattle.std.specs.Prelude.{◌≡◌, ℕ, ◌+◌, ◌≤◌, ◌==◌, if◌then◌else◌, ◌++◌, List, [], ◌∷◌, Ok, length}
+use Rattle.std.specs.List.{AllByRecursion}
+use Rattle.dcc_regs.specs.declared.register.Register.{Register}
+use Rattle.dcc_regs.specs.declared.register.Who.{Who}
+use Rattle.dcc_regs.specs.declared.register.Who.TheVariants as who
+use Rattle.dcc_regs.specs.LocoState.{content as loco_content}
+use Rattle.dcc_regs.specs.BoardState.{content as board_content}
+use Rattle.dcc_regs.specs.Loco.{loco_registers}
+use Rattle.dcc_regs.specs.Board.{board_registers}
+use Rattle.dcc_regs.specs.Possible.{IsPossible}
+use Rattle.dcc_regs.specs.Result.{RegisterMap}
+use Rattle.dcc_saved.specs.declared.saved.Saved.{Saved}
+use Rattle.dcc_saved.specs.declared.saved.Saved.TheVariants as saved
+use Rattle.dcc_saved.specs.DecoderText.{decoder_text}
+use Rattle.dcc_saved.specs.FleetText.{fleet_text}
+
+-- two maps agree in every register
+abbrev pub SameRegisters : RegisterMap → RegisterMap → Type 0
+SameRegisters one other = (r : Register) → one r ≡ other r
+
+-- this state is of that decoder: the same address, and the decoder that is restored from it has the same registers
+abbrev pub Saves : Saved → Who × RegisterMap → Type 0
+Saves (saved.Loco state) (who.Loco address, m) =
+    (state.address ≡ address) × SameRegisters (loco_registers (loco_content state)) m
+Saves (saved.Board state) (who.Board board, m) =
+    (state.board ≡ board) × SameRegisters (board_registers (board_content state)) m
+Saves (saved.Loco state) (who.Board board, m) = ⊥
+Saves (saved.Board state) (who.Loco address, m) = ⊥
+
+-- one state for each decoder, in order
+abbrev pub SavesEach : List Saved → List (Who × RegisterMap) → Type 0
+SavesEach [] [] = Unit {0}
+SavesEach (one ∷ more) (decoder ∷ fleet) = Saves one decoder × SavesEach more fleet
+SavesEach [] (decoder ∷ fleet) = ⊥
+SavesEach (one ∷ more) [] = ⊥
+
+abbrev pub IsPossibleDecoder : Who × RegisterMap → Type 0
+IsPossibleDecoder decoder = IsPossible decoder.0 decoder.1
+
+-- the line feeds of a text
+abbrev pub line_feeds : List ℕ → ℕ
+line_feeds [] = 0
+line_feeds (byte ∷ bytes) = if byte == 10 then 1 + line_feeds bytes else line_feeds bytes
+
+-- the text of this fleet is read as a state of each, and what follows it is left
+pub record ReadsBack (fleet : List (Who × RegisterMap)) (line : ℕ) (rest : List ℕ) : Type 0 where
+  pub states : List Saved
+  pub behind : ℕ
+  pub reads : decoder_text (record { line = line; bytes = fleet_text fleet ++ rest }) ≡ Ok
+      (states, record { line = behind; bytes = rest })
+  pub saves : SavesEach states fleet
+  pub lines : behind ≡ line + line_feeds (fleet_text fleet)
+
+-- at most 64 decoders, each of which may be, are read back, wherever their text stands
+abbrev pub FleetsAreReadBack : Type 0
+FleetsAreReadBack = (fleet : List (Who × RegisterMap)) (line : ℕ) (rest : List ℕ)
+    → length fleet ≤ 64 → AllByRecursion IsPossibleDecoder fleet → ReadsBack fleet line rest

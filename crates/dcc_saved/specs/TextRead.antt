@@ -1,0 +1,59 @@
+-- What was read of an input by a reader of texts.
+use Rattle.std.specs.Prelude.{◌≡◌, ℕ, ◌+◌, ◌<◌, ◌++◌, List, Option, None, Some, Result, Ok, Err, length, IfSome}
+use Rattle.dcc_io.specs.declared.fault.KeptFault.{KeptFault}
+use Rattle.dcc_io.specs.declared.fault.KeptFault.TheVariants.{Number, Line, Read, TooMuch}
+use Rattle.dcc_io.specs.InputState.{InputState}
+use Rattle.dcc_io.specs.Took.{Took, within_limit, fault_at_end, Stops}
+use Rattle.dcc_saved.specs.TextReader.{Text, Stop, Reader, done}
+use Rattle.dcc_saved.specs.TextReader.Stop.{refused, cut, too_many}
+
+-- bytes at the line of an input
+abbrev pub at : InputState → List ℕ → Text
+at input bytes = record { line = input.place.line; bytes = bytes }
+
+-- a value, or why there is none, of bytes that are cut off by this fault or none
+abbrev pub answer_of : {A : Type 0} → Option KeptFault → Result (A × Text) Stop → Result A KeptFault
+answer_of last (Ok read) = Ok read.0
+answer_of last (Err (refused line fault)) = Err (Line line fault)
+answer_of last (Err (cut line)) = Err (fault_at_end line last)
+answer_of last (Err too_many) = Err TooMuch
+
+-- what a reader answers of an input with this text
+abbrev pub answer_in : {A : Type 0} → Reader A → InputState → List ℕ → Result A KeptFault
+answer_in read input text = within_limit (λ bytes last. answer_of last (read (at input bytes))) input text
+
+-- what it answers of an input whose reader of bytes fails behind these
+abbrev pub answer_before_failure : {A : Type 0} → Reader A → InputState → List ℕ → Result A KeptFault
+answer_before_failure read input used = answer_of (Some Read) (read (at input used))
+
+-- behind these bytes the one reader goes on as the other, whatever follows them
+pub record GoesOn {A : Type 0} (read : Reader A) (old : InputState) (rest_read : Reader A) (new : InputState)
+    (used : List ℕ) : Type 0 where
+  pub goes_on : (more : List ℕ) → read (at old (used ++ more)) ≡ rest_read (at new more)
+  -- the last line that was used is the one before the next byte's
+  pub last : 0 < length used → new.lines + 1 ≡ new.place.line
+  pub still : length used ≡ 0 → (new.lines ≡ old.lines) × (new.place.line ≡ old.place.line)
+
+-- the input was read up to where the one reader goes on as the other, and nothing went wrong
+pub record Leads {A : Type 0} (read : Reader A) (old : InputState) (rest_read : Reader A) (new : InputState) : Type 0
+  where
+    pub took : Took (GoesOn read old rest_read new) old new
+    pub open took use *
+    pub in_comment : new.place.in_comment ≡ old.place.in_comment
+    pub halves : new.halves ≡ old.halves
+
+-- the lines that were used are those through the last that was read, which is not the line of the next byte
+abbrev pub UsedWholeLines : InputState → InputState → Type 0
+UsedWholeLines old new = IfSome old.text (λ text. new.lines + 1 ≡ new.place.line)
+
+-- the reader answers this fault, whose cause stands
+abbrev pub Refuses : {A : Type 0} → Reader A → InputState → KeptFault → InputState → Type 0
+Refuses read old (Number line) new = ⊥
+Refuses read old fault new =
+    Stops (λ used. answer_before_failure read old used ≡ Err Read) (λ text. answer_in read old text ≡ Err fault) old
+    fault new
+
+-- this value was read, or this is why there is none, which is kept
+abbrev pub Answers : {A : Type 0} → Reader A → InputState → Result A KeptFault → InputState → Type 0
+Answers read old (Ok x) new = Leads read old (done x) new
+Answers read old (Err fault) new = Refuses read old fault new × (new.fault ≡ Some fault)

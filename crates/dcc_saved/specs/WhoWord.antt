@@ -1,0 +1,28 @@
+-- The word that names a decoder.
+use Rattle.std.specs.Prelude.{◌==◌, slice_index, drop, Option, Result, Ok, Err, if◌then◌else◌}
+use Rattle.dcc_packet.specs.declared.accessory.Board.{Board}
+use Rattle.dcc_packet.specs.declared.address.Address.{Address}
+use Rattle.dcc_packet.specs.declared.fault.PacketFault.{PacketFault}
+use Rattle.dcc_packet.specs.Words.{Word}
+use Rattle.dcc_packet.specs.LineWords.{board_number}
+use Rattle.dcc_regs.specs.declared.register.Who.{Who}
+use Rattle.dcc_regs.specs.declared.register.Who.TheVariants as who
+use Rattle.dcc_io.specs.declared.fault.ToolFault.{ToolFault}
+use Rattle.dcc_io.specs.declared.fault.ToolFault.TheVariants as faults
+use Rattle.dcc_io.specs.declared.fault.Usage.TheVariants as usages
+use Rattle.dcc_saved.specs.DecoderLines.{own_address}
+
+-- a locomotive decoder with this address, if it has one
+abbrev pub loco_named : Result (Option Address) PacketFault → Result Who ToolFault
+loco_named (Ok active) = Ok (who.Loco active)
+loco_named (Err fault) = Err (faults.Usage usages.BadWho)
+
+-- an accessory decoder of this board
+abbrev pub board_named : Result Board PacketFault → Result Who ToolFault
+board_named (Ok board) = Ok (who.Board board)
+board_named (Err fault) = Err (faults.Usage usages.BadWho)
+
+-- `b` (98) and a board's number; or the active address of a locomotive decoder: `none`, or `s` or `l` and a number
+unfoldable pub who_named : Word → Result Who ToolFault
+who_named word =
+    if slice_index word 0 == 98 then board_named (board_number (drop 1 word)) else loco_named (own_address word)

@@ -1,0 +1,318 @@
+//! The lines that are written for a decoder.
+ghost use Rattle.std.specs.Prelude.{◌≡◌, ◌+◌, ◌≤◌, ◌++◌, ◌∷◌, codes, if◌then◌else◌};
+ghost use Rattle.arrayvec.specs.ArrayVec.{array_vec_len};
+ghost use Rattle.dcc_packet.specs.Written.{address_word, direction_word};
+ghost use Rattle.dcc_regs.specs.Loco.{holds_one as is_on_value, cv_held};
+ghost use Rattle.dcc_io.specs.Spaced.{behind_space};
+ghost use Rattle.dcc_saved.specs.FleetText.{speed_held, forward_held, pending_held, number_held, numbers_below};
+ghost use Rattle.dcc_saved.specs.FleetText.{own_address_word, speed_text, pending_text, cv_line, loco_address_line};
+ghost use Rattle.dcc_saved.specs.FleetText.{written_speed, written_functions, written_states, written_pending};
+ghost use Rattle.dcc_saved.specs.FleetText.{loco_front};
+ghost use Rattle.dcc_saved.specs.FleetText.{board_line, written_outs, four_numbers, written_positions};
+ghost use Rattle.dcc_saved.specs.FleetText.{written_aspects};
+ghost use Rattle.dcc_saved.specs.FleetText.{board_text};
+
+use arrayvec::ArrayVec;
+use dcc_io::{append, append_decimal, append_hex};
+use dcc_packet::{Address, Board, Packet};
+use dcc_regs::{Decoder, Register, Speed, Value};
+
+/// Some lines of a decoder, at most all of them before its CVs.
+pub(crate) type Rows = ArrayVec<u8, 4096>;
+
+/// Adds a space and a number.
+#[tactic(auto, using(dcc_io::proofs::DecimalLemmas::decimal_is_short))]
+fn append_number(rows: &mut Rows, number: u32)
+    requires { array_vec_len rows.old + 11 ≤ 4096 }
+    ensures items { rows.new.items ≡ rows.old.items ++ behind_space number }
+    ensures len { array_vec_len rows.new ≤ array_vec_len rows.old + 11 }
+{
+    append(rows, b" ");
+    append_decimal(rows, number);
+}
+
+/// Adds an address.
+#[tactic(auto, using(dcc_io::proofs::DecimalLemmas::decimal_is_short))]
+fn append_own_address(rows: &mut Rows, address: &Option<Address>)
+    requires { array_vec_len rows.old + 12 ≤ 4096 }
+    ensures items { rows.new.items ≡ rows.old.items ++ own_address_word address.now }
+    ensures len { array_vec_len rows.new ≤ array_vec_len rows.old + 12 }
+{
+    match address {
+        None => append(rows, b"none"),
+        Some(Address::Broadcast) => append(rows, b"all"),
+        Some(Address::Short(address)) => {
+            append(rows, b"s");
+            append_decimal(rows, u32::from(address.number()));
+        }
+        Some(Address::Long(address)) => {
+            append(rows, b"l");
+            append_decimal(rows, u32::from(address.number()));
+        }
+    }
+}
+
+fn append_speed(rows: &mut Rows, speed: Speed)
+    requires { array_vec_len rows.old + 14 ≤ 4096 }
+    ensures items { rows.new.items ≡ rows.old.items ++ speed_text speed }
+    ensures len { array_vec_len rows.new ≤ array_vec_len rows.old + 14 }
+{
+    match speed {
+        Speed::Stop => append(rows, b"stop"),
+        Speed::Emergency => append(rows, b"emergency"),
+        Speed::Step14(step) => {
+            append(rows, b"14");
+            append_number(rows, u32::from(step));
+        }
+        Speed::Step28(step) => {
+            append(rows, b"28");
+            append_number(rows, u32::from(step));
+        }
+        Speed::Step126(step) => {
+            append(rows, b"126");
+            append_number(rows, u32::from(step));
+        }
+    }
+}
+
+fn append_pending(rows: &mut Rows, pending: &Option<Packet>)
+    requires { array_vec_len rows.old + 12 ≤ 4096 }
+    ensures items { rows.new.items ≡ rows.old.items ++ pending_text pending.now }
+    ensures len { array_vec_len rows.new ≤ array_vec_len rows.old + 12 }
+{
+    match pending {
+        None => append(rows, b"none"),
+        Some(packet) => append_hex(rows, packet.frame().bytes()),
+    }
+}
+
+fn direction_word(forward: bool) -> &'static [u8]
+    ensures { result.now ≡ direction_word forward }
+{
+    if forward { b"f" } else { b"r" }
+}
+
+fn speed_in(value: Option<Value>) -> Speed
+    ensures { result ≡ speed_held value }
+{
+    match value {
+        Some(Value::Speed(speed)) => speed,
+        _ => Speed::Stop,
+    }
+}
+
+fn forward_in(value: Option<Value>) -> bool
+    ensures { result ≡ forward_held value }
+{
+    match value {
+        Some(Value::Forward(forward)) => forward,
+        _ => true,
+    }
+}
+
+fn pending_in(value: Option<Value>) -> Option<Packet>
+    ensures { result ≡ pending_held value }
+{
+    match value {
+        Some(Value::Pending(pending)) => pending,
+        _ => None,
+    }
+}
+
+fn number_in(value: Option<Value>) -> u8
+    ensures { result ≡ number_held value }
+{
+    match value {
+        Some(Value::Number(number)) => number,
+        _ => 0,
+    }
+}
+
+fn is_on(value: Option<Value>) -> bool
+    ensures { result ≡ is_on_value value }
+{
+    match value {
+        Some(Value::Flag(on)) => on,
+        _ => false,
+    }
+}
+
+fn append_speed_line(rows: &mut Rows, decoder: &dyn Decoder)
+    requires { array_vec_len rows.old + 24 ≤ 4096 }
+    ensures items { rows.new.items ≡ rows.old.items ++ written_speed (registers decoder.now) }
+    ensures len { array_vec_len rows.new ≤ array_vec_len rows.old + 24 }
+{
+    append(rows, b"speed ");
+    append_speed(rows, speed_in(decoder.get(Register::Speed)));
+    append(rows, b" ");
+    append(
+        rows,
+        direction_word(forward_in(decoder.get(Register::Direction))),
+    );
+    append(rows, b"\n");
+}
+
+fn append_functions(rows: &mut Rows, decoder: &dyn Decoder)
+    requires { array_vec_len rows.old + 800 ≤ 4096 }
+    ensures items { rows.new.items ≡ rows.old.items ++ written_functions (registers decoder.now) }
+    ensures len { array_vec_len rows.new ≤ array_vec_len rows.old + 800 }
+{
+    append(rows, b"on");
+    for n in 0..69u8 {
+        if is_on(decoder.get(Register::Function(n))) {
+            append_number(rows, u32::from(n));
+        }
+    }
+    append(rows, b"\n");
+}
+
+fn append_states(rows: &mut Rows, decoder: &dyn Decoder)
+    requires { array_vec_len rows.old + 1420 ≤ 4096 }
+    ensures items { rows.new.items ≡ rows.old.items ++ written_states (registers decoder.now) }
+    ensures len { array_vec_len rows.new ≤ array_vec_len rows.old + 1420 }
+{
+    append(rows, b"states");
+    for n in 0..128u8 {
+        if is_on(decoder.get(Register::State(n))) {
+            append_number(rows, u32::from(n));
+        }
+    }
+    append(rows, b"\n");
+}
+
+fn append_outs(rows: &mut Rows, decoder: &dyn Decoder)
+    requires { array_vec_len rows.old + 100 ≤ 4096 }
+    ensures items { rows.new.items ≡ rows.old.items ++ written_outs (registers decoder.now) }
+    ensures len { array_vec_len rows.new ≤ array_vec_len rows.old + 100 }
+{
+    append(rows, b"out");
+    for n in 0..8u8 {
+        if is_on(decoder.get(Register::Out(n))) {
+            append_number(rows, u32::from(n));
+        }
+    }
+    append(rows, b"\n");
+}
+
+fn append_address_line(rows: &mut Rows, address: &Option<Address>)
+    requires { array_vec_len rows.old + 18 ≤ 4096 }
+    ensures items { rows.new.items ≡ rows.old.items ++ loco_address_line address.now }
+    ensures len { array_vec_len rows.new ≤ array_vec_len rows.old + 18 }
+{
+    append(rows, b"loco ");
+    append_own_address(rows, address);
+    append(rows, b"\n");
+}
+
+fn append_pending_line(rows: &mut Rows, decoder: &dyn Decoder)
+    requires { array_vec_len rows.old + 21 ≤ 4096 }
+    ensures items { rows.new.items ≡ rows.old.items ++ written_pending (registers decoder.now) }
+    ensures len { array_vec_len rows.new ≤ array_vec_len rows.old + 21 }
+{
+    append(rows, b"pending ");
+    append_pending(rows, &pending_in(decoder.get(Register::Pending)));
+    append(rows, b"\n");
+}
+
+/// The lines of a locomotive decoder before its CVs.
+pub(crate) fn loco_front(address: &Option<Address>, decoder: &dyn Decoder) -> Rows
+    ensures { result.items ≡ loco_front address.now (registers decoder.now) }
+{
+    let mut rows = Rows::new();
+    append_address_line(&mut rows, address);
+    append_speed_line(&mut rows, decoder);
+    append_functions(&mut rows, decoder);
+    append_states(&mut rows, decoder);
+    append_pending_line(&mut rows, decoder);
+    rows
+}
+
+/// The value of a CV, bit by bit.
+pub(crate) fn cv_value(decoder: &dyn Decoder, cv: u16) -> u8
+    ensures { result ≡ cv_held (registers decoder.now) cv }
+{
+    cv_bit(decoder, cv, 0, 1)
+        + cv_bit(decoder, cv, 1, 2)
+        + cv_bit(decoder, cv, 2, 4)
+        + cv_bit(decoder, cv, 3, 8)
+        + cv_bit(decoder, cv, 4, 16)
+        + cv_bit(decoder, cv, 5, 32)
+        + cv_bit(decoder, cv, 6, 64)
+        + cv_bit(decoder, cv, 7, 128)
+}
+
+/// The weight of a bit of a CV, where it is one.
+fn cv_bit(decoder: &dyn Decoder, cv: u16, place: u8, weight: u8) -> u8
+    ensures value { result ≡ (if is_on_value (registers decoder.now (Register.CvBit cv place)) then weight else 0) }
+    ensures at_most { result ≤ weight }
+{
+    if is_on(decoder.get(Register::CvBit(cv, place))) {
+        weight
+    } else {
+        0
+    }
+}
+
+/// The line of a CV.
+pub(crate) fn cv_line(cv: u16, value: u8) -> Rows
+    ensures { result.items ≡ cv_line cv value }
+{
+    let mut rows = Rows::new();
+    append(&mut rows, b"cv");
+    append_number(&mut rows, u32::from(cv));
+    append_number(&mut rows, u32::from(value));
+    append(&mut rows, b"\n");
+    rows
+}
+
+fn append_position_line(rows: &mut Rows, decoder: &dyn Decoder)
+    requires { array_vec_len rows.old + 60 ≤ 4096 }
+    ensures items { rows.new.items ≡ rows.old.items ++ written_positions (registers decoder.now) }
+    ensures len { array_vec_len rows.new ≤ array_vec_len rows.old + 60 }
+{
+    append(rows, b"position");
+    append_number(
+        rows,
+        u32::from(number_in(decoder.get(Register::Position(0)))),
+    );
+    append_number(
+        rows,
+        u32::from(number_in(decoder.get(Register::Position(1)))),
+    );
+    append_number(
+        rows,
+        u32::from(number_in(decoder.get(Register::Position(2)))),
+    );
+    append_number(
+        rows,
+        u32::from(number_in(decoder.get(Register::Position(3)))),
+    );
+    append(rows, b"\n");
+}
+
+fn append_aspect_line(rows: &mut Rows, decoder: &dyn Decoder)
+    requires { array_vec_len rows.old + 60 ≤ 4096 }
+    ensures items { rows.new.items ≡ rows.old.items ++ written_aspects (registers decoder.now) }
+    ensures len { array_vec_len rows.new ≤ array_vec_len rows.old + 60 }
+{
+    append(rows, b"aspect");
+    append_number(rows, u32::from(number_in(decoder.get(Register::Aspect(0)))));
+    append_number(rows, u32::from(number_in(decoder.get(Register::Aspect(1)))));
+    append_number(rows, u32::from(number_in(decoder.get(Register::Aspect(2)))));
+    append_number(rows, u32::from(number_in(decoder.get(Register::Aspect(3)))));
+    append(rows, b"\n");
+}
+
+/// The lines of an accessory decoder.
+pub(crate) fn board_rows(board: &Board, decoder: &dyn Decoder) -> Rows
+    ensures { result.items ≡ board_text board.now (registers decoder.now) }
+{
+    let mut rows = Rows::new();
+    append(&mut rows, b"board");
+    append_number(&mut rows, u32::from(board.number()));
+    append(&mut rows, b"\n");
+    append_outs(&mut rows, decoder);
+    append_position_line(&mut rows, decoder);
+    append_aspect_line(&mut rows, decoder);
+    rows
+}

@@ -1,0 +1,302 @@
+//! Reading a decoder text.
+
+// (faults are handed on by `match`: behind `?` the checker knows of an error only that `From` made it)
+ghost use Rattle.std.specs.Prelude.{◌≡◌, ◌<◌, ◌^◌, ◌%◌, None, true, nat_le, IfOk};
+ghost use Rattle.dcc_regs.specs.Addresses.{is_active};
+ghost use Rattle.dcc_regs.specs.Loco.{is_speed, is_pending_for};
+ghost use Rattle.dcc_regs.specs.Possible.{is_decoder};
+ghost use Rattle.dcc_saved.specs.Inner.RequiredLine.{TakesLine, Judges};
+ghost use Rattle.dcc_saved.specs.TextReader.{line_by};
+ghost use Rattle.dcc_saved.specs.TextRead.{Answers};
+ghost use Rattle.dcc_saved.specs.DecoderLines.{version_line, head_line, speed_line, functions_line, states_line};
+ghost use Rattle.dcc_saved.specs.DecoderLines.{pending_line, loco_line, outs_line, positions_line, aspects_line};
+ghost use Rattle.dcc_saved.specs.DecoderText.{board_lines, cvs_lines, decoder_lines, loco_lines, states_by};
+ghost use Rattle.dcc_saved.specs.PossibleLines.{IsPossibleHead, IsSoundLine, is_possible};
+
+use crate::decoder_line::{Head, LocoLine, Version};
+use crate::decoder_words::{
+    aspects_line, functions_line, head_line, loco_line, outs_line, pending_line, positions_line,
+    speed_line, states_line, version_line,
+};
+use crate::saved::Saved;
+use dcc_io::reading::{line_of_next_byte, next_line, refuse_line};
+use dcc_io::{Input, KeptFault, Source, TextLine};
+use dcc_packet::{Address, Board, Packet, PacketFault};
+use dcc_regs::{BoardState, LocoState, Speed, Who};
+
+/// The next line. Where there is none, the line behind the last is out of place.
+fn line_in_place<R: Source>(input: &mut Input<R>) -> Result<TextLine, KeptFault>
+    requires { input.old.fault ≡ None }
+    ensures { TakesLine input.old result input.new }
+{
+    match next_line(input) {
+        Ok(Some(line)) => Ok(line),
+        Ok(None) => {
+            let line = line_of_next_byte(input);
+            Err(refuse_line(input, line, PacketFault::Word))
+        }
+        Err(fault) => Err(fault),
+    }
+}
+
+/// What was read of a line, or its fault, which is kept.
+fn judge<R: Source, T: Copy>(
+    input: &mut Input<R>,
+    line: u64,
+    read: Result<T, PacketFault>,
+) -> Result<T, KeptFault>
+    requires { input.old.fault ≡ None }
+    ensures { Judges input.old line read result input.new }
+{
+    match read {
+        Ok(value) => Ok(value),
+        Err(fault) => Err(refuse_line(input, line, fault)),
+    }
+}
+
+/// The line that begins the text.
+pub(crate) fn read_version<R: Source>(input: &mut Input<R>) -> Result<Version, KeptFault>
+    requires { input.old.fault ≡ None }
+    ensures { Answers (line_by version_line) input.old result input.new }
+{
+    match line_in_place(input) {
+        Ok(line) => judge(input, line.number, version_line(line.text.as_bytes())),
+        Err(fault) => Err(fault),
+    }
+}
+
+/// The line that begins a decoder, or the last line.
+pub(crate) fn read_head<R: Source>(input: &mut Input<R>) -> Result<Head, KeptFault>
+    requires { input.old.fault ≡ None }
+    ensures reads { Answers (line_by head_line) input.old result input.new }
+    ensures possible { IfOk result IsPossibleHead }
+{
+    match line_in_place(input) {
+        Ok(line) => judge(input, line.number, head_line(line.text.as_bytes())),
+        Err(fault) => Err(fault),
+    }
+}
+
+/// The line of the speed and the direction.
+fn read_speed<R: Source>(input: &mut Input<R>) -> Result<(Speed, bool), KeptFault>
+    requires { input.old.fault ≡ None }
+    ensures reads { Answers (line_by speed_line) input.old result input.new }
+    ensures possible { IfOk result (λ read. is_speed read.0 ≡ true) }
+{
+    match line_in_place(input) {
+        Ok(line) => judge(input, line.number, speed_line(line.text.as_bytes())),
+        Err(fault) => Err(fault),
+    }
+}
+
+/// The line of the functions that are on.
+fn read_functions<R: Source>(input: &mut Input<R>) -> Result<u128, KeptFault>
+    requires { input.old.fault ≡ None }
+    ensures reads { Answers (line_by functions_line) input.old result input.new }
+    ensures fits { IfOk result (λ functions. functions < 2 ^ 69) }
+{
+    match line_in_place(input) {
+        Ok(line) => judge(input, line.number, functions_line(line.text.as_bytes())),
+        Err(fault) => Err(fault),
+    }
+}
+
+/// The line of the binary states that are on.
+fn read_states<R: Source>(input: &mut Input<R>) -> Result<u128, KeptFault>
+    requires { input.old.fault ≡ None }
+    ensures reads { Answers (line_by states_line) input.old result input.new }
+    ensures even { IfOk result (λ states. states % 2 ≡ 0) }
+{
+    match line_in_place(input) {
+        Ok(line) => judge(input, line.number, states_line(line.text.as_bytes())),
+        Err(fault) => Err(fault),
+    }
+}
+
+/// The binary states that are on. Version 1 has no line of them.
+fn states_of<R: Source>(input: &mut Input<R>, version: Version) -> Result<u128, KeptFault>
+    requires { input.old.fault ≡ None }
+    ensures reads { Answers (states_by version) input.old result input.new }
+    ensures even { IfOk result (λ states. states % 2 ≡ 0) }
+{
+    match version {
+        Version::One => Ok(0),
+        Version::Two => read_states(input),
+    }
+}
+
+/// The line of the pending CV write to this address.
+fn read_pending<R: Source>(
+    input: &mut Input<R>,
+    active: &Option<Address>,
+) -> Result<Option<Packet>, KeptFault>
+    requires { input.old.fault ≡ None }
+    ensures reads { Answers (line_by (pending_line active.now)) input.old result input.new }
+    ensures possible { IfOk result (λ pending. is_pending_for active.now pending ≡ true) }
+{
+    match line_in_place(input) {
+        Ok(line) => judge(
+            input,
+            line.number,
+            pending_line(active, line.text.as_bytes()),
+        ),
+        Err(fault) => Err(fault),
+    }
+}
+
+/// A line of a CV, not below this one, or the line behind the CVs.
+fn read_loco_line<R: Source>(input: &mut Input<R>, least: u16) -> Result<LocoLine, KeptFault>
+    requires { input.old.fault ≡ None }
+    ensures reads { Answers (line_by (loco_line least)) input.old result input.new }
+    ensures sound { IfOk result (IsSoundLine least) }
+{
+    match line_in_place(input) {
+        Ok(line) => judge(input, line.number, loco_line(line.text.as_bytes(), least)),
+        Err(fault) => Err(fault),
+    }
+}
+
+/// The line of the outputs that are on.
+fn read_outs<R: Source>(input: &mut Input<R>) -> Result<u8, KeptFault>
+    requires { input.old.fault ≡ None }
+    ensures { Answers (line_by outs_line) input.old result input.new }
+{
+    match line_in_place(input) {
+        Ok(line) => judge(input, line.number, outs_line(line.text.as_bytes())),
+        Err(fault) => Err(fault),
+    }
+}
+
+/// The line of the positions.
+fn read_positions<R: Source>(input: &mut Input<R>) -> Result<[bool; 4], KeptFault>
+    requires { input.old.fault ≡ None }
+    ensures { Answers (line_by positions_line) input.old result input.new }
+{
+    match line_in_place(input) {
+        Ok(line) => judge(input, line.number, positions_line(line.text.as_bytes())),
+        Err(fault) => Err(fault),
+    }
+}
+
+/// The line of the aspects.
+fn read_aspects<R: Source>(input: &mut Input<R>) -> Result<[u8; 4], KeptFault>
+    requires { input.old.fault ≡ None }
+    ensures { Answers (line_by aspects_line) input.old result input.new }
+{
+    match line_in_place(input) {
+        Ok(line) => judge(input, line.number, aspects_line(line.text.as_bytes())),
+        Err(fault) => Err(fault),
+    }
+}
+
+/// The CVs and the line behind them.
+fn read_cvs<R: Source>(input: &mut Input<R>) -> Result<([u8; 1024], Head), KeptFault>
+    requires { input.old.fault ≡ None }
+    ensures reads { Answers cvs_lines input.old result input.new }
+    ensures possible { IfOk result (λ read. IsPossibleHead read.1) }
+{
+    let mut cvs = [0; 1024];
+    let mut least = 1;
+    'cvs: loop {
+        match read_loco_line(input, least) {
+            Ok(LocoLine::Cv { cv, value }) => {
+                cvs[cv.number() as usize - 1] = value;
+                least = cv.number() + 1;
+            }
+            Ok(LocoLine::Head(head)) => return Ok((cvs, head)),
+            Err(fault) => return Err(fault),
+        }
+    }
+}
+
+/// A locomotive decoder with this address, and the line behind it.
+fn read_loco<R: Source>(
+    input: &mut Input<R>,
+    version: Version,
+    address: Option<Address>,
+) -> Result<(Saved, Head), KeptFault>
+    requires fault { input.old.fault ≡ None }
+    requires active { is_active address ≡ true }
+    ensures reads { Answers (loco_lines version address) input.old result input.new }
+    ensures possible { IfOk result (λ read. (is_possible read.0 ≡ true) × IsPossibleHead read.1) }
+{
+    let (speed, forward) = match read_speed(input) {
+        Ok(read) => read,
+        Err(fault) => return Err(fault),
+    };
+    let functions = match read_functions(input) {
+        Ok(functions) => functions,
+        Err(fault) => return Err(fault),
+    };
+    let states = match states_of(input, version) {
+        Ok(states) => states,
+        Err(fault) => return Err(fault),
+    };
+    let pending = match read_pending(input, &address) {
+        Ok(pending) => pending,
+        Err(fault) => return Err(fault),
+    };
+    let (cvs, head) = match read_cvs(input) {
+        Ok(read) => read,
+        Err(fault) => return Err(fault),
+    };
+    let state = LocoState {
+        address,
+        speed,
+        forward,
+        functions,
+        states,
+        pending,
+        cvs,
+    };
+    Ok((Saved::Loco(state), head))
+}
+
+/// This accessory decoder, and the line behind it.
+fn read_board<R: Source>(input: &mut Input<R>, board: Board) -> Result<(Saved, Head), KeptFault>
+    requires fault { input.old.fault ≡ None }
+    requires own { nat_le board.number 510 ≡ true }
+    ensures reads { Answers (board_lines board) input.old result input.new }
+    ensures possible { IfOk result (λ read. (is_possible read.0 ≡ true) × IsPossibleHead read.1) }
+{
+    let outs = match read_outs(input) {
+        Ok(outs) => outs,
+        Err(fault) => return Err(fault),
+    };
+    let positions = match read_positions(input) {
+        Ok(positions) => positions,
+        Err(fault) => return Err(fault),
+    };
+    let aspects = match read_aspects(input) {
+        Ok(aspects) => aspects,
+        Err(fault) => return Err(fault),
+    };
+    let head = match read_head(input) {
+        Ok(head) => head,
+        Err(fault) => return Err(fault),
+    };
+    let state = BoardState {
+        board,
+        outs,
+        positions,
+        aspects,
+    };
+    Ok((Saved::Board(state), head))
+}
+
+/// A decoder of this kind and address, and the line behind it.
+pub(crate) fn read_decoder<R: Source>(
+    input: &mut Input<R>,
+    version: Version,
+    who: Who,
+) -> Result<(Saved, Head), KeptFault>
+    requires fault { input.old.fault ≡ None }
+    requires possible { is_decoder who ≡ true }
+    ensures reads { Answers (decoder_lines version who) input.old result input.new }
+    ensures possible { IfOk result (λ read. (is_possible read.0 ≡ true) × IsPossibleHead read.1) }
+{
+    match who {
+        Who::Loco(address) => read_loco(input, version, address),
+        Who::Board(board) => read_board(input, board),
+    }
+}

@@ -1,0 +1,422 @@
+//! The words of the lines of a decoder text.
+ghost use Rattle.std.specs.Prelude.{◌≡◌, ◌+◌, ◌^◌, ◌%◌, ◌≤◌, ◌<◌, ◌&&◌, Some, true, nat_le, IfOk, OnOk};
+ghost use Rattle.dcc_packet.specs.Words.{words};
+ghost use Rattle.dcc_regs.specs.declared.register.Who.TheVariants.{Loco as LocoWho};
+ghost use Rattle.dcc_regs.specs.Addresses.{is_active};
+ghost use Rattle.dcc_regs.specs.Heard.{hears as hears_packet};
+ghost use Rattle.dcc_regs.specs.Loco.{is_speed, is_byte_write, is_pending_for};
+ghost use Rattle.dcc_regs.specs.Writes.{is_own_write};
+ghost use Rattle.dcc_saved.specs.DecoderLines.{in_order, version_number, version_line, own_address, own_board};
+ghost use Rattle.dcc_saved.specs.DecoderLines.{loco_head, board_head, end_head, head_after, head_line, step_up_to};
+ghost use Rattle.dcc_saved.specs.DecoderLines.{speed_of, speed_after, speed_line, function_number, functions_from};
+ghost use Rattle.dcc_saved.specs.DecoderLines.{functions_line, binary_state, states_from, states_line, pending_word};
+ghost use Rattle.dcc_saved.specs.DecoderLines.{pending_line, cv_words, loco_line_after, loco_line, outs_from, outs_line};
+ghost use Rattle.dcc_saved.specs.DecoderLines.{positions_line, aspects_line};
+ghost use Rattle.dcc_saved.specs.Inner.DecoderWords.{TakesKeyword, TakesSpeed};
+ghost use Rattle.dcc_saved.specs.PendingWrite.{pending_write};
+ghost use Rattle.dcc_saved.specs.PossibleLines.{IsPossibleHead, IsSoundLine};
+
+use crate::decoder_line::{Head, LocoLine, Version};
+use dcc_packet::line_word::{
+    address, bit_state, board_number, cv_number, direction, hex_frame, output_number,
+};
+use dcc_packet::numeral::small_number;
+use dcc_packet::words::Words;
+use dcc_packet::{Address, Board, Packet, PacketFault};
+use dcc_regs::{Speed, Who, hears, is_own_write};
+use dcc_wire::Frame;
+
+/// Takes the word that begins a line of this kind.
+fn take_keyword(words: &mut Words, name: &[u8]) -> Result<(), PacketFault>
+    ensures { TakesKeyword name.now words.old result words.new }
+{
+    let word = words.word()?;
+    if word == name {
+        Ok(())
+    } else {
+        Err(PacketFault::Word)
+    }
+}
+
+/// Numbers ascend: each is at least the one after the number before it.
+fn in_order(least: u16, n: u16) -> Result<(), PacketFault>
+    ensures is { result ≡ in_order least n }
+    ensures ascends { OnOk result (least ≤ n) }
+{
+    if n < least {
+        Err(PacketFault::Word)
+    } else {
+        Ok(())
+    }
+}
+
+/// `1` or `2`
+fn version_number(word: &[u8]) -> Result<Version, PacketFault>
+    ensures { result ≡ version_number word.now }
+{
+    match word {
+        b"1" => Ok(Version::One),
+        b"2" => Ok(Version::Two),
+        _ => Err(PacketFault::Word),
+    }
+}
+
+/// `dcc-decoders VERSION`
+#[tactic(auto, unfolding(crate::specs::DecoderLines::version_line))]
+pub fn version_line(line: &[u8]) -> Result<Version, PacketFault>
+    ensures { result ≡ version_line (words line.now) }
+{
+    let mut words = Words::new(line);
+    take_keyword(&mut words, b"dcc-decoders")?;
+    let version = version_number(words.word()?)?;
+    words.end()?;
+    Ok(version)
+}
+
+/// The active address of a locomotive decoder, or `none`.
+pub fn own_address(word: &[u8]) -> Result<Option<Address>, PacketFault>
+    ensures is { result ≡ own_address word.now }
+    ensures active { IfOk result (λ active. is_active active ≡ true) }
+{
+    if word == b"none".as_slice() {
+        Ok(None)
+    } else if word == b"all".as_slice() {
+        Err(PacketFault::Word)
+    } else {
+        Ok(Some(address(word)?))
+    }
+}
+
+/// The board of an accessory decoder.
+fn own_board(word: &[u8]) -> Result<Board, PacketFault>
+    ensures is { result ≡ own_board word.now }
+    ensures own { IfOk result (λ board. nat_le board.number 510 ≡ true) }
+{
+    let board = board_number(word)?;
+    if board.number() == 511 {
+        Err(PacketFault::Board)
+    } else {
+        Ok(board)
+    }
+}
+
+fn loco_head(words: &mut Words) -> Result<Head, PacketFault>
+    ensures is { result ≡ loco_head words.old }
+    ensures possible { IfOk result IsPossibleHead }
+{
+    let address = own_address(words.word()?)?;
+    words.end()?;
+    Ok(Head::Decoder(Who::Loco(address)))
+}
+
+fn board_head(words: &mut Words) -> Result<Head, PacketFault>
+    ensures is { result ≡ board_head words.old }
+    ensures possible { IfOk result IsPossibleHead }
+{
+    let board = own_board(words.word()?)?;
+    words.end()?;
+    Ok(Head::Decoder(Who::Board(board)))
+}
+
+fn end_head(words: &mut Words) -> Result<Head, PacketFault>
+    ensures is { result ≡ end_head words.old }
+    ensures possible { IfOk result IsPossibleHead }
+{
+    words.end()?;
+    Ok(Head::End)
+}
+
+fn head_after(word: &[u8], rest: &mut Words) -> Result<Head, PacketFault>
+    ensures is { result ≡ head_after word.now rest.old }
+    ensures possible { IfOk result IsPossibleHead }
+{
+    if word == b"loco".as_slice() {
+        loco_head(rest)
+    } else if word == b"board".as_slice() {
+        board_head(rest)
+    } else if word == b"end".as_slice() {
+        end_head(rest)
+    } else {
+        Err(PacketFault::Word)
+    }
+}
+
+/// `loco ADDRESS`, `board BOARD` or `end`
+#[tactic(auto, unfolding(crate::specs::DecoderLines::head_line))]
+pub fn head_line(line: &[u8]) -> Result<Head, PacketFault>
+    ensures is { result ≡ head_line (words line.now) }
+    ensures possible { IfOk result IsPossibleHead }
+{
+    let mut words = Words::new(line);
+    let word = words.word()?;
+    head_after(word, &mut words)
+}
+
+/// A step from 1 to the last one.
+fn step_up_to(last: u8, word: &[u8]) -> Result<u8, PacketFault>
+    ensures is { result ≡ step_up_to last word.now }
+    ensures step { IfOk result (λ step. (1 ≤ step) × (step ≤ last)) }
+{
+    let step = small_number(word)?;
+    if step < 1 || last < step {
+        Err(PacketFault::State)
+    } else {
+        Ok(step)
+    }
+}
+
+fn speed_after(word: &[u8], rest: &mut Words) -> Result<Speed, PacketFault>
+    ensures is { TakesSpeed (speed_after word.now rest.old) result rest.new }
+    ensures possible { IfOk result (λ speed. is_speed speed ≡ true) }
+{
+    if word == b"stop".as_slice() {
+        Ok(Speed::Stop)
+    } else if word == b"emergency".as_slice() {
+        Ok(Speed::Emergency)
+    } else if word == b"14".as_slice() {
+        Ok(Speed::Step14(step_up_to(14, rest.word()?)?))
+    } else if word == b"28".as_slice() {
+        Ok(Speed::Step28(step_up_to(28, rest.word()?)?))
+    } else if word == b"126".as_slice() {
+        Ok(Speed::Step126(step_up_to(126, rest.word()?)?))
+    } else {
+        Err(PacketFault::Word)
+    }
+}
+
+fn take_speed(words: &mut Words) -> Result<Speed, PacketFault>
+    ensures is { TakesSpeed (speed_of words.old) result words.new }
+    ensures possible { IfOk result (λ speed. is_speed speed ≡ true) }
+{
+    let word = words.word()?;
+    speed_after(word, words)
+}
+
+/// `speed SPEED f|r`
+#[tactic(auto, unfolding(crate::specs::DecoderLines::speed_line))]
+pub fn speed_line(line: &[u8]) -> Result<(Speed, bool), PacketFault>
+    ensures is { result ≡ speed_line (words line.now) }
+    ensures possible { IfOk result (λ read. is_speed read.0 ≡ true) }
+{
+    let mut words = Words::new(line);
+    take_keyword(&mut words, b"speed")?;
+    let speed = take_speed(&mut words)?;
+    let forward = direction(words.word()?)?;
+    words.end()?;
+    Ok((speed, forward))
+}
+
+/// A function of a locomotive decoder, 0 to 68.
+fn function_number(word: &[u8]) -> Result<u8, PacketFault>
+    ensures { result ≡ function_number word.now }
+{
+    let n = small_number(word)?;
+    if 68 < n {
+        Err(PacketFault::State)
+    } else {
+        Ok(n)
+    }
+}
+
+fn functions_from(words: &mut Words, least: u8) -> Result<u128, PacketFault>
+    requires { least ≤ 69 }
+    ensures is { result ≡ functions_from least words.old }
+    ensures fits { IfOk result (λ functions. functions + 2 ^ least ≤ 2 ^ 69) }
+{
+    match words.next() {
+        Some(word) => {
+            let n = function_number(word)?;
+            in_order(u16::from(least), u16::from(n))?;
+            let others = functions_from(words, n + 1)?;
+            Ok((1 << n) + others)
+        }
+        None => Ok(0),
+    }
+}
+
+/// `on FUNCTION ..`, as bits
+#[tactic(auto, unfolding(crate::specs::DecoderLines::functions_line))]
+pub fn functions_line(line: &[u8]) -> Result<u128, PacketFault>
+    ensures is { result ≡ functions_line (words line.now) }
+    ensures fits { IfOk result (λ functions. functions < 2 ^ 69) }
+{
+    let mut words = Words::new(line);
+    take_keyword(&mut words, b"on")?;
+    functions_from(&mut words, 0)
+}
+
+/// A binary state of a locomotive decoder, 1 to 127.
+fn binary_state(word: &[u8]) -> Result<u8, PacketFault>
+    ensures is { result ≡ binary_state word.now }
+    ensures state { IfOk result (λ n. (1 ≤ n) × (n ≤ 127)) }
+{
+    let n = small_number(word)?;
+    if n < 1 || 127 < n {
+        Err(PacketFault::StateNumber)
+    } else {
+        Ok(n)
+    }
+}
+
+fn states_from(words: &mut Words, least: u8) -> Result<u128, PacketFault>
+    requires { least ≤ 128 }
+    ensures is { result ≡ states_from least words.old }
+    ensures fits { IfOk result (λ states. states + 2 ^ least ≤ 2 ^ 128) }
+    ensures even { IfOk result (λ states. states % 2 ≡ 0) }
+{
+    match words.next() {
+        Some(word) => {
+            let n = binary_state(word)?;
+            in_order(u16::from(least), u16::from(n))?;
+            let others = states_from(words, n + 1)?;
+            Ok((1 << n) + others)
+        }
+        None => Ok(0),
+    }
+}
+
+/// `states STATE ..`, as bits. Bit 0 is none.
+#[tactic(auto, unfolding(crate::specs::DecoderLines::states_line))]
+pub fn states_line(line: &[u8]) -> Result<u128, PacketFault>
+    ensures is { result ≡ states_line (words line.now) }
+    ensures even { IfOk result (λ states. states % 2 ≡ 0) }
+{
+    let mut words = Words::new(line);
+    take_keyword(&mut words, b"states")?;
+    states_from(&mut words, 0)
+}
+
+/// Whether the packet is a CV write to a decoder's own address.
+fn is_write_for(active: &Option<Address>, packet: &Packet) -> bool
+    ensures is { result ≡ (is_own_write packet.now && hears_packet (LocoWho active.now) packet.now) }
+    ensures byte { is_byte_write packet.now ≡ true }
+{
+    is_own_write(packet) && hears(Who::Loco(*active), packet)
+}
+
+/// The CV write with this frame that may be pending in a decoder with this address.
+fn pending_write(active: &Option<Address>, frame: &Frame) -> Result<Packet, PacketFault>
+    ensures is { result ≡ pending_write active.now frame.now }
+    ensures possible { IfOk result (λ packet. is_pending_for active.now (Some packet) ≡ true) }
+{
+    let packet = Packet::read(frame);
+    if is_write_for(active, &packet) {
+        Ok(packet)
+    } else {
+        Err(PacketFault::State)
+    }
+}
+
+/// `none`, or the frame of a CV write to the decoder's address.
+fn pending_word(active: &Option<Address>, word: &[u8]) -> Result<Option<Packet>, PacketFault>
+    ensures is { result ≡ pending_word active.now word.now }
+    ensures possible { IfOk result (λ pending. is_pending_for active.now pending ≡ true) }
+{
+    if word == b"none".as_slice() {
+        return Ok(None);
+    }
+    let frame = hex_frame(word)?;
+    Ok(Some(pending_write(active, &frame)?))
+}
+
+/// `pending PACKET`
+#[tactic(auto, unfolding(crate::specs::DecoderLines::pending_line))]
+pub fn pending_line(active: &Option<Address>, line: &[u8]) -> Result<Option<Packet>, PacketFault>
+    ensures is { result ≡ pending_line active.now (words line.now) }
+    ensures possible { IfOk result (λ pending. is_pending_for active.now pending ≡ true) }
+{
+    let mut words = Words::new(line);
+    take_keyword(&mut words, b"pending")?;
+    let pending = pending_word(active, words.word()?)?;
+    words.end()?;
+    Ok(pending)
+}
+
+fn cv_words(words: &mut Words, least: u16) -> Result<LocoLine, PacketFault>
+    ensures is { result ≡ cv_words least words.old }
+    ensures sound { IfOk result (IsSoundLine least) }
+{
+    let cv = cv_number(words.word()?)?;
+    in_order(least, cv.number())?;
+    let value = small_number(words.word()?)?;
+    words.end()?;
+    Ok(LocoLine::Cv { cv, value })
+}
+
+fn loco_line_after(word: &[u8], rest: &mut Words, least: u16) -> Result<LocoLine, PacketFault>
+    ensures is { result ≡ loco_line_after least word.now rest.old }
+    ensures sound { IfOk result (IsSoundLine least) }
+{
+    if word == b"cv".as_slice() {
+        cv_words(rest, least)
+    } else {
+        Ok(LocoLine::Head(head_after(word, rest)?))
+    }
+}
+
+/// `cv CV VALUE`, the CV not below this one, or what stands behind the CVs
+#[tactic(auto, unfolding(crate::specs::DecoderLines::loco_line))]
+pub fn loco_line(line: &[u8], least: u16) -> Result<LocoLine, PacketFault>
+    ensures is { result ≡ loco_line least (words line.now) }
+    ensures sound { IfOk result (IsSoundLine least) }
+{
+    let mut words = Words::new(line);
+    let word = words.word()?;
+    loco_line_after(word, &mut words, least)
+}
+
+fn outs_from(words: &mut Words, least: u8) -> Result<u8, PacketFault>
+    requires { least ≤ 8 }
+    ensures is { result ≡ outs_from least words.old }
+    ensures fits { IfOk result (λ outs. outs + 2 ^ least ≤ 2 ^ 8) }
+{
+    match words.next() {
+        Some(word) => {
+            let output = output_number(word)?.number();
+            in_order(u16::from(least), u16::from(output))?;
+            let others = outs_from(words, output + 1)?;
+            Ok((1 << output) + others)
+        }
+        None => Ok(0),
+    }
+}
+
+/// `out OUTPUT ..`, as bits
+#[tactic(auto, unfolding(crate::specs::DecoderLines::outs_line))]
+pub fn outs_line(line: &[u8]) -> Result<u8, PacketFault>
+    ensures { result ≡ outs_line (words line.now) }
+{
+    let mut words = Words::new(line);
+    take_keyword(&mut words, b"out")?;
+    outs_from(&mut words, 0)
+}
+
+/// `position SIDE SIDE SIDE SIDE`
+#[tactic(auto, unfolding(crate::specs::DecoderLines::positions_line))]
+pub fn positions_line(line: &[u8]) -> Result<[bool; 4], PacketFault>
+    ensures { result ≡ positions_line (words line.now) }
+{
+    let mut words = Words::new(line);
+    take_keyword(&mut words, b"position")?;
+    let first = bit_state(words.word()?)?;
+    let second = bit_state(words.word()?)?;
+    let third = bit_state(words.word()?)?;
+    let fourth = bit_state(words.word()?)?;
+    words.end()?;
+    Ok([first, second, third, fourth])
+}
+
+/// `aspect ASPECT ASPECT ASPECT ASPECT`
+#[tactic(auto, unfolding(crate::specs::DecoderLines::aspects_line))]
+pub fn aspects_line(line: &[u8]) -> Result<[u8; 4], PacketFault>
+    ensures { result ≡ aspects_line (words line.now) }
+{
+    let mut words = Words::new(line);
+    take_keyword(&mut words, b"aspect")?;
+    let first = small_number(words.word()?)?;
+    let second = small_number(words.word()?)?;
+    let third = small_number(words.word()?)?;
+    let fourth = small_number(words.word()?)?;
+    words.end()?;
+    Ok([first, second, third, fourth])
+}

@@ -1,0 +1,64 @@
+//! The decoder text of a fleet.
+ghost use Rattle.std.specs.Prelude.{◌≡◌, map};
+ghost use Rattle.dcc_regs.specs.Loco.{cv_held};
+ghost use Rattle.dcc_io.specs.WrittenBytes.{Writes};
+ghost use Rattle.dcc_saved.specs.FleetText.{cvs_text, written_decoder, fleet_text};
+
+use crate::decoder_rows::{board_rows, cv_line, cv_value, loco_front};
+use dcc_io::{Failed, Sink, write_all};
+use dcc_regs::{Decoder, Who};
+
+/// Writes the decoder text of the fleet, version 2, in its order: the line that begins it, the lines of each decoder, and
+/// the line `end`. Where a write fails, nothing more is written.
+pub fn write_fleet<W: Sink>(decoders: &[Box<dyn Decoder>], writer: &mut W) -> Result<(), Failed>
+    ensures { Writes (W.state writer.old)
+        (fleet_text (map (λ decoder. (who decoder, registers decoder)) decoders.now)) result
+        (W.state writer.new) }
+{
+    match write_all(writer, b"dcc-decoders 2\n") {
+        Ok(()) => (),
+        Err(failed) => return Err(failed),
+    }
+    for decoder in decoders {
+        match write_decoder(&**decoder, writer) {
+            Ok(()) => (),
+            Err(failed) => return Err(failed),
+        }
+    }
+    write_all(writer, b"end\n")
+}
+
+/// Writes the lines of a decoder.
+fn write_decoder<W: Sink>(decoder: &dyn Decoder, writer: &mut W) -> Result<(), Failed>
+    ensures { Writes (W.state writer.old)
+        (written_decoder (who decoder.now) (registers decoder.now)) result
+        (W.state writer.new) }
+{
+    match decoder.who() {
+        Who::Loco(address) => {
+            match write_all(writer, loco_front(&address, decoder).as_slice()) {
+                Ok(()) => write_cvs(decoder, writer),
+                Err(failed) => Err(failed),
+            }
+        }
+        Who::Board(board) => write_all(writer, board_rows(&board, decoder).as_slice()),
+    }
+}
+
+/// Writes the lines of the CVs that are not 0.
+fn write_cvs<W: Sink>(decoder: &dyn Decoder, writer: &mut W) -> Result<(), Failed>
+    ensures { Writes (W.state writer.old) (cvs_text (cv_held (registers decoder.now)) 1024)
+        result
+        (W.state writer.new) }
+{
+    for n in 0..1024u16 {
+        let value = cv_value(decoder, n + 1);
+        if value != 0 {
+            match write_all(writer, cv_line(n + 1, value).as_slice()) {
+                Ok(()) => (),
+                Err(failed) => return Err(failed),
+            }
+        }
+    }
+    Ok(())
+}

@@ -1,0 +1,8 @@
+//! The law of decoder texts.
+
+ghost use Rattle.dcc_saved.specs.ReadBack.{FleetsAreReadBack};
+
+/// The text that is written for at most 64 decoders is read back as the same decoders.
+pub fn fleets_are_read_back()
+    ensures { FleetsAreReadBack }
+{}

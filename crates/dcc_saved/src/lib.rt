@@ -1,0 +1,17 @@
+//! The decoder text: how it is read and written, that what was written is read back, and the word that names a decoder.
+#![tactic(auto)]
+
+mod decoder_line;
+mod decoder_rows;
+mod decoder_text;
+mod decoder_words;
+mod fleet_text;
+pub mod laws;
+mod saved;
+mod saved_decoders;
+mod who_word;
+
+pub use fleet_text::write_fleet;
+pub use saved::Saved;
+pub use saved_decoders::read_decoders;
+pub use who_word::read_who;

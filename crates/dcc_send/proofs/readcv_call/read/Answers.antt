@@ -1,0 +1,97 @@
+use Rattle.std.proofs.Common.{◌++◌, ◌∷◌, [], None, Some}
+use Rattle.dcc_service.specs.ReadingLaws.{AreFirstOf}
+use Rattle.dcc_send.specs.ProgrammingTrackReading.{answers_on}
+use Rattle.dcc_send.proofs.TrackLemmas.{cvs_on, next_answer, cvs_stay, sizes_stay, IsReading-more, fails_in_line}
+use Rattle.dcc_send.proofs.TrackLemmas.{tells_value, track_asked_last, on_ok}
+use Rattle.dcc_send.proofs.readcv_call.read.Goals as goal
+
+pub questions-preserved : goal.questions-preserved
+questions-preserved g c =
+    let takes = rw c.in-Ok-More.field-0-is at c.in-Ok-More.ensures in
+    let first : AreFirstOf (c.questions.reader.answers ++ c.put-yes.result ∷ [])
+    (answers_on (cvs_on (g.T.ProgrammingTrack.decoder c.args.track.now)) c.args.cv) =
+    next_answer c.questions.reader c.question-question.result (g.T.ProgrammingTrack.decoder c.args.track.now)
+    (g.T.ProgrammingTrack.decoder c.questions.track) c.args.cv c.put-yes.result c.questions.invariant.unchanged
+    c.questions.invariant.reading.same_cv c.put-yes.ensures.cvs c.question-question.ensures.question
+    c.question-question.ensures.few c.questions.invariant.reading.first c.put-yes.ensures.answer in
+    record {
+      reading =
+          IsReading-more (cvs_on (g.T.ProgrammingTrack.decoder c.args.track.now)) c.args.cv c.questions.reader
+          c.in-Ok-More.next c.put-yes.result _ _ _ c.questions.invariant.reading first takes.0 takes.1 takes.2;
+      unchanged =
+          cvs_stay c.questions.reader c.question-question.result (g.T.ProgrammingTrack.decoder c.args.track.now)
+          (g.T.ProgrammingTrack.decoder c.questions.track) (g.T.ProgrammingTrack.decoder c.put-yes.new.self)
+          c.question-question.ensures.question c.put-yes.ensures.after c.questions.invariant.unchanged;
+    }
+
+pub returns-in-Ok-Value-clause-reads : goal.returns-in-Ok-Value-clause-reads
+returns-in-Ok-Value-clause-reads g c =
+    let takes = rw c.in-Ok-Value.field-0-is at c.in-Ok-Value.ensures in
+    let first : AreFirstOf (c.questions.reader.answers ++ c.put-yes.result ∷ [])
+    (answers_on (cvs_on (g.T.ProgrammingTrack.decoder c.args.track.now)) c.args.cv) =
+    next_answer c.questions.reader c.question-question.result (g.T.ProgrammingTrack.decoder c.args.track.now)
+    (g.T.ProgrammingTrack.decoder c.questions.track) c.args.cv c.put-yes.result c.questions.invariant.unchanged
+    c.questions.invariant.reading.same_cv c.put-yes.ensures.cvs c.question-question.ensures.question
+    c.question-question.ensures.few c.questions.invariant.reading.first c.put-yes.ensures.answer in
+    let sizes = sizes_stay (g.T.ProgrammingTrack.decoder c.args.track.now)
+    (g.T.ProgrammingTrack.decoder c.questions.track) c.questions.invariant.unchanged c.put-yes.ensures.cvs in
+    tells_value (cvs_on (g.T.ProgrammingTrack.decoder c.args.track.now)) c.args.cv c.questions.reader
+    c.put-yes.result (Some c.in-Ok-Value.value) _ _ _ _ c.tell.result sizes c.questions.invariant.reading first takes
+    c.tell.ensures
+
+pub returns-in-Ok-Value-clause-asked : goal.returns-in-Ok-Value-clause-asked
+returns-in-Ok-Value-clause-asked g c =
+    let takes = rw c.in-Ok-Value.field-0-is at c.in-Ok-Value.ensures in
+    let first : AreFirstOf (c.questions.reader.answers ++ c.put-yes.result ∷ [])
+    (answers_on (cvs_on (g.T.ProgrammingTrack.decoder c.args.track.now)) c.args.cv) =
+    next_answer c.questions.reader c.question-question.result (g.T.ProgrammingTrack.decoder c.args.track.now)
+    (g.T.ProgrammingTrack.decoder c.questions.track) c.args.cv c.put-yes.result c.questions.invariant.unchanged
+    c.questions.invariant.reading.same_cv c.put-yes.ensures.cvs c.question-question.ensures.question
+    c.question-question.ensures.few c.questions.invariant.reading.first c.put-yes.ensures.answer in
+    on_ok c.tell.result _
+    (track_asked_last c.questions.reader c.question-question.result (g.T.ProgrammingTrack.decoder c.args.track.now)
+    (g.T.ProgrammingTrack.decoder c.questions.track) (g.T.ProgrammingTrack.decoder c.put-yes.new.self) c.args.cv
+    c.put-yes.result (Some c.in-Ok-Value.value) c.question-question.ensures.question
+    c.questions.invariant.reading.same_cv
+    c.put-yes.ensures.cvs c.questions.invariant.unchanged c.put-yes.ensures.after first takes.0)
+
+pub returns-in-Ok-NoAnswer-clause-reads : goal.returns-in-Ok-NoAnswer-clause-reads
+returns-in-Ok-NoAnswer-clause-reads g c =
+    let takes = rw c.in-Ok-NoAnswer.field-0-is at c.in-Ok-NoAnswer.ensures in
+    let first : AreFirstOf (c.questions.reader.answers ++ c.put-yes.result ∷ [])
+    (answers_on (cvs_on (g.T.ProgrammingTrack.decoder c.args.track.now)) c.args.cv) =
+    next_answer c.questions.reader c.question-question.result (g.T.ProgrammingTrack.decoder c.args.track.now)
+    (g.T.ProgrammingTrack.decoder c.questions.track) c.args.cv c.put-yes.result c.questions.invariant.unchanged
+    c.questions.invariant.reading.same_cv c.put-yes.ensures.cvs c.question-question.ensures.question
+    c.question-question.ensures.few c.questions.invariant.reading.first c.put-yes.ensures.answer in
+    let sizes = sizes_stay (g.T.ProgrammingTrack.decoder c.args.track.now)
+    (g.T.ProgrammingTrack.decoder c.questions.track) c.questions.invariant.unchanged c.put-yes.ensures.cvs in
+    tells_value (cvs_on (g.T.ProgrammingTrack.decoder c.args.track.now)) c.args.cv c.questions.reader
+    c.put-yes.result None _ _ _ _ c.tell-in-Ok-NoAnswer.result sizes c.questions.invariant.reading first takes
+    c.tell-in-Ok-NoAnswer.ensures
+
+pub returns-in-Ok-NoAnswer-clause-asked : goal.returns-in-Ok-NoAnswer-clause-asked
+returns-in-Ok-NoAnswer-clause-asked g c =
+    let takes = rw c.in-Ok-NoAnswer.field-0-is at c.in-Ok-NoAnswer.ensures in
+    let first : AreFirstOf (c.questions.reader.answers ++ c.put-yes.result ∷ [])
+    (answers_on (cvs_on (g.T.ProgrammingTrack.decoder c.args.track.now)) c.args.cv) =
+    next_answer c.questions.reader c.question-question.result (g.T.ProgrammingTrack.decoder c.args.track.now)
+    (g.T.ProgrammingTrack.decoder c.questions.track) c.args.cv c.put-yes.result c.questions.invariant.unchanged
+    c.questions.invariant.reading.same_cv c.put-yes.ensures.cvs c.question-question.ensures.question
+    c.question-question.ensures.few c.questions.invariant.reading.first c.put-yes.ensures.answer in
+    on_ok c.tell-in-Ok-NoAnswer.result _
+    (track_asked_last c.questions.reader c.question-question.result (g.T.ProgrammingTrack.decoder c.args.track.now)
+    (g.T.ProgrammingTrack.decoder c.questions.track) (g.T.ProgrammingTrack.decoder c.put-yes.new.self) c.args.cv
+    c.put-yes.result None c.question-question.ensures.question c.questions.invariant.reading.same_cv
+    c.put-yes.ensures.cvs c.questions.invariant.unchanged c.put-yes.ensures.after first takes.0)
+
+pub returns-in-Err-clause-reads : goal.returns-in-Err-clause-reads
+returns-in-Err-clause-reads g c =
+    let first : AreFirstOf (c.questions.reader.answers ++ c.put-yes.result ∷ [])
+    (answers_on (cvs_on (g.T.ProgrammingTrack.decoder c.args.track.now)) c.args.cv) =
+    next_answer c.questions.reader c.question-question.result (g.T.ProgrammingTrack.decoder c.args.track.now)
+    (g.T.ProgrammingTrack.decoder c.questions.track) c.args.cv c.put-yes.result c.questions.invariant.unchanged
+    c.questions.invariant.reading.same_cv c.put-yes.ensures.cvs c.question-question.ensures.question
+    c.question-question.ensures.few c.questions.invariant.reading.first c.put-yes.ensures.answer in
+    fails_in_line (cvs_on (g.T.ProgrammingTrack.decoder c.args.track.now)) c.args.cv c.questions.reader c.put-yes.result
+    _ _ _ c.questions.invariant.reading first c.in-Err.ensures.0 c.in-Err.ensures.1
