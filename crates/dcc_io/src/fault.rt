@@ -1,8 +1,11 @@
 //! Why a call of the program gave up.
 ghost use Rattle.std.specs.Prelude.{◌≡◌};
 ghost use Rattle.dcc_io.specs.Faults.{tool_fault_number, as_tool_fault};
+ghost use Rattle.dcc_io.specs.declared.fault.ToolFault.TheVariants.{Write, NoMemory};
 
+use crate::stream::Failed;
 use dcc_packet::PacketFault;
+use std::alloc::AllocError;
 use thiserror::Error;
 
 /// What is wrong with a command line.
@@ -96,5 +99,23 @@ impl From<KeptFault> for ToolFault {
             KeptFault::Read => ToolFault::Read,
             KeptFault::TooMuch => ToolFault::TooMuch,
         }
+    }
+}
+
+// A write that failed, as a call answers it.
+impl From<Failed> for ToolFault {
+    ghost from_gives = { λ failed fault. fault ≡ Write };
+
+    fn from(_failed: Failed) -> ToolFault {
+        ToolFault::Write
+    }
+}
+
+// Want of memory, as a call answers it.
+impl From<AllocError> for ToolFault {
+    ghost from_gives = { λ want fault. fault ≡ NoMemory };
+
+    fn from(_want: AllocError) -> ToolFault {
+        ToolFault::NoMemory
     }
 }
