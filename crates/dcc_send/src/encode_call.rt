@@ -86,14 +86,9 @@ fn encode_packets<R: Source, W: Sink>(
     }
     let mut held = HeldLines::new();
     'packets: loop {
-        match next_packet(input, &mut held, writer) {
-            Ok(Ok(Some(packet))) => match hold_frame(&mut held, &packet.frame(), how, writer) {
-                Ok(()) => (),
-                Err(_) => return Err(ToolFault::Write),
-            },
-            Ok(Ok(None)) => return Ok(()),
-            Ok(Err(fault)) => return Err(ToolFault::from(fault)),
-            Err(_) => return Err(ToolFault::Write),
+        match next_packet(input, &mut held, writer)?? {
+            Some(packet) => hold_frame(&mut held, &packet.frame(), how, writer)?,
+            None => return Ok(()),
         }
     }
 }
@@ -110,12 +105,9 @@ fn next_packet<R: Source, W: Sink>(
         input.new held.new
         (W.state writer.new) }
 {
-    match reading::packet_at_hand(input) {
-        Some(packet) => return Ok(Ok(Some(packet))),
-        None => (),
+    if let Some(packet) = reading::packet_at_hand(input) {
+        return Ok(Ok(Some(packet)));
     }
-    match held.write_out(writer) {
-        Ok(()) => Ok(reading::next_packet(input)),
-        Err(failed) => Err(failed),
-    }
+    held.write_out(writer)?;
+    Ok(reading::next_packet(input))
 }

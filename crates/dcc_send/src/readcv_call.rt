@@ -88,11 +88,10 @@ fn read<T: ProgrammingTrack, W: Sink>(
     'questions: loop {
         let question = reader.question();
         let yes = track.put(&question);
-        match take_answer(reader, &question, yes, writer) {
-            Ok(Reading::More(next)) => reader = next,
-            Ok(Reading::Value(value)) => return tell(Some(value), writer),
-            Ok(Reading::NoAnswer) => return tell(None, writer),
-            Err(_) => return Err(ToolFault::Write),
+        match take_answer(reader, &question, yes, writer)? {
+            Reading::More(next) => reader = next,
+            Reading::Value(value) => return tell(Some(value), writer),
+            Reading::NoAnswer => return tell(None, writer),
         }
     }
 }
@@ -107,18 +106,14 @@ fn take_answer<W: Sink>(
     requires { Asks reader question.now }
     ensures { TakesAnswer reader yes (W.state writer.old) result (W.state writer.new) }
 {
-    match write_all(writer, answered_line(&question.frame(), yes).as_slice()) {
-        Ok(()) => Ok(reader.answer(yes)),
-        Err(failed) => Err(failed),
-    }
+    write_all(writer, answered_line(&question.frame(), yes).as_slice())?;
+    Ok(reader.answer(yes))
 }
 
 /// Writes the line of a value or of none, and answers it.
 fn tell<W: Sink>(value: Option<u8>, writer: &mut W) -> Result<Option<u8>, ToolFault>
     ensures { Tells value (W.state writer.old) result (W.state writer.new) }
 {
-    match write_all(writer, value_line(value).as_slice()) {
-        Ok(()) => Ok(value),
-        Err(_) => Err(ToolFault::Write),
-    }
+    write_all(writer, value_line(value).as_slice())?;
+    Ok(value)
 }

@@ -36,14 +36,9 @@ pub(crate) fn encode_by_station<R: Source, W: Sink>(
     }
     let mut held = HeldLines::new();
     'lines: loop {
-        match next_line(input, &mut held, writer) {
-            Ok(Ok(Some(line))) => match answer(station, &mut held, how, line, writer) {
-                Ok(()) => (),
-                Err(_) => return Err(ToolFault::Write),
-            },
-            Ok(Ok(None)) => return Ok(()),
-            Ok(Err(fault)) => return Err(ToolFault::from(fault)),
-            Err(_) => return Err(ToolFault::Write),
+        match next_line(input, &mut held, writer)?? {
+            Some(line) => answer(station, &mut held, how, line, writer)?,
+            None => return Ok(()),
         }
     }
 }
@@ -60,14 +55,11 @@ fn next_line<R: Source, W: Sink>(
         held.old result
         input.new held.new (W.state writer.new) }
 {
-    match station_line_at_hand(input) {
-        Some(line) => return Ok(Ok(Some(line))),
-        None => (),
+    if let Some(line) = station_line_at_hand(input) {
+        return Ok(Ok(Some(line)));
     }
-    match held.write_out(writer) {
-        Ok(()) => Ok(next_station_line(input)),
-        Err(failed) => Err(failed),
-    }
+    held.write_out(writer)?;
+    Ok(next_station_line(input))
 }
 
 /// Does what a line asks.
@@ -118,10 +110,7 @@ fn send<W: Sink>(
         station.new held.new (W.state writer.new) }
 {
     for _ in 0..count {
-        match send_next(station, held, how, writer) {
-            Ok(()) => (),
-            Err(failed) => return Err(failed),
-        }
+        send_next(station, held, how, writer)?;
     }
     Ok(())
 }

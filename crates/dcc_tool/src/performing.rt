@@ -120,6 +120,7 @@ fn run_saved<R: Source, W: Sink>(
 {
     let saved = read_decoders(alloc, input)?;
     let mut fleet: Vec<Box<dyn Decoder>> = Vec::new(alloc);
+    // (by `match`: what finds no room hands its value back beside the error, for which `?` has no one `From`)
     'decoders: for decoder in &saved {
         match decoder {
             Saved::Loco(state) => {
