@@ -22,7 +22,7 @@ use Rattle.dcc_regs.specs.Result.{is_pending, left_pending}
 use Rattle.dcc_packet.proofs.SameFrames.{Decides-same, same-refl}
 use Rattle.dcc_regs.proofs.SameValues.{same_value, Decides-same_value}
 use Rattle.dcc_regs.proofs.RegisterStep.{overwritten-none}
-use Rattle.dcc_regs.proofs.ResultByParts.{State, step, run, same_state, later_of, last_set, sets_bit}
+use Rattle.dcc_regs.proofs.ResultByParts.{State, step, state_after, same_state, later_of, last_set, sets_bit}
 use Rattle.dcc_regs.proofs.ResultByParts.{overwritten-overwritten}
 use Rattle.dcc_order.specs.AlikeLists.{without_repeats, turns, SameMembers, AlikeBlocks}
 
@@ -243,7 +243,7 @@ same_last_set who mode r left right lefts rights alike = by_case (last_set f lef
 
 -- a block changes no CV bit
 run_block_bits : (who : Who) (s : State) (l : List Packet) → AllByRecursion (InBlock who) l → (r : Register)
-    → (run s l).bits r ≡ s.bits r
+    → (state_after s l).bits r ≡ s.bits r
 run_block_bits who s [] all r = refl
 run_block_bits who s (p ∷ l) all r =
     run_block_bits who (step s p) l all.1 r
@@ -251,7 +251,7 @@ run_block_bits who s (p ∷ l) all r =
 
 -- a block that is not empty leaves nothing pending, where there is such a register
 run_block_pending : (who : Who) (s : State) (p : Packet) (l : List Packet) → AllByRecursion (InBlock who) (p ∷ l)
-    → (run s (p ∷ l)).pending ≡ value_over s.pending (Some (PendingValue None))
+    → (state_after s (p ∷ l)).pending ≡ value_over s.pending (Some (PendingValue None))
 run_block_pending who s p [] all = ap (λ t. value_over s.pending (Some (PendingValue (cond t (Some p) None)))) all.0.1
 run_block_pending who s p (q ∷ l) all =
     run_block_pending who (step s p) q l all.1
@@ -259,7 +259,7 @@ run_block_pending who s p (q ∷ l) all =
 
 -- a block sets the plain registers in the mode in which it began
 run_block_plain : (who : Who) (s : State) (l : List Packet) → AllByRecursion (InBlock who) l → (r : Register) →
-    (run s l).plain r ≡ value_over (s.plain r) (last_set (λ p. sets (mode_in s.bits) p r) l)
+    (state_after s l).plain r ≡ value_over (s.plain r) (last_set (λ p. sets (mode_in s.bits) p r) l)
 run_block_plain who s [] all r = sym (overwritten-none (s.plain r))
 run_block_plain who s (p ∷ l) all r =
     run_block_plain who (step s p) l all.1 r
@@ -268,7 +268,8 @@ run_block_plain who s (p ∷ l) all r =
     ∙ overwritten-overwritten (s.plain r) (sets (mode_in s.bits) p r) (last_set (λ q. sets (mode_in s.bits) q r) l)
 
 block_pending : (who : Who) (s : State) (left right : List Packet) → AllByRecursion (InBlock who) left
-    → AllByRecursion (InBlock who) right → SameMembers left right → (run s left).pending ≡ (run s right).pending
+    → AllByRecursion (InBlock who) right → SameMembers left right
+    → (state_after s left).pending ≡ (state_after s right).pending
 block_pending who s [] [] lefts rights members = refl
 block_pending who s [] (q ∷ right) lefts rights members =
     absurd (contains_none q ((members q).1 (contains_head q right)))
@@ -278,8 +279,8 @@ block_pending who s (p ∷ left) (q ∷ right) lefts rights members =
 
 -- alike blocks leave the same state
 pub alike_blocks : (who : Who) (s : State) (left right : List Packet) → AllByRecursion (InBlock who) left
-    → AllByRecursion (InBlock who) right → AlikeBlocks left right → run s left ≡ run s right
-alike_blocks who s left right lefts rights alike = same_state (run s left) (run s right)
+    → AllByRecursion (InBlock who) right → AlikeBlocks left right → state_after s left ≡ state_after s right
+alike_blocks who s left right lefts rights alike = same_state (state_after s left) (state_after s right)
     (block_pending who s left right lefts rights alike.members)
     (λ r. run_block_bits who s left lefts r ∙ sym (run_block_bits who s right rights r))
     (λ r. run_block_plain who s left lefts r

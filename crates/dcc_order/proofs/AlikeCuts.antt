@@ -15,7 +15,8 @@ use Rattle.dcc_regs.specs.declared.register.Value.TheVariants.{Pending as Pendin
 use Rattle.dcc_packet.proofs.SameFrames.{Decides-same}
 use Rattle.dcc_regs.proofs.OwnWrites.{sets-own_write}
 use Rattle.dcc_regs.proofs.RegisterStep.{overwritten-none}
-use Rattle.dcc_regs.proofs.ResultByParts.{State, step, run, start, read, after-run, run-append, same_state, sets_bit}
+use Rattle.dcc_regs.proofs.ResultByParts.{State, step, state_after, start, read, read-state_after, state_after-append}
+use Rattle.dcc_regs.proofs.ResultByParts.{same_state, sets_bit}
 use Rattle.dcc_regs.proofs.ResultByParts.{overwritten-twice}
 use Rattle.dcc_order.specs.AlikeLists.{begins_with_two, without_third_copies, Cut, LastBlock, Block, in_first_block}
 use Rattle.dcc_order.specs.AlikeLists.{cut, cut_for}
@@ -64,18 +65,18 @@ well_cut who (p ∷ l) all = by_case (is_own_write p) refl (well_cut who l all.1
     by_case false e rest = well_in_first_block who p (cut l) (all.0, e) rest
 
 alike_cuts : (who : Who) (s : State) (x y : Cut) → WellCut who x → WellCut who y → AlikeCuts x y
-    → run s (flat x) ≡ run s (flat y)
+    → state_after s (flat x) ≡ state_after s (flat y)
 unfolding flat
 alike_cuts who s (LastBlock left) (LastBlock right) lefts rights alike =
     alike_blocks who s left right lefts rights alike
 alike_cuts who s (LastBlock left) (Block right other rest) lefts rights alike = absurd alike
 alike_cuts who s (Block left write rest) (LastBlock right) lefts rights alike = absurd alike
 alike_cuts who s (Block left write x) (Block right other y) lefts rights alike =
-    run-append s left (write ∷ flat x)
-    ∙ alike_cuts who (step (run s left) write) x y lefts.1 rights.1 alike.2
-    ∙ ap (λ t. run (step t write) (flat y)) (alike_blocks who s left right lefts.0 rights.0 alike.0)
-    ∙ ap (λ w. run (step (run s right) w) (flat y)) alike.1
-    ∙ sym (run-append s right (other ∷ flat y))
+    state_after-append s left (write ∷ flat x)
+    ∙ alike_cuts who (step (state_after s left) write) x y lefts.1 rights.1 alike.2
+    ∙ ap (λ t. state_after (step t write) (flat y)) (alike_blocks who s left right lefts.0 rights.0 alike.0)
+    ∙ ap (λ w. state_after (step (state_after s right) w) (flat y)) alike.1
+    ∙ sym (state_after-append s right (other ∷ flat y))
 
 both_true : (a b : Bool) → (a && b) ≡ true → (a ≡ true) × (b ≡ true)
 both_true true b e = (refl, e)
@@ -104,25 +105,27 @@ third_copy s p write = same_state (step (step (step s p) p) p) (step (step s p) 
 
 -- an own write before two copies of it changes nothing
 left_out : (s : State) (p : Packet) (l : List Packet) → is_own_write p ≡ true → begins_with_two l p ≡ true
-    → run s l ≡ run (step s p) l
+    → state_after s l ≡ state_after (step s p) l
 left_out s p [] write two = cc
 left_out s p (q ∷ []) write two = cc
 left_out s p (q ∷ r ∷ l) write two =
     let first : p ≡ q = (Decides-same p q).0 (both_true (same p q) (same p r) two).0 in
     let second : p ≡ r = (Decides-same p r).0 (both_true (same p q) (same p r) two).1 in
-    ap (λ x. run (step (step s x) r) l) (sym first)
-    ∙ ap (λ x. run (step (step s p) x) l) (sym second)
-    ∙ ap (λ t. run t l) (sym (third_copy s p write))
-    ∙ ap (λ x. run (step (step (step s p) p) x) l) second
-    ∙ ap (λ x. run (step (step (step s p) x) r) l) first
+    ap (λ x. state_after (step (step s x) r) l) (sym first)
+    ∙ ap (λ x. state_after (step (step s p) x) l) (sym second)
+    ∙ ap (λ t. state_after t l) (sym (third_copy s p write))
+    ∙ ap (λ x. state_after (step (step (step s p) p) x) l) second
+    ∙ ap (λ x. state_after (step (step (step s p) x) r) l) first
 
-run-capped : (s : State) (l : List Packet) → run s (without_third_copies l) ≡ run s l
-run-capped s [] = refl
-run-capped s (p ∷ l) = by_case (is_own_write p && begins_with_two l p) refl (run-capped s l) (run-capped (step s p) l)
+state_after-capped : (s : State) (l : List Packet) → state_after s (without_third_copies l) ≡ state_after s l
+state_after-capped s [] = refl
+state_after-capped s (p ∷ l) =
+    by_case (is_own_write p && begins_with_two l p) refl (state_after-capped s l) (state_after-capped (step s p) l)
   where
-    by_case : (t : Bool) → (is_own_write p && begins_with_two l p) ≡ t → run s (without_third_copies l) ≡ run s l
-        → run (step s p) (without_third_copies l) ≡ run (step s p) l
-        → run s (cond t (without_third_copies l) (p ∷ without_third_copies l)) ≡ run (step s p) l
+    by_case : (t : Bool) → (is_own_write p && begins_with_two l p) ≡ t
+        → state_after s (without_third_copies l) ≡ state_after s l
+        → state_after (step s p) (without_third_copies l) ≡ state_after (step s p) l
+        → state_after s (cond t (without_third_copies l) (p ∷ without_third_copies l)) ≡ state_after (step s p) l
     by_case true e here rest =
         here ∙ left_out s p l (both_true (is_own_write p) (begins_with_two l p) e).0
         (both_true (is_own_write p) (begins_with_two l p) e).1
@@ -143,22 +146,24 @@ all_heard who l =
     all_capped (λ p. hears who p ≡ true) (heard who l)
     (recursion_from_All (λ p. hears who p ≡ true) (heard who l) (filter_passes (hears who) l))
 
-run-cut_for : (who : Who) (s : State) (l : List Packet) → run s (flat (cut_for who l)) ≡ run s (heard who l)
-run-cut_for who s l = ap (run s) (flat-cut (without_third_copies (heard who l))) ∙ run-capped s (heard who l)
+state_after-cut_for : (who : Who) (s : State) (l : List Packet)
+    → state_after s (flat (cut_for who l)) ≡ state_after s (heard who l)
+state_after-cut_for who s l =
+    ap (state_after s) (flat-cut (without_third_copies (heard who l))) ∙ state_after-capped s (heard who l)
 
 pub alike_lists : AlikeListsLeaveTheSame
 alike_lists who left right alike m r =
-    after-run m (heard who left) r
+    read-state_after m (heard who left) r
     ∙ ap (λ s. read s r) (
-    sym (run-cut_for who (start m) left)
+    sym (state_after-cut_for who (start m) left)
     ∙ alike_cuts who (start m) (cut_for who left) (cut_for who right)
     (well_cut who (without_third_copies (heard who left)) (all_heard who left))
     (well_cut who (without_third_copies (heard who right)) (all_heard who right)) alike
-    ∙ run-cut_for who (start m) right)
-    ∙ sym (after-run m (heard who right) r)
+    ∙ state_after-cut_for who (start m) right)
+    ∙ sym (read-state_after m (heard who right) r)
 
 alike_through : (who : Who) (s : State) (k : ℕ) (x y : Cut) → WellCut who x → WellCut who y → AlikeCuts x y
-    → run s (through_block k x) ≡ run s (through_block k y)
+    → state_after s (through_block k x) ≡ state_after s (through_block k y)
 alike_through who s k (LastBlock left) (LastBlock right) lefts rights alike =
     alike_blocks who s left right lefts rights alike
 alike_through who s k (LastBlock left) (Block right other rest) lefts rights alike = absurd alike
@@ -166,16 +171,16 @@ alike_through who s k (Block left write rest) (LastBlock right) lefts rights ali
 alike_through who s zero (Block left write x) (Block right other y) lefts rights alike =
     alike_blocks who s left right lefts.0 rights.0 alike.0
 alike_through who s (suc k) (Block left write x) (Block right other y) lefts rights alike =
-    run-append s left (write ∷ through_block k x)
-    ∙ alike_through who (step (run s left) write) k x y lefts.1 rights.1 alike.2
-    ∙ ap (λ t. run (step t write) (through_block k y)) (alike_blocks who s left right lefts.0 rights.0 alike.0)
-    ∙ ap (λ w. run (step (run s right) w) (through_block k y)) alike.1
-    ∙ sym (run-append s right (other ∷ through_block k y))
+    state_after-append s left (write ∷ through_block k x)
+    ∙ alike_through who (step (state_after s left) write) k x y lefts.1 rights.1 alike.2
+    ∙ ap (λ t. state_after (step t write) (through_block k y)) (alike_blocks who s left right lefts.0 rights.0 alike.0)
+    ∙ ap (λ w. state_after (step (state_after s right) w) (through_block k y)) alike.1
+    ∙ sym (state_after-append s right (other ∷ through_block k y))
 
 pub alike_after_each_block : AlikeListsAgreeAfterEachBlock
 alike_after_each_block who left right alike k m cv place =
-    after-run m (through_block k (cut_for who left)) (CvBit cv place)
+    read-state_after m (through_block k (cut_for who left)) (CvBit cv place)
     ∙ ap (λ s. read s (CvBit cv place)) (alike_through who (start m) k (cut_for who left) (cut_for who right)
     (well_cut who (without_third_copies (heard who left)) (all_heard who left))
     (well_cut who (without_third_copies (heard who right)) (all_heard who right)) alike)
-    ∙ sym (after-run m (through_block k (cut_for who right)) (CvBit cv place))
+    ∙ sym (read-state_after m (through_block k (cut_for who right)) (CvBit cv place))

@@ -26,7 +26,7 @@ differ-sym (Some v) (Some w) d = λ e. d (sym e)
 differ-sym (Some v) None d = d
 differ-sym None b d = absurd d
 
--- a function of a group, F0 aside, is in the group's run
+-- a function of a group, F0 aside, is in the group's range
 in_run_by : {C : Type 0} (bits : ℕ) (a b : Option ℕ) (t u : Bool) (o : Option Value)
     → Differ (option_map Flag (option_map (is_one bits) (if t then a else if u then b else None))) o → (t ≡ true → C)
     → (u ≡ true → C) → C
@@ -68,7 +68,7 @@ in_run_of mode to bits group n o e ne d =
     (in_run_at mode bits n o ne
     (subst (λ (f : Option Bool). Differ (option_map Flag f) o) (of_group mode to bits n) d))
 
--- what two packets of which one is for a group both set is F0 or in the group's run
+-- what two packets of which one is for a group both set is F0 or in the group's range
 pub in_run : (mode : SpeedMode) (p q : Packet) (group : Group) (n : ℕ)
     → option_or (group_of p) (group_of q) ≡ Some group → n ≢ 0
     → Differ (sets mode p (Function n)) (sets mode q (Function n)) → InRun group n

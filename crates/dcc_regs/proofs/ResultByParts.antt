@@ -52,9 +52,10 @@ step s p = record {
   plain = λ r. value_over (s.plain r) (sets (mode_in s.bits) p r);
 }
 
-abbrev pub run : State → List Packet → State
-run s [] = s
-run s (p ∷ later) = run (step s p) later
+-- the state after a list of packets that are heard
+abbrev pub state_after : State → List Packet → State
+state_after s [] = s
+state_after s (p ∷ later) = state_after (step s p) later
 
 abbrev pub bits_only : RegisterMap → RegisterMap
 bits_only m (CvBit cv place) = m (CvBit cv place)
@@ -80,9 +81,9 @@ pub same_state : (s t : State) → s.pending ≡ t.pending → ((r : Register) �
     → ((r : Register) → s.plain r ≡ t.plain r) → s ≡ t
 same_state s t p b q = λ i. record { pending = p i; bits = λ r. b r i; plain = λ r. q r i }
 
-pub run-append : (s : State) (a b : List Packet) → run s (a ++ b) ≡ run (run s a) b
-run-append s [] b = refl
-run-append s (p ∷ a) b = run-append (step s p) a b
+pub state_after-append : (s : State) (a b : List Packet) → state_after s (a ++ b) ≡ state_after (state_after s a) b
+state_after-append s [] b = refl
+state_after-append s (p ∷ a) b = state_after-append (step s p) a b
 
 pub overwritten-overwritten : (v a b : Option Value) → value_over (value_over v a) b ≡ value_over v (later_of a b)
 overwritten-overwritten None a b = refl
@@ -154,9 +155,10 @@ read-start m (Position n) = refl
 read-start m (Aspect n) = refl
 
 -- the registers after a list are those that its packets leave one by one, whatever they are at the start
-pub after-run : (m : RegisterMap) (l : List Packet) (r : Register) → result_of_heard m l r ≡ read (run (start m) l) r
-after-run m [] r = ap (λ n. n r) (result-nothing (Loco None) m) ∙ read-start m r
-after-run m (p ∷ l) r =
+pub read-state_after : (m : RegisterMap) (l : List Packet) (r : Register)
+    → result_of_heard m l r ≡ read (state_after (start m) l) r
+read-state_after m [] r = ap (λ n. n r) (result-nothing (Loco None) m) ∙ read-start m r
+read-state_after m (p ∷ l) r =
     result_of_heard-append m (p ∷ []) l r
-    ∙ after-run (next m p) l r
-    ∙ ap (λ s. read (run s l) r) (start-next m p)
+    ∙ read-state_after (next m p) l r
+    ∙ ap (λ s. read (state_after s l) r) (start-next m p)

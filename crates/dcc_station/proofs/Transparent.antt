@@ -26,7 +26,8 @@ use Rattle.dcc_regs.specs.Result.{mode_of, is_pending, left_pending}
 use Rattle.dcc_packet.proofs.SameFrames.{same-refl}
 use Rattle.dcc_regs.proofs.SameValues.{same_value, Decides-same_value}
 use Rattle.dcc_regs.proofs.RegisterStep.{overwritten-none}
-use Rattle.dcc_regs.proofs.ResultByParts.{read, after-run, State, step, run, start, run-append, sets_bit}
+use Rattle.dcc_regs.proofs.ResultByParts.{read, read-state_after, State, step, state_after, start, state_after-append}
+use Rattle.dcc_regs.proofs.ResultByParts.{sets_bit}
 use Rattle.dcc_station.specs.Sending.{Sending, copies, Displaces, Leaves, with_entry, Refreshes, HandsOut}
 use Rattle.dcc_station.specs.Commands.{is_refreshed}
 use Rattle.dcc_regs.specs.Writes.{writes_cv29}
@@ -166,14 +167,15 @@ module _ (who : Who) where
       by_case true = refl
       by_case false = append-nil (filter (hears who) l)
 
-  run-more : (s : State) (l : List Packet) (p : Packet)
-      → run s (heard who (l ++ p ∷ [])) ≡ cond (hears who p) (step (run s (heard who l)) p) (run s (heard who l))
-  run-more s l p = ap (run s) (heard-more l p) ∙ by_case (hears who p)
+  state_after-more : (s : State) (l : List Packet) (p : Packet)
+      → state_after s (heard who (l ++ p ∷ []))
+      ≡ cond (hears who p) (step (state_after s (heard who l)) p) (state_after s (heard who l))
+  state_after-more s l p = ap (state_after s) (heard-more l p) ∙ by_case (hears who p)
     where
       by_case : (t : Bool)
-          → run s (cond t (heard who l ++ p ∷ []) (heard who l)) ≡ cond t (step (run s (heard who l)) p)
-          (run s (heard who l))
-      by_case true = run-append s (heard who l) (p ∷ [])
+          → state_after s (cond t (heard who l ++ p ∷ []) (heard who l)) ≡ cond t (step (state_after s (heard who l)) p)
+          (state_after s (heard who l))
+      by_case true = state_after-append s (heard who l) (p ∷ [])
       by_case false = refl
 
   effects-more : (c : Core) (l : List Packet) (p : Packet)
@@ -274,9 +276,10 @@ module _ (who : Who) where
       by_case false h = is
 
   -- two copies of each own write have its effect, whatever was pending
-  run-intended : (s : State) (l : List Packet) → core (run s (heard who (intended l))) ≡ effects (core s) (heard who l)
-  run-intended s [] = refl
-  run-intended s (p ∷ l) = by_kind (is_own_write p) refl (hears who p) (λ t. run-intended t l)
+  state_after-intended : (s : State) (l : List Packet)
+      → core (state_after s (heard who (intended l))) ≡ effects (core s) (heard who l)
+  state_after-intended s [] = refl
+  state_after-intended s (p ∷ l) = by_kind (is_own_write p) refl (hears who p) (λ t. state_after-intended t l)
     where
       rest : List Packet
       rest = heard who (intended l)
@@ -285,12 +288,13 @@ module _ (who : Who) where
       twice_sent own = step_pending (step s p) p (pending_behind s p own) ∙ effect_after_first s p own
 
       by_kind : (w : Bool) → is_own_write p ≡ w → (t : Bool)
-          → ((u : State) → core (run u (heard who (intended l))) ≡ effects (core u) (heard who l)) →
-          core (run s (heard who (cond w (p ∷ p ∷ intended l) (p ∷ intended l)))) ≡ effects (core s) (heard who (p ∷ l))
+          → ((u : State) → core (state_after u (heard who (intended l))) ≡ effects (core u) (heard who l)) →
+          core (state_after s (heard who (cond w (p ∷ p ∷ intended l) (p ∷ intended l))))
+          ≡ effects (core s) (heard who (p ∷ l))
       by_kind true own t more = by_case (hears who p)
         where
           by_case : (t : Bool)
-              → core (run s
+              → core (state_after s
               (cond t (p ∷ cond t (p ∷ heard who (intended l)) (heard who (intended l)))
               (cond t (p ∷ heard who (intended l)) (heard who (intended l))))) ≡ effects (core s)
               (cond t (p ∷ heard who l) (heard who l))
@@ -299,7 +303,7 @@ module _ (who : Who) where
       by_kind false other t more = by_case (hears who p)
         where
           by_case : (t : Bool)
-              → core (run s (cond t (p ∷ heard who (intended l)) (heard who (intended l)))) ≡ effects (core s)
+              → core (state_after s (cond t (p ∷ heard who (intended l)) (heard who (intended l)))) ≡ effects (core s)
               (cond t (p ∷ heard who l) (heard who l))
           by_case true = more (step s p) ∙ ap (λ c. effects c (heard who l)) (step_plain s p other)
           by_case false = more s
@@ -309,7 +313,7 @@ module _ (who : Who) where
     at_start = core (start m)
 
     abbrev pub after_packets : List Packet → State
-    after_packets h = run (start m) (heard who h)
+    after_packets h = state_after (start m) (heard who h)
 
     -- how far the first command that waits is sent, where the commands before it leave c
     abbrev pub Progress : ℕ → List Packet → List Packet → Core → State → Type 0
@@ -326,7 +330,7 @@ module _ (who : Who) where
       pub some : 0 < s.repeats
 
     after_more : (h : List Packet) (p : Packet) → after_packets (h ++ p ∷ []) ≡ copied (after_packets h) p
-    after_more h p = run-more (start m) h p
+    after_more h p = state_after-more (start m) h p
 
     only_one : (repeats : ℕ) (p : Packet) → 0 < repeats → (nat_le (copies repeats p) (0 + 1)) ≡ true
         → is_own_write p ≡ false
@@ -525,12 +529,12 @@ pub refresh : RefreshIsTransparent
 refresh s done packets from whole who m r other =
     let inv = stands who m s (done ++ s.waiting) packets from in
     let same_done : done ≡ inv.done = append_cancel_right done inv.done s.waiting inv.split in
-    after-run m (heard who packets) r
-    ∙ read_core (run (start m) (heard who packets)) (run (start m) (heard who (intended done))) r other (
+    read-state_after m (heard who packets) r
+    ∙ read_core (state_after (start m) (heard who packets)) (state_after (start m) (heard who (intended done))) r other (
     when_whole who m s.sent s.waiting inv.done inv.target (after_packets who m packets) whole inv.progress
     ∙ ap (λ l. effects (core (start m)) (heard who l)) (sym same_done)
-    ∙ sym (run-intended who (start m) done))
-    ∙ sym (after-run m (heard who (intended done)) r)
+    ∙ sym (state_after-intended who (start m) done))
+    ∙ sym (read-state_after m (heard who (intended done)) r)
 
 pub refresh_all : TransparentWhereNothingWaits
 refresh_all s commands packets from none who m r other =
