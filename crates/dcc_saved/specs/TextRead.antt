@@ -1,5 +1,5 @@
 -- What was read of an input by a reader of texts.
-use Rattle.std.specs.Prelude.{◌≡◌, ℕ, ◌+◌, ◌<◌, ◌++◌, List, Option, None, Some, Result, Ok, Err, length, IfSome}
+use Rattle.std.specs.Prelude.{◌≡◌, ℕ, ◌+◌, ◌<◌, ◌++◌, List, Option, Some, Result, Ok, Err, length, IfSome}
 use Rattle.dcc_io.specs.declared.fault.KeptFault.{KeptFault}
 use Rattle.dcc_io.specs.declared.fault.KeptFault.TheVariants.{Number, Line, Read, TooMuch}
 use Rattle.dcc_io.specs.InputState.{InputState}

@@ -1,6 +1,5 @@
 //! Reading a decoder text.
 
-// (faults are handed on by `match`: behind `?` the checker knows of an error only that `From` made it)
 ghost use Rattle.std.specs.Prelude.{◌≡◌, ◌<◌, ◌^◌, ◌%◌, None, true, nat_le, IfOk};
 ghost use Rattle.dcc_regs.specs.Addresses.{is_active};
 ghost use Rattle.dcc_regs.specs.Loco.{is_speed, is_pending_for};
@@ -59,10 +58,8 @@ pub(crate) fn read_version<R: Source>(input: &mut Input<R>) -> Result<Version, K
     requires { input.old.fault ≡ None }
     ensures { Answers (line_by version_line) input.old result input.new }
 {
-    match line_in_place(input) {
-        Ok(line) => judge(input, line.number, version_line(line.text.as_bytes())),
-        Err(fault) => Err(fault),
-    }
+    let line = line_in_place(input)?;
+    judge(input, line.number, version_line(line.text.as_bytes()))
 }
 
 /// The line that begins a decoder, or the last line.
@@ -71,10 +68,8 @@ pub(crate) fn read_head<R: Source>(input: &mut Input<R>) -> Result<Head, KeptFau
     ensures reads { Answers (line_by head_line) input.old result input.new }
     ensures possible { IfOk result IsPossibleHead }
 {
-    match line_in_place(input) {
-        Ok(line) => judge(input, line.number, head_line(line.text.as_bytes())),
-        Err(fault) => Err(fault),
-    }
+    let line = line_in_place(input)?;
+    judge(input, line.number, head_line(line.text.as_bytes()))
 }
 
 /// The line of the speed and the direction.
@@ -83,10 +78,8 @@ fn read_speed<R: Source>(input: &mut Input<R>) -> Result<(Speed, bool), KeptFaul
     ensures reads { Answers (line_by speed_line) input.old result input.new }
     ensures possible { IfOk result (λ read. is_speed read.0 ≡ true) }
 {
-    match line_in_place(input) {
-        Ok(line) => judge(input, line.number, speed_line(line.text.as_bytes())),
-        Err(fault) => Err(fault),
-    }
+    let line = line_in_place(input)?;
+    judge(input, line.number, speed_line(line.text.as_bytes()))
 }
 
 /// The line of the functions that are on.
@@ -95,10 +88,8 @@ fn read_functions<R: Source>(input: &mut Input<R>) -> Result<u128, KeptFault>
     ensures reads { Answers (line_by functions_line) input.old result input.new }
     ensures fits { IfOk result (λ functions. functions < 2 ^ 69) }
 {
-    match line_in_place(input) {
-        Ok(line) => judge(input, line.number, functions_line(line.text.as_bytes())),
-        Err(fault) => Err(fault),
-    }
+    let line = line_in_place(input)?;
+    judge(input, line.number, functions_line(line.text.as_bytes()))
 }
 
 /// The line of the binary states that are on.
@@ -107,10 +98,8 @@ fn read_states<R: Source>(input: &mut Input<R>) -> Result<u128, KeptFault>
     ensures reads { Answers (line_by states_line) input.old result input.new }
     ensures even { IfOk result (λ states. states % 2 ≡ 0) }
 {
-    match line_in_place(input) {
-        Ok(line) => judge(input, line.number, states_line(line.text.as_bytes())),
-        Err(fault) => Err(fault),
-    }
+    let line = line_in_place(input)?;
+    judge(input, line.number, states_line(line.text.as_bytes()))
 }
 
 /// The binary states that are on. Version 1 has no line of them.
@@ -134,14 +123,12 @@ fn read_pending<R: Source>(
     ensures reads { Answers (line_by (pending_line active.now)) input.old result input.new }
     ensures possible { IfOk result (λ pending. is_pending_for active.now pending ≡ true) }
 {
-    match line_in_place(input) {
-        Ok(line) => judge(
-            input,
-            line.number,
-            pending_line(active, line.text.as_bytes()),
-        ),
-        Err(fault) => Err(fault),
-    }
+    let line = line_in_place(input)?;
+    judge(
+        input,
+        line.number,
+        pending_line(active, line.text.as_bytes()),
+    )
 }
 
 /// A line of a CV, not below this one, or the line behind the CVs.
@@ -150,10 +137,8 @@ fn read_loco_line<R: Source>(input: &mut Input<R>, least: u16) -> Result<LocoLin
     ensures reads { Answers (line_by (loco_line least)) input.old result input.new }
     ensures sound { IfOk result (IsSoundLine least) }
 {
-    match line_in_place(input) {
-        Ok(line) => judge(input, line.number, loco_line(line.text.as_bytes(), least)),
-        Err(fault) => Err(fault),
-    }
+    let line = line_in_place(input)?;
+    judge(input, line.number, loco_line(line.text.as_bytes(), least))
 }
 
 /// The line of the outputs that are on.
@@ -161,10 +146,8 @@ fn read_outs<R: Source>(input: &mut Input<R>) -> Result<u8, KeptFault>
     requires { input.old.fault ≡ None }
     ensures { Answers (line_by outs_line) input.old result input.new }
 {
-    match line_in_place(input) {
-        Ok(line) => judge(input, line.number, outs_line(line.text.as_bytes())),
-        Err(fault) => Err(fault),
-    }
+    let line = line_in_place(input)?;
+    judge(input, line.number, outs_line(line.text.as_bytes()))
 }
 
 /// The line of the positions.
@@ -172,10 +155,8 @@ fn read_positions<R: Source>(input: &mut Input<R>) -> Result<[bool; 4], KeptFaul
     requires { input.old.fault ≡ None }
     ensures { Answers (line_by positions_line) input.old result input.new }
 {
-    match line_in_place(input) {
-        Ok(line) => judge(input, line.number, positions_line(line.text.as_bytes())),
-        Err(fault) => Err(fault),
-    }
+    let line = line_in_place(input)?;
+    judge(input, line.number, positions_line(line.text.as_bytes()))
 }
 
 /// The line of the aspects.
@@ -183,10 +164,8 @@ fn read_aspects<R: Source>(input: &mut Input<R>) -> Result<[u8; 4], KeptFault>
     requires { input.old.fault ≡ None }
     ensures { Answers (line_by aspects_line) input.old result input.new }
 {
-    match line_in_place(input) {
-        Ok(line) => judge(input, line.number, aspects_line(line.text.as_bytes())),
-        Err(fault) => Err(fault),
-    }
+    let line = line_in_place(input)?;
+    judge(input, line.number, aspects_line(line.text.as_bytes()))
 }
 
 /// The CVs and the line behind them.
@@ -198,13 +177,12 @@ fn read_cvs<R: Source>(input: &mut Input<R>) -> Result<([u8; 1024], Head), KeptF
     let mut cvs = [0; 1024];
     let mut least = 1;
     'cvs: loop {
-        match read_loco_line(input, least) {
-            Ok(LocoLine::Cv { cv, value }) => {
+        match read_loco_line(input, least)? {
+            LocoLine::Cv { cv, value } => {
                 cvs[cv.number() as usize - 1] = value;
                 least = cv.number() + 1;
             }
-            Ok(LocoLine::Head(head)) => return Ok((cvs, head)),
-            Err(fault) => return Err(fault),
+            LocoLine::Head(head) => return Ok((cvs, head)),
         }
     }
 }
@@ -220,26 +198,11 @@ fn read_loco<R: Source>(
     ensures reads { Answers (loco_lines version address) input.old result input.new }
     ensures possible { IfOk result (λ read. (is_possible read.0 ≡ true) × IsPossibleHead read.1) }
 {
-    let (speed, forward) = match read_speed(input) {
-        Ok(read) => read,
-        Err(fault) => return Err(fault),
-    };
-    let functions = match read_functions(input) {
-        Ok(functions) => functions,
-        Err(fault) => return Err(fault),
-    };
-    let states = match states_of(input, version) {
-        Ok(states) => states,
-        Err(fault) => return Err(fault),
-    };
-    let pending = match read_pending(input, &address) {
-        Ok(pending) => pending,
-        Err(fault) => return Err(fault),
-    };
-    let (cvs, head) = match read_cvs(input) {
-        Ok(read) => read,
-        Err(fault) => return Err(fault),
-    };
+    let (speed, forward) = read_speed(input)?;
+    let functions = read_functions(input)?;
+    let states = states_of(input, version)?;
+    let pending = read_pending(input, &address)?;
+    let (cvs, head) = read_cvs(input)?;
     let state = LocoState {
         address,
         speed,
@@ -259,22 +222,10 @@ fn read_board<R: Source>(input: &mut Input<R>, board: Board) -> Result<(Saved, H
     ensures reads { Answers (board_lines board) input.old result input.new }
     ensures possible { IfOk result (λ read. (is_possible read.0 ≡ true) × IsPossibleHead read.1) }
 {
-    let outs = match read_outs(input) {
-        Ok(outs) => outs,
-        Err(fault) => return Err(fault),
-    };
-    let positions = match read_positions(input) {
-        Ok(positions) => positions,
-        Err(fault) => return Err(fault),
-    };
-    let aspects = match read_aspects(input) {
-        Ok(aspects) => aspects,
-        Err(fault) => return Err(fault),
-    };
-    let head = match read_head(input) {
-        Ok(head) => head,
-        Err(fault) => return Err(fault),
-    };
+    let outs = read_outs(input)?;
+    let positions = read_positions(input)?;
+    let aspects = read_aspects(input)?;
+    let head = read_head(input)?;
     let state = BoardState {
         board,
         outs,

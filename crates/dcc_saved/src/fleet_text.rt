@@ -15,15 +15,9 @@ pub fn write_fleet<W: Sink>(decoders: &[Box<dyn Decoder>], writer: &mut W) -> Re
         (fleet_text (map (λ decoder. (who decoder, registers decoder)) decoders.now)) result
         (W.state writer.new) }
 {
-    match write_all(writer, b"dcc-decoders 2\n") {
-        Ok(()) => (),
-        Err(failed) => return Err(failed),
-    }
+    write_all(writer, b"dcc-decoders 2\n")?;
     for decoder in decoders {
-        match write_decoder(&**decoder, writer) {
-            Ok(()) => (),
-            Err(failed) => return Err(failed),
-        }
+        write_decoder(&**decoder, writer)?;
     }
     write_all(writer, b"end\n")
 }
@@ -36,10 +30,8 @@ fn write_decoder<W: Sink>(decoder: &dyn Decoder, writer: &mut W) -> Result<(), F
 {
     match decoder.who() {
         Who::Loco(address) => {
-            match write_all(writer, loco_front(&address, decoder).as_slice()) {
-                Ok(()) => write_cvs(decoder, writer),
-                Err(failed) => Err(failed),
-            }
+            write_all(writer, loco_front(&address, decoder).as_slice())?;
+            write_cvs(decoder, writer)
         }
         Who::Board(board) => write_all(writer, board_rows(&board, decoder).as_slice()),
     }
@@ -54,10 +46,7 @@ fn write_cvs<W: Sink>(decoder: &dyn Decoder, writer: &mut W) -> Result<(), Faile
     for n in 0..1024u16 {
         let value = cv_value(decoder, n + 1);
         if value != 0 {
-            match write_all(writer, cv_line(n + 1, value).as_slice()) {
-                Ok(()) => (),
-                Err(failed) => return Err(failed),
-            }
+            write_all(writer, cv_line(n + 1, value).as_slice())?;
         }
     }
     Ok(())

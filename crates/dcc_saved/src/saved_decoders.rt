@@ -1,6 +1,5 @@
 //! The decoders that a decoder text saves.
 
-// (faults are handed on by `match`: behind `?` the checker knows of an error only that `From` made it)
 ghost use Rattle.std.specs.Prelude.{◌≡◌, ◌≤◌, [], None, Ok, IfSome, IfOk, MatchResult, All, vec_capacity, true};
 ghost use Rattle.dcc_io.specs.Faults.{as_tool_fault};
 ghost use Rattle.dcc_io.specs.InputState.{HasCause};
@@ -49,13 +48,8 @@ pub fn read_decoders<R: Source>(
     if let Some(fault) = input.fault() {
         return Err(ToolFault::from(fault));
     }
-    match Vec::with_capacity(alloc, MOST) {
-        Ok(decoders) => match fill(decoders, input) {
-            Ok(decoders) => Ok(decoders),
-            Err(fault) => Err(ToolFault::from(fault)),
-        },
-        Err(_) => Err(ToolFault::NoMemory),
-    }
+    let decoders = Vec::with_capacity(alloc, MOST)?;
+    Ok(fill(decoders, input)?)
 }
 
 /// Reads the text into a vector that is empty and has room.
@@ -69,27 +63,17 @@ fn fill<R: Source>(mut decoders: Vec<Saved>, input: &mut Input<R>) -> Result<Vec
     ensures lines { IfOk result (λ decoders. UsedWholeLines input.old input.new) }
     ensures possible { IfOk result (λ decoders. All (λ decoder. is_possible decoder ≡ true) decoders.items) }
 {
-    let version = match read_version(input) {
-        Ok(version) => version,
-        Err(fault) => return Err(fault),
-    };
-    let mut head = match read_head(input) {
-        Ok(head) => head,
-        Err(fault) => return Err(fault),
-    };
+    let version = read_version(input)?;
+    let mut head = read_head(input)?;
     'decoders: loop {
         match head {
             Head::Decoder(who) => {
                 if decoders.len() == MOST {
                     return Err(refuse_too_much(input));
                 }
-                match read_decoder(input, version, who) {
-                    Ok((decoder, behind)) => {
-                        let _ = decoders.push(decoder);
-                        head = behind;
-                    }
-                    Err(fault) => return Err(fault),
-                }
+                let (decoder, behind) = read_decoder(input, version, who)?;
+                let _ = decoders.push(decoder);
+                head = behind;
             }
             Head::End => return Ok(decoders),
         }

@@ -1,3 +1,4 @@
+use Rattle.std.proofs.lemmas.Result.{err_from_is_err_and}
 use Rattle.dcc_saved.specs.DecoderLines.{outs_line, positions_line, aspects_line, head_line}
 use Rattle.dcc_saved.specs.TextReader.{line_by}
 use Rattle.dcc_saved.specs.DecoderText.{board_lines}
@@ -6,69 +7,70 @@ use Rattle.dcc_saved.proofs.DecoderTextLemmas.{Leads-board, behind_outs, behind_
 use Rattle.dcc_saved.proofs.DecoderTextLemmas.{behind_board_head}
 use Rattle.dcc_saved.proofs.decoder_text.read_board.Goals as goal
 
-pub returns-in-Err-clause-reads : goal.returns-in-Err-clause-reads
-returns-in-Err-clause-reads g c =
-    Answers-fault (line_by outs_line) (behind_outs c.args.board) (board_lines c.args.board) c.args.input.now
-    c.args.input.now c.read_outs.new.input c.in-Err.fault (Leads-board c.args.board c.args.input.now c.requires.fault)
-    c.in-Err.ensures
+pub returns-in_err-outs-clause-reads : goal.returns-in_err-outs-clause-reads
+returns-in_err-outs-clause-reads g c =
+    let p = err_from_is_err_and c.from_residual.result c.from_residual.ensures.1 in
+    rw (p.1, p.2) (Answers-fault (line_by outs_line) (behind_outs c.args.board) (board_lines c.args.board)
+    c.args.input.now c.args.input.now c.read_outs.new.input _ (Leads-board c.args.board c.args.input.now
+    c.requires.fault) c.in_err-outs.ensures)
 
-pub returns-in-Err-read_positions-clause-reads : goal.returns-in-Err-read_positions-clause-reads
-returns-in-Err-read_positions-clause-reads g c =
+pub returns-in_err-positions-clause-reads : goal.returns-in_err-positions-clause-reads
+returns-in_err-positions-clause-reads g c =
     let behind_outs = Leads-then (line_by outs_line) (behind_outs c.args.board) (board_lines c.args.board)
-    c.args.input.now c.args.input.now c.read_outs.new.input c.in-Ok.outs
-    (Leads-board c.args.board c.args.input.now c.requires.fault) c.in-Ok.ensures in
-    Answers-fault (line_by positions_line) (behind_positions c.args.board c.in-Ok.outs) (board_lines c.args.board)
-    c.args.input.now c.read_outs.new.input c.read_positions.new.input c.in-Err-read_positions.fault behind_outs
-    c.in-Err-read_positions.ensures
+    c.args.input.now c.args.input.now c.read_outs.new.input c.in_ok-outs.outs
+    (Leads-board c.args.board c.args.input.now c.requires.fault) c.in_ok-outs.ensures in
+    let p = err_from_is_err_and c.from_residual-in_err-positions.result c.from_residual-in_err-positions.ensures.1 in
+    rw (p.1, p.2) (Answers-fault (line_by positions_line) (behind_positions c.args.board c.in_ok-outs.outs)
+    (board_lines c.args.board) c.args.input.now c.read_outs.new.input c.read_positions.new.input _ behind_outs
+    c.in_err-positions.ensures)
 
-pub returns-in-Err-read_aspects-clause-reads : goal.returns-in-Err-read_aspects-clause-reads
-returns-in-Err-read_aspects-clause-reads g c =
+pub returns-in_err-aspects-clause-reads : goal.returns-in_err-aspects-clause-reads
+returns-in_err-aspects-clause-reads g c =
     let behind_outs = Leads-then (line_by outs_line) (behind_outs c.args.board) (board_lines c.args.board)
-    c.args.input.now c.args.input.now c.read_outs.new.input c.in-Ok.outs
-    (Leads-board c.args.board c.args.input.now c.requires.fault) c.in-Ok.ensures in
-    let behind_positions = Leads-then (line_by positions_line) (behind_positions c.args.board c.in-Ok.outs)
+    c.args.input.now c.args.input.now c.read_outs.new.input c.in_ok-outs.outs
+    (Leads-board c.args.board c.args.input.now c.requires.fault) c.in_ok-outs.ensures in
+    let behind_positions = Leads-then (line_by positions_line) (behind_positions c.args.board c.in_ok-outs.outs)
     (board_lines c.args.board) c.args.input.now c.read_outs.new.input c.read_positions.new.input
-    c.in-Ok-read_positions.positions
-    behind_outs c.in-Ok-read_positions.ensures in
-    Answers-fault (line_by aspects_line) (behind_aspects c.args.board c.in-Ok.outs c.in-Ok-read_positions.positions)
-    (board_lines c.args.board) c.args.input.now c.read_positions.new.input c.read_aspects.new.input
-    c.in-Err-read_aspects.fault
-    behind_positions c.in-Err-read_aspects.ensures
+    c.in_ok-positions.positions
+    behind_outs c.in_ok-positions.ensures in
+    let p = err_from_is_err_and c.from_residual-in_err-aspects.result c.from_residual-in_err-aspects.ensures.1 in
+    rw (p.1, p.2) (Answers-fault (line_by aspects_line) (behind_aspects c.args.board c.in_ok-outs.outs
+    c.in_ok-positions.positions) (board_lines c.args.board) c.args.input.now c.read_positions.new.input
+    c.read_aspects.new.input _ behind_positions c.in_err-aspects.ensures)
 
-pub returns-in-Err-read_head-clause-reads : goal.returns-in-Err-read_head-clause-reads
-returns-in-Err-read_head-clause-reads g c =
+pub returns-in_err-head-clause-reads : goal.returns-in_err-head-clause-reads
+returns-in_err-head-clause-reads g c =
     let behind_outs = Leads-then (line_by outs_line) (behind_outs c.args.board) (board_lines c.args.board)
-    c.args.input.now c.args.input.now c.read_outs.new.input c.in-Ok.outs
-    (Leads-board c.args.board c.args.input.now c.requires.fault) c.in-Ok.ensures in
-    let behind_positions = Leads-then (line_by positions_line) (behind_positions c.args.board c.in-Ok.outs)
+    c.args.input.now c.args.input.now c.read_outs.new.input c.in_ok-outs.outs
+    (Leads-board c.args.board c.args.input.now c.requires.fault) c.in_ok-outs.ensures in
+    let behind_positions = Leads-then (line_by positions_line) (behind_positions c.args.board c.in_ok-outs.outs)
     (board_lines c.args.board) c.args.input.now c.read_outs.new.input c.read_positions.new.input
-    c.in-Ok-read_positions.positions
-    behind_outs c.in-Ok-read_positions.ensures in
+    c.in_ok-positions.positions
+    behind_outs c.in_ok-positions.ensures in
     let behind_aspects = Leads-then (line_by aspects_line)
-    (behind_aspects c.args.board c.in-Ok.outs c.in-Ok-read_positions.positions) (board_lines c.args.board)
-    c.args.input.now c.read_positions.new.input c.read_aspects.new.input c.in-Ok-read_aspects.aspects behind_positions
-    c.in-Ok-read_aspects.ensures in
-    Answers-fault (line_by head_line)
-    (behind_board_head c.args.board c.in-Ok.outs c.in-Ok-read_positions.positions c.in-Ok-read_aspects.aspects)
-    (board_lines c.args.board) c.args.input.now c.read_aspects.new.input c.read_head.new.input
-    c.in-Err-read_head.fault behind_aspects
-    c.in-Err-read_head.ensures.reads
+    (behind_aspects c.args.board c.in_ok-outs.outs c.in_ok-positions.positions) (board_lines c.args.board)
+    c.args.input.now c.read_positions.new.input c.read_aspects.new.input c.in_ok-aspects.aspects behind_positions
+    c.in_ok-aspects.ensures in
+    let p = err_from_is_err_and c.from_residual-in_err-head.result c.from_residual-in_err-head.ensures.1 in
+    rw (p.1, p.2) (Answers-fault (line_by head_line) (behind_board_head c.args.board c.in_ok-outs.outs
+    c.in_ok-positions.positions c.in_ok-aspects.aspects) (board_lines c.args.board) c.args.input.now
+    c.read_aspects.new.input c.read_head.new.input _ behind_aspects c.in_err-head.ensures.reads)
 
 pub returns-clause-reads : goal.returns-clause-reads
 returns-clause-reads g c =
     let behind_outs = Leads-then (line_by outs_line) (behind_outs c.args.board) (board_lines c.args.board)
-    c.args.input.now c.args.input.now c.read_outs.new.input c.in-Ok.outs
-    (Leads-board c.args.board c.args.input.now c.requires.fault) c.in-Ok.ensures in
-    let behind_positions = Leads-then (line_by positions_line) (behind_positions c.args.board c.in-Ok.outs)
+    c.args.input.now c.args.input.now c.read_outs.new.input c.in_ok-outs.outs
+    (Leads-board c.args.board c.args.input.now c.requires.fault) c.in_ok-outs.ensures in
+    let behind_positions = Leads-then (line_by positions_line) (behind_positions c.args.board c.in_ok-outs.outs)
     (board_lines c.args.board) c.args.input.now c.read_outs.new.input c.read_positions.new.input
-    c.in-Ok-read_positions.positions
-    behind_outs c.in-Ok-read_positions.ensures in
+    c.in_ok-positions.positions
+    behind_outs c.in_ok-positions.ensures in
     let behind_aspects = Leads-then (line_by aspects_line)
-    (behind_aspects c.args.board c.in-Ok.outs c.in-Ok-read_positions.positions) (board_lines c.args.board)
-    c.args.input.now c.read_positions.new.input c.read_aspects.new.input c.in-Ok-read_aspects.aspects behind_positions
-    c.in-Ok-read_aspects.ensures in
+    (behind_aspects c.args.board c.in_ok-outs.outs c.in_ok-positions.positions) (board_lines c.args.board)
+    c.args.input.now c.read_positions.new.input c.read_aspects.new.input c.in_ok-aspects.aspects behind_positions
+    c.in_ok-aspects.ensures in
     let behind_head = Leads-then (line_by head_line)
-    (behind_board_head c.args.board c.in-Ok.outs c.in-Ok-read_positions.positions c.in-Ok-read_aspects.aspects)
-    (board_lines c.args.board) c.args.input.now c.read_aspects.new.input c.read_head.new.input c.in-Ok-read_head.head
-    behind_aspects c.in-Ok-read_head.ensures.reads in
+    (behind_board_head c.args.board c.in_ok-outs.outs c.in_ok-positions.positions c.in_ok-aspects.aspects)
+    (board_lines c.args.board) c.args.input.now c.read_aspects.new.input c.read_head.new.input c.in_ok-head.head
+    behind_aspects c.in_ok-head.ensures.reads in
     behind_head

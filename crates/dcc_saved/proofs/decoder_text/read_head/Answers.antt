@@ -1,4 +1,5 @@
 use Rattle.std.proofs.Common.{ap, ◌∙◌}
+use Rattle.std.proofs.lemmas.Result.{err_from_is_err_and}
 use Rattle.dcc_packet.specs.Words.{words}
 use Rattle.dcc_saved.specs.DecoderLines.{head_line}
 use Rattle.dcc_saved.specs.PossibleLines.{IsPossibleHead}
@@ -6,18 +7,21 @@ use Rattle.dcc_saved.proofs.BlankLines.{blank_head}
 use Rattle.dcc_saved.proofs.ReadLemmas.{line-judged, line-missed, judged-sound}
 use Rattle.dcc_saved.proofs.decoder_text.read_head.Goals as goal
 
-pub returns-in-Ok-clause-reads : goal.returns-in-Ok-clause-reads
-returns-in-Ok-clause-reads g c =
+pub returns-clause-reads : goal.returns-clause-reads
+returns-clause-reads g c =
     let read = c.head_line.ensures.is
     ∙ ap (λ bytes. head_line (words bytes)) (c.as_bytes.ensures.value ∙ c.deref.ensures.0) in
-    line-judged head_line blank_head c.args.input.now c.line_in_place.new.input c.judge.new.input c.in-Ok.line.number
-    c.in-Ok.line.text.bytes c.judge.result c.in-Ok.ensures (rw read at c.judge.ensures)
+    line-judged head_line blank_head c.args.input.now c.line_in_place.new.input c.judge.new.input
+    c.in_ok-line.line.number
+    c.in_ok-line.line.text.bytes c.judge.result c.in_ok-line.ensures (rw read at c.judge.ensures)
 
-pub returns-in-Err-clause-reads : goal.returns-in-Err-clause-reads
-returns-in-Err-clause-reads g c =
-    line-missed head_line c.args.input.now c.line_in_place.new.input c.in-Err.fault c.in-Err.ensures
+pub returns-in_err-line-clause-reads : goal.returns-in_err-line-clause-reads
+returns-in_err-line-clause-reads g c =
+    let p = err_from_is_err_and c.from_residual.result c.from_residual.ensures.1 in
+    rw (p.1, p.2) (line-missed head_line c.args.input.now c.line_in_place.new.input _ c.in_err-line.ensures)
 
-pub returns-in-Ok-clause-possible : goal.returns-in-Ok-clause-possible
-returns-in-Ok-clause-possible g c =
-    judged-sound IsPossibleHead c.line_in_place.new.input c.judge.new.input c.in-Ok.line.number c.head_line.result
+pub returns-clause-possible : goal.returns-clause-possible
+returns-clause-possible g c =
+    judged-sound IsPossibleHead c.line_in_place.new.input c.judge.new.input c.in_ok-line.line.number
+    c.head_line.result
     c.judge.result c.judge.ensures c.head_line.ensures.possible

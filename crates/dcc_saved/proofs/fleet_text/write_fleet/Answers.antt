@@ -1,39 +1,44 @@
 use Rattle.std.proofs.Common.{Ok, Err, arith, codes, ◌++◌, map, ◌∙◌, subst}
 use Rattle.std.specs.List.{flat_map}
+use Rattle.std.proofs.lemmas.Result.{err_from_is_err_and}
 use Rattle.dcc_io.specs.WrittenBytes.{Writes}
 use Rattle.dcc_saved.specs.FleetText.{written_decoder, text_of}
 use Rattle.dcc_saved.proofs.FleetLemmas.{Writes-first, texts_more, texts_stopped, texts_ended}
 use Rattle.dcc_saved.proofs.fleet_text.write_fleet.Goals as goal
 
-pub returns-in-Err : goal.returns-in-Err
-returns-in-Err g c =
-    Writes-first (g.W.Sink.state c.args.writer.now) (g.W.Sink.state c.write_all.new.writer)
-    (codes "dcc-decoders 2\n")
-    (flat_map text_of
-    (map (λ decoder. let is = goal.Decoder-dyn g (decoder.vtable, decoder.value) in
-    (is.who decoder.value, is.registers decoder.value)) c.args.decoders.now) ++ codes "end\n")
-    c.in-Err.failed c.in-Err.ensures
+pub returns-in_err-write_all : goal.returns-in_err-write_all
+returns-in_err-write_all g c =
+    let p = err_from_is_err_and c.from_residual.result c.from_residual.ensures.1 in
+    rw p.1 (Writes-first (g.W.Sink.state c.args.writer.now) (g.W.Sink.state c.write_all.new.writer) (codes
+    "dcc-decoders 2\n") (flat_map text_of (map (λ decoder. let is = goal.Decoder-dyn g (
+      decoder.vtable,
+      decoder.value,
+    ) in (is.who decoder.value, is.registers decoder.value)) c.args.decoders.now) ++ codes "end\n") _
+    c.in_err-write_all.ensures)
 
-pub returns-in-Err-write_decoder : goal.returns-in-Err-write_decoder
-returns-in-Err-write_decoder g c =
+pub returns-in_err-write_decoder : goal.returns-in_err-write_decoder
+returns-in_err-write_decoder g c =
     let wrote = subst (λ d. Writes (g.W.Sink.state c.loop-decoder.writer)
     (written_decoder ((goal.Decoder-dyn g d).who d.1) ((goal.Decoder-dyn g d).registers d.1))
-    (Err c.in-Err-write_decoder.failed) (g.W.Sink.state c.write_decoder.new.writer)) c.deref_box-1.ensures.1
-    c.in-Err-write_decoder.ensures in
-    texts_stopped
-    (λ decoder. let is = goal.Decoder-dyn g (decoder.vtable, decoder.value) in
-    (is.who decoder.value, is.registers decoder.value))
-    (g.W.Sink.state c.args.writer.now) (g.W.Sink.state c.loop-decoder.writer)
-    (g.W.Sink.state c.write_decoder.new.writer)
-    c.args.decoders.now c.loop-decoder.decoder-index c.decoder-item.result c.in-Err-write_decoder.failed
-    c.loop-decoder-test.true c.decoder-item.is c.loop-decoder.invariant.0 c.loop-decoder.invariant.1 wrote
+    (Err _) (g.W.Sink.state c.write_decoder.new.writer)) c.deref_box-1.ensures.1
+    c.in_err-write_decoder.ensures in
+    let p = err_from_is_err_and c.from_residual-in_err-write_decoder.result
+    c.from_residual-in_err-write_decoder.ensures.1 in
+    rw p.1 (texts_stopped (λ decoder. let is = goal.Decoder-dyn g (decoder.vtable, decoder.value) in (
+      is.who
+          decoder.value,
+      is.registers decoder.value,
+    )) (g.W.Sink.state c.args.writer.now) (g.W.Sink.state
+    c.loop-decoder.writer) (g.W.Sink.state c.write_decoder.new.writer) c.args.decoders.now
+    c.loop-decoder.decoder-index c.decoder-item.result _ c.loop-decoder-test.true c.decoder-item.is
+    c.loop-decoder.invariant.0 c.loop-decoder.invariant.1 wrote)
 
 pub loop-decoder-preserved : goal.loop-decoder-preserved
 loop-decoder-preserved g c =
     let wrote = subst (λ d. Writes (g.W.Sink.state c.loop-decoder.writer)
     (written_decoder ((goal.Decoder-dyn g d).who d.1) ((goal.Decoder-dyn g d).registers d.1))
     (Ok tt) (g.W.Sink.state c.write_decoder.new.writer))
-    c.deref_box-1.ensures.1 c.in-Ok-write_decoder.ensures in (
+    c.deref_box-1.ensures.1 c.in_ok-write_decoder.ensures in (
       texts_more
           (λ decoder. let is = goal.Decoder-dyn g (decoder.vtable, decoder.value) in
           (is.who decoder.value, is.registers decoder.value))
@@ -49,6 +54,7 @@ returns g c =
     texts_ended
     (λ decoder. let is = goal.Decoder-dyn g (decoder.vtable, decoder.value) in
     (is.who decoder.value, is.registers decoder.value))
-    (g.W.Sink.state c.args.writer.now) (g.W.Sink.state c.loop-decoder.writer) (g.W.Sink.state c.write_all-2.new.writer)
+    (g.W.Sink.state c.args.writer.now) (g.W.Sink.state c.loop-decoder.writer) (g.W.Sink.state
+    c.write_all-2.new.writer)
     c.args.decoders.now c.loop-decoder.decoder-index c.write_all-2.result (omega arith) c.loop-decoder.invariant.0
     c.loop-decoder.invariant.1 c.write_all-2.ensures

@@ -1,26 +1,28 @@
 use Rattle.std.proofs.Common.{◌≡◌, ◌<◌, true, arith, length, vec_len, vec_capacity}
+use Rattle.std.proofs.lemmas.Result.{err_from_is_err_and}
 use Rattle.dcc_saved.specs.PossibleLines.{is_possible}
 use Rattle.dcc_saved.proofs.DecoderTextLemmas.{no_version, no_head, ReadsDecoders-start, ReadsDecoders-end}
 use Rattle.dcc_saved.proofs.DecoderTextLemmas.{ReadsDecoders-full, ReadsDecoders-one, ReadsDecoders-fault, pushed}
 use Rattle.dcc_saved.proofs.DecoderTextLemmas.{one_more_possible, through_end}
 use Rattle.dcc_saved.proofs.saved_decoders.fill.Goals as goal
 
-pub returns-in-Err-clause-reads : goal.returns-in-Err-clause-reads
-returns-in-Err-clause-reads g c =
-    no_version c.args.input.now c.read_version.new.input c.in-Err.fault c.requires.fault c.in-Err.ensures
+pub returns-in_err-version-clause-reads : goal.returns-in_err-version-clause-reads
+returns-in_err-version-clause-reads g c =
+    let p = err_from_is_err_and c.from_residual.result c.from_residual.ensures.1 in
+    rw (p.1, p.2) (no_version c.args.input.now c.read_version.new.input _ c.requires.fault c.in_err-version.ensures)
 
-pub returns-in-Err-read_head-clause-reads : goal.returns-in-Err-read_head-clause-reads
-returns-in-Err-read_head-clause-reads g c =
-    no_head c.in-Ok.version c.args.input.now c.read_version.new.input c.read_head.new.input c.in-Err-read_head.fault
-    c.requires.fault
-    c.in-Ok.ensures c.in-Err-read_head.ensures.reads
+pub returns-in_err-head-clause-reads : goal.returns-in_err-head-clause-reads
+returns-in_err-head-clause-reads g c =
+    let p = err_from_is_err_and c.from_residual-in_err-head.result c.from_residual-in_err-head.ensures.1 in
+    rw (p.1, p.2) (no_head c.in_ok-version.version c.args.input.now c.read_version.new.input c.read_head.new.input _
+    c.requires.fault c.in_ok-version.ensures c.in_err-head.ensures.reads)
 
 pub decoders-init : goal.decoders-init
 decoders-init g c = (
-  ReadsDecoders-start c.in-Ok.version c.args.input.now c.read_version.new.input c.read_head.new.input
-      c.in-Ok-read_head.head
-      c.args.decoders.items c.requires.empty c.requires.fault c.in-Ok.ensures c.in-Ok-read_head.ensures.reads,
-  c.in-Ok-read_head.ensures.possible,
+  ReadsDecoders-start c.in_ok-version.version c.args.input.now c.read_version.new.input c.read_head.new.input
+      c.in_ok-head.head
+      c.args.decoders.items c.requires.empty c.requires.fault c.in_ok-version.ensures c.in_ok-head.ensures.reads,
+  c.in_ok-head.ensures.possible,
   c.requires.room,
   rw c.requires.empty (λ k d h. absurd (omega (arith, h))),
 )
@@ -32,7 +34,7 @@ returns-then-len-eq-MOST-clause-reads g c =
     omega (arith, c.decoders.decoders.ok, c.len.ensures, c.if-len-eq-MOST.true) in
     let refused = c.refuse_too_much.ensures.refuses before.leads.fault in
     rw refused.0
-    (ReadsDecoders-full c.in-Ok.version c.args.input.now c.decoders.input c.refuse_too_much.new.input
+    (ReadsDecoders-full c.in_ok-version.version c.args.input.now c.decoders.input c.refuse_too_much.new.input
     c.decoders.decoders.items c.in-Decoder.who before full refused.1)
 
 pub decoders-preserved : goal.decoders-preserved
@@ -43,37 +45,43 @@ decoders-preserved g c =
     let count = before.count in
     let room : vec_len c.decoders.decoders < vec_capacity c.decoders.decoders =
     omega (arith, c.decoders.decoders.ok, c.len.ensures, some, count, c.decoders.invariant.2) in
-    let items = pushed c.decoders.decoders.items c.push.new.self.items c.in-Ok-read_decoder.decoder c.push.result
+    let items = pushed c.decoders.decoders.items c.push.new.self.items c.in_ok-decoder-in-Decoder.decoder
+    c.push.result
     c.push.ensures.items (c.push.ensures.succeeds room) in (
       rw items
-          (ReadsDecoders-one c.in-Ok.version c.args.input.now c.decoders.input c.read_decoder.new.input
-          c.decoders.decoders.items c.in-Decoder.who (c.in-Ok-read_decoder.decoder, c.in-Ok-read_decoder.behind)
+          (ReadsDecoders-one c.in_ok-version.version c.args.input.now c.decoders.input c.read_decoder.new.input
+          c.decoders.decoders.items c.in-Decoder.who (
+            c.in_ok-decoder-in-Decoder.decoder,
+            c.in_ok-decoder-in-Decoder.behind,
+          )
           before some
-          c.in-Ok-read_decoder.ensures.reads),
-      c.in-Ok-read_decoder.ensures.possible.1,
+          c.in_ok-decoder-in-Decoder.ensures.reads),
+      c.in_ok-decoder-in-Decoder.ensures.possible.1,
       omega (arith, c.push.ensures.capacity, c.decoders.invariant.2),
       rw items
           (one_more_possible (λ decoder. is_possible decoder ≡ true) c.decoders.decoders.items
-          c.in-Ok-read_decoder.decoder
-          c.decoders.invariant.3 c.in-Ok-read_decoder.ensures.possible.0),
+          c.in_ok-decoder-in-Decoder.decoder
+          c.decoders.invariant.3 c.in_ok-decoder-in-Decoder.ensures.possible.0),
     )
 
-pub returns-in-Err-read_decoder-clause-reads : goal.returns-in-Err-read_decoder-clause-reads
-returns-in-Err-read_decoder-clause-reads g c =
+pub returns-in_err-decoder-in-Decoder-clause-reads : goal.returns-in_err-decoder-in-Decoder-clause-reads
+returns-in_err-decoder-in-Decoder-clause-reads g c =
     let before = rw c.in-Decoder.is at c.decoders.invariant.0 in
     let some : length c.decoders.decoders.items ≡ 64 → ⊥ =
     λ full. c.if-len-eq-MOST.false (omega (arith, c.decoders.decoders.ok, c.len.ensures, full)) in
-    ReadsDecoders-fault c.in-Ok.version c.args.input.now c.decoders.input c.read_decoder.new.input
-    c.decoders.decoders.items
-    c.in-Decoder.who c.in-Err-read_decoder.fault before some c.in-Err-read_decoder.ensures.reads
+    let p = err_from_is_err_and c.from_residual-in_err-decoder-in-Decoder.result
+    c.from_residual-in_err-decoder-in-Decoder.ensures.1 in
+    rw (p.1, p.2) (ReadsDecoders-fault c.in_ok-version.version c.args.input.now c.decoders.input
+    c.read_decoder.new.input c.decoders.decoders.items c.in-Decoder.who _ before some
+    c.in_err-decoder-in-Decoder.ensures.reads)
 
 pub returns-in-End-clause-reads : goal.returns-in-End-clause-reads
 returns-in-End-clause-reads g c =
-    ReadsDecoders-end c.in-Ok.version c.args.input.now c.decoders.input c.decoders.decoders.items
+    ReadsDecoders-end c.in_ok-version.version c.args.input.now c.decoders.input c.decoders.decoders.items
     (rw c.in-End.is at c.decoders.invariant.0)
 
 pub returns-in-End-clause-lines : goal.returns-in-End-clause-lines
 returns-in-End-clause-lines g c =
     through_end c.args.input.now c.decoders.input c.decoders.decoders.items
-    (ReadsDecoders-end c.in-Ok.version c.args.input.now c.decoders.input c.decoders.decoders.items
+    (ReadsDecoders-end c.in_ok-version.version c.args.input.now c.decoders.input c.decoders.decoders.items
     (rw c.in-End.is at c.decoders.invariant.0))
