@@ -131,8 +131,7 @@ ReadsCvs-cv old now new least cvs cv value reads line ascends =
       room = omega arith;
       first = omega arith;
       last = omega arith;
-      leads = Leads-then (line_by (loco_line least)) (behind_loco_line (cvs_from more.0) cvs) cvs_lines old now new
-          (behind.Cv cv value) more.2 line;
+      leads = Leads-then (line_by (loco_line least)) (behind_loco_line (cvs_from more.0) cvs) more.2 line;
     }
 
 pub ReadsCvs-head : (old now new : InputState) (least : ℕ) (cvs : List ℕ) (head : Head) → ReadsCvs old least cvs now
@@ -140,16 +139,14 @@ pub ReadsCvs-head : (old now new : InputState) (least : ℕ) (cvs : List ℕ) (h
     → Answers cvs_lines old (Ok (cvs, head)) new
 ReadsCvs-head old now new least cvs head reads line =
     let more = more_room old least cvs now reads in
-    Leads-then (line_by (loco_line least)) (behind_loco_line (cvs_from more.0) cvs) cvs_lines old now new
-    (behind.Head head) more.2 line
+    Leads-then (line_by (loco_line least)) (behind_loco_line (cvs_from more.0) cvs) more.2 line
 
 pub ReadsCvs-fault : (old now new : InputState) (least : ℕ) (cvs : List ℕ) (fault : KeptFault)
     → ReadsCvs old least cvs now → Answers (line_by (loco_line least)) now (Err fault) new
     → Answers cvs_lines old (Err fault) new
 ReadsCvs-fault old now new least cvs fault reads line =
     let more = more_room old least cvs now reads in
-    Answers-fault (line_by (loco_line least)) (behind_loco_line (cvs_from more.0) cvs) cvs_lines old now new fault
-    more.2 line
+    Answers-fault (line_by (loco_line least)) (behind_loco_line (cvs_from more.0) cvs) new more.2 line
 
 -- the decoders that were read, and the line behind them
 pub record ReadsDecoders (version : Version) (old : InputState) (before : List Saved) (head : Head)
@@ -172,15 +169,14 @@ Leads-text old fault = Leads-start decoder_text old fault
 pub no_version : (old new : InputState) (fault : KeptFault) → old.fault ≡ None
     → Answers (line_by version_line) old (Err fault) new → Answers decoder_text old (Err fault) new
 no_version old new fault none version =
-    Answers-fault (line_by version_line) behind_version decoder_text old old new fault (Leads-text old none) version
+    Answers-fault (line_by version_line) behind_version new (Leads-text old none) version
 
 pub no_head : (version : Version) (old now new : InputState) (fault : KeptFault) → old.fault ≡ None
     → Answers (line_by version_line) old (Ok version) now → Answers (line_by head_line) now (Err fault) new
     → Answers decoder_text old (Err fault) new
 no_head version old now new fault none first head =
-    Answers-fault (line_by head_line) (behind_head version) decoder_text old now new fault
-    (Leads-then (line_by version_line) behind_version decoder_text old old now version (Leads-text old none) first)
-    head
+    Answers-fault (line_by head_line) (behind_head version) new
+    (Leads-then (line_by version_line) behind_version (Leads-text old none) first) head
 
 pub ReadsDecoders-start : (version : Version) (old now new : InputState) (head : Head) (before : List Saved)
     → before ≡ [] → old.fault ≡ None → Answers (line_by version_line) old (Ok version) now
@@ -189,9 +185,8 @@ pub ReadsDecoders-start : (version : Version) (old now new : InputState) (head :
 ReadsDecoders-start version old now new head before empty none first line = rw empty record {
   room = 64;
   count = refl;
-  leads = Leads-then (line_by head_line) (behind_head version) decoder_text old now new head
-      (Leads-then (line_by version_line) behind_version decoder_text old old now version (Leads-text old none) first)
-      line;
+  leads = Leads-then (line_by head_line) (behind_head version)
+      (Leads-then (line_by version_line) behind_version (Leads-text old none) first) line;
 }
 
 pub ReadsDecoders-end : (version : Version) (old now : InputState) (before : List Saved)
@@ -244,8 +239,7 @@ ReadsDecoders-one version old now new before who read reads some line =
       room = more.0;
       count = simp length-append (omega arith);
       leads = Leads-then (decoder_lines version who)
-          (λ decoder. decoders_from version more.0 (before ++ decoder.0 ∷ []) decoder.1) decoder_text old now new read
-          more.2 line;
+          (λ decoder. decoders_from version more.0 (before ++ decoder.0 ∷ []) decoder.1) more.2 line;
     }
 
 pub ReadsDecoders-fault : (version : Version) (old now new : InputState) (before : List Saved) (who : Who)
@@ -254,8 +248,7 @@ pub ReadsDecoders-fault : (version : Version) (old now new : InputState) (before
 ReadsDecoders-fault version old now new before who fault reads some line =
     let more = room_for_one version old now before who reads some in
     Answers-fault (decoder_lines version who)
-    (λ decoder. decoders_from version more.0 (before ++ decoder.0 ∷ []) decoder.1) decoder_text old now new fault
-    more.2 line
+    (λ decoder. decoders_from version more.0 (before ++ decoder.0 ∷ []) decoder.1) new more.2 line
 
 -- what a push leaves that has room
 pub pushed : {A E : Type 0} (old new : List A) (x : A) (result : Result (Unit {0}) E)

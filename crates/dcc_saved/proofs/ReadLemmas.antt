@@ -122,9 +122,10 @@ module _ {A B : Type 0} (first : Reader A) (next : A → Reader B) where
     halves = a.halves;
   }
 
-  pub Leads-then : (whole : Reader B) (old now new : InputState) (x : A) → Leads whole old (first >>= next) now
+  pub Leads-then : {whole : Reader B} {old now new : InputState} {x : A} → Leads whole old (first >>= next) now
       → Answers first now (Ok x) new → Leads whole old (next x) new
-  Leads-then whole old now new x a b = Leads-on whole (first >>= next) (next x) old now new a (Leads-value now new x b)
+  Leads-then {whole = whole} {old = old} {now = now} {new = new} {x = x} a b =
+      Leads-on whole (first >>= next) (next x) old now new a (Leads-value now new x b)
 
   -- where the first reader stops, both stop
   stops : (last : Option KeptFault) (fault : KeptFault) (read : Result (A × Text) Stop)
@@ -157,9 +158,9 @@ module _ {A B : Type 0} (first : Reader A) (next : A → Reader B) where
   Refuses-first now new TooMuch h = stops_first now new TooMuch h
   Refuses-first now new Read h = stops_first now new Read h
 
-  pub Answers-fault : (whole : Reader B) (old now new : InputState) (fault : KeptFault)
+  pub Answers-fault : {whole : Reader B} {old now : InputState} (new : InputState) {fault : KeptFault}
       → Leads whole old (first >>= next) now → Answers first now (Err fault) new → Answers whole old (Err fault) new
-  Answers-fault whole old now new fault a b =
+  Answers-fault {whole = whole} {old = old} {now = now} new {fault = fault} a b =
       (Refuses-behind whole (first >>= next) old now new fault a (Refuses-first now new fault b.0), b.1)
 
 -- bytes without a line feed begin the first line

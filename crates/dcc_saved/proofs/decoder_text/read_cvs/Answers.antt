@@ -10,8 +10,7 @@ cvs-preserved g c =
     let ends = rw c.in-Cv.is at c.in_ok-cv.ensures in
     rw (c.number-least.ensures.value, c.number.ensures.value)
     (ReadsCvs-cv c.args.input.now c.cvs.input c.read_loco_line.new.input c.cvs.least c.cvs.cvs c.in-Cv.cv
-    c.in-Cv.value
-    c.cvs.invariant ends.reads ends.sound)
+    c.in-Cv.value c.cvs.invariant ends.reads ends.sound)
 
 pub returns-in-Head-clause-reads : goal.returns-in-Head-clause-reads
 returns-in-Head-clause-reads g c =
@@ -22,5 +21,4 @@ returns-in-Head-clause-reads g c =
 pub returns-in_err-cv-clause-reads : goal.returns-in_err-cv-clause-reads
 returns-in_err-cv-clause-reads g c =
     let p = err_from_is_err_and c.from_residual.result c.from_residual.ensures.1 in
-    rw (p.1, p.2) (ReadsCvs-fault c.args.input.now c.cvs.input c.read_loco_line.new.input c.cvs.least c.cvs.cvs _
-    c.cvs.invariant c.in_err-cv.ensures.reads)
+    rw (p.1, p.2) (ReadsCvs-fault _ _ _ c.cvs.least c.cvs.cvs _ c.cvs.invariant c.in_err-cv.ensures.reads)

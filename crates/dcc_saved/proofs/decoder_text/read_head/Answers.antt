@@ -1,6 +1,4 @@
-use Rattle.std.proofs.Common.{ap, ◌∙◌}
 use Rattle.std.proofs.lemmas.Result.{err_from_is_err_and}
-use Rattle.dcc_packet.specs.Words.{words}
 use Rattle.dcc_saved.specs.DecoderLines.{head_line}
 use Rattle.dcc_saved.specs.PossibleLines.{IsPossibleHead}
 use Rattle.dcc_saved.proofs.BlankLines.{blank_head}
@@ -9,19 +7,14 @@ use Rattle.dcc_saved.proofs.decoder_text.read_head.Goals as goal
 
 pub returns-clause-reads : goal.returns-clause-reads
 returns-clause-reads g c =
-    let read = c.head_line.ensures.is
-    ∙ ap (λ bytes. head_line (words bytes)) (c.as_bytes.ensures.value ∙ c.deref.ensures.0) in
-    line-judged head_line blank_head c.args.input.now c.line_in_place.new.input c.judge.new.input
-    c.in_ok-line.line.number
-    c.in_ok-line.line.text.bytes c.judge.result c.in_ok-line.ensures (rw read at c.judge.ensures)
+    let judged = rw (c.head_line.ensures.is, c.as_bytes.ensures.value, c.deref.ensures.0) at c.judge.ensures in
+    line-judged head_line blank_head _ _ _ _ _ _ c.in_ok-line.ensures judged
 
 pub returns-in_err-line-clause-reads : goal.returns-in_err-line-clause-reads
 returns-in_err-line-clause-reads g c =
     let p = err_from_is_err_and c.from_residual.result c.from_residual.ensures.1 in
-    rw (p.1, p.2) (line-missed head_line c.args.input.now c.line_in_place.new.input _ c.in_err-line.ensures)
+    rw (p.1, p.2) (line-missed head_line _ _ _ c.in_err-line.ensures)
 
 pub returns-clause-possible : goal.returns-clause-possible
 returns-clause-possible g c =
-    judged-sound IsPossibleHead c.line_in_place.new.input c.judge.new.input c.in_ok-line.line.number
-    c.head_line.result
-    c.judge.result c.judge.ensures c.head_line.ensures.possible
+    judged-sound IsPossibleHead _ _ _ _ _ c.judge.ensures c.head_line.ensures.possible

@@ -1,6 +1,4 @@
-use Rattle.std.proofs.Common.{ap, ◌∙◌}
 use Rattle.std.proofs.lemmas.Result.{err_from_is_err_and}
-use Rattle.dcc_packet.specs.Words.{words}
 use Rattle.dcc_saved.specs.DecoderLines.{positions_line}
 use Rattle.dcc_saved.proofs.BlankLines.{blank_positions}
 use Rattle.dcc_saved.proofs.ReadLemmas.{line-judged, line-missed}
@@ -8,13 +6,10 @@ use Rattle.dcc_saved.proofs.decoder_text.read_positions.Goals as goal
 
 pub returns : goal.returns
 returns g c =
-    let read = c.positions_line.ensures
-    ∙ ap (λ bytes. positions_line (words bytes)) (c.as_bytes.ensures.value ∙ c.deref.ensures.0) in
-    line-judged positions_line blank_positions c.args.input.now c.line_in_place.new.input c.judge.new.input
-    c.in_ok-line.line.number c.in_ok-line.line.text.bytes c.judge.result c.in_ok-line.ensures (rw read at
-    c.judge.ensures)
+    let judged = rw (c.positions_line.ensures, c.as_bytes.ensures.value, c.deref.ensures.0) at c.judge.ensures in
+    line-judged positions_line blank_positions _ _ _ _ _ _ c.in_ok-line.ensures judged
 
 pub returns-in_err-line : goal.returns-in_err-line
 returns-in_err-line g c =
     let p = err_from_is_err_and c.from_residual.result c.from_residual.ensures.1 in
-    rw (p.1, p.2) (line-missed positions_line c.args.input.now c.line_in_place.new.input _ c.in_err-line.ensures)
+    rw (p.1, p.2) (line-missed positions_line _ _ _ c.in_err-line.ensures)

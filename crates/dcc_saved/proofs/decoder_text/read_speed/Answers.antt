@@ -1,6 +1,5 @@
-use Rattle.std.proofs.Common.{ap, ◌∙◌, ◌≡◌, true}
+use Rattle.std.proofs.Common.{◌≡◌, true}
 use Rattle.std.proofs.lemmas.Result.{err_from_is_err_and}
-use Rattle.dcc_packet.specs.Words.{words}
 use Rattle.dcc_saved.specs.DecoderLines.{speed_line}
 use Rattle.dcc_regs.specs.Loco.{is_speed}
 use Rattle.dcc_saved.proofs.BlankLines.{blank_speed}
@@ -9,18 +8,14 @@ use Rattle.dcc_saved.proofs.decoder_text.read_speed.Goals as goal
 
 pub returns-clause-reads : goal.returns-clause-reads
 returns-clause-reads g c =
-    let read = c.speed_line.ensures.is
-    ∙ ap (λ bytes. speed_line (words bytes)) (c.as_bytes.ensures.value ∙ c.deref.ensures.0) in
-    line-judged speed_line blank_speed c.args.input.now c.line_in_place.new.input c.judge.new.input
-    c.in_ok-line.line.number
-    c.in_ok-line.line.text.bytes c.judge.result c.in_ok-line.ensures (rw read at c.judge.ensures)
+    let judged = rw (c.speed_line.ensures.is, c.as_bytes.ensures.value, c.deref.ensures.0) at c.judge.ensures in
+    line-judged speed_line blank_speed _ _ _ _ _ _ c.in_ok-line.ensures judged
 
 pub returns-in_err-line-clause-reads : goal.returns-in_err-line-clause-reads
 returns-in_err-line-clause-reads g c =
     let p = err_from_is_err_and c.from_residual.result c.from_residual.ensures.1 in
-    rw (p.1, p.2) (line-missed speed_line c.args.input.now c.line_in_place.new.input _ c.in_err-line.ensures)
+    rw (p.1, p.2) (line-missed speed_line _ _ _ c.in_err-line.ensures)
 
 pub returns-clause-possible : goal.returns-clause-possible
 returns-clause-possible g c =
-    judged-sound (λ read. is_speed read.0 ≡ true) c.line_in_place.new.input c.judge.new.input c.in_ok-line.line.number
-    c.speed_line.result c.judge.result c.judge.ensures c.speed_line.ensures.possible
+    judged-sound (λ read. is_speed read.0 ≡ true) _ _ _ _ _ c.judge.ensures c.speed_line.ensures.possible

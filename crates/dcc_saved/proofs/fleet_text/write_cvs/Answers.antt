@@ -28,8 +28,9 @@ returns-in_err-write_all g c =
     (λ (bytes : List ℕ). Writes (g.W.Sink.state c.loop-n.writer) bytes
     (Err _) (g.W.Sink.state c.write_all.new.writer)) line c.in_err-write_all.ensures in
     let p = err_from_is_err_and c.from_residual.result c.from_residual.ensures.1 in
-    rw p.1 (cvs_stopped cvs c.loop-n.n 1024 (g.W.Sink.state c.args.writer.now) (g.W.Sink.state c.loop-n.writer)
-    (g.W.Sink.state c.write_all.new.writer) _ c.loop-n-test.true some c.loop-n.invariant.0 c.loop-n.invariant.1 wrote)
+    rw p.1
+    (cvs_stopped cvs c.loop-n.n 1024 _ _ _ _ c.loop-n-test.true some c.loop-n.invariant.0 c.loop-n.invariant.1
+    wrote)
 
 pub loop-n-preserved : goal.loop-n-preserved
 loop-n-preserved g c =

@@ -22,6 +22,6 @@ returns-in_err-write_all-in-Loco g c =
     (g.W.Sink.state c.write_all.new.writer))
     (c.as_slice.ensures.value ∙ c.loco_front.ensures) c.in_err-write_all-in-Loco.ensures in
     let p = err_from_is_err_and c.from_residual.result c.from_residual.ensures.1 in
-    rw p.1 (loco_first (is.who c.args.decoder.now.1) (is.registers c.args.decoder.now.1) c.in-Loco.address
-    (g.W.Sink.state c.args.writer.now) (g.W.Sink.state c.write_all.new.writer) _ (sym c.who.ensures.0 ∙ c.in-Loco.is)
-    front)
+    rw p.1
+    (loco_first _ (is.registers c.args.decoder.now.1) c.in-Loco.address _ _ _
+    (sym c.who.ensures.0 ∙ c.in-Loco.is) front)

@@ -1,20 +1,14 @@
-use Rattle.std.proofs.Common.{Ok, Err, arith, codes, ◌++◌, map, ◌∙◌, subst}
-use Rattle.std.specs.List.{flat_map}
+use Rattle.std.proofs.Common.{Ok, Err, arith, codes, ◌∙◌, subst}
 use Rattle.std.proofs.lemmas.Result.{err_from_is_err_and}
 use Rattle.dcc_io.specs.WrittenBytes.{Writes}
-use Rattle.dcc_saved.specs.FleetText.{written_decoder, text_of}
+use Rattle.dcc_saved.specs.FleetText.{written_decoder}
 use Rattle.dcc_saved.proofs.FleetLemmas.{Writes-first, texts_more, texts_stopped, texts_ended}
 use Rattle.dcc_saved.proofs.fleet_text.write_fleet.Goals as goal
 
 pub returns-in_err-write_all : goal.returns-in_err-write_all
 returns-in_err-write_all g c =
     let p = err_from_is_err_and c.from_residual.result c.from_residual.ensures.1 in
-    rw p.1 (Writes-first (g.W.Sink.state c.args.writer.now) (g.W.Sink.state c.write_all.new.writer) (codes
-    "dcc-decoders 2\n") (flat_map text_of (map (λ decoder. let is = goal.Decoder-dyn g (
-      decoder.vtable,
-      decoder.value,
-    ) in (is.who decoder.value, is.registers decoder.value)) c.args.decoders.now) ++ codes "end\n") _
-    c.in_err-write_all.ensures)
+    rw p.1 (Writes-first _ _ (codes "dcc-decoders 2\n") _ _ c.in_err-write_all.ensures)
 
 pub returns-in_err-write_decoder : goal.returns-in_err-write_decoder
 returns-in_err-write_decoder g c =
@@ -24,14 +18,12 @@ returns-in_err-write_decoder g c =
     c.in_err-write_decoder.ensures in
     let p = err_from_is_err_and c.from_residual-in_err-write_decoder.result
     c.from_residual-in_err-write_decoder.ensures.1 in
-    rw p.1 (texts_stopped (λ decoder. let is = goal.Decoder-dyn g (decoder.vtable, decoder.value) in (
-      is.who
-          decoder.value,
-      is.registers decoder.value,
-    )) (g.W.Sink.state c.args.writer.now) (g.W.Sink.state
-    c.loop-decoder.writer) (g.W.Sink.state c.write_decoder.new.writer) c.args.decoders.now
-    c.loop-decoder.decoder-index c.decoder-item.result _ c.loop-decoder-test.true c.decoder-item.is
-    c.loop-decoder.invariant.0 c.loop-decoder.invariant.1 wrote)
+    rw p.1
+    (texts_stopped
+    (λ decoder. let is = goal.Decoder-dyn g (decoder.vtable, decoder.value) in
+    (is.who decoder.value, is.registers decoder.value))
+    _ _ _ c.args.decoders.now c.loop-decoder.decoder-index c.decoder-item.result _
+    c.loop-decoder-test.true c.decoder-item.is c.loop-decoder.invariant.0 c.loop-decoder.invariant.1 wrote)
 
 pub loop-decoder-preserved : goal.loop-decoder-preserved
 loop-decoder-preserved g c =

@@ -9,13 +9,13 @@ use Rattle.dcc_saved.proofs.saved_decoders.fill.Goals as goal
 pub returns-in_err-version-clause-reads : goal.returns-in_err-version-clause-reads
 returns-in_err-version-clause-reads g c =
     let p = err_from_is_err_and c.from_residual.result c.from_residual.ensures.1 in
-    rw (p.1, p.2) (no_version c.args.input.now c.read_version.new.input _ c.requires.fault c.in_err-version.ensures)
+    rw (p.1, p.2) (no_version c.args.input.now _ _ c.requires.fault c.in_err-version.ensures)
 
 pub returns-in_err-head-clause-reads : goal.returns-in_err-head-clause-reads
 returns-in_err-head-clause-reads g c =
     let p = err_from_is_err_and c.from_residual-in_err-head.result c.from_residual-in_err-head.ensures.1 in
-    rw (p.1, p.2) (no_head c.in_ok-version.version c.args.input.now c.read_version.new.input c.read_head.new.input _
-    c.requires.fault c.in_ok-version.ensures c.in_err-head.ensures.reads)
+    rw (p.1, p.2)
+    (no_head c.in_ok-version.version _ _ _ _ c.requires.fault c.in_ok-version.ensures c.in_err-head.ensures.reads)
 
 pub decoders-init : goal.decoders-init
 decoders-init g c = (
@@ -46,21 +46,14 @@ decoders-preserved g c =
     let room : vec_len c.decoders.decoders < vec_capacity c.decoders.decoders =
     omega (arith, c.decoders.decoders.ok, c.len.ensures, some, count, c.decoders.invariant.2) in
     let items = pushed c.decoders.decoders.items c.push.new.self.items c.in_ok-decoder-in-Decoder.decoder
-    c.push.result
-    c.push.ensures.items (c.push.ensures.succeeds room) in (
+    c.push.result c.push.ensures.items (c.push.ensures.succeeds room) in (
       rw items
-          (ReadsDecoders-one c.in_ok-version.version c.args.input.now c.decoders.input c.read_decoder.new.input
-          c.decoders.decoders.items c.in-Decoder.who (
-            c.in_ok-decoder-in-Decoder.decoder,
-            c.in_ok-decoder-in-Decoder.behind,
-          )
-          before some
+          (ReadsDecoders-one c.in_ok-version.version _ _ _ c.decoders.decoders.items c.in-Decoder.who _ before some
           c.in_ok-decoder-in-Decoder.ensures.reads),
       c.in_ok-decoder-in-Decoder.ensures.possible.1,
       omega (arith, c.push.ensures.capacity, c.decoders.invariant.2),
       rw items
-          (one_more_possible (λ decoder. is_possible decoder ≡ true) c.decoders.decoders.items
-          c.in_ok-decoder-in-Decoder.decoder
+          (one_more_possible (λ decoder. is_possible decoder ≡ true) c.decoders.decoders.items _
           c.decoders.invariant.3 c.in_ok-decoder-in-Decoder.ensures.possible.0),
     )
 
@@ -71,8 +64,8 @@ returns-in_err-decoder-in-Decoder-clause-reads g c =
     λ full. c.if-len-eq-MOST.false (omega (arith, c.decoders.decoders.ok, c.len.ensures, full)) in
     let p = err_from_is_err_and c.from_residual-in_err-decoder-in-Decoder.result
     c.from_residual-in_err-decoder-in-Decoder.ensures.1 in
-    rw (p.1, p.2) (ReadsDecoders-fault c.in_ok-version.version c.args.input.now c.decoders.input
-    c.read_decoder.new.input c.decoders.decoders.items c.in-Decoder.who _ before some
+    rw (p.1, p.2)
+    (ReadsDecoders-fault c.in_ok-version.version _ _ _ c.decoders.decoders.items c.in-Decoder.who _ before some
     c.in_err-decoder-in-Decoder.ensures.reads)
 
 pub returns-in-End-clause-reads : goal.returns-in-End-clause-reads
