@@ -73,9 +73,9 @@ stops_text old mid words fault passed each =
     passed.text
 
 -- a word that spells no run
-pub stops_at_word : (old mid new : InputState) (line : ℕ) (word : List ℕ)
+pub stops_at_word : (old mid : InputState) (line : ℕ) (word : List ℕ)
     → Passed old (record { line = line; bytes = word } ∷ []) mid → run_of word ≡ None
-    → new ≡ record {
+    → AnswersRun old (Err (Number line)) (record {
       text = mid.text;
       ahead = mid.ahead;
       place = mid.place;
@@ -84,17 +84,14 @@ pub stops_at_word : (old mid new : InputState) (line : ℕ) (word : List ℕ)
       bytes = mid.bytes;
       fault = Some (Number line);
       failures = mid.failures;
-    }
-    → StopsAt captures old (Number line) new × (new.fault ≡ Some (Number line))
-stops_at_word old mid new line word passed spells is_new =
-    rw is_new (
-      (
-        passed.failures,
-        stops_text old mid (record { line = line; bytes = word } ∷ []) (Number line) passed
-            (λ ws last. rw spells refl),
-      ),
-      refl,
-    )
+    })
+stops_at_word old mid line word passed spells = (
+  (
+    passed.failures,
+    stops_text old mid (record { line = line; bytes = word } ∷ []) (Number line) passed (λ ws last. rw spells refl),
+  ),
+  refl,
+)
 
 -- a run of too many halves
 pub stops_at_limit : (old mid new : InputState) (line : ℕ) (run : Run) (word : List ℕ)

@@ -1,6 +1,5 @@
 //! The runs of the first of two captures in one input.
 
-// (faults are handed on by `match`: behind `?` the checker knows of an error only that `From` made it)
 ghost use Rattle.std.specs.Prelude.{◌≡◌, ◌==◌, ◌&&◌, not, ℕ, List, None};
 ghost use Rattle.dcc_io.specs.Words.{is_mark};
 ghost use Rattle.dcc_io.specs.SpelledWords.{Spells};
@@ -53,19 +52,18 @@ fn run_or_mark<R: Source>(
     requires { input.old.fault ≡ None }
     ensures { AnswersFirst before input.old result input.new }
 {
-    match next_word(input) {
-        Ok(Some((line, word))) => {
+    match next_word(input)? {
+        Some((line, word)) => {
             if begins_with_mark(&word, line, before) {
                 end_mark(input, line)
             } else {
                 count_word(input, line, &word)
             }
         }
-        Ok(None) => {
+        None => {
             let line = u64::from(input.lines()) + 1;
             Err(refuse_line(input, line, PacketFault::Word))
         }
-        Err(fault) => Err(fault),
     }
 }
 
@@ -86,10 +84,10 @@ fn count_word<R: Source>(
     ensures { (bytes : List ℕ) → Spells word.now bytes → CountsWord input.old line bytes result input.new }
 {
     match word.run() {
-        Some(run) => match count_run(input, run) {
-            Ok(_) => Ok(Some((line, run))),
-            Err(fault) => Err(fault),
-        },
+        Some(run) => {
+            count_run(input, run)?;
+            Ok(Some((line, run)))
+        }
         None => Err(refuse_number(input, line)),
     }
 }
@@ -102,9 +100,9 @@ fn end_mark<R: Source>(input: &mut Input<R>, line: u64) -> Result<Option<(u64, R
     if line_of_next_byte(input) != line {
         return Ok(None);
     }
-    match ends_line(input) {
-        Ok(true) => Ok(None),
-        Ok(false) => Err(refuse_number(input, line)),
-        Err(fault) => Err(fault),
+    if ends_line(input)? {
+        Ok(None)
+    } else {
+        Err(refuse_number(input, line))
     }
 }

@@ -1,6 +1,5 @@
 //! The runs of a capture.
 
-// (faults are handed on by `match`: behind `?` the checker knows of an error only that `From` made it)
 ghost use Rattle.std.specs.Prelude.{◌≡◌, ℕ, None, Ok, Some, IfSome, IfNone};
 ghost use Rattle.dcc_io.specs.KeptAnswers.{AnswersKept};
 ghost use Rattle.dcc_capture.specs.Capture.{AnswersRun};
@@ -41,13 +40,12 @@ fn run_of_next_word<R: Source>(input: &mut Input<R>) -> Result<Option<Run>, Kept
     requires { input.old.fault ≡ None }
     ensures { AnswersRun input.old result input.new }
 {
-    match next_word(input) {
-        Ok(Some((line, word))) => match word.run() {
+    match next_word(input)? {
+        Some((line, word)) => match word.run() {
             Some(run) => count_run(input, run),
             None => Err(refuse_number(input, line)),
         },
-        Ok(None) => Ok(None),
-        Err(fault) => Err(fault),
+        None => Ok(None),
     }
 }
 
