@@ -11,6 +11,7 @@ use dcc_io::{Input, KeptFault, Run, Source};
 /// The next half, where its word is a duration alone that stands at the front of the bytes that were read and has ended.
 /// So most halves cost one look at each byte.
 #[inline(always)]
+#[tactic(auto, using(crate::proofs::HalfLemmas::run_at_hand, crate::proofs::HalfLemmas::first_at_hand))]
 pub fn half_at_hand<R: Source>(input: &mut Input<R>) -> Option<u16>
     requires { input.old.fault ≡ None }
     ensures some { IfSome result (λ us. AnswersRun input.old (Ok (Some (record { us = us; n = 1 }))) input.new) }
