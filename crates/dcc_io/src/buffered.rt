@@ -67,10 +67,7 @@ impl<R: Source> Buffered<R> {
         ensures { AnswersNext self.old result self.new }
     {
         if self.is_used_up() {
-            match self.fill() {
-                Ok(()) => (),
-                Err(failed) => return Err(failed),
-            }
+            self.fill()?;
         }
         Ok(self.take_first())
     }
@@ -89,14 +86,10 @@ impl<R: Source> Buffered<R> {
         requires { self.old.ahead ≡ [] }
         ensures { Fills self.old result self.new }
     {
-        match self.reader.read(&mut self.buffer) {
-            Ok(count) => {
-                self.start = 0;
-                self.end = count;
-                Ok(())
-            }
-            Err(failed) => Err(failed),
-        }
+        let count = self.reader.read(&mut self.buffer)?;
+        self.start = 0;
+        self.end = count;
+        Ok(())
     }
 
     /// The first byte ahead, if there is one.

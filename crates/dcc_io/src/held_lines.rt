@@ -49,10 +49,7 @@ impl HeldLines {
             (W.state writer.new) }
     {
         if self.lines.remaining_capacity() < line.len() {
-            match self.write_out(writer) {
-                Ok(()) => (),
-                Err(failed) => return Err(failed),
-            }
+            self.write_out(writer)?;
         }
         let _ = self.lines.try_extend_from_slice(line);
         Ok(())
@@ -63,12 +60,8 @@ impl HeldLines {
         ensures writes { Writes (W.state writer.old) self.old result (W.state writer.new) }
         ensures empty { OnOk result (self.new ≡ []) }
     {
-        match write_all(writer, self.lines.as_slice()) {
-            Ok(()) => {
-                self.lines.clear();
-                Ok(())
-            }
-            Err(failed) => Err(failed),
-        }
+        write_all(writer, self.lines.as_slice())?;
+        self.lines.clear();
+        Ok(())
     }
 }

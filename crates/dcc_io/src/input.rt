@@ -1,6 +1,4 @@
 //! What a call of the program reads from.
-
-// (faults are handed on by `match`: behind `?` the checker knows of an error only that `From` made it)
 ghost use Rattle.std.specs.Prelude.{◌≡◌, ◌≢◌, ◌+◌, ◌<◌, ◌≤◌, ◌^◌, ◌∷◌, ℕ, List, [], length, take, drop, None, Some};
 ghost use Rattle.std.specs.Prelude.{true, false, IsTrue, IfSome, IfNone, if◌then◌else◌, ◌||◌};
 ghost use Rattle.dcc_io.specs.ReaderState.{IsFront};
@@ -289,8 +287,8 @@ impl<R: Source> Input<R> {
         let mut word = RunWord::new();
         'bytes: loop {
             let line = self.line();
-            match self.next_byte() {
-                Ok(Some(byte)) => {
+            match self.next_byte()? {
+                Some(byte) => {
                     if !self.passes_gap(byte) {
                         word.push(byte);
                     } else if !word.is_empty() {
@@ -299,8 +297,7 @@ impl<R: Source> Input<R> {
                         return Ok(Some(found));
                     }
                 }
-                Ok(None) => return Ok(None),
-                Err(fault) => return Err(fault),
+                None => return Ok(None),
             }
         }
     }
@@ -372,8 +369,8 @@ impl<R: Source> Input<R> {
     {
         let mut line = TextLine::new(self.line());
         'bytes: loop {
-            match self.next_byte() {
-                Ok(Some(byte)) => {
+            match self.next_byte()? {
+                Some(byte) => {
                     if byte == b'\n' {
                         return Ok(Some(line));
                     }
@@ -385,8 +382,7 @@ impl<R: Source> Input<R> {
                     }
                     line.push(byte);
                 }
-                Ok(None) => return Ok(None),
-                Err(fault) => return Err(fault),
+                None => return Ok(None),
             }
         }
     }
@@ -408,14 +404,13 @@ impl<R: Source> Input<R> {
         ensures { AnswersPacket self.old result self.new }
     {
         'lines: loop {
-            match self.next_line() {
-                Ok(Some(line)) => {
+            match self.next_line()? {
+                Some(line) => {
                     if !line.is_skipped() {
                         return self.read_packet(&line);
                     }
                 }
-                Ok(None) => return Ok(None),
-                Err(fault) => return Err(fault),
+                None => return Ok(None),
             }
         }
     }

@@ -15,8 +15,8 @@ impl<R: Source> Input<R> {
     {
         let mut word = RunWord::new();
         'bytes: loop {
-            match self.next_byte() {
-                Ok(Some(byte)) => {
+            match self.next_byte()? {
+                Some(byte) => {
                     if !self.passes_gap(byte) {
                         word.push(byte);
                     } else if !word.is_empty() {
@@ -25,8 +25,7 @@ impl<R: Source> Input<R> {
                         return Ok(true);
                     }
                 }
-                Ok(None) => return Ok(true),
-                Err(fault) => return Err(fault),
+                None => return Ok(true),
             }
         }
     }

@@ -1,6 +1,4 @@
 //! The lines that a station is driven by.
-
-// (faults are handed on by `match`: behind `?` the checker knows of an error only that `From` made it)
 ghost use Rattle.std.specs.Prelude.{◌≡◌, None, IfSome, IfNone};
 ghost use Rattle.dcc_packet.specs.Words.{words};
 ghost use Rattle.dcc_io.specs.StationLines.{station_requests, asked_by, asked_or_fault, send, send_count};
@@ -36,18 +34,12 @@ impl StationLine {
         match words.next() {
             Some(word) => {
                 if word == b"send".as_slice() {
-                    return match send(&mut words) {
-                        Ok(count) => Ok(StationLine::Send(count)),
-                        Err(fault) => Err(fault),
-                    };
+                    return Ok(StationLine::Send(send(&mut words)?));
                 }
             }
             None => (),
         }
-        match Packet::from_line(line) {
-            Ok(packet) => Ok(StationLine::Command(packet)),
-            Err(fault) => Err(fault),
-        }
+        Ok(StationLine::Command(Packet::from_line(line)?))
     }
 }
 
@@ -110,14 +102,13 @@ fn next_asking_line<R: Source>(input: &mut Input<R>) -> Result<Option<StationLin
     ensures { AnswersSaid station_words asked_by input.old result input.new }
 {
     'lines: loop {
-        match input.next_line() {
-            Ok(Some(line)) => {
+        match input.next_line()? {
+            Some(line) => {
                 if !line.is_skipped() {
                     return read_station_line(input, &line);
                 }
             }
-            Ok(None) => return Ok(None),
-            Err(fault) => return Err(fault),
+            None => return Ok(None),
         }
     }
 }

@@ -9,10 +9,9 @@ pub fn write_all<W: Sink>(writer: &mut W, bytes: &[u8]) -> Result<(), Failed>
 {
     let mut done = 0;
     'calls: while done < bytes.len() {
-        match writer.write(&bytes[done..]) {
-            Ok(0) => return Err(Failed),
-            Ok(count) => done += count,
-            Err(failed) => return Err(failed),
+        match writer.write(&bytes[done..])? {
+            0 => return Err(Failed),
+            count => done += count,
         }
     }
     Ok(())

@@ -5,11 +5,11 @@ use Rattle.dcc_io.proofs.input.Input.next_line.Goals as goal
 
 pub returns-then-not-has_room_for : goal.returns-then-not-has_room_for
 returns-then-not-has_room_for g c =
-    let takes = rw c.in-Ok-Some.field-0-is at c.in-Ok-Some.ensures in
+    let takes = rw c.in-Some.is at c.in_ok-byte.ensures in
     let bad = sym c.has_room_for.ensures ∙ c.if-not-has_room_for.true in
     rw c.refuse.ensures.answer (
       refl,
       OpensLine-bad c.args.self.now c.bytes.self c.next_byte.new.self c.refuse.new.self c.bytes.line.text.bytes
-          c.in-Ok-Some.byte c.bytes.line.number
+          c.in-Some.byte c.bytes.line.number
           c.bytes.invariant.1 takes (ne_eqb _ _ c.if-byte-eq10.false) bad c.bytes.invariant.0 c.refuse.ensures.kept,
     )

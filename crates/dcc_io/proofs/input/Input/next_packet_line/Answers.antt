@@ -1,4 +1,5 @@
 use Rattle.std.proofs.Common.{sym, ◌∙◌}
+use Rattle.std.proofs.lemmas.Result.{err_from_is_err_and}
 use Rattle.dcc_packet.specs.Spelling.{spelling}
 use Rattle.dcc_io.specs.PacketLines.{packet_words}
 use Rattle.dcc_io.proofs.PacketReadLemmas.{Gave-passed, answers_said, answers_fault}
@@ -6,18 +7,20 @@ use Rattle.dcc_io.proofs.input.Input.next_packet_line.Goals as goal
 
 pub returns-then-not-is_skipped : goal.returns-then-not-is_skipped
 returns-then-not-is_skipped g c =
-    let ends = rw c.in-Ok-Some.field-0-is at c.in-Ok-Some.ensures in
+    let ends = rw c.in-Some.is at c.in_ok-line.ensures in
     answers_said packet_words spelling c.args.self.now c.lines.self c.next_line.new.self c.read_packet.new.self
-    c.in-Ok-Some.line c.read_packet.result c.lines.invariant ends
+    c.in-Some.line c.read_packet.result c.lines.invariant ends
     (sym c.is_skipped.ensures ∙ c.if-not-is_skipped.true) c.read_packet.ensures
 
 pub lines-preserved : goal.lines-preserved
 lines-preserved g c =
-    let ends = rw c.in-Ok-Some.field-0-is at c.in-Ok-Some.ensures in
-    Gave-passed packet_words spelling c.args.self.now c.lines.self c.next_line.new.self c.in-Ok-Some.line
+    let ends = rw c.in-Some.is at c.in_ok-line.ensures in
+    Gave-passed packet_words spelling c.args.self.now c.lines.self c.next_line.new.self c.in-Some.line
     c.lines.invariant ends (sym c.is_skipped.ensures ∙ c.if-not-is_skipped.false)
 
-pub returns-in-Err : goal.returns-in-Err
-returns-in-Err g c =
-    answers_fault packet_words spelling c.args.self.now c.lines.self c.next_line.new.self c.in-Err.fault
-    c.lines.invariant c.in-Err.ensures
+pub returns-in_err-line : goal.returns-in_err-line
+returns-in_err-line g c =
+    let p = err_from_is_err_and c.from_residual.result c.from_residual.ensures.1 in
+    rw (p.1, p.2)
+    (answers_fault packet_words spelling c.args.self.now c.lines.self c.next_line.new.self _
+    c.lines.invariant c.in_err-line.ensures)
