@@ -6,7 +6,7 @@ use Rattle.dcc_io.specs.declared.fault.KeptFault.TheVariants.{Number, Line, TooM
 use Rattle.dcc_io.specs.declared.word.Run.{Run}
 use Rattle.dcc_io.specs.ReaderState.{IsAtEnd}
 use Rattle.dcc_io.specs.InputState.{InputState}
-use Rattle.dcc_io.specs.Items.{Items, Reading, in_text, before_failure, items_behind, only_fault, Gave, StopsAt}
+use Rattle.dcc_io.specs.Items.{Items, Grammar, in_text, before_failure, items_behind, only_fault, Gave, StopsAt}
 use Rattle.dcc_io.specs.Words.{Word, ended_words, run_of}
 
 -- a run, where at most so many halves may be taken, and what comes behind it where so many are left
@@ -24,7 +24,7 @@ abbrev pub halves_of : ℕ → List Word → Option KeptFault → Items ℕ
 halves_of most [] last = only_fault last
 halves_of most (word ∷ words) last = behind_word most word.line (run_of word.bytes) (λ left. halves_of left words last)
 
-abbrev pub captures : Reading ℕ
+abbrev pub captures : Grammar ℕ
 captures input bytes last = halves_of input.halves (ended_words input.place bytes) last
 
 -- the capture in an input with this text

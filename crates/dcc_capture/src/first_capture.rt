@@ -8,7 +8,7 @@ ghost use Rattle.dcc_capture.specs.FirstRead.{AnswersFirst};
 ghost use Rattle.dcc_capture.specs.Inner.FirstSteps.{CountsWord, EndsMark};
 
 use crate::runs::half_at_hand;
-use dcc_io::reading::{
+use dcc_io::inputs::{
     count_run, ends_line, line_of_next_byte, next_word, refuse_line, refuse_number,
 };
 use dcc_io::{Input, KeptFault, Run, RunWord, Source};

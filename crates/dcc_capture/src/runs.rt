@@ -5,7 +5,7 @@ ghost use Rattle.dcc_io.specs.KeptAnswers.{AnswersKept};
 ghost use Rattle.dcc_capture.specs.Capture.{AnswersRun};
 ghost use Rattle.dcc_capture.specs.FirstRead.{AnswersFirst};
 
-use dcc_io::reading::{count_run, next_word, refuse_number};
+use dcc_io::inputs::{count_run, next_word, refuse_number};
 use dcc_io::{Input, KeptFault, Run, Source};
 
 /// The next half, where its word is a duration alone that stands at the front of the bytes that were read and has ended.
@@ -20,7 +20,7 @@ pub fn half_at_hand<R: Source>(input: &mut Input<R>) -> Option<u16>
         → AnswersFirst before input.old (Ok (Some (input.old.place.line, record { us = us; n = 1 }))) input.new) }
     ensures none { IfNone result (input.new ≡ input.old) }
 {
-    dcc_io::reading::half_at_hand(input)
+    dcc_io::inputs::half_at_hand(input)
 }
 
 /// The run that the next word spells, or none at the end. A fault is kept.

@@ -18,7 +18,7 @@ pub record Side (whole given : List Packet) (given_end : Bool) (rest : List Pack
   pub may : MayFollow given_end rest
   pub is : given_end ≡ ended
 
-pub record Reading (who : Who) (left right left_rest right_rest : List Packet) (left_ended right_ended : Bool)
+pub record ReadSoFar (who : Who) (left right left_rest right_rest : List Packet) (left_ended right_ended : Bool)
     (c : Comparison) : Type 0 where
   pub lists : Lists
   pub stands : StandsFor c lists
@@ -36,7 +36,7 @@ front given rest = grind (arith, common_steps)
 -- and so it is that of what was read of them
 pub read_verdict : (who : Who) (left right left_rest right_rest : List Packet) (left_ended right_ended : Bool)
     (c : Comparison) (v : Verdict) →
-    (g : Reading who left right left_rest right_rest left_ended right_ended c) → IsVerdictOfAll c.who g.lists v →
+    (g : ReadSoFar who left right left_rest right_rest left_ended right_ended c) → IsVerdictOfAll c.who g.lists v →
     IsVerdict who (take (length g.lists.left) left) (take (length g.lists.right) right) v
 read_verdict who left right left_rest right_rest left_ended right_ended c v g all =
     let one : take (length g.lists.left) left ≡ g.lists.left ++ [] =
@@ -75,8 +75,8 @@ pub read_left : {who : Who} {left right left_rest right_rest : List Packet} {lef
     → next.who ≡ c.who
     → ((lists : Lists) → StandsFor c lists → lists.left_ended ≡ false)
     → ((lists : Lists) → StandsFor c lists → StandsFor next (with_item c.wants item lists))
-    → Took item left_rest later left_ended ended → Reading who left right left_rest right_rest left_ended right_ended c
-    → Reading who left right later right_rest ended right_ended next
+    → Took item left_rest later left_ended ended → ReadSoFar who left right left_rest right_rest left_ended right_ended c
+    → ReadSoFar who left right later right_rest ended right_ended next
 read_left {who} {left} {right} {left_rest} {right_rest} {left_ended} {right_ended} {c} (Some packet) later ended next
     wants same going gives took g = record {
       lists = with_item Left (Some packet) g.lists;
@@ -103,8 +103,8 @@ pub read_right : {who : Who} {left right left_rest right_rest : List Packet} {le
     → ((lists : Lists) → StandsFor c lists → lists.right_ended ≡ false)
     → ((lists : Lists) → StandsFor c lists → StandsFor next (with_item c.wants item lists))
     → Took item right_rest later right_ended ended
-    → Reading who left right left_rest right_rest left_ended right_ended c
-    → Reading who left right left_rest later left_ended ended next
+    → ReadSoFar who left right left_rest right_rest left_ended right_ended c
+    → ReadSoFar who left right left_rest later left_ended ended next
 read_right {who} {left} {right} {left_rest} {right_rest} {left_ended} {right_ended} {c} (Some packet) later ended next
     wants same going gives took g = record {
       lists = with_item Right (Some packet) g.lists;

@@ -7,13 +7,13 @@ use Rattle.dcc_io.specs.declared.fault.KeptFault.TheVariants.{Number, Line, Read
 use Rattle.dcc_io.specs.Failures.{HasRisen}
 use Rattle.dcc_io.specs.ReaderState.{IsAtEnd}
 use Rattle.dcc_io.specs.InputState.{InputState, all_lines, UsesAllLines}
-use Rattle.dcc_io.specs.Items.{Items, Reading, in_text, before_failure, items_behind, only_fault, Gives, Gave, StopsAt}
+use Rattle.dcc_io.specs.Items.{Items, Grammar, in_text, before_failure, items_behind, only_fault, Gives, Gave, StopsAt}
 use Rattle.dcc_io.specs.Items.{EndsWith, ReadsUpTo}
 use Rattle.dcc_io.proofs.TookLemmas.{Took-start, Took-join, told_behind, fails_behind, Stops-behind, within_limit-used}
 use Rattle.dcc_io.proofs.WrittenLemmas.{HasRisen-one_more}
 
-module _ {A : Type 0} (reading : Reading A) where
-  pub Gave-none : (input : InputState) → input.fault ≡ None → Gave reading input [] input
+module _ {A : Type 0} (grammar : Grammar A) where
+  pub Gave-none : (input : InputState) → input.fault ≡ None → Gave grammar input [] input
   Gave-none input fault = Took-start input fault (λ more last. refl)
 
   joined : (first second : List A) (items : Items A)
@@ -21,28 +21,28 @@ module _ {A : Type 0} (reading : Reading A) where
   joined first second items =
       ap (λ (said : List A). record { said = said; fault = items.fault }) (sym (append_assoc first second items.said))
 
-  pub Gave-append : (old mid new : InputState) (first second : List A) → Gave reading old first mid
-      → Gave reading mid second new → Gave reading old (first ++ second) new
+  pub Gave-append : (old mid new : InputState) (first second : List A) → Gave grammar old first mid
+      → Gave grammar mid second new → Gave grammar old (first ++ second) new
   Gave-append old mid new first second a b =
       Took-join a b
-      (λ front back say then more last. ap (λ (bytes : List ℕ). reading old bytes last) (append_assoc front back more)
+      (λ front back say then more last. ap (λ (bytes : List ℕ). grammar old bytes last) (append_assoc front back more)
       ∙ say (back ++ more) last ∙ ap (items_behind first) (then more last)
-      ∙ joined first second (reading new more last))
+      ∙ joined first second (grammar new more last))
 
   -- what the text says, told of its rest
-  pub in_whole : (old new : InputState) (items : List A) (text rest : List ℕ) → Gives reading old items new text rest
-      → in_text reading old text ≡ items_behind items (in_text reading new rest)
+  pub in_whole : (old new : InputState) (items : List A) (text rest : List ℕ) → Gives grammar old items new text rest
+      → in_text grammar old text ≡ items_behind items (in_text grammar new rest)
   in_whole old new items text rest gives =
-      within_limit-used old new (reading old) (λ bytes last. items_behind items (reading new bytes last)) text rest
+      within_limit-used old new (grammar old) (λ bytes last. items_behind items (grammar new bytes last)) text rest
       gives
       gives.is
       ∙ either (nat_le (length rest) new.bytes)
     where
       either : (within : Bool)
-          → cond within (items_behind items (reading new rest None))
-          (items_behind items (reading new (take (new.bytes - 1) rest) (Some TooMuch)))
+          → cond within (items_behind items (grammar new rest None))
+          (items_behind items (grammar new (take (new.bytes - 1) rest) (Some TooMuch)))
           ≡ items_behind items
-          (cond within (reading new rest None) (reading new (take (new.bytes - 1) rest) (Some TooMuch)))
+          (cond within (grammar new rest None) (grammar new (take (new.bytes - 1) rest) (Some TooMuch)))
       either true = refl
       either false = refl
 
@@ -52,19 +52,19 @@ module _ {A : Type 0} (reading : Reading A) where
   ends_with items fault said fact whole holds = rw whole (refl, subst fact (sym (append-nil said)) holds)
 
   pub up_to_fault : (start now : InputState) (said : List A) (fault : Option KeptFault) (fact : List A → Type 0)
-      → Gave reading start said now
-      → IfSome now.text (λ text. in_text reading now text ≡ only_fault fault) → fact said
-      → IfSome start.text (λ text. EndsWith fault fact (in_text reading start text))
+      → Gave grammar start said now
+      → IfSome now.text (λ text. in_text grammar now text ≡ only_fault fault) → fact said
+      → IfSome start.text (λ text. EndsWith fault fact (in_text grammar start text))
   up_to_fault start now said fault fact gave stops holds =
-      told_behind gave (λ text. in_text reading now text ≡ only_fault fault)
-      (λ text. EndsWith fault fact (in_text reading start text))
-      (λ text rest gives none. ends_with (in_text reading start text) fault said fact
+      told_behind gave (λ text. in_text grammar now text ≡ only_fault fault)
+      (λ text. EndsWith fault fact (in_text grammar start text))
+      (λ text rest gives none. ends_with (in_text grammar start text) fault said fact
       (in_whole start now said text rest gives ∙ ap (items_behind said) none) holds) stops
 
   -- what was read up to a fault
   pub reads_up_to : (start now new : InputState) (fault : KeptFault) (said : List A) (fact : List A → Type 0)
-      → Gave reading start said now → StopsAt reading now fault new → fact said
-      → ReadsUpTo reading start (Some fault) new fact
+      → Gave grammar start said now → StopsAt grammar now fault new → fact said
+      → ReadsUpTo grammar start (Some fault) new fact
   reads_up_to start now new (Number line) said fact gave stops holds =
       (up_to_fault start now said (Some (Number line)) fact gave stops.1 holds, stops.0 ∙ gave.failures)
   reads_up_to start now new (Line line fault) said fact gave stops holds =
@@ -72,9 +72,9 @@ module _ {A : Type 0} (reading : Reading A) where
   reads_up_to start now new TooMuch said fact gave stops holds =
       (up_to_fault start now said (Some TooMuch) fact gave stops.1 holds, stops.0 ∙ gave.failures)
   reads_up_to start now new Read said fact gave stops holds =
-      let fails = fails_behind gave (λ used. before_failure reading now used ≡ only_fault (Some Read))
-      (λ used. EndsWith (Some Read) fact (before_failure reading start used)) new stops
-      (λ front back say none. ends_with (before_failure reading start (front ++ back)) (Some Read) said fact
+      let fails = fails_behind gave (λ used. before_failure grammar now used ≡ only_fault (Some Read))
+      (λ used. EndsWith (Some Read) fact (before_failure grammar start used)) new stops
+      (λ front back say none. ends_with (before_failure grammar start (front ++ back)) (Some Read) said fact
       (say back (Some Read) ∙ ap (items_behind said) none) holds) in (
         fails.2,
         fails.1,
@@ -82,27 +82,27 @@ module _ {A : Type 0} (reading : Reading A) where
       )
 
   -- all that is said, told from further back
-  pub all_behind : (start now : InputState) → Gave reading start [] now
-      → IfSome now.text (λ text. in_text reading now text ≡ only_fault None)
-      → IfSome start.text (λ text. in_text reading start text ≡ only_fault None)
+  pub all_behind : (start now : InputState) → Gave grammar start [] now
+      → IfSome now.text (λ text. in_text grammar now text ≡ only_fault None)
+      → IfSome start.text (λ text. in_text grammar start text ≡ only_fault None)
   all_behind start now gave none =
-      told_behind gave (λ text. in_text reading now text ≡ only_fault None)
-      (λ text. in_text reading start text ≡ only_fault None)
+      told_behind gave (λ text. in_text grammar now text ≡ only_fault None)
+      (λ text. in_text grammar start text ≡ only_fault None)
       (λ text rest gives none. in_whole start now [] text rest gives ∙ ap (items_behind []) none) none
 
   -- the state at a fault may be told from further back, where nothing was said in between
-  pub StopsAt-behind : (start now new : InputState) (fault : KeptFault) → Gave reading start [] now
-      → StopsAt reading now fault new → StopsAt reading start fault new
+  pub StopsAt-behind : (start now new : InputState) (fault : KeptFault) → Gave grammar start [] now
+      → StopsAt grammar now fault new → StopsAt grammar start fault new
   StopsAt-behind start now new fault gave stops =
-      Stops-behind gave (λ used. before_failure reading now used ≡ only_fault (Some Read))
-      (λ used. before_failure reading start used ≡ only_fault (Some Read))
-      (λ text. in_text reading now text ≡ only_fault (Some fault))
-      (λ text. in_text reading start text ≡ only_fault (Some fault)) new fault stops
+      Stops-behind gave (λ used. before_failure grammar now used ≡ only_fault (Some Read))
+      (λ used. before_failure grammar start used ≡ only_fault (Some Read))
+      (λ text. in_text grammar now text ≡ only_fault (Some fault))
+      (λ text. in_text grammar start text ≡ only_fault (Some fault)) new fault stops
       (λ front back say none. say back (Some Read) ∙ ap (items_behind []) none)
       (λ text rest gives none. in_whole start now [] text rest gives ∙ ap (items_behind []) none)
 
   -- where nothing is left, each line is used
-  pub uses_all_lines : (start now : InputState) (said : List A) → Gave reading start said now → IsAtEnd now.text
+  pub uses_all_lines : (start now : InputState) (said : List A) → Gave grammar start said now → IsAtEnd now.text
       → UsesAllLines start now
   uses_all_lines start now said gave at_end =
       told_behind gave (λ rest. rest ≡ []) (λ text. now.lines ≡ all_lines start text)

@@ -19,35 +19,35 @@ abbrev pub items_behind : {A : Type 0} → List A → Items A → Items A
 items_behind front items = record { said = front ++ items.said; fault = items.fault }
 
 -- how items are read of these bytes of an input, with the fault behind them or none
-abbrev pub Reading : Type 0 → Type 0
-Reading A = InputState → List ℕ → Option KeptFault → Items A
+abbrev pub Grammar : Type 0 → Type 0
+Grammar A = InputState → List ℕ → Option KeptFault → Items A
 
 -- the items in an input with this text
-abbrev pub in_text : {A : Type 0} → Reading A → InputState → List ℕ → Items A
-in_text reading input text = within_limit (reading input) input text
+abbrev pub in_text : {A : Type 0} → Grammar A → InputState → List ℕ → Items A
+in_text grammar input text = within_limit (grammar input) input text
 
 -- the items in an input whose reader fails behind these bytes
-abbrev pub before_failure : {A : Type 0} → Reading A → InputState → List ℕ → Items A
-before_failure reading input used = reading input used (Some kept.Read)
+abbrev pub before_failure : {A : Type 0} → Grammar A → InputState → List ℕ → Items A
+before_failure grammar input used = grammar input used (Some kept.Read)
 
 -- these bytes say these items, and what follows them says the rest
-abbrev pub SayItems : {A : Type 0} → Reading A → InputState → List A → InputState → List ℕ → Type 0
-SayItems reading old items new used = (more : List ℕ) (last : Option KeptFault)
-    → reading old (used ++ more) last ≡ items_behind items (reading new more last)
+abbrev pub SayItems : {A : Type 0} → Grammar A → InputState → List A → InputState → List ℕ → Type 0
+SayItems grammar old items new used = (more : List ℕ) (last : Option KeptFault)
+    → grammar old (used ++ more) last ≡ items_behind items (grammar new more last)
 
 -- bytes were used, which say these items
-abbrev pub Gives : {A : Type 0} → Reading A → InputState → List A → InputState → List ℕ → List ℕ → Type 0
-Gives reading old items new text rest = Uses (SayItems reading old items new) old new text rest
+abbrev pub Gives : {A : Type 0} → Grammar A → InputState → List A → InputState → List ℕ → List ℕ → Type 0
+Gives grammar old items new text rest = Uses (SayItems grammar old items new) old new text rest
 
 -- these items were taken, and nothing went wrong
-abbrev pub Gave : {A : Type 0} → Reading A → InputState → List A → InputState → Type 0
-Gave reading old items new = Took (SayItems reading old items new) old new
+abbrev pub Gave : {A : Type 0} → Grammar A → InputState → List A → InputState → Type 0
+Gave grammar old items new = Took (SayItems grammar old items new) old new
 
 -- no item can be taken before this fault
-abbrev pub StopsAt : {A : Type 0} → Reading A → InputState → KeptFault → InputState → Type 0
-StopsAt reading old fault new =
-    Stops (λ used. before_failure reading old used ≡ only_fault (Some kept.Read))
-    (λ text. in_text reading old text ≡ only_fault (Some fault)) old fault new
+abbrev pub StopsAt : {A : Type 0} → Grammar A → InputState → KeptFault → InputState → Type 0
+StopsAt grammar old fault new =
+    Stops (λ used. before_failure grammar old used ≡ only_fault (Some kept.Read))
+    (λ text. in_text grammar old text ≡ only_fault (Some fault)) old fault new
 
 -- this fact holds of the items before this fault, or of all of them where there is none
 abbrev pub EndsWith : {A : Type 0} → Option KeptFault → (List A → Type 0) → Items A → Type 0
@@ -55,10 +55,10 @@ EndsWith fault fact items = (items.fault ≡ fault) × fact items.said
 
 -- The input was read up to this fault, whose cause stands, or to its end, and this fact holds of the
 -- items before that. At a failed read those are the items of all the bytes that had come.
-abbrev pub ReadsUpTo : {A : Type 0} → Reading A → InputState → Option KeptFault → InputState → (List A → Type 0)
+abbrev pub ReadsUpTo : {A : Type 0} → Grammar A → InputState → Option KeptFault → InputState → (List A → Type 0)
     → Type 0
-ReadsUpTo reading old (Some kept.Read) new fact =
-    StandsBehind (λ used. EndsWith (Some kept.Read) fact (before_failure reading old used)) old new × (new.ahead ≡ [])
+ReadsUpTo grammar old (Some kept.Read) new fact =
+    StandsBehind (λ used. EndsWith (Some kept.Read) fact (before_failure grammar old used)) old new × (new.ahead ≡ [])
     × HasRisen old.failures new.failures
-ReadsUpTo reading old fault new fact =
-    IfSome old.text (λ text. EndsWith fault fact (in_text reading old text)) × (new.failures ≡ old.failures)
+ReadsUpTo grammar old fault new fact =
+    IfSome old.text (λ text. EndsWith fault fact (in_text grammar old text)) × (new.failures ≡ old.failures)

@@ -10,7 +10,7 @@ use Rattle.dcc_io.specs.declared.fault.KeptFault.{KeptFault}
 use Rattle.dcc_io.specs.declared.fault.KeptFault.TheVariants as kept
 use Rattle.dcc_io.specs.InputState.{InputState}
 use Rattle.dcc_io.specs.NumberedLines.{NumberedLine, lines_from, is_good}
-use Rattle.dcc_io.specs.Items.{Items, Reading, in_text, before_failure, only_fault, items_behind}
+use Rattle.dcc_io.specs.Items.{Items, Grammar, in_text, before_failure, only_fault, items_behind}
 
 -- a line whose first character is #
 abbrev pub is_comment_line : List ℕ → Bool
@@ -50,7 +50,7 @@ items_of saying (line ∷ []) last = open_line line last
 items_of saying (line ∷ next ∷ lines) last = behind_line saying line (items_of saying (next ∷ lines) last)
 
 -- lines whose words are read so
-abbrev pub lines_by : {A B : Type 0} → Saying A B → Reading A
+abbrev pub lines_by : {A B : Type 0} → Saying A B → Grammar A
 lines_by saying input bytes last = items_of saying (lines_from input.place.line bytes) last
 
 -- the items in an input with this text
@@ -69,5 +69,5 @@ packet_words = record { said = frame_of_words; items = λ frame. frame ∷ [] }
 abbrev pub frames_in : InputState → List ℕ → Items (List ℕ)
 frames_in input text = items_in packet_words input text
 
-abbrev pub packet_lines : Reading (List ℕ)
+abbrev pub packet_lines : Grammar (List ℕ)
 packet_lines = lines_by packet_words

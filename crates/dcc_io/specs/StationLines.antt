@@ -8,7 +8,7 @@ use Rattle.dcc_packet.specs.LineWords.{◌>>=◌, number}
 use Rattle.dcc_packet.specs.Line.{word_and_rest, no_more_words, frame_of_words}
 use Rattle.dcc_io.specs.declared.station_line.StationLine.{StationLine}
 use Rattle.dcc_io.specs.declared.station_line.StationLine.TheVariants as lines
-use Rattle.dcc_io.specs.Items.{Reading}
+use Rattle.dcc_io.specs.Items.{Grammar}
 use Rattle.dcc_io.specs.PacketLines.{Saying, lines_by}
 
 -- what is station_requests of a station: to take the command with this frame, or to hand out one packet
@@ -48,7 +48,7 @@ station_requests (word ∷ rest) =
 abbrev pub station_words : Saying Asked (List Asked)
 station_words = record { said = station_requests; items = λ items. items }
 
-abbrev pub station_lines : Reading Asked
+abbrev pub station_lines : Grammar Asked
 station_lines = lines_by station_words
 
 -- what a line that was read asks for

@@ -18,7 +18,7 @@ use crate::decoder_words::{
     speed_line, states_line, version_line,
 };
 use crate::saved::Saved;
-use dcc_io::reading::{line_of_next_byte, next_line, refuse_line};
+use dcc_io::inputs::{line_of_next_byte, next_line, refuse_line};
 use dcc_io::{Input, KeptFault, Source, TextLine};
 use dcc_packet::{Address, Board, Packet, PacketFault};
 use dcc_regs::{BoardState, LocoState, Speed, Who};

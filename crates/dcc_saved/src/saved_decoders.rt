@@ -11,7 +11,7 @@ ghost use Rattle.dcc_saved.specs.TextReadOrNoMemory.{ReadFails};
 use crate::decoder_line::Head;
 use crate::decoder_text::{read_decoder, read_head, read_version};
 use crate::saved::Saved;
-use dcc_io::reading::refuse_too_much;
+use dcc_io::inputs::refuse_too_much;
 use dcc_io::{Input, KeptFault, Source, ToolFault};
 use std::alloc::Global;
 

@@ -12,7 +12,7 @@ ghost use Rattle.dcc_send.specs.Inner.Held.{TakesNext};
 use crate::encoded_line::hold_frame;
 use crate::encoding::Encode;
 use crate::station_encoding::encode_by_station;
-use dcc_io::{Failed, HeldLines, Input, KeptFault, Sink, Source, ToolFault, Usage, reading};
+use dcc_io::{Failed, HeldLines, Input, KeptFault, Sink, Source, ToolFault, Usage, inputs};
 use dcc_packet::Packet;
 use dcc_station::{Station, StationFault};
 use std::alloc::Global;
@@ -105,9 +105,9 @@ fn next_packet<R: Source, W: Sink>(
         input.new held.new
         (W.state writer.new) }
 {
-    if let Some(packet) = reading::packet_at_hand(input) {
+    if let Some(packet) = inputs::packet_at_hand(input) {
         return Ok(Ok(Some(packet)));
     }
     held.write_out(writer)?;
-    Ok(reading::next_packet(input))
+    Ok(inputs::next_packet(input))
 }

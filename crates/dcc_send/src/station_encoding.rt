@@ -11,7 +11,7 @@ ghost use Rattle.dcc_send.specs.Inner.Held.{TakesNext, HoldsAnswersOrFails};
 
 use crate::encoded_line::hold_frame;
 use crate::encoding::Encode;
-use dcc_io::reading::{next_station_line, station_line_at_hand};
+use dcc_io::inputs::{next_station_line, station_line_at_hand};
 use dcc_io::{Failed, HeldLines, Input, KeptFault, Sink, Source, StationLine, ToolFault};
 use dcc_packet::Packet;
 use dcc_station::{Refused, Station};
