@@ -28,13 +28,12 @@ fn line_in_place<R: Source>(input: &mut Input<R>) -> Result<TextLine, KeptFault>
     requires { input.old.fault ≡ None }
     ensures { TakesLine input.old result input.new }
 {
-    match next_line(input) {
-        Ok(Some(line)) => Ok(line),
-        Ok(None) => {
+    match next_line(input)? {
+        Some(line) => Ok(line),
+        None => {
             let line = line_of_next_byte(input);
             Err(refuse_line(input, line, PacketFault::Word))
         }
-        Err(fault) => Err(fault),
     }
 }
 
