@@ -26,17 +26,13 @@ pub fn gather_first<R: Source>(
     let mut packets = Vec::new(alloc);
     let mut before = 0;
     'runs: loop {
-        match next_of_first(input, before) {
-            Ok(Some((line, run))) => {
+        match next_of_first(input, before)? {
+            Some((line, run)) => {
                 before = line;
                 let shown = framer.push_run(run.us, run.n);
-                match hold_seen(&mut packets, &shown.seen) {
-                    Ok(()) => (),
-                    Err(_) => return Err(ToolFault::NoMemory),
-                }
+                hold_seen(&mut packets, &shown.seen)?;
             }
-            Ok(None) => return Ok(packets),
-            Err(fault) => return Err(ToolFault::from(fault)),
+            None => return Ok(packets),
         }
     }
 }

@@ -41,38 +41,28 @@ pub(crate) fn compare_in_step<L: Source, R: Source>(
     let mut comparer = Comparer::new(alloc, who);
     'packets: loop {
         match comparer.wants() {
-            Wants::Left => match next_packet(left, &mut left_framer) {
-                Ok(item) => {
-                    left_ended = item.is_none();
-                    match comparer.give(item) {
-                        Ok(()) => (),
-                        Err(_) => return Err(ToolFault::NoMemory),
-                    }
+            Wants::Left => {
+                let item = next_packet(left, &mut left_framer)?;
+                left_ended = item.is_none();
+                match comparer.give(item) {
+                    Ok(()) => (),
+                    Err(_) => return Err(ToolFault::NoMemory),
                 }
-                Err(fault) => return Err(ToolFault::from(fault)),
-            },
-            Wants::Right => match next_packet(right, &mut right_framer) {
-                Ok(item) => {
-                    right_ended = item.is_none();
-                    match comparer.give(item) {
-                        Ok(()) => (),
-                        Err(_) => return Err(ToolFault::NoMemory),
-                    }
+            }
+            Wants::Right => {
+                let item = next_packet(right, &mut right_framer)?;
+                right_ended = item.is_none();
+                match comparer.give(item) {
+                    Ok(()) => (),
+                    Err(_) => return Err(ToolFault::NoMemory),
                 }
-                Err(fault) => return Err(ToolFault::from(fault)),
-            },
+            }
             Wants::Done(verdict) => {
                 if !left_ended {
-                    match pass_rest(left, &mut left_framer) {
-                        Ok(()) => (),
-                        Err(fault) => return Err(ToolFault::from(fault)),
-                    }
+                    pass_rest(left, &mut left_framer)?;
                 }
                 if !right_ended {
-                    match pass_rest(right, &mut right_framer) {
-                        Ok(()) => (),
-                        Err(fault) => return Err(ToolFault::from(fault)),
-                    }
+                    pass_rest(right, &mut right_framer)?;
                 }
                 return Ok(verdict);
             }
@@ -121,22 +111,17 @@ pub(crate) fn compare_beside<R: Source>(
                     }
                 }
             },
-            Wants::Right => match next_packet(input, &mut framer) {
-                Ok(item) => {
-                    ended = item.is_none();
-                    match comparer.give(item) {
-                        Ok(()) => (),
-                        Err(_) => return Err(ToolFault::NoMemory),
-                    }
+            Wants::Right => {
+                let item = next_packet(input, &mut framer)?;
+                ended = item.is_none();
+                match comparer.give(item) {
+                    Ok(()) => (),
+                    Err(_) => return Err(ToolFault::NoMemory),
                 }
-                Err(fault) => return Err(ToolFault::from(fault)),
-            },
+            }
             Wants::Done(verdict) => {
                 if !ended {
-                    match pass_rest(input, &mut framer) {
-                        Ok(()) => (),
-                        Err(fault) => return Err(ToolFault::from(fault)),
-                    }
+                    pass_rest(input, &mut framer)?;
                 }
                 return Ok(verdict);
             }

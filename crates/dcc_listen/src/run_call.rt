@@ -41,17 +41,13 @@ pub fn run<R: Source, W: Sink>(
             Some(us) => {
                 let _ = hear_half(decoders, &mut framer, us);
             }
-            None => match read_run(input) {
-                Ok(Some(run)) => {
+            None => match read_run(input)? {
+                Some(run) => {
                     let _ = hear_half_run(decoders, &mut framer, run.us, run.n);
                 }
-                Ok(None) => break,
-                Err(fault) => return Err(ToolFault::from(fault)),
+                None => break,
             },
         }
     }
-    match write_fleet(decoders, writer) {
-        Ok(()) => Ok(()),
-        Err(_) => Err(ToolFault::Write),
-    }
+    Ok(write_fleet(decoders, writer)?)
 }

@@ -51,10 +51,8 @@ pub fn same<L: Source, R: Source, W: Sink>(
     alike_is_the_verdict();
     alike_lists_leave_the_same();
     let verdict = compare_in_step(alloc, left, right, who)?;
-    match write_verdict(writer, verdict) {
-        Ok(()) => Ok(verdict),
-        Err(_) => Err(ToolFault::Write),
-    }
+    write_verdict(writer, verdict)?;
+    Ok(verdict)
 }
 
 /// Writes the line of a verdict.

@@ -44,10 +44,8 @@ pub fn same_input<R: Source, W: Sink>(
     alike_is_the_verdict();
     alike_lists_leave_the_same();
     let verdict = compare_both(alloc, input, who)?;
-    match write_verdict(writer, verdict) {
-        Ok(()) => Ok(verdict),
-        Err(_) => Err(ToolFault::Write),
-    }
+    write_verdict(writer, verdict)?;
+    Ok(verdict)
 }
 
 /// Reads both captures to their ends, and answers the verdict on their packets. Those of the first are held, since it comes

@@ -48,23 +48,16 @@ pub fn show<R: Source, W: Sink>(
             Some(us) => {
                 let seen = framer.push(us);
                 let half = most - input.halves_left();
-                match hold_seen(&mut held, half, &seen, words, writer) {
-                    Ok(()) => (),
-                    Err(_) => return Err(ToolFault::Write),
-                }
+                hold_seen(&mut held, half, &seen, words, writer)?;
             }
-            None => match next_run(input, &mut held, writer) {
-                Ok(Ok(Some(run))) => {
+            None => match next_run(input, &mut held, writer)? {
+                Ok(Some(run)) => {
                     let shown = framer.push_run(run.us, run.n);
                     let half = most - input.halves_left() - run.n + shown.at;
-                    match hold_seen(&mut held, half, &shown.seen, words, writer) {
-                        Ok(()) => (),
-                        Err(_) => return Err(ToolFault::Write),
-                    }
+                    hold_seen(&mut held, half, &shown.seen, words, writer)?;
                 }
-                Ok(Ok(None)) => return write_rest(&mut held, writer, Ok(())),
-                Ok(Err(fault)) => return write_rest(&mut held, writer, Err(ToolFault::from(fault))),
-                Err(_) => return Err(ToolFault::Write),
+                Ok(None) => return write_rest(&mut held, writer, Ok(())),
+                Err(fault) => return write_rest(&mut held, writer, Err(ToolFault::from(fault))),
             },
         }
     }
@@ -80,10 +73,8 @@ fn next_run<R: Source, W: Sink>(
     ensures { TakesRun input.old (W.state writer.old) held.old result input.new held.new
         (W.state writer.new) }
 {
-    match write_before_read(held, input, writer) {
-        Ok(()) => Ok(read_run(input)),
-        Err(failed) => Err(failed),
-    }
+    write_before_read(held, input, writer)?;
+    Ok(read_run(input))
 }
 
 /// Writes what is held, unless the next half is at hand. So who watches a live track sees each line
@@ -149,8 +140,6 @@ fn write_rest<W: Sink>(
     ensures { WritesRest (W.state writer.old) held.old answer result
         (W.state writer.new) }
 {
-    match held.write_out(writer) {
-        Ok(()) => answer,
-        Err(_) => Err(ToolFault::Write),
-    }
+    held.write_out(writer)?;
+    answer
 }

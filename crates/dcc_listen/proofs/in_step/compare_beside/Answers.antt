@@ -5,7 +5,7 @@ use Rattle.dcc_listen.proofs.GatherLemmas.{Gathering-start}
 use Rattle.dcc_listen.proofs.InStepLemmas.{Rest, nothing_behind, still_open, rest_behind, beside_given, beside_ended}
 use Rattle.dcc_listen.proofs.InStepLemmas.{one_more_fits, end_is, took_beside}
 use Rattle.dcc_listen.proofs.in_step.compare_beside.Goals as goal
-use Rattle.dcc_listen.proofs.in_step.compare_beside.Goals.{then-not-ended+in-Ok-pass_rest, else-not-ended}
+use Rattle.dcc_listen.proofs.in_step.compare_beside.Goals.{then-not-ended+in_ok-pass_rest-in-Done, else-not-ended}
 
 pub packets-init : goal.packets-init
 packets-init g c =
@@ -31,11 +31,11 @@ returns-in-Done-clause-compared g c =
     let s = c.packets.invariant.beside in
     let none = sym c.fault.ensures.fault ∙ c.in_default.is in
     let right : Rest s.lists.right_ended c.args.input.now c.if-not-ended.input s.lists.right = elim c.if-not-ended.branch [
-      | then-not-ended+in-Ok-pass_rest w ↦ subst (λ now. Rest s.lists.right_ended c.args.input.now now s.lists.right)
+      | then-not-ended+in_ok-pass_rest-in-Done w ↦ subst (λ now. Rest s.lists.right_ended c.args.input.now now s.lists.right)
           (sym w.input-is)
           (rest_behind s.lists.right_ended c.packets.ended c.args.input.now w.pass_rest.new.input s.lists.right
           s.right_is w.if-not-ended.true
-          (w.in-Ok-pass_rest.ensures c.args.input.now s.lists.right none
+          (w.in_ok-pass_rest-in-Done.ensures c.args.input.now s.lists.right none
           (still_open c.packets.ended c.args.input.now c.packets.input c.packets.framer s.lists.right
           w.if-not-ended.true s.right_read)))
       | else-not-ended w ↦ subst (λ now. Rest s.lists.right_ended c.args.input.now now s.lists.right) (sym w.input-is)
@@ -72,15 +72,15 @@ packets-preserved-in-Ok-give g c =
           c.in-Ok-give.ensures.stands;
     }
 
-pub give-requires-in-Ok-next_packet-clause-right : goal.give-requires-in-Ok-next_packet-clause-right
-give-requires-in-Ok-next_packet-clause-right g c = λ e.
+pub give-requires-in-Right-clause-right : goal.give-requires-in-Right-clause-right
+give-requires-in-Right-clause-right g c = λ e.
     let s = c.packets.invariant.beside in
     let none = sym c.fault.ensures.fault ∙ c.in_default.is in
     let few : c.args.input.now.halves < 4294967296 =
     subst (λ n. n < 4294967296) c.halves_left-most.ensures (omega arith) in
-    one_more_fits c.in-Ok-next_packet.item c.args.input.now c.next_packet.new.input c.next_packet.new.framer
+    one_more_fits c.in_ok-item-in-Right.item c.args.input.now c.next_packet.new.input c.next_packet.new.framer
     s.lists.right c.packets.comparer.right_given s.stands.right_given few
-    (c.in-Ok-next_packet.ensures.takes c.args.input.now s.lists.right none
+    (c.in_ok-item-in-Right.ensures.takes c.args.input.now s.lists.right none
     (still_open c.packets.ended c.args.input.now c.packets.input c.packets.framer s.lists.right
     (sym s.right_is ∙ c.wants.ensures.right c.in-Right.is s.lists s.stands) s.right_read))
 
@@ -90,14 +90,14 @@ packets-preserved g c =
     let none = sym c.fault.ensures.fault ∙ c.in_default.is in
     let going = c.wants.ensures.right c.in-Right.is s.lists s.stands in
     record {
-      fault = c.in-Ok-next_packet.ensures.fault;
+      fault = c.in_ok-item-in-Right.ensures.fault;
       beside =
           took_beside c.args.who c.args.packets.now c.packets.given c.packets.left_ended c.args.input.now
           c.packets.input c.next_packet.new.input c.packets.framer c.next_packet.new.framer
-          c.packets.ended c.is_none-ended.result c.packets.comparer c.give-in-Ok-next_packet.new.self
-          c.in-Ok-next_packet.item s (sym c.wants.ensures.is ∙ c.in-Right.is) c.in-Ok-give-2.ensures.who going
-          (end_is c.in-Ok-next_packet.item c.is_none-ended.result c.is_none-ended.ensures) c.in-Ok-give-2.ensures.stands
-          (c.in-Ok-next_packet.ensures.takes c.args.input.now s.lists.right none
+          c.packets.ended c.is_none-ended.result c.packets.comparer c.give-in-Right.new.self
+          c.in_ok-item-in-Right.item s (sym c.wants.ensures.is ∙ c.in-Right.is) c.in-Ok-give-2.ensures.who going
+          (end_is c.in_ok-item-in-Right.item c.is_none-ended.result c.is_none-ended.ensures) c.in-Ok-give-2.ensures.stands
+          (c.in_ok-item-in-Right.ensures.takes c.args.input.now s.lists.right none
           (still_open c.packets.ended c.args.input.now c.packets.input c.packets.framer s.lists.right
           (sym s.right_is ∙ going) s.right_read));
     }

@@ -4,8 +4,8 @@ use Rattle.dcc_order.specs.Verdicts.{IsVerdict}
 use Rattle.dcc_listen.proofs.GatherLemmas.{Gathering-start}
 use Rattle.dcc_listen.proofs.InStepLemmas.{Rest, nothing_behind, still_open, rest_behind, end_is, took_right}
 use Rattle.dcc_listen.proofs.in_step.compare_in_step.Goals as goal
-use Rattle.dcc_listen.proofs.in_step.compare_in_step.Goals.{then-not-left_ended+in-Ok-pass_rest, else-not-left_ended}
-use Rattle.dcc_listen.proofs.in_step.compare_in_step.Goals.{then-not-right_ended+in-Ok-pass_rest-2}
+use Rattle.dcc_listen.proofs.in_step.compare_in_step.Goals.{then-not-left_ended+in_ok-pass_rest-in-Done, else-not-left_ended}
+use Rattle.dcc_listen.proofs.in_step.compare_in_step.Goals.{then-not-right_ended+in_ok-pass_rest-in-Done-2}
 use Rattle.dcc_listen.proofs.in_step.compare_in_step.Goals.{else-not-right_ended}
 
 pub packets-init : goal.packets-init
@@ -33,11 +33,11 @@ returns-in-Done-clause-compared g c =
     let right_none = sym c.fault-2.ensures.fault ∙ c.in_default-fault.is in
     let left : Rest s.lists.left_ended c.args.left.now c.if-not-left_ended.left s.lists.left = elim
     c.if-not-left_ended.branch [
-      | then-not-left_ended+in-Ok-pass_rest w ↦ subst (λ now. Rest s.lists.left_ended c.args.left.now now s.lists.left)
+      | then-not-left_ended+in_ok-pass_rest-in-Done w ↦ subst (λ now. Rest s.lists.left_ended c.args.left.now now s.lists.left)
           (sym w.left-is)
           (rest_behind s.lists.left_ended c.packets.left_ended c.args.left.now w.pass_rest.new.input s.lists.left
           s.left_is w.if-not-left_ended.true
-          (w.in-Ok-pass_rest.ensures c.args.left.now s.lists.left left_none
+          (w.in_ok-pass_rest-in-Done.ensures c.args.left.now s.lists.left left_none
           (still_open c.packets.left_ended c.args.left.now c.packets.left c.packets.left_framer s.lists.left
           w.if-not-left_ended.true s.left_read)))
       | else-not-left_ended w ↦ subst (λ now. Rest s.lists.left_ended c.args.left.now now s.lists.left) (sym w.left-is)
@@ -46,11 +46,11 @@ returns-in-Done-clause-compared g c =
     ] in
     let right : Rest s.lists.right_ended c.args.right.now c.if-not-right_ended.right s.lists.right = elim
     c.if-not-right_ended.branch [
-      | then-not-right_ended+in-Ok-pass_rest-2 w ↦ subst
+      | then-not-right_ended+in_ok-pass_rest-in-Done-2 w ↦ subst
           (λ now. Rest s.lists.right_ended c.args.right.now now s.lists.right) (sym w.right-is)
           (rest_behind s.lists.right_ended c.packets.right_ended c.args.right.now
           w.pass_rest-then-not-right_ended.new.input s.lists.right s.right_is w.if-not-right_ended.true
-          (w.in-Ok-pass_rest-2.ensures c.args.right.now s.lists.right right_none
+          (w.in_ok-pass_rest-in-Done-2.ensures c.args.right.now s.lists.right right_none
           (still_open c.packets.right_ended c.args.right.now c.packets.right c.packets.right_framer
           s.lists.right w.if-not-right_ended.true s.right_read)))
       | else-not-right_ended w ↦ subst (λ now. Rest s.lists.right_ended c.args.right.now now s.lists.right)
@@ -74,17 +74,17 @@ packets-preserved g c =
     let going = c.wants.ensures.right c.in-Right.is s.lists s.stands in
     record {
       left_fault = c.packets.invariant.left_fault;
-      right_fault = c.in-Ok-next_packet.ensures.fault;
+      right_fault = c.in_ok-item-in-Right.ensures.fault;
       in_step =
           took_right c.args.who c.args.left.now c.args.right.now c.packets.left c.packets.right
           c.next_packet-in-Right.new.input c.packets.left_framer c.packets.right_framer
           c.next_packet-in-Right.new.framer
           c.packets.left_ended c.packets.right_ended c.is_none-right_ended.result c.packets.comparer
-          c.give-in-Ok-next_packet.new.self c.in-Ok-next_packet.item s (sym c.wants.ensures.is ∙ c.in-Right.is)
-          c.in-Ok-give-2.ensures.who going
-          (end_is c.in-Ok-next_packet.item c.is_none-right_ended.result c.is_none-right_ended.ensures)
-          c.in-Ok-give-2.ensures.stands
-          (c.in-Ok-next_packet.ensures.takes c.args.right.now s.lists.right none
+          c.give-in-Right.new.self c.in_ok-item-in-Right.item s (sym c.wants.ensures.is ∙ c.in-Right.is)
+          c.in-Ok-give.ensures.who going
+          (end_is c.in_ok-item-in-Right.item c.is_none-right_ended.result c.is_none-right_ended.ensures)
+          c.in-Ok-give.ensures.stands
+          (c.in_ok-item-in-Right.ensures.takes c.args.right.now s.lists.right none
           (still_open c.packets.right_ended c.args.right.now c.packets.right c.packets.right_framer s.lists.right
           (sym s.right_is ∙ going) s.right_read));
     }

@@ -1,4 +1,5 @@
 use Rattle.std.proofs.Common.{ℕ, List, [], ◌∷◌, ◌++◌, replicate, map, ap, sym, subst, ◌∙◌}
+use Rattle.std.proofs.lemmas.Result.{err_from_is_err_and}
 use Rattle.dcc_regs.specs.declared.register.Who.{Who}
 use Rattle.dcc_regs.specs.Result.{RegisterMap}
 use Rattle.dcc_order.specs.Hearing.{HasHeardHalves}
@@ -28,14 +29,14 @@ runs-init g c = record {
 
 pub runs-preserved : goal.runs-preserved
 runs-preserved g c =
-    let took = rw (c.in-Ok-Some.field-0-is, c.in-None.ensures.none) at
-    (c.in-Ok-Some.ensures.reads
+    let took = rw (c.in-Some-2.is, c.in-None.ensures.none) at
+    (c.in_ok-run-in-None.ensures.reads
     (ap (λ (state : InputState). state.fault) c.in-None.ensures.none ∙ c.runs.invariant.gave.fault)) in
     let before = c.runs.invariant in
     record {
-      halves = before.halves ++ replicate c.in-Ok-Some.run'.n c.in-Ok-Some.run'.us;
+      halves = before.halves ++ replicate c.in-Some-2.run'.n c.in-Some-2.run'.us;
       gave = Gave-append captures c.args.input.now c.runs.input c.read_run.new.input before.halves
-          (replicate c.in-Ok-Some.run'.n c.in-Ok-Some.run'.us) before.gave took.0.items;
+          (replicate c.in-Some-2.run'.n c.in-Some-2.run'.us) before.gave took.0.items;
       stands = c.hear_half_run.ensures.stands before.halves before.stands;
       decoders =
           c.hear_half_run.ensures.since before.halves before.stands
@@ -57,33 +58,34 @@ runs-preserved-in-Some-half_at_hand g c =
           (is.who decoder.value, is.registers decoder.value)) c.args.decoders.now) before.decoders;
     }
 
-pub returns-in-Err-clause-runs : goal.returns-in-Err-clause-runs
-returns-in-Err-clause-runs g c none =
+pub returns-in_err-run-in-None-clause-runs : goal.returns-in_err-run-in-None-clause-runs
+returns-in_err-run-in-None-clause-runs g c none =
     let before = c.runs.invariant in
     let halves : List ℕ = before.halves in
     let gave = subst (λ (now : InputState). Gave captures c.args.input.now halves now) (sym c.in-None.ensures.none)
     before.gave in
-    rw c.from-in-Err.ensures
+    let p = err_from_is_err_and c.from_residual.result c.from_residual.ensures.1 in
+    rw (p.1, p.2)
     (hears_up_to
     (map (λ decoder. let is = goal.Decoder-dyn g (decoder.vtable, decoder.value) in
     (is.who decoder.value, is.registers decoder.value)) c.args.decoders.now)
     (map (λ decoder. let is = goal.Decoder-dyn g (decoder.vtable, decoder.value) in
     (is.who decoder.value, is.registers decoder.value)) c.runs.decoders) c.args.input.now
     c.half_at_hand.new.input c.read_run.new.input (g.W.Sink.state c.args.writer.now)
-    before.halves c.in-Err.fault gave
+    before.halves _ gave
     (AllZip-views (λ start end. HasHeardHalves halves start.0 start.1 end.0 end.1)
     (λ decoder. let is = goal.Decoder-dyn g (decoder.vtable, decoder.value) in
     (is.who decoder.value, is.registers decoder.value))
     (map (λ decoder. let is = goal.Decoder-dyn g (decoder.vtable, decoder.value) in
     (is.who decoder.value, is.registers decoder.value)) c.args.decoders.now) c.runs.decoders
     before.decoders)
-    (c.in-Err.ensures.reads
+    (c.in_err-run-in-None.ensures.reads
     (ap (λ (state : InputState). state.fault) c.in-None.ensures.none ∙ c.runs.invariant.gave.fault)))
 
-pub returns-in-Ok-clause-runs : goal.returns-in-Ok-clause-runs
-returns-in-Ok-clause-runs g c none =
-    let took = rw (c.in-Ok-None.field-0-is, c.in-None.ensures.none) at
-    (c.in-Ok-None.ensures.reads
+pub returns-clause-runs : goal.returns-clause-runs
+returns-clause-runs g c none =
+    let took = rw (c.in-None-2.is, c.in-None.ensures.none) at
+    (c.in_ok-run-in-None.ensures.reads
     (ap (λ (state : InputState). state.fault) c.in-None.ensures.none ∙ c.runs.invariant.gave.fault)) in
     let before = c.runs.invariant in
     let halves : List ℕ = before.halves in
@@ -105,22 +107,25 @@ returns-in-Ok-clause-runs g c none =
     (map (λ decoder. let is = goal.Decoder-dyn g (decoder.vtable, decoder.value) in
     (is.who decoder.value, is.registers decoder.value)) c.args.decoders.now) c.runs.decoders
     before.decoders) took)
-    c.in-Ok.ensures
+    c.in_ok-write_fleet.ensures
 
-pub returns-in-Err-write_fleet-clause-runs : goal.returns-in-Err-write_fleet-clause-runs
-returns-in-Err-write_fleet-clause-runs g c none =
-    let took = rw (c.in-Ok-None.field-0-is, c.in-None.ensures.none) at
-    (c.in-Ok-None.ensures.reads
+pub returns-in_err-write_fleet-clause-runs : goal.returns-in_err-write_fleet-clause-runs
+returns-in_err-write_fleet-clause-runs g c none =
+    let took = rw (c.in-None-2.is, c.in-None.ensures.none) at
+    (c.in_ok-run-in-None.ensures.reads
     (ap (λ (state : InputState). state.fault) c.in-None.ensures.none ∙ c.runs.invariant.gave.fault)) in
     let before = c.runs.invariant in
     let halves : List ℕ = before.halves in
-    stopped (map
+    let p = err_from_is_err_and c.from_residual-in_err-write_fleet.result
+    c.from_residual-in_err-write_fleet.ensures.1 in
+    rw (p.1, p.2)
+    (stopped (map
     (λ decoder. let is = goal.Decoder-dyn g (decoder.vtable, decoder.value) in
     (is.who decoder.value, is.registers decoder.value)) c.args.decoders.now)
     (map (λ decoder. let is = goal.Decoder-dyn g (decoder.vtable, decoder.value) in
     (is.who decoder.value, is.registers decoder.value)) c.runs.decoders) c.args.input.now
     c.read_run.new.input (g.W.Sink.state c.args.writer.now) (g.W.Sink.state c.write_fleet.new.writer)
-    c.in-Err-write_fleet.field-0
+    _
     (hears_all
     (map (λ decoder. let is = goal.Decoder-dyn g (decoder.vtable, decoder.value) in
     (is.who decoder.value, is.registers decoder.value)) c.args.decoders.now)
@@ -133,4 +138,4 @@ returns-in-Err-write_fleet-clause-runs g c none =
     (map (λ decoder. let is = goal.Decoder-dyn g (decoder.vtable, decoder.value) in
     (is.who decoder.value, is.registers decoder.value)) c.args.decoders.now) c.runs.decoders
     before.decoders) took)
-    c.in-Err-write_fleet.ensures
+    c.in_err-write_fleet.ensures)

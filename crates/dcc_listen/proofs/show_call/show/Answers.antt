@@ -1,4 +1,5 @@
 use Rattle.std.proofs.Common.{length, ◌+◌, ◌-◌, sym, subst, ◌∙◌, arith}
+use Rattle.std.proofs.lemmas.Result.{err_from_is_err_and}
 use Rattle.dcc_wire.specs.declared.run.RunSeen.{RunSeen}
 use Rattle.dcc_io.specs.declared.word.Run.{Run}
 use Rattle.dcc_io.specs.InputState.{InputState}
@@ -15,8 +16,8 @@ runs-init g c =
 
 -- a half at hand
 
-pub runs-preserved-in-Ok : goal.runs-preserved-in-Ok
-runs-preserved-in-Ok g c =
+pub runs-preserved-in-Continue-1 : goal.runs-preserved-in-Continue-1
+runs-preserved-in-Continue-1 g c =
     let one : Run = record { us = c.in-Some-half_at_hand.us; n = 1 } in
     let answer : RunSeen = record { seen = c.push-seen.result; at = 1 } in
     let showing = c.runs.invariant in
@@ -26,7 +27,7 @@ runs-preserved-in-Ok g c =
     let half = counted_one c.halves_left-most.result c.halves_left.result c.args.input.now.halves
     c.half_at_hand.new.input.halves (length showing.halves) c.halves_left-most.ensures c.halves_left.ensures
     taken in
-    let wrote = c.in-Ok.ensures (length showing.halves + 1 - 1) half in
+    let wrote = c.in_ok-hold_seen-in-Some-half_at_hand.ensures (length showing.halves + 1 - 1) half in
     Showing-run c.args.words c.args.input.now c.runs.input c.half_at_hand.new.input c.runs.framer c.push-seen.new.self
     c.runs.held c.hold_seen.new.held _ _ _
     one answer showing wrote.0 gave (c.push-seen.ensures.stands showing.halves showing.stands)
@@ -44,8 +45,10 @@ hold_seen-requires g c =
     taken in
     omega (arith, half)
 
-pub returns-in-Err-clause-shows : goal.returns-in-Err-clause-shows
-returns-in-Err-clause-shows g c fault =
+pub returns-in_err-hold_seen-in-Some-half_at_hand-clause-shows : goal.returns-in_err-hold_seen-in-Some-half_at_hand-clause-shows
+returns-in_err-hold_seen-in-Some-half_at_hand-clause-shows g c fault =
+    let p = err_from_is_err_and c.from_residual.result
+    c.from_residual.ensures.1 in
     let one : Run = record { us = c.in-Some-half_at_hand.us; n = 1 } in
     let answer : RunSeen = record { seen = c.push-seen.result; at = 1 } in
     let showing = c.runs.invariant in
@@ -55,79 +58,86 @@ returns-in-Err-clause-shows g c fault =
     let half = counted_one c.halves_left-most.result c.halves_left.result c.args.input.now.halves
     c.half_at_hand.new.input.halves (length showing.halves) c.halves_left-most.ensures c.halves_left.ensures
     taken in
-    let wrote = c.in-Err.ensures (length showing.halves + 1 - 1) half in
-    stops_at_run c.args.words c.args.input.now c.runs.input c.half_at_hand.new.input c.runs.framer c.runs.held _ _ _
+    let wrote = c.in_err-hold_seen-in-Some-half_at_hand.ensures (length showing.halves + 1 - 1) half in
+    rw (p.1, p.2)
+    (stops_at_run c.args.words c.args.input.now c.runs.input c.half_at_hand.new.input c.runs.framer c.runs.held _ _ _
     one answer showing wrote.0 gave
     (answers_one showing.halves one.us c.push-seen.result (c.push-seen.ensures.sees showing.halves showing.stands))
-    wrote.1 wrote.2.0 wrote.2.1
+    wrote.1 wrote.2.0 wrote.2.1)
 
 -- a word that is no half at hand
 
 pub runs-preserved : goal.runs-preserved
 runs-preserved g c =
-    let took = rw (c.in-Ok-Ok-Some.field-0-is, c.in-Ok-Ok-Some.field-0-0-is, c.in-None.ensures.none) at
-    c.in-Ok-Ok-Some.ensures in
+    let took = rw (c.in-Ok-Some.is, c.in-Ok-Some.field-0-is, c.in-None.ensures.none) at
+    c.in_ok-run-in-None.ensures in
     let gave = took.0.0 in
-    let within = at_some_half c.in-Ok-Ok-Some.run' c.push_run-shown.result took.0.1 c.push_run-shown.ensures.nothing
+    let within = at_some_half c.in-Ok-Some.run' c.push_run-shown.result took.0.1 c.push_run-shown.ensures.nothing
     c.push_run-shown.ensures.something in
     let showing = Showing-wrote c.args.words c.args.input.now c.runs.input c.runs.framer c.runs.held c.next_run.new.held
     _ _ _ c.runs.invariant took.1 took.2 in
     let taken = taken_with c.args.words c.args.input.now c.runs.input c.next_run.new.input c.runs.framer
-    c.next_run.new.held _ _ c.in-Ok-Ok-Some.run' showing gave in
-    let half = counted_half c.halves_left-most.result c.halves_left-in-Ok-Ok-Some.result c.args.input.now.halves
-    c.next_run.new.input.halves c.in-Ok-Ok-Some.run'.n c.push_run-shown.result.at (length showing.halves)
-    c.halves_left-most.ensures c.halves_left-in-Ok-Ok-Some.ensures taken within.0 in
-    let wrote = c.in-Ok-hold_seen.ensures (length showing.halves + c.push_run-shown.result.at - 1) half in
+    c.next_run.new.held _ _ c.in-Ok-Some.run' showing gave in
+    let half = counted_half c.halves_left-most.result c.halves_left-in-Ok-Some.result c.args.input.now.halves
+    c.next_run.new.input.halves c.in-Ok-Some.run'.n c.push_run-shown.result.at (length showing.halves)
+    c.halves_left-most.ensures c.halves_left-in-Ok-Some.ensures taken within.0 in
+    let wrote = c.in_ok-hold_seen-in-Ok-Some.ensures (length showing.halves + c.push_run-shown.result.at - 1) half in
     Showing-run c.args.words c.args.input.now c.runs.input c.next_run.new.input c.runs.framer c.push_run-shown.new.self
-    c.next_run.new.held c.hold_seen-in-Ok-Ok-Some.new.held _ _ _
-    c.in-Ok-Ok-Some.run' c.push_run-shown.result showing wrote.0 gave
+    c.next_run.new.held c.hold_seen-in-Ok-Some.new.held _ _ _
+    c.in-Ok-Some.run' c.push_run-shown.result showing wrote.0 gave
     (c.push_run-shown.ensures.stands showing.halves showing.stands)
     (c.push_run-shown.ensures.sees showing.halves showing.stands) wrote.1 wrote.2.0 wrote.2.1
 
-pub returns-in-Err-hold_seen-clause-shows : goal.returns-in-Err-hold_seen-clause-shows
-returns-in-Err-hold_seen-clause-shows g c fault =
-    let took = rw (c.in-Ok-Ok-Some.field-0-is, c.in-Ok-Ok-Some.field-0-0-is, c.in-None.ensures.none) at
-    c.in-Ok-Ok-Some.ensures in
+pub returns-in_err-hold_seen-in-Ok-Some-clause-shows : goal.returns-in_err-hold_seen-in-Ok-Some-clause-shows
+returns-in_err-hold_seen-in-Ok-Some-clause-shows g c fault =
+    let p = err_from_is_err_and c.from_residual-in_err-hold_seen-in-Ok-Some.result
+    c.from_residual-in_err-hold_seen-in-Ok-Some.ensures.1 in
+    let took = rw (c.in-Ok-Some.is, c.in-Ok-Some.field-0-is, c.in-None.ensures.none) at
+    c.in_ok-run-in-None.ensures in
     let gave = took.0.0 in
-    let within = at_some_half c.in-Ok-Ok-Some.run' c.push_run-shown.result took.0.1 c.push_run-shown.ensures.nothing
+    let within = at_some_half c.in-Ok-Some.run' c.push_run-shown.result took.0.1 c.push_run-shown.ensures.nothing
     c.push_run-shown.ensures.something in
     let showing = Showing-wrote c.args.words c.args.input.now c.runs.input c.runs.framer c.runs.held c.next_run.new.held
     _ _ _ c.runs.invariant took.1 took.2 in
     let taken = taken_with c.args.words c.args.input.now c.runs.input c.next_run.new.input c.runs.framer
-    c.next_run.new.held _ _ c.in-Ok-Ok-Some.run' showing gave in
-    let half = counted_half c.halves_left-most.result c.halves_left-in-Ok-Ok-Some.result c.args.input.now.halves
-    c.next_run.new.input.halves c.in-Ok-Ok-Some.run'.n c.push_run-shown.result.at (length showing.halves)
-    c.halves_left-most.ensures c.halves_left-in-Ok-Ok-Some.ensures taken within.0 in
-    let wrote = c.in-Err-hold_seen.ensures (length showing.halves + c.push_run-shown.result.at - 1) half in
-    stops_at_run c.args.words c.args.input.now c.runs.input c.next_run.new.input c.runs.framer c.next_run.new.held _ _ _
-    c.in-Ok-Ok-Some.run' c.push_run-shown.result showing wrote.0 gave
-    (c.push_run-shown.ensures.sees showing.halves showing.stands) wrote.1 wrote.2.0 wrote.2.1
+    c.next_run.new.held _ _ c.in-Ok-Some.run' showing gave in
+    let half = counted_half c.halves_left-most.result c.halves_left-in-Ok-Some.result c.args.input.now.halves
+    c.next_run.new.input.halves c.in-Ok-Some.run'.n c.push_run-shown.result.at (length showing.halves)
+    c.halves_left-most.ensures c.halves_left-in-Ok-Some.ensures taken within.0 in
+    let wrote = c.in_err-hold_seen-in-Ok-Some.ensures (length showing.halves + c.push_run-shown.result.at - 1) half in
+    rw (p.1, p.2)
+    (stops_at_run c.args.words c.args.input.now c.runs.input c.next_run.new.input c.runs.framer c.next_run.new.held _ _ _
+    c.in-Ok-Some.run' c.push_run-shown.result showing wrote.0 gave
+    (c.push_run-shown.ensures.sees showing.halves showing.stands) wrote.1 wrote.2.0 wrote.2.1)
 
-pub returns-in-Ok-Ok-None-clause-shows : goal.returns-in-Ok-Ok-None-clause-shows
-returns-in-Ok-Ok-None-clause-shows g c fault =
-    let took = rw (c.in-Ok-Ok-None.field-0-is, c.in-Ok-Ok-None.field-0-0-is, c.in-None.ensures.none) at
-    c.in-Ok-Ok-None.ensures in
+pub returns-in-Ok-None-clause-shows : goal.returns-in-Ok-None-clause-shows
+returns-in-Ok-None-clause-shows g c fault =
+    let took = rw (c.in-Ok-None.is, c.in-Ok-None.field-0-is, c.in-None.ensures.none) at
+    c.in_ok-run-in-None.ensures in
     let showing = Showing-wrote c.args.words c.args.input.now c.runs.input c.runs.framer c.runs.held c.next_run.new.held
     _ _ _ c.runs.invariant took.1 took.2 in
     stops_at_end c.args.words c.args.input.now c.runs.input c.next_run.new.input c.runs.framer c.next_run.new.held _ _ _
     c.write_rest.result showing took.0 c.write_rest.ensures
 
-pub returns-in-Ok-Err-clause-shows : goal.returns-in-Ok-Err-clause-shows
-returns-in-Ok-Err-clause-shows g c fault =
+pub returns-in-Err-clause-shows : goal.returns-in-Err-clause-shows
+returns-in-Err-clause-shows g c fault =
     let before = subst (λ (now : InputState). Showing c.args.words c.args.input.now now c.runs.framer c.runs.held
     (g.W.Sink.state c.args.writer.now) (g.W.Sink.state c.runs.writer))
     (sym c.in-None.ensures.none) c.runs.invariant in
-    let took = rw c.in-Ok-Err.field-0-is at c.in-Ok-Err.ensures in
+    let took = rw c.in-Err.is at c.in_ok-run-in-None.ensures in
     let showing = Showing-wrote c.args.words c.args.input.now c.half_at_hand.new.input c.runs.framer c.runs.held
     c.next_run.new.held _ _ _ before took.1 took.2 in
-    let rest = rw c.from-in-Ok-Err.ensures at c.write_rest-in-Ok-Err.ensures in
+    let rest = rw c.from-in-Err.ensures at c.write_rest-in-Err.ensures in
     stops_at_fault c.args.words c.args.input.now c.half_at_hand.new.input c.next_run.new.input c.runs.framer
-    c.next_run.new.held _ _ _ c.in-Ok-Err.fault
-    c.write_rest-in-Ok-Err.result showing took.0 rest
+    c.next_run.new.held _ _ _ c.in-Err.fault
+    c.write_rest-in-Err.result showing took.0 rest
 
-pub returns-in-Err-next_run-clause-shows : goal.returns-in-Err-next_run-clause-shows
-returns-in-Err-next_run-clause-shows g c =
-    let failed = rw c.in-None.ensures.none at c.in-Err-next_run.ensures in
-    rw failed.0
+pub returns-in_err-run-in-None-clause-shows : goal.returns-in_err-run-in-None-clause-shows
+returns-in_err-run-in-None-clause-shows g c =
+    let p = err_from_is_err_and c.from_residual-in_err-run-in-None.result
+    c.from_residual-in_err-run-in-None.ensures.1 in
+    let failed = rw c.in-None.ensures.none at c.in_err-run-in-None.ensures in
+    rw (p.1, p.2)
+    (rw failed.0
     (λ fault. stops_before_read c.args.words c.args.input.now c.runs.input c.runs.framer c.runs.held _ _ _
-    c.runs.invariant failed.1 failed.2)
+    c.runs.invariant failed.1 failed.2))
