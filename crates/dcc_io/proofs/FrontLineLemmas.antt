@@ -1,11 +1,10 @@
 -- A line at the front of the bytes that were read.
 use Rattle.std.proofs.Common.{suc, ◌≡◌, ℕ, ◌+◌, ◌-◌, ◌<◌, ◌≤◌, List, [], ◌∷◌, ◌++◌, length, take, drop, get_or, Bool}
-use Rattle.std.proofs.Common.{true, false, eqb, Option, None, Some, refl, sym, ap, ◌∙◌, arith, append_assoc, add-one}
+use Rattle.std.proofs.Common.{true, false, Option, None, Some, refl, sym, ap, ◌∙◌, arith, append_assoc, add-one}
 use Rattle.std.proofs.Common.{drop-cons, IfSome, IsSomeAnd}
 use Rattle.std.proofs.Math.Seq.{take-append-add}
 use Rattle.std.proofs.lemmas.Bool.{le-leb}
 use Rattle.std.proofs.lemmas.List.{take-append-drop, length-take-le}
-use Rattle.std.proofs.lemmas.List.Folds.{list_all_more, list_any_more}
 use Rattle.std.specs.Char.{is_ascii}
 use Rattle.std.specs.List.{list_all}
 use Rattle.std.specs.Io.KnownBytes.{Consumes}
@@ -23,14 +22,6 @@ use Rattle.dcc_io.proofs.FrontLemmas.{state_of}
 pub record IsWithinLine (bytes : List ℕ) (len : ℕ) : Type 0 where
   pub ascii : list_all is_ascii (take len bytes) ≡ true
   pub one : has_line_feed (take len bytes) ≡ false
-
-pub IsWithinLine-byte : (bytes : List ℕ) (len : ℕ) → len < length bytes → IsWithinLine bytes len
-    → eqb (get_or bytes len 0) 10 ≡ false → is_ascii (get_or bytes len 0) ≡ true
-    → IsWithinLine bytes (len + 1)
-IsWithinLine-byte bytes len inside within no_end ascii = record {
-  ascii = list_all_more is_ascii bytes len 0 inside ∙ rw (within.ascii, ascii) refl;
-  one = list_any_more (λ byte. eqb byte 10) bytes len 0 inside ∙ rw (within.one, no_end) refl;
-}
 
 pub ends_line : (bytes : List ℕ) (len : ℕ) → len < length bytes → len ≤ 512 → IsWithinLine bytes len
     → get_or bytes len 0 ≡ 10 → IsEndedLine bytes len

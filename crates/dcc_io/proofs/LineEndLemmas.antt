@@ -1,18 +1,17 @@
 -- How the rest of a line is passed.
-use Rattle.std.proofs.Common.{◌≡◌, ◌≢◌, ◌⊎◌, inl, inr, ℕ, ◌+◌, ◌<◌, List, [], ◌∷◌, ◌++◌, Bool, true, false, eqb, ◌||◌}
+use Rattle.std.proofs.Common.{◌≡◌, ◌≢◌, ◌⊎◌, inr, ℕ, ◌+◌, ◌<◌, List, [], ◌∷◌, ◌++◌, Bool, true, false, eqb, ◌||◌}
 use Rattle.std.proofs.Common.{Ok, refl, ap, ◌∙◌, subst, arith}
 use Rattle.std.proofs.lemmas.Bool.Decides.{nat_tests}
 use Rattle.dcc_io.specs.declared.word.RunWord.{RunWord}
 use Rattle.dcc_io.specs.TextPlace.{TextPlace}
-use Rattle.dcc_io.specs.ReaderState.{IsAtEnd}
 use Rattle.dcc_io.specs.SpelledWords.{Spells}
 use Rattle.dcc_io.specs.InputState.{InputState}
 use Rattle.dcc_io.specs.Words.{is_some_byte, is_gap, comments}
 use Rattle.dcc_io.specs.PassedWords.{Passed}
 use Rattle.dcc_io.specs.LineEnd.{EndsLine}
 use Rattle.dcc_io.proofs.WordsLemmas.{eqb_line_feed}
-use Rattle.dcc_io.proofs.PassedLemmas.{Opens, TakesNoted, Opens-word, Opens-gap, EndsWord-gap, Passed-gap, Passed-end}
-use Rattle.dcc_io.proofs.TookLemmas.{if_some_map, if_some_all}
+use Rattle.dcc_io.proofs.PassedLemmas.{Opens, TakesNoted, Opens-word, Opens-gap, EndsWord-gap, Passed-gap}
+use Rattle.dcc_io.proofs.TookLemmas.{if_some_all}
 
 -- within a line, no word of which has ended
 pub record OpensHere (old : InputState) (so_far : RunWord) (now : InputState) : Type 0 where
@@ -62,14 +61,6 @@ ends_here old now new so_far byte so takes gap empty feed =
       if_some_all (λ rest. (rest ≡ []) ⊎ (old.place.line < new.place.line)) new.text
           (λ rest. inr (omega (arith, line))),
     )
-
-pub ends_at_end : (old now : InputState) (so_far : RunWord) → OpensHere old so_far now → IsAtEnd now.text
-    → EndsLine old (Ok true) now
-ends_at_end old now so_far so at_end = (
-  Passed-end old now so_far so.opens at_end,
-  if_some_map (λ rest. rest ≡ []) (λ rest. (rest ≡ []) ⊎ (old.place.line < now.place.line)) now.text
-      (λ rest none. inl none) at_end,
-)
 
 pub ends_in_word : (old now new : InputState) (so_far : RunWord) (byte : ℕ) (so : OpensHere old so_far now)
     → TakesNoted now byte new

@@ -1,5 +1,5 @@
 -- A word that is being read, and what ends it.
-use Rattle.std.proofs.Common.{◌≡◌, ℕ, ◌+◌, ◌<◌, ◌≤◌, List, [], ◌∷◌, ◌++◌, Bool, true, false, not, None, Err}
+use Rattle.std.proofs.Common.{◌≡◌, ℕ, ◌+◌, ◌<◌, ◌≤◌, List, [], ◌∷◌, ◌++◌, Bool, true, false, not, Err}
 use Rattle.std.proofs.Common.{refl, sym, ap, ◌∙◌, subst, cond, eqb, arith, append_assoc, ◌||◌, IfSome}
 use Rattle.std.proofs.lemmas.List.{append-nil}
 use Rattle.dcc_io.specs.declared.word.RunWord.{RunWord}
@@ -13,7 +13,7 @@ use Rattle.dcc_io.specs.SpelledWords.{Spells}
 use Rattle.dcc_io.specs.Took.{Uses, Took}
 use Rattle.dcc_io.specs.PassedWords.{Passed, IsBeforeWord, EndsWord, AnswersWord}
 use Rattle.dcc_io.proofs.WordsLemmas.{behind, opened, opened-none, opened-word, opened-gap, ended}
-use Rattle.dcc_io.proofs.TookLemmas.{if_some_map, if_some_all, Took-start, Took-map, Took-closed, Took-join, took_byte}
+use Rattle.dcc_io.proofs.TookLemmas.{if_some_map, if_some_all, Took-map, Took-closed, Took-join, took_byte}
 use Rattle.dcc_io.proofs.TookLemmas.{fails_to_read, has_too_many}
 
 -- these bytes end in the front of a word
@@ -37,16 +37,6 @@ pub record Opens (old : InputState) (so_far : RunWord) (now : InputState) : Type
 
 abbrev no_word : List ℕ
 no_word = []
-
-pub Opens-start : (input : InputState) (so_far : RunWord) → input.fault ≡ None → Spells so_far []
-    → Opens input so_far input
-Opens-start input so_far fault spelled = record {
-  word = [];
-  spelled = spelled;
-  took = Took-start input fault (λ more. sym (opened-none input.place more));
-  halves = refl;
-  closed = if_some_all (λ rest. rest ≡ [] → no_word ≡ []) input.text (λ rest none. refl);
-}
 
 -- a byte was taken, and it was noted whether it begins or ends a comment
 pub record TakesNoted (old : InputState) (byte : ℕ) (new : InputState) : Type 0 where

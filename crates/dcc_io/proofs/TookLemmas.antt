@@ -60,17 +60,6 @@ join_whole P Q R None mid each before behind = tt
 join_whole P Q R (Some text) None each before behind = absurd before
 join_whole P Q R (Some text) (Some between) each before behind = each text between before behind
 
--- what holds of the text and its rest, after a byte was taken
-pub map_taken : (P Q : List ℕ → List ℕ → Type 0) (R : List ℕ → Type 0) (whole rest new : Option (List ℕ)) (byte : ℕ)
-    → ((text more : List ℕ) → P text (byte ∷ more) → R more → Q text more)
-    → IfSome whole (λ text. IsSomeAnd rest (λ more. P text more)) → BeginsWith rest byte new → IfSome new R
-    → IfSome whole (λ text. IsSomeAnd new (λ more. Q text more))
-map_taken P Q R None rest new byte each before taken fact = tt
-map_taken P Q R (Some text) None new byte each before taken fact = absurd before
-map_taken P Q R (Some text) (Some more) None byte each before taken fact = absurd taken
-map_taken P Q R (Some text) (Some more) (Some fewer) byte each before taken fact =
-    each text fewer (subst (λ (x : List ℕ). P text x) taken before) fact
-
 -- what holds of the text and its rest, after nothing was taken
 map_kept : (P Q : List ℕ → List ℕ → Type 0) (whole rest new : Option (List ℕ))
     → ((text more : List ℕ) → P text more → Q text more)
