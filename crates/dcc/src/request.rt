@@ -91,10 +91,7 @@ fn comparison_of(matches: &ArgMatches) -> Result<Request, ToolFault>
     ensures { result ≡ comparison (first_of (codes "who") (rows_of (found_of matches.now))) }
 {
     match matches.get_str("who") {
-        Some(word) => match read_who(word) {
-            Ok(who) => Ok(Request::Same(who)),
-            Err(fault) => Err(fault),
-        },
+        Some(word) => Ok(Request::Same(read_who(word)?)),
         None => Err(ToolFault::Usage(Usage::Words)),
     }
 }

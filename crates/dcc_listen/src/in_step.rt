@@ -1,4 +1,6 @@
 //! Two captures, read in step.
+
+// (want of memory is handed on by `match`: it is the comparison's own fault, whose crate knows none of the program's)
 ghost use Rattle.std.specs.Prelude.{◌≡◌, ◌<◌, ◌^◌, List, IfOk, IfErr, length, slice_get};
 ghost use Rattle.dcc_packet.specs.declared.packet.Packet.{Packet as PacketOf};
 ghost use Rattle.dcc_order.specs.Verdicts.{IsVerdict};

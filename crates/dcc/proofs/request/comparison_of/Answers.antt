@@ -1,4 +1,5 @@
 use Rattle.std.proofs.Common.{◌∙◌, sym, ap, List, ℕ, codes, Option}
+use Rattle.std.proofs.lemmas.Result.{err_from_is_err_and}
 use Rattle.std.specs.Prelude.{option_map}
 use Rattle.std.specs.Borrow.{Bor}
 use Rattle.clap.specs.Words.{found_of}
@@ -6,17 +7,18 @@ use Rattle.dcc.specs.Asked.{comparison, compared_for}
 use Rattle.dcc.proofs.AskedLemmas.{first_word}
 use Rattle.dcc.proofs.request.comparison_of.Goals as goal
 
-pub returns-in-Ok : goal.returns-in-Ok
-returns-in-Ok c =
+pub returns-in-Some : goal.returns-in-Some
+returns-in-Some c =
     let word = first_word (found_of c.args.matches.now) (codes "who") c.get_str.result c.get_str.ensures
     ∙ ap (λ (w : Option (Bor (List ℕ))). option_map (λ s. s.now) w) c.in-Some.is in
-    sym (ap comparison word ∙ ap compared_for (sym c.read_who.ensures ∙ c.in-Ok.is))
+    sym (ap comparison word ∙ ap compared_for (sym c.in_ok-read_who.ensures))
 
-pub returns-in-Err : goal.returns-in-Err
-returns-in-Err c =
+pub returns-in_err-read_who : goal.returns-in_err-read_who
+returns-in_err-read_who c =
+    let p = err_from_is_err_and c.from_residual.result c.from_residual.ensures.1 in
     let word = first_word (found_of c.args.matches.now) (codes "who") c.get_str.result c.get_str.ensures
     ∙ ap (λ (w : Option (Bor (List ℕ))). option_map (λ s. s.now) w) c.in-Some.is in
-    sym (ap comparison word ∙ ap compared_for (sym c.read_who.ensures ∙ c.in-Err.is))
+    rw (p.1, p.2) (sym (ap comparison word ∙ ap compared_for (sym c.in_err-read_who.ensures)))
 
 pub returns-in-None : goal.returns-in-None
 returns-in-None c =
