@@ -31,8 +31,8 @@ returns-in-Done-clause-compared g c =
     let s = c.packets.invariant.beside in
     let none = sym c.fault.ensures.fault ∙ c.in_default.is in
     let right : Rest s.lists.right_ended c.args.input.now c.if-not-ended.input s.lists.right = elim c.if-not-ended.branch [
-      | then-not-ended+in_ok-pass_rest-in-Done w ↦ subst (λ now. Rest s.lists.right_ended c.args.input.now now s.lists.right)
-          (sym w.input-is)
+      | then-not-ended+in_ok-pass_rest-in-Done w ↦ subst
+          (λ now. Rest s.lists.right_ended c.args.input.now now s.lists.right) (sym w.input-is)
           (rest_behind s.lists.right_ended c.packets.ended c.args.input.now w.pass_rest.new.input s.lists.right
           s.right_is w.if-not-ended.true
           (w.in_ok-pass_rest-in-Done.ensures c.args.input.now s.lists.right none
@@ -96,7 +96,8 @@ packets-preserved g c =
           c.packets.input c.next_packet.new.input c.packets.framer c.next_packet.new.framer
           c.packets.ended c.is_none-ended.result c.packets.comparer c.give-in-Right.new.self
           c.in_ok-item-in-Right.item s (sym c.wants.ensures.is ∙ c.in-Right.is) c.in-Ok-give-2.ensures.who going
-          (end_is c.in_ok-item-in-Right.item c.is_none-ended.result c.is_none-ended.ensures) c.in-Ok-give-2.ensures.stands
+          (end_is c.in_ok-item-in-Right.item c.is_none-ended.result c.is_none-ended.ensures)
+          c.in-Ok-give-2.ensures.stands
           (c.in_ok-item-in-Right.ensures.takes c.args.input.now s.lists.right none
           (still_open c.packets.ended c.args.input.now c.packets.input c.packets.framer s.lists.right
           (sym s.right_is ∙ going) s.right_read));

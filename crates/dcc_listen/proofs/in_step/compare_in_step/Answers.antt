@@ -4,9 +4,9 @@ use Rattle.dcc_order.specs.Verdicts.{IsVerdict}
 use Rattle.dcc_listen.proofs.GatherLemmas.{Gathering-start}
 use Rattle.dcc_listen.proofs.InStepLemmas.{Rest, nothing_behind, still_open, rest_behind, end_is, took_right}
 use Rattle.dcc_listen.proofs.in_step.compare_in_step.Goals as goal
-use Rattle.dcc_listen.proofs.in_step.compare_in_step.Goals.{then-not-left_ended+in_ok-pass_rest-in-Done, else-not-left_ended}
+use Rattle.dcc_listen.proofs.in_step.compare_in_step.Goals.{then-not-left_ended+in_ok-pass_rest-in-Done}
 use Rattle.dcc_listen.proofs.in_step.compare_in_step.Goals.{then-not-right_ended+in_ok-pass_rest-in-Done-2}
-use Rattle.dcc_listen.proofs.in_step.compare_in_step.Goals.{else-not-right_ended}
+use Rattle.dcc_listen.proofs.in_step.compare_in_step.Goals.{else-not-left_ended, else-not-right_ended}
 
 pub packets-init : goal.packets-init
 packets-init g c =
@@ -33,8 +33,8 @@ returns-in-Done-clause-compared g c =
     let right_none = sym c.fault-2.ensures.fault ∙ c.in_default-fault.is in
     let left : Rest s.lists.left_ended c.args.left.now c.if-not-left_ended.left s.lists.left = elim
     c.if-not-left_ended.branch [
-      | then-not-left_ended+in_ok-pass_rest-in-Done w ↦ subst (λ now. Rest s.lists.left_ended c.args.left.now now s.lists.left)
-          (sym w.left-is)
+      | then-not-left_ended+in_ok-pass_rest-in-Done w ↦ subst
+          (λ now. Rest s.lists.left_ended c.args.left.now now s.lists.left) (sym w.left-is)
           (rest_behind s.lists.left_ended c.packets.left_ended c.args.left.now w.pass_rest.new.input s.lists.left
           s.left_is w.if-not-left_ended.true
           (w.in_ok-pass_rest-in-Done.ensures c.args.left.now s.lists.left left_none

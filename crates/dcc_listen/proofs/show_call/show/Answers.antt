@@ -45,7 +45,8 @@ hold_seen-requires g c =
     taken in
     omega (arith, half)
 
-pub returns-in_err-hold_seen-in-Some-half_at_hand-clause-shows : goal.returns-in_err-hold_seen-in-Some-half_at_hand-clause-shows
+pub returns-in_err-hold_seen-in-Some-half_at_hand-clause-shows
+    : goal.returns-in_err-hold_seen-in-Some-half_at_hand-clause-shows
 returns-in_err-hold_seen-in-Some-half_at_hand-clause-shows g c fault =
     let p = err_from_is_err_and c.from_residual.result
     c.from_residual.ensures.1 in
@@ -106,8 +107,8 @@ returns-in_err-hold_seen-in-Ok-Some-clause-shows g c fault =
     c.halves_left-most.ensures c.halves_left-in-Ok-Some.ensures taken within.0 in
     let wrote = c.in_err-hold_seen-in-Ok-Some.ensures (length showing.halves + c.push_run-shown.result.at - 1) half in
     rw (p.1, p.2)
-    (stops_at_run c.args.words c.args.input.now c.runs.input c.next_run.new.input c.runs.framer c.next_run.new.held _ _ _
-    c.in-Ok-Some.run' c.push_run-shown.result showing wrote.0 gave
+    (stops_at_run c.args.words c.args.input.now c.runs.input c.next_run.new.input c.runs.framer c.next_run.new.held
+    _ _ _ c.in-Ok-Some.run' c.push_run-shown.result showing wrote.0 gave
     (c.push_run-shown.ensures.sees showing.halves showing.stands) wrote.1 wrote.2.0 wrote.2.1)
 
 pub returns-in-Ok-None-clause-shows : goal.returns-in-Ok-None-clause-shows
