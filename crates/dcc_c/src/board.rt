@@ -67,7 +67,8 @@ pub extern "C" fn dcc_board_apply(board: &mut DccBoard, frame: &[u8]) -> u8
     ensures applies { frame_answer frame.now ≡ 0 → (before : BoardState) → is_single before ≡ true
         → board.old ≡ board_numbers before →
         (packet : Packet) × (after : BoardState) × (spelling packet ≡ frame.now) × (is_single after ≡ true)
-        × (board.new ≡ board_numbers after) × (result ≡ 0) × HasApplied packet (board_who before) (board_map before) (board_who after) (board_map after) }
+        × (board.new ≡ board_numbers after) × (result ≡ 0)
+        × HasApplied packet (board_who before) (board_map before) (board_who after) (board_map after) }
     ensures decoder { result ≡ 0
         → (before : BoardState) × (is_single before ≡ true) × (board.old ≡ board_numbers before) }
     ensures refused { result ≢ 0 → result ≢ frame_answer frame.now → result ≡ 13 }

@@ -90,7 +90,8 @@ pub extern "C" fn dcc_push_run(
     ensures stands { (halves : List ℕ) → StandsFor (kept_rest framer.old) halves →
         StandsFor (kept_rest framer.new) (halves ++ replicate n us) }
     ensures sees { (halves : List ℕ) → StandsFor (kept_rest framer.old) halves →
-        seen (halves ++ replicate n us) ≡ seen halves ++ report_at (length halves + outcome.new.at - 1) (seen_at_answer result outcome.new) }
+        seen (halves ++ replicate n us)
+        ≡ seen halves ++ report_at (length halves + outcome.new.at - 1) (seen_at_answer result outcome.new) }
     ensures before { result ≢ 0 → (halves : List ℕ) → StandsFor (kept_rest framer.old) halves →
         seen (halves ++ replicate (outcome.new.at - 1) us) ≡ seen halves }
     ensures something { result ≢ 0 → (1 ≤ outcome.new.at) × (outcome.new.at ≤ n) }

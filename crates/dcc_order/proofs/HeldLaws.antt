@@ -299,7 +299,9 @@ module _ (places : List Place) (count : ℕ) (others : List ℕ) (held : AreHeld
     λ each p. (
       λ h.
           let m = (held.members.same_set p).1 h in
-          let there : Contains (packets_of ms others) (get_or ms m.0 Idle) = number_gives ms others m.0 (each m.0 (let low : m.0 < length ms = m.1 in let is = size in omega (arith, low, is))) in
+          let there : Contains (packets_of ms others) (get_or ms m.0 Idle) =
+          number_gives ms others m.0 (each m.0
+          (let low : m.0 < length ms = m.1 in let is = size in omega (arith, low, is))) in
           subst (Contains (packets_of ms others)) (get_or_default ms m.0 Idle p m.1 ∙ m.2) there,
       λ h.
           let n = packets_are_members ms others held.second_numbered p h in

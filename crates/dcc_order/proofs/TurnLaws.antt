@@ -87,7 +87,11 @@ summary-append p q block x =
     ∙ by_case (is_one_of p q x) (is_repeated (summary p q block).last x) refl
   where
     by_case : (t r : Bool) → is_repeated (summary p q block).last x ≡ r →
-        (let z : Summary = record { last = cond t (Some x) (summary p q block).last; count = length (cond t (turns p q block ++ cond r [] (x ∷ [])) (turns p q block)) } in
+        (let z : Summary = record {
+          last = cond t (Some x) (summary p q block).last;
+          count = length (cond t (turns p q block ++ cond r [] (x ∷ []))
+              (turns p q block));
+        } in
         z) ≡
         cond t (cond r (summary p q block) (record { last = Some x; count = (summary p q block).count + 1 }))
         (summary p q block)

@@ -127,7 +127,8 @@ fn same_turns_at(places: &[Place], own: usize, left: &[Turns], right: &[Turns]) 
     requires within { length left.now ≤ length places.now }
     requires each { length right.now ≡ length left.now }
     ensures { IsTrue result ↔ ((rival : ℕ) (d e : Place) (t : TurnsOf) → rival < length left.now →
-        Conflict (slice_index_or places.now own d).member (slice_index_or places.now rival e).member → slice_index_or left.now rival t ≡ slice_index_or right.now rival t) }
+        Conflict (slice_index_or places.now own d).member (slice_index_or places.now rival e).member
+        → slice_index_or left.now rival t ≡ slice_index_or right.now rival t) }
 {
     for (rival, taken) in left.iter().enumerate() {
         // Most turns are the same, and that is told faster than a conflict.

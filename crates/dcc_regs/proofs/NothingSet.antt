@@ -52,10 +52,12 @@ broadcast_stop forward bits none = by_case (nat_lt bits.bits 2) (nat_lt bits.bit
   where
     by_case : (low mid : Bool) → nat_lt bits.bits 2 ≡ low → nat_lt bits.bits 4 ≡ mid → 4 ≤ bits.bits
     by_case true mid e f =
-        absurd (let is : sets Steps28 (Loco Broadcast (Speed28 forward bits)) SpeedRegister ≡ Some (SpeedValue Stop) = grind (arith, e, f) in
+        absurd (let is : sets Steps28 (Loco Broadcast (Speed28 forward bits)) SpeedRegister
+        ≡ Some (SpeedValue Stop) = grind (arith, e, f) in
         some_is_not_none (SpeedValue Stop) (sym is ∙ none Steps28 SpeedRegister))
     by_case false true e f =
-        absurd (let is : sets Steps28 (Loco Broadcast (Speed28 forward bits)) SpeedRegister ≡ Some (SpeedValue Emergency) = grind (arith, e, f) in
+        absurd (let is : sets Steps28 (Loco Broadcast (Speed28 forward bits)) SpeedRegister
+        ≡ Some (SpeedValue Emergency) = grind (arith, e, f) in
         some_is_not_none (SpeedValue Emergency) (sym is ∙ none Steps28 SpeedRegister))
     by_case false false e f = grind (arith, e, f)
 

@@ -104,5 +104,6 @@ turned_off word n k here there =
     let b : bit_at (bit_and word (340282366920938463463374607431768211455 - 1 * 2 ^ n % 340282366920938463463374607431768211456)) n ≡ 0 =
     bit_at_clear_same w128 word n (omega arith) in rw (same, b) refl)
     (λ other.
-    let b : bit_at (bit_and word (340282366920938463463374607431768211455 - 1 * 2 ^ n % 340282366920938463463374607431768211456)) k ≡ bit_at word k =
+    let b : bit_at (bit_and word (340282366920938463463374607431768211455 - 1 * 2 ^ n % 340282366920938463463374607431768211456)) k
+    ≡ bit_at word k =
     bit_at_clear_other w128 word n (omega arith) k (omega arith) other in rw b refl)

@@ -34,7 +34,14 @@ impl Model for Station {
 
     ghost Value = { Sending };
 
-    ghost view = { λ s. record { waiting = s.commands.items; sent = s.sent; entries = s.entries.items; queue = s.commands.capacity; slots = s.entries.capacity; repeats = s.repeats } };
+    ghost view = { λ s. record {
+      waiting = s.commands.items;
+      sent = s.sent;
+      entries = s.entries.items;
+      queue = s.commands.capacity;
+      slots = s.entries.capacity;
+      repeats = s.repeats;
+    } };
 
     ghost invariant = { λ s. (0 < s.repeats) × (s.repeats ≤ 8) × (s.sent ≤ 8) };
 }

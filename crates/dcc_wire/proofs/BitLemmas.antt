@@ -182,7 +182,8 @@ bytes_in-edge (suc n) (false ∷ bits) e edge = elim (cases_lt (length bits) 8) 
       (sym (zero_long n bits long) ∙ e) in
       let len = length-drop 8 bits in
       let ih = bytes_in-edge n (drop 8 bits) before (omega (arith, edge, len)) in
-      let step : (bit : Bool) → bytes_in (suc n) (false ∷ bits ++ bit ∷ []) ≡ option_map (λ q. (number_of (take 8 bits) ∷ q.0, q.1)) (bytes_in n (drop 8 bits ++ bit ∷ [])) =
+      let step : (bit : Bool) → bytes_in (suc n) (false ∷ bits ++ bit ∷ [])
+      ≡ option_map (λ q. (number_of (take 8 bits) ∷ q.0, q.1)) (bytes_in n (drop 8 bits ++ bit ∷ [])) =
       λ bit. zero_long n (bits ++ bit ∷ []) (omega (arith, length-append bits (bit ∷ [])))
       ∙ rw (take-append-le 8 bits (bit ∷ []) long, drop-append-le 8 bits (bit ∷ []) long) refl in
       record {

@@ -184,7 +184,8 @@ body_arrives durations us (next ∷ more) bytes front packet inside e =
     (ap (λ o. seen durations ++ report_at (length durations) (answer_of o)) none ∙ append-nil (seen durations))
     in
     let ih = body_arrives (durations ++ us ∷ []) next more bytes (front ++ class_of us ∷ []) packet then_inside split in
-    let place : length (durations ++ us ∷ []) + length (next ∷ more) - 1 ≡ length durations + length (us ∷ next ∷ more) - 1 =
+    let place : length (durations ++ us ∷ []) + length (next ∷ more) - 1
+    ≡ length durations + length (us ∷ next ∷ more) - 1 =
     omega (arith, length-append durations (us ∷ [])) in
     record {
       open_part = ap rest (cons_append durations us (next ∷ more)) ∙ ih.open_part;
@@ -323,11 +324,13 @@ sent_delivered durations bytes timing before packet few hunts =
     ∙ map-durations timing (body_bits bytes) in
     let arrived = body_arrives (start ++ timing.zero_first ∷ []) timing.zero_second (durations_of timing first.0) bytes
     (Zero ∷ []) packet begun halves in
-    let all : durations ++ durations_of timing (replicate timing.preamble true ++ body_bits bytes) ≡ (start ++ timing.zero_first ∷ []) ++ tail =
+    let all : durations ++ durations_of timing (replicate timing.preamble true ++ body_bits bytes)
+    ≡ (start ++ timing.zero_first ∷ []) ++ tail =
     ap (λ l. durations ++ l)
     (durations_of-append timing (replicate timing.preamble true) (body_bits bytes) ∙ ap (λ l. ones ++ l) body_is)
     ∙ sym (append_assoc durations ones (timing.zero_first ∷ tail)) ∙ cons_append start timing.zero_first tail in
-    let place : length (start ++ timing.zero_first ∷ []) + length tail - 1 ≡ length durations + length (durations_of timing (replicate timing.preamble true ++ body_bits bytes)) - 1 =
+    let place : length (start ++ timing.zero_first ∷ []) + length tail - 1
+    ≡ length durations + length (durations_of timing (replicate timing.preamble true ++ body_bits bytes)) - 1 =
     omega (
       arith,
       ap length all,

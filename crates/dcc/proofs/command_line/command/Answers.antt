@@ -15,7 +15,8 @@ returns c =
     c.in_ok-subcommand.ensures.shape c.in_ok-show.ensures.local ∙ more c.top.ensures c.in_ok-show.ensures.app in
     let second : app_of c.in_ok-subcommand-2.field-0 ≡ with_subcommand (with_subcommand top_app show_app.top) encode_app.top =
     c.in_ok-subcommand-2.ensures.shape c.in_ok-encode.ensures.local ∙ more first c.in_ok-encode.ensures.app in
-    let third : app_of c.in_ok-subcommand-3.field-0 ≡ with_subcommand (with_subcommand (with_subcommand top_app show_app.top) encode_app.top) run_app.top =
+    let third : app_of c.in_ok-subcommand-3.field-0
+    ≡ with_subcommand (with_subcommand (with_subcommand top_app show_app.top) encode_app.top) run_app.top =
     c.in_ok-subcommand-3.ensures.shape c.run.ensures.local ∙ more second c.run.ensures.app in
     let fourth : app_of c.in_ok-subcommand-4.field-0
     ≡ with_subcommand

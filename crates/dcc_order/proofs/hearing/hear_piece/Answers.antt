@@ -7,11 +7,13 @@ loop-us-preserved g c =
     let so_far : List ℕ → List ℕ = λ halves. halves ++ take c.loop-us.us-index c.args.durations.now in
     record {
       stands = λ halves s.
-          let e : halves ++ take (c.loop-us.us-index + 1) c.args.durations.now ≡ so_far halves ++ slice_index_or c.args.durations.now c.loop-us.us-index 0 ∷ [] =
+          let e : halves ++ take (c.loop-us.us-index + 1) c.args.durations.now
+          ≡ so_far halves ++ slice_index_or c.args.durations.now c.loop-us.us-index 0 ∷ [] =
           sym (one_more halves _ _ (omega arith)) in
           rw e (c.hear_half.ensures.stands (so_far halves) (c.loop-us.invariant.stands halves s));
       since = λ halves s starts before.
-          let e : halves ++ take (c.loop-us.us-index + 1) c.args.durations.now ≡ so_far halves ++ slice_index_or c.args.durations.now c.loop-us.us-index 0 ∷ [] =
+          let e : halves ++ take (c.loop-us.us-index + 1) c.args.durations.now
+          ≡ so_far halves ++ slice_index_or c.args.durations.now c.loop-us.us-index 0 ∷ [] =
           sym (one_more halves _ _ (omega arith)) in
           rw e (c.hear_half.ensures.since (so_far halves) (c.loop-us.invariant.stands halves s) starts
           (c.loop-us.invariant.since halves s starts before));

@@ -19,7 +19,9 @@ loop-rival-preserved c =
     let i = c.loop-rival.rival in
     let in_left : i < length left = c.loop-rival-test.true in
     let in_right : i < length right = omega (arith, c.requires.each, c.loop-rival-test.true) in
-    let here : (d e : Place) (t : Turns) → Conflict (get_or places own d).member (get_or places i e).member → get_or left i t ≡ get_or right i t = λ d e t clash. elim c.else-not-is.branch [
+    let here : (d e : Place) (t : Turns) → Conflict (get_or places own d).member (get_or places i e).member
+    → get_or left i t ≡ get_or right i t =
+    λ d e t clash. elim c.else-not-is.branch [
       | else-not-is-via-else-not-is w ↦ get_or_default left i t no_turns in_left ∙ c.is.ensures.0 w.if-not-is.false
           ∙ get_or_default right i no_turns t in_right
       | else-not-is-via-then-not-is+else-conflict w ↦ absurd (true_is_not_false (sym (w.conflict.ensures.1

@@ -10,7 +10,8 @@ returns-clause-alike g c =
     let others : List ℕ = whole_track c.args.others.now in
     AllZip-both _ _ _ _
     (λ one other one' other' heard heard' equal.
-    let from_one : HasHeardHalves others (g.L.Decoder.who one) (g.L.Decoder.registers one) (g.R.Decoder.who other') (g.R.Decoder.registers other') =
+    let from_one : HasHeardHalves others (g.L.Decoder.who one) (g.L.Decoder.registers one)
+    (g.R.Decoder.who other') (g.R.Decoder.registers other') =
     rw (equal.0, equal.1) heard' in
     alike_halves_leave_the_same (g.L.Decoder.who one) (g.L.Decoder.registers one) halves others equal.2 _ _ _ _ heard
     from_one)

@@ -10,7 +10,8 @@ returns-in-Some c =
     let e : option_or (group_of c.args.p.now) (group_of c.args.q.now) ≡ Some c.in-Some.group =
     rw (← c.group_of.ensures, ← c.group_of-2.ensures) (sym c.or.ensures ∙ c.in-Some.is) in (
       λ t. let w = c.functions_from_differ.ensures.0 t in (w.0, w.3),
-      λ w. let r = agree_but _ _ _ _ e (λ d. let t : true ≡ false = sym (c.differ_at.ensures.1 d) ∙ c.if-differ_at.false in absurd (cc)) w.0 w.1 in
+      λ w. let r = agree_but _ _ _ _ e (λ d. let t : true ≡ false = sym (c.differ_at.ensures.1 d)
+          ∙ c.if-differ_at.false in absurd (cc)) w.0 w.1 in
           c.functions_from_differ.ensures.1 (
             w.0,
             rw c.first_function.ensures.first r.low,

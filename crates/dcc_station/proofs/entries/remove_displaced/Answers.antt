@@ -15,7 +15,8 @@ returns-clause-entries c =
 pub loop-preserved : goal.loop-preserved
 loop-preserved c = elim c.match-pop_front.branch [
   | in-Some+then-not-displaces w ↦ (
-      let is : c.match-pop_front.entries ≡ buffer (keep_last c.args.entries.now.capacity (drop 1 c.loop.entries.items ++ w.in-Some.entry ∷ [])) c.args.entries.now.capacity =
+      let is : c.match-pop_front.entries
+      ≡ buffer (keep_last c.args.entries.now.capacity (drop 1 c.loop.entries.items ++ w.in-Some.entry ∷ [])) c.args.entries.now.capacity =
       w.entries-is ∙ w.push_back.ensures.items
       ∙ ap (λ (b : Buffer Packet). buffer (keep_last b.capacity (b.items ++ w.in-Some.entry ∷ [])) b.capacity)
       c.pop_front.ensures.items

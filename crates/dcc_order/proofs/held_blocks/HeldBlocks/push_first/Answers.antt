@@ -62,10 +62,13 @@ invariant_of-self-then-number-self c =
     c.reserve-3.new.self.items c.push.ensures.items room
     ∙ ap (λ l. l ++ at_place c.number_at-number.result x ∷ []) c.reserve-3.ensures.items in
     let fresh = is_new places b.count b.others.items held x (sym found ∙ c.if-number-self.true) in
-    let items = put c.set_member.new.places.items c.push.new.self.items places c.number_at-number.result b.count x (c.set_member.ensures nowhere)
+    let items = put c.set_member.new.places.items c.push.new.self.items places c.number_at-number.result b.count x
+    (c.set_member.ensures nowhere)
     (placed c.push.new.self.items places c.number_at-number.result b.count x pushed c.if-number-self.true)
     c.if-number-self.true in
-    let now : (q : ℕ) → get nat_cmp c.insert.new.self q ≡ cond (is_at (nat_cmp (frame_number (spelling x))) q) (Some (length (members_at places b.count))) (get nat_cmp b.index q) = λ q.
+    let now : (q : ℕ) → get nat_cmp c.insert.new.self q
+    ≡ cond (is_at (nat_cmp (frame_number (spelling x))) q) (Some (length (members_at places b.count)))
+    (get nat_cmp b.index q) = λ q.
     c.in_ok-insert.ensures.updates.0 q
     ∙ ap (λ k. cond (is_at (nat_cmp k) q) (Some c.number_at-number.result) (get nat_cmp b.index q)) key
     ∙ ap (λ n. cond (is_at (nat_cmp (frame_number (spelling x))) q) (Some n) (get nat_cmp b.index q)) (found ∙ fresh) in
@@ -106,7 +109,9 @@ invariant_of-self-else-number-self c =
     let inside = is_known places b.count b.others.items held x (λ e. c.if-number-self.false (found ∙ e)) in
     let items = placed c.push.new.self.items places c.number_at-number.result (member_number (members_at places b.count) x)
     x pushed found in
-    let now : (q : ℕ) → get nat_cmp c.insert.new.self q ≡ cond (is_at (nat_cmp (frame_number (spelling x))) q) (Some (member_number (members_at places b.count) x)) (get nat_cmp b.index q) = λ q.
+    let now : (q : ℕ) → get nat_cmp c.insert.new.self q
+    ≡ cond (is_at (nat_cmp (frame_number (spelling x))) q) (Some (member_number (members_at places b.count) x))
+    (get nat_cmp b.index q) = λ q.
     c.in_ok-insert.ensures.updates.0 q
     ∙ ap (λ k. cond (is_at (nat_cmp k) q) (Some c.number_at-number.result) (get nat_cmp b.index q)) key
     ∙ ap (λ n. cond (is_at (nat_cmp (frame_number (spelling x))) q) (Some n) (get nat_cmp b.index q)) (found) in
@@ -142,7 +147,8 @@ returns-then-number-self-clause-ok c =
     c.reserve-3.new.self.items c.push.ensures.items room
     ∙ ap (λ l. l ++ at_place c.number_at-number.result x ∷ []) c.reserve-3.ensures.items in
     let fresh = is_new places b.count b.others.items held x (sym found ∙ c.if-number-self.true) in
-    let items = put c.set_member.new.places.items c.push.new.self.items places c.number_at-number.result b.count x (c.set_member.ensures nowhere)
+    let items = put c.set_member.new.places.items c.push.new.self.items places c.number_at-number.result b.count x
+    (c.set_member.ensures nowhere)
     (placed c.push.new.self.items places c.number_at-number.result b.count x pushed c.if-number-self.true)
     c.if-number-self.true in
     ap (λ k. held_at c.set_member.new.places.items k b.others.items) (add-one b.count)
