@@ -8,7 +8,6 @@ use Rattle.dcc_io.specs.declared.word.Run.{Run}
 use Rattle.dcc_io.specs.declared.fault.KeptFault.{KeptFault}
 use Rattle.dcc_io.specs.declared.fault.KeptFault.TheVariants.{Number, Line, Read, TooMuch}
 use Rattle.dcc_io.specs.TextPlace.{TextPlace, line_behind}
-use Rattle.dcc_io.specs.ReaderState.{IsAtEnd}
 use Rattle.dcc_io.specs.InputState.{InputState, all_lines}
 use Rattle.dcc_io.specs.Words.{Word, ended_words, is_gap, without_comments, onto_first, pieces, but_last, has_bytes}
 use Rattle.dcc_io.specs.Words.{is_mark, run_of}
@@ -21,7 +20,7 @@ use Rattle.dcc_capture.specs.FirstRead.{LeadsIn, Leads, first_so_far, first_is, 
 use Rattle.dcc_io.specs.LineEnd.{IsBehindLine}
 use Rattle.dcc_capture.specs.Inner.FirstSteps.{CountsWord, EndsMark}
 use Rattle.dcc_io.proofs.TookLemmas.{same_cond, if_some_all, map_text, Took-start, Took-counted, Took-join, told_behind}
-use Rattle.dcc_io.proofs.TookLemmas.{fails_behind, within_limit-used, not_within, zero_fits}
+use Rattle.dcc_io.proofs.TookLemmas.{fails_behind, within_limit-used, not_within}
 use Rattle.dcc_capture.proofs.CaptureLemmas.{enough}
 use Rattle.dcc_capture.proofs.RunWordLemmas.{some_half}
 
@@ -310,26 +309,3 @@ pub answers_fault : (before : ℕ) (old new : InputState) (fault : KeptFault) �
 answers_fault before old new fault none answer =
     stops_word before old old (λ end ws last. both_of before old.halves end ws last) new fault
     (Leads-start before old none) answer (λ end f. refl)
-
--- the end, where the line `---` is lacking
-pub answers_lacking : (before : ℕ) (old mid new : InputState) → old.fault ≡ None → Passed old [] mid → IsAtEnd mid.text
-    → new ≡ with_fault mid (Line (mid.lines + 1) faults.Word)
-    → AnswersFirst before old (Err (Line (mid.lines + 1) faults.Word)) new
-answers_lacking before old mid new none passed at_end is_new =
-    rw is_new (
-      (
-        passed.failures,
-        told_behind leads (λ rest. rest ≡ [])
-            (λ text. in_limit (both_from before old) old text ≡ fault_alone (Line (mid.lines + 1) faults.Word))
-            (λ text rest uses end. in_limit_of before old mid said text rest uses ∙ ap (in_limit said mid) end
-            ∙ rw (zero_fits mid.bytes) refl) at_end,
-      ),
-      refl,
-    )
-  where
-    said : Said
-    said end more last = both_of before old.halves end (ended_words mid.place more) last
-
-    leads : Leads before old mid said
-    leads = Leads-words before old old mid [] (λ end ws last. both_of before old.halves end ws last) said
-        (Leads-start before old none) passed (λ end more last. refl)

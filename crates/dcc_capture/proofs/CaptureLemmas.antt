@@ -7,17 +7,17 @@ use Rattle.std.proofs.lemmas.Bool.Decides.{nat_tests}
 use Rattle.dcc_io.specs.declared.word.Run.{Run}
 use Rattle.dcc_io.specs.declared.word.RunWord.{RunWord}
 use Rattle.dcc_io.specs.declared.fault.KeptFault.{KeptFault}
-use Rattle.dcc_io.specs.declared.fault.KeptFault.TheVariants.{Number, Line, Read, TooMuch}
+use Rattle.dcc_io.specs.declared.fault.KeptFault.TheVariants.{Number, TooMuch}
 use Rattle.dcc_io.specs.ReaderState.{IsAtEnd}
 use Rattle.dcc_io.specs.InputState.{InputState}
 use Rattle.dcc_io.specs.Words.{Word, ended_words, run_of}
-use Rattle.dcc_io.specs.PassedWords.{Passed, IsBeforeWord, EndsWord, AnswersWord}
+use Rattle.dcc_io.specs.PassedWords.{Passed, EndsWord}
 use Rattle.dcc_io.specs.Items.{Items, items_behind, only_fault, Gave, StopsAt}
-use Rattle.dcc_capture.specs.Capture.{behind_word, halves_of, capture_in, capture_before_failure, captures, GaveHalves}
+use Rattle.dcc_capture.specs.Capture.{behind_word, halves_of, capture_in, captures, GaveHalves}
 use Rattle.dcc_capture.specs.Capture.{AnswersRun}
 use Rattle.dcc_io.specs.Counted.{CountsRun}
 use Rattle.dcc_io.proofs.TookLemmas.{map_text, not_within, zero_fits, same_cond, Took-counted, Took-map}
-use Rattle.dcc_io.proofs.TookLemmas.{told_behind, Stops-map, within_limit-used, overflows}
+use Rattle.dcc_io.proofs.TookLemmas.{told_behind, within_limit-used}
 use Rattle.dcc_io.proofs.PassedLemmas.{PassesIn}
 use Rattle.dcc_io.proofs.ItemsLemmas.{in_whole}
 use Rattle.dcc_capture.proofs.RunWordLemmas.{some_half}
@@ -134,22 +134,6 @@ Gave-end old new passed at_end = (
     items = Took-map passed.took
         (λ used passes more last. ap (λ ws. halves_of old.halves ws last) (passes more)
         ∙ ap (λ most. halves_of most (ended_words new.place more) last) (sym passed.halves))
-
-pub stops_answer : (old new : InputState) (fault : KeptFault) → AnswersWord old (Err fault) new
-    → AnswersRun old (Err fault) new
-stops_answer old new Read answer = (
-  Stops-map (IsBeforeWord old) (λ used. capture_before_failure old used ≡ only_fault (Some Read)) (λ text. Unit {0})
-      (λ text. Unit {0}) old new Read answer.0 (λ used. ap (λ ws. halves_of old.halves ws (Some Read)))
-      (λ text none. none),
-  answer.1,
-)
-stops_answer old new TooMuch answer = (
-  overflows (IsBeforeWord old) (captures old) (only_fault (Some TooMuch)) old new answer.0
-      (λ used. ap (λ ws. halves_of old.halves ws (Some TooMuch))),
-  answer.1,
-)
-stops_answer old new (Number line) answer = absurd answer
-stops_answer old new (Line line fault) answer = absurd answer
 
 -- a run was counted, or had too many halves
 pub counts_answer : (old mid new : InputState) (line : ℕ) (run : Run) (so_far : RunWord)
