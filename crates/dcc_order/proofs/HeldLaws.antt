@@ -280,7 +280,7 @@ number_gives members (m ∷ ns) n (suc k, inside, is) =
 
 numbers_back : (members : List Packet) → EachOnce members → (ns : List ℕ) → Numbered members ns
     → map (member_number members) (packets_of members ns) ≡ ns
-numbers_back members once [] all = refl
+numbers_back _ _ [] _ = refl
 numbers_back members once (n ∷ ns) all =
     ap (λ k. k ∷ map (member_number members) (packets_of members ns)) (once n Idle all.0)
     ∙ ap (λ l. n ∷ l) (numbers_back members once ns all.1)
