@@ -35,15 +35,15 @@ fn an_interrupted_read_fails_and_the_next_one_goes_on(rt: HostRuntime) {
         calls: 0,
     });
     let mut buffer = [0u8; 8];
-    assert_eq!(rt; reader.read(&mut buffer), Err(Failed));
-    assert_eq!(rt; (reader.failures, reader.inner.calls), (1, 1));
-    assert_eq!(rt; reader.read(&mut buffer), Ok(3));
-    assert_eq!(rt; &buffer[..3], b"58 ".as_slice());
-    assert_eq!(rt; (reader.failures, reader.inner.calls), (1, 2));
-    assert_eq!(rt; reader.read(&mut buffer), Ok(3));
-    assert_eq!(rt; &buffer[..3], b"57 ".as_slice());
-    assert_eq!(rt; reader.read(&mut buffer), Ok(0));
-    assert_eq!(rt; (reader.failures, reader.inner.calls), (1, 4));
+    assert!(rt; reader.read(&mut buffer) == Err(Failed));
+    assert!(rt; (reader.failures, reader.inner.calls) == (1, 1));
+    assert!(rt; reader.read(&mut buffer) == Ok(3));
+    assert!(rt; &buffer[..3] == b"58 ".as_slice());
+    assert!(rt; (reader.failures, reader.inner.calls) == (1, 2));
+    assert!(rt; reader.read(&mut buffer) == Ok(3));
+    assert!(rt; &buffer[..3] == b"57 ".as_slice());
+    assert!(rt; reader.read(&mut buffer) == Ok(0));
+    assert!(rt; (reader.failures, reader.inner.calls) == (1, 4));
 }
 
 #[test]
@@ -55,13 +55,13 @@ fn a_read_that_is_interrupted_between_two_fails_alone(rt: HostRuntime) {
         calls: 0,
     });
     let mut buffer = [0u8; 8];
-    assert_eq!(rt; reader.read(&mut buffer), Ok(3));
-    assert_eq!(rt; (reader.failures, reader.inner.calls), (0, 1));
-    assert_eq!(rt; reader.read(&mut buffer), Err(Failed));
-    assert_eq!(rt; (reader.failures, reader.inner.calls), (1, 2));
-    assert_eq!(rt; reader.read(&mut buffer), Ok(3));
-    assert_eq!(rt; &buffer[..3], b"57 ".as_slice());
-    assert_eq!(rt; (reader.failures, reader.inner.calls), (1, 3));
+    assert!(rt; reader.read(&mut buffer) == Ok(3));
+    assert!(rt; (reader.failures, reader.inner.calls) == (0, 1));
+    assert!(rt; reader.read(&mut buffer) == Err(Failed));
+    assert!(rt; (reader.failures, reader.inner.calls) == (1, 2));
+    assert!(rt; reader.read(&mut buffer) == Ok(3));
+    assert!(rt; &buffer[..3] == b"57 ".as_slice());
+    assert!(rt; (reader.failures, reader.inner.calls) == (1, 3));
 }
 
 /// A writer that takes some bytes at each call, of which one is interrupted: the one behind so many others.
@@ -113,50 +113,32 @@ impl io::Write for Sipping {
 #[test]
 fn an_interrupted_write_fails_and_the_next_one_goes_on(rt: HostRuntime) {
     let mut writer = Counted::new(Sipping::new(2, 0));
-    assert_eq!(rt; writer.write(b"alike"), Err(Failed));
-    assert_eq!(rt;
-        (writer.failures, writer.inner.calls, writer.inner.len),
-        (1, 1, 0)
-    );
-    assert_eq!(rt; writer.write(b"alike"), Ok(2));
-    assert_eq!(rt; writer.inner.handed, 5);
-    assert_eq!(rt; writer.write(b"ike"), Ok(2));
-    assert_eq!(rt;
-        (writer.failures, writer.inner.calls, writer.inner.handed),
-        (1, 3, 3)
-    );
-    assert_eq!(rt; &writer.inner.taken[..4], b"alik".as_slice());
+    assert!(rt; writer.write(b"alike") == Err(Failed));
+    assert!(rt; (writer.failures, writer.inner.calls, writer.inner.len) == (1, 1, 0));
+    assert!(rt; writer.write(b"alike") == Ok(2));
+    assert!(rt; writer.inner.handed == 5);
+    assert!(rt; writer.write(b"ike") == Ok(2));
+    assert!(rt; (writer.failures, writer.inner.calls, writer.inner.handed) == (1, 3, 3));
+    assert!(rt; &writer.inner.taken[..4] == b"alik".as_slice());
 }
 
 #[test]
 fn a_write_that_is_interrupted_between_two_fails_alone(rt: HostRuntime) {
     let mut writer = Counted::new(Sipping::new(8, 1));
-    assert_eq!(rt; writer.write(b"al"), Ok(2));
-    assert_eq!(rt; (writer.failures, writer.inner.calls), (0, 1));
-    assert_eq!(rt; writer.write(b"ike"), Err(Failed));
-    assert_eq!(rt;
-        (writer.failures, writer.inner.calls, writer.inner.len),
-        (1, 2, 2)
-    );
-    assert_eq!(rt; writer.write(b"ike"), Ok(3));
-    assert_eq!(rt;
-        (writer.failures, writer.inner.calls, writer.inner.handed),
-        (1, 3, 3)
-    );
-    assert_eq!(rt; &writer.inner.taken[..5], b"alike".as_slice());
+    assert!(rt; writer.write(b"al") == Ok(2));
+    assert!(rt; (writer.failures, writer.inner.calls) == (0, 1));
+    assert!(rt; writer.write(b"ike") == Err(Failed));
+    assert!(rt; (writer.failures, writer.inner.calls, writer.inner.len) == (1, 2, 2));
+    assert!(rt; writer.write(b"ike") == Ok(3));
+    assert!(rt; (writer.failures, writer.inner.calls, writer.inner.handed) == (1, 3, 3));
+    assert!(rt; &writer.inner.taken[..5] == b"alike".as_slice());
 }
 
 #[test]
 fn a_write_that_takes_nothing_of_some_bytes_counts(rt: HostRuntime) {
     let mut writer = Counted::new(Sipping::new(0, 9));
-    assert_eq!(rt; writer.write(b"alike"), Ok(0));
-    assert_eq!(rt;
-        (writer.failures, writer.inner.calls, writer.inner.handed),
-        (1, 1, 5)
-    );
-    assert_eq!(rt; writer.write(b""), Ok(0));
-    assert_eq!(rt;
-        (writer.failures, writer.inner.calls, writer.inner.handed),
-        (1, 2, 0)
-    );
+    assert!(rt; writer.write(b"alike") == Ok(0));
+    assert!(rt; (writer.failures, writer.inner.calls, writer.inner.handed) == (1, 1, 5));
+    assert!(rt; writer.write(b"") == Ok(0));
+    assert!(rt; (writer.failures, writer.inner.calls, writer.inner.handed) == (1, 2, 0));
 }

@@ -17,7 +17,7 @@ fn answers_are_the_same(rt: &impl Abort, frame: Frame, bad: u32) {
             count = count.wrapping_add(1);
             let us = if count == bad { 70 } else { us };
             let mut framer = kept.framer();
-            assert_eq!(rt; framer.push(us), running.push(us), "{count}");
+            assert!(rt; framer.push(us) == running.push(us), "{count}");
             kept = framer.keep();
         }
     }
@@ -54,13 +54,13 @@ fn through_packed(state: &LocoState) -> Result<LocoState, PacketFault> {
 }
 
 fn is_same_loco(rt: &impl Abort, one: &LocoState, other: &LocoState) {
-    assert_eq!(rt; one.address, other.address);
-    assert_eq!(rt; one.speed, other.speed);
-    assert_eq!(rt; one.forward, other.forward);
-    assert_eq!(rt; one.functions, other.functions);
-    assert_eq!(rt; one.states, other.states);
-    assert_eq!(rt; one.pending, other.pending);
-    assert_eq!(rt; one.cvs[1023], other.cvs[1023]);
+    assert!(rt; one.address == other.address);
+    assert!(rt; one.speed == other.speed);
+    assert!(rt; one.forward == other.forward);
+    assert!(rt; one.functions == other.functions);
+    assert!(rt; one.states == other.states);
+    assert!(rt; one.pending == other.pending);
+    assert!(rt; one.cvs[1023] == other.cvs[1023]);
 }
 
 fn is_kept(rt: &impl Abort) -> Result<(), PacketFault> {
@@ -76,10 +76,10 @@ fn a_loco_is_restored_in_the_state_that_it_gives(rt: HostRuntime) -> Result<(), 
 }
 
 fn is_same_board(rt: &impl Abort, one: &BoardState, other: &BoardState) {
-    assert_eq!(rt; one.board.number(), other.board.number());
-    assert_eq!(rt; one.outs, other.outs);
-    assert_eq!(rt; one.positions, other.positions);
-    assert_eq!(rt; one.aspects, other.aspects);
+    assert!(rt; one.board.number() == other.board.number());
+    assert!(rt; one.outs == other.outs);
+    assert!(rt; one.positions == other.positions);
+    assert!(rt; one.aspects == other.aspects);
 }
 
 #[test]
@@ -103,18 +103,15 @@ fn a_decoder_in_service_acts_on_what_was_pending(rt: HostRuntime) -> Result<(), 
     };
     let mut decoder = ServiceDecoder::restore(true, Some(write), &[3; 1024]);
     assert!(rt; decoder.is_in_service());
-    assert_eq!(rt; decoder.pending(), Some(write));
+    assert!(rt; decoder.pending() == Some(write));
     assert!(rt; decoder.apply(&write.frame()));
-    assert_eq!(rt; decoder.cvs()[0], 10);
+    assert!(rt; decoder.cvs()[0] == 10);
     Ok(())
 }
 
 #[test]
 fn a_line_of_bytes_need_be_no_text(rt: HostRuntime) {
-    assert_eq!(rt; Packet::from_line_bytes(b"idle"), Ok(Packet::Idle));
-    assert_eq!(rt; Packet::from_line_bytes(b"idl\xFF"), Err(PacketFault::Word));
-    assert_eq!(rt;
-        Packet::from_line_bytes(b"loco s\xFF reset"),
-        Err(PacketFault::Number)
-    );
+    assert!(rt; Packet::from_line_bytes(b"idle") == Ok(Packet::Idle));
+    assert!(rt; Packet::from_line_bytes(b"idl\xFF") == Err(PacketFault::Word));
+    assert!(rt; Packet::from_line_bytes(b"loco s\xFF reset") == Err(PacketFault::Number));
 }

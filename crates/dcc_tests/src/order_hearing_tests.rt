@@ -52,18 +52,12 @@ fn an_empty_fleet_hears_packets(rt: HostRuntime) -> Result<(), Fail> {
 fn fleets_may_be_written_where_they_hear(rt: HostRuntime) -> Result<(), Fail> {
     let alloc = rt.alloc();
     let mut framer = Framer::new();
-    assert_eq!(rt; hear(&mut [], &mut framer, 58), Seen::Nothing);
-    assert_eq!(rt; hear_run(&mut [], &mut framer, 58, 9).at, 9);
-    assert_eq!(rt;
-        hear(&mut [Box::new(alloc, s3())?], &mut framer, 58),
-        Seen::Nothing
-    );
-    assert_eq!(rt;
-        hear_run(&mut [Box::new(alloc, s3())?], &mut framer, 58, 9).at,
-        9
-    );
-    assert_eq!(rt; hear_half(&mut [s3()], &mut framer, 58), Seen::Nothing);
-    assert_eq!(rt; hear_half_run(&mut [s3()], &mut framer, 58, 9).at, 9);
+    assert!(rt; hear(&mut [], &mut framer, 58) == Seen::Nothing);
+    assert!(rt; hear_run(&mut [], &mut framer, 58, 9).at == 9);
+    assert!(rt; hear(&mut [Box::new(alloc, s3())?], &mut framer, 58) == Seen::Nothing);
+    assert!(rt; hear_run(&mut [Box::new(alloc, s3())?], &mut framer, 58, 9).at == 9);
+    assert!(rt; hear_half(&mut [s3()], &mut framer, 58) == Seen::Nothing);
+    assert!(rt; hear_half_run(&mut [s3()], &mut framer, 58, 9).at == 9);
     Ok(())
 }
 
@@ -106,9 +100,8 @@ fn each_member_ends_as_it_would_alone(rt: HostRuntime) -> Result<(), Fail> {
     for (member, register, value) in rows {
         let member: usize = member;
         match fleet.get(member) {
-            Some(decoder) => assert_eq!(rt;
-                decoder.get(register),
-                Some(value),
+            Some(decoder) => assert!(rt;
+                decoder.get(register) == Some(value),
                 "{member} {register:?}"
             ),
             None => assert!(rt; false),
@@ -162,10 +155,7 @@ fn refused_halves_change_nothing(rt: HostRuntime) -> Result<(), Fail> {
         place = place.wrapping_add(1);
     }
     assert!(rt; refused);
-    assert_eq!(rt;
-        fleet[0].get(Register::Speed),
-        Some(Value::Speed(Speed::Stop))
-    );
+    assert!(rt; fleet[0].get(Register::Speed) == Some(Value::Speed(Speed::Stop)));
     Ok(())
 }
 
@@ -191,17 +181,11 @@ fn a_track_may_come_in_runs(rt: HostRuntime) -> Result<(), Fail> {
     let mut fleet: [Box<dyn Decoder>; 1] = [Box::new(alloc, s3())?];
     let mut last = 0;
     for (us, n) in SPEED_STEP_1 {
-        assert_eq!(rt;
-            fleet[0].get(Register::Speed),
-            Some(Value::Speed(Speed::Stop))
-        );
+        assert!(rt; fleet[0].get(Register::Speed) == Some(Value::Speed(Speed::Stop)));
         last = hear_run(&mut fleet, &mut framer, us, n).at;
     }
-    assert_eq!(rt; last, 4);
-    assert_eq!(rt;
-        fleet[0].get(Register::Speed),
-        Some(Value::Speed(Speed::Step28(1)))
-    );
+    assert!(rt; last == 4);
+    assert!(rt; fleet[0].get(Register::Speed) == Some(Value::Speed(Speed::Step28(1))));
     Ok(())
 }
 
@@ -217,16 +201,15 @@ fn a_track_may_come_in_pieces(rt: HostRuntime) -> Result<(), Fail> {
         }
         place = place.wrapping_add(1);
     }
-    assert_eq!(rt; place, 84);
+    assert!(rt; place == 84);
     for cut in [0, 1, 29, 50, 83, 84] {
         let mut framer = Framer::new();
         let mut fleet: [Box<dyn Decoder>; 1] = [Box::new(alloc, s3())?];
         let (first, second) = durations.split_at(cut);
         hear_piece(&mut fleet, &mut framer, first);
         hear_piece(&mut fleet, &mut framer, second);
-        assert_eq!(rt;
-            fleet[0].get(Register::Speed),
-            Some(Value::Speed(Speed::Step28(1))),
+        assert!(rt;
+            fleet[0].get(Register::Speed) == Some(Value::Speed(Speed::Step28(1))),
             "{cut}"
         );
     }

@@ -62,7 +62,7 @@ fn lines_that_are_written_otherwise(rt: HostRuntime) {
     rows_hold(&rt, WRITTEN_OTHERWISE, is_row_written);
     assert!(rt; is_written("\tloco  s3\tspeed28 f 4\r", "loco s3 speed28 f 4"));
     let longest = "loco l10239 cv bitverify 1024 7 1";
-    assert_eq!(rt; longest.len(), 33);
+    assert!(rt; longest.len() == 33);
 }
 
 const OUT_OF_RANGE: &str = "\
@@ -143,7 +143,7 @@ fn every_frame_of_three_bytes_is_written_again(rt: HostRuntime) {
         }
     }
     // idle; 128 addresses with reset, 64 speeds and 64 function bytes; 64 times 128 accessory packets
-    assert_eq!(rt; others, 65536 - 1 - 128 * 129 - 64 * 128);
+    assert!(rt; others == 65536 - 1 - 128 * 129 - 64 * 128);
 }
 
 /// Whether each of these addresses is itself and none of the others.
@@ -203,17 +203,17 @@ fn place(rt: &impl Abort, place: u8) -> BitPlace {
 fn bits_of_a_byte_from_the_lowest_up(rt: HostRuntime) {
     for (byte, number, is_one, with_one, with_zero) in &BITS {
         let place = place(&rt, *number);
-        assert_eq!(rt; place.is_set(*byte), *is_one, "{number}");
-        assert_eq!(rt; place.with_bit(*byte, true), *with_one, "{number}");
-        assert_eq!(rt; place.with_bit(*byte, false), *with_zero, "{number}");
+        assert!(rt; place.is_set(*byte) == *is_one, "{number}");
+        assert!(rt; place.with_bit(*byte, true) == *with_one, "{number}");
+        assert!(rt; place.with_bit(*byte, false) == *with_zero, "{number}");
     }
 }
 
 #[test]
 fn an_access_to_bit_5_ends_in_its_state_and_5(rt: HostRuntime) {
     let place = place(&rt, 5);
-    assert_eq!(rt; place.access_bits(true), 0b1101);
-    assert_eq!(rt; place.access_bits(false), 0b0101);
+    assert!(rt; place.access_bits(true) == 0b1101);
+    assert!(rt; place.access_bits(false) == 0b0101);
 }
 
 fn has_text(alloc: Global, fault: PacketFault, text: &str) -> Result<bool, Fail> {

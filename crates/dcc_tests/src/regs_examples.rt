@@ -68,12 +68,12 @@ pub fn hear(decoder: &mut dyn Decoder, lines: &[&str]) -> Result<(), PacketFault
 
 /// The register holds the value.
 pub fn holds(rt: &impl Abort, decoder: &dyn Decoder, register: Register, value: Value) {
-    assert_eq!(rt; decoder.get(register), Some(value), "{register:?}");
+    assert!(rt; decoder.get(register) == Some(value), "{register:?}");
 }
 
 /// The decoder has no such register.
 pub fn lacks(rt: &impl Abort, decoder: &dyn Decoder, register: Register) {
-    assert_eq!(rt; decoder.get(register), None, "{register:?}");
+    assert!(rt; decoder.get(register) == None, "{register:?}");
 }
 
 /// A decoder hears the lines, and then holds the value in the register.
@@ -85,9 +85,8 @@ pub fn expect(
     value: Value,
 ) -> Result<(), PacketFault> {
     hear(decoder, lines)?;
-    assert_eq!(rt;
-        decoder.get(register),
-        Some(value),
+    assert!(rt;
+        decoder.get(register) == Some(value),
         "{lines:?} {register:?}"
     );
     Ok(())
@@ -116,10 +115,10 @@ pub fn expect_cvs(rt: &impl Abort, rows: &[CvRow]) -> Result<(), PacketFault> {
         let cv = CvNumber::new(*number)?;
         let mut plain = loco(2);
         hear(&mut plain, lines)?;
-        assert_eq!(rt; plain.cv(cv), *value, "{lines:?}");
+        assert!(rt; plain.cv(cv) == *value, "{lines:?}");
         let mut packed = packed_loco(2);
         hear(&mut packed, lines)?;
-        assert_eq!(rt; packed.cv(cv), *value, "{lines:?}");
+        assert!(rt; packed.cv(cv) == *value, "{lines:?}");
     }
     Ok(())
 }

@@ -26,11 +26,11 @@ fn stopped() -> Result<LocoState, PacketFault> {
 fn refused(rt: &impl Abort, state: &LocoState) {
     match LocoDecoder::restore(state) {
         Ok(_) => assert!(rt; false),
-        Err(fault) => assert_eq!(rt; fault.number(), 13),
+        Err(fault) => assert!(rt; fault.number() == 13),
     }
     match PackedLoco::restore(state) {
         Ok(_) => assert!(rt; false),
-        Err(fault) => assert_eq!(rt; fault.number(), 13),
+        Err(fault) => assert!(rt; fault.number() == 13),
     }
 }
 
@@ -91,7 +91,7 @@ fn refused_locomotives(rt: HostRuntime) -> Result<(), Fail> {
 
 /// The decoder is in this state.
 fn is_in(rt: &impl Abort, decoder: &dyn Decoder, state: &LocoState) {
-    assert_eq!(rt; decoder.who(), Who::Loco(state.address));
+    assert!(rt; decoder.who() == Who::Loco(state.address));
     holds(rt, decoder, Register::Speed, Value::Speed(state.speed));
     holds(
         rt,
@@ -119,10 +119,10 @@ fn taken(rt: &impl Abort, state: &LocoState) -> Result<(), PacketFault> {
     let first = CvNumber::new(1)?;
     let plain = LocoDecoder::restore(state)?;
     is_in(rt, &plain, state);
-    assert_eq!(rt; plain.cv(first), 3);
+    assert!(rt; plain.cv(first) == 3);
     let packed = PackedLoco::restore(state)?;
     is_in(rt, &packed, state);
-    assert_eq!(rt; packed.cv(first), 3);
+    assert!(rt; packed.cv(first) == 3);
     Ok(())
 }
 
@@ -165,19 +165,19 @@ fn restored_locomotives(rt: HostRuntime) -> Result<(), Fail> {
 fn refused_board(rt: &impl Abort, state: &BoardState) {
     match BoardDecoder::new(state.board) {
         Ok(_) => assert!(rt; false),
-        Err(fault) => assert_eq!(rt; fault.number(), 3),
+        Err(fault) => assert!(rt; fault.number() == 3),
     }
     match PackedBoard::new(state.board) {
         Ok(_) => assert!(rt; false),
-        Err(fault) => assert_eq!(rt; fault.number(), 3),
+        Err(fault) => assert!(rt; fault.number() == 3),
     }
     match BoardDecoder::restore(state) {
         Ok(_) => assert!(rt; false),
-        Err(fault) => assert_eq!(rt; fault.number(), 3),
+        Err(fault) => assert!(rt; fault.number() == 3),
     }
     match PackedBoard::restore(state) {
         Ok(_) => assert!(rt; false),
-        Err(fault) => assert_eq!(rt; fault.number(), 3),
+        Err(fault) => assert!(rt; fault.number() == 3),
     }
 }
 

@@ -37,7 +37,7 @@ fn with_cv1(value: u8) -> ServiceDecoder {
 /// Applies frames in turn, and compares the acknowledgements.
 fn expect(rt: &impl Abort, decoder: &mut ServiceDecoder, rows: &[(&[u8], bool)], name: &str) {
     for (bytes, answer) in rows {
-        assert_eq!(rt; decoder.apply(&frame(rt, bytes)), *answer, "{name}");
+        assert!(rt; decoder.apply(&frame(rt, bytes)) == *answer, "{name}");
     }
 }
 
@@ -50,7 +50,7 @@ fn expect_answers(
 ) {
     let frames = question_frames(question);
     for (frame, answer) in frames.iter().zip(answers.iter()) {
-        assert_eq!(rt; decoder.apply(frame), *answer);
+        assert!(rt; decoder.apply(frame) == *answer);
     }
 }
 
@@ -64,12 +64,12 @@ fn a_write_is_done_at_its_second_copy(rt: HostRuntime) {
         (WRITE_CV1_10, true),
     ];
     expect(&rt, &mut decoder, &rows, "the second copy");
-    assert_eq!(rt; decoder.cvs()[0], 10);
+    assert!(rt; decoder.cvs()[0] == 10);
     let rows = [(IDLE, false), (WRITE_CV1_10, false), (WRITE_CV1_10, false)];
     expect(&rt, &mut decoder, &rows, "an idle packet ends service");
     let rows = [(RESET, false), (WRITE_CV8_8, false), (WRITE_CV8_8, false)];
     expect(&rt, &mut decoder, &rows, "CV8 is not written");
-    assert_eq!(rt; decoder.cvs()[7], 0);
+    assert!(rt; decoder.cvs()[7] == 0);
 }
 
 #[test]
@@ -126,27 +126,27 @@ fn questions_are_three_resets_and_five_copies(rt: HostRuntime) {
     };
     let yes = [false, false, false, false, true, true, true, true];
     expect_answers(&rt, &mut decoder, &write, yes);
-    assert_eq!(rt; decoder.cvs()[0], 11);
+    assert!(rt; decoder.cvs()[0] == 11);
     let write = ServicePacket::Write {
         cv: cv(&rt, 8),
         value: 3,
     };
     expect_answers(&rt, &mut decoder, &write, [false; 8]);
-    assert_eq!(rt; decoder.cvs()[7], 0);
+    assert!(rt; decoder.cvs()[7] == 0);
     let write = ServicePacket::BitWrite {
         cv: cv(&rt, 1),
         place: place(&rt, 7),
         one: true,
     };
     assert!(rt; ask(&mut decoder, &write));
-    assert_eq!(rt; decoder.cvs()[0], 139);
+    assert!(rt; decoder.cvs()[0] == 139);
     let verify = ServicePacket::BitVerify {
         cv: cv(&rt, 1),
         place: place(&rt, 7),
         one: false,
     };
     assert!(rt; !ask(&mut decoder, &verify));
-    assert_eq!(rt; decoder.cvs()[0], 139);
+    assert!(rt; decoder.cvs()[0] == 139);
 }
 
 #[test]
@@ -185,7 +185,7 @@ fn packets_have_their_frames(rt: HostRuntime) {
         ),
     ];
     for (packet, bytes) in rows {
-        assert_eq!(rt; packet.frame().bytes(), bytes.as_slice());
+        assert!(rt; packet.frame().bytes() == bytes.as_slice());
         let read = ServicePacket::read(&frame(&rt, bytes.as_slice()));
         assert!(rt; read.expect(&rt, "a service packet").is(&packet));
     }
@@ -207,7 +207,7 @@ fn exactly_the_frames_of_the_table_are_read(rt: HostRuntime) {
             match ServicePacket::read(&frame) {
                 Some(packet) => {
                     assert!(rt; is_in_table(first, last));
-                    assert_eq!(rt; packet.frame().bytes(), bytes.as_slice());
+                    assert!(rt; packet.frame().bytes() == bytes.as_slice());
                 }
                 None => assert!(rt; !is_in_table(first, last)),
             }
@@ -240,9 +240,9 @@ fn read_cv1(rt: &impl Abort, mut decoder: Option<ServiceDecoder>) -> (Option<u8>
 fn nine_questions_tell_every_value(rt: HostRuntime) {
     for value in 0..=255u8 {
         let read = read_cv1(&rt, Some(with_cv1(value)));
-        assert_eq!(rt; read, (Some(value), 9));
+        assert!(rt; read == (Some(value), 9));
     }
-    assert_eq!(rt; read_cv1(&rt, None), (None, 9));
+    assert!(rt; read_cv1(&rt, None) == (None, 9));
 }
 
 #[test]

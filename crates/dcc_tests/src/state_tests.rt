@@ -61,7 +61,7 @@ fn wrong_binary_states_are_refused(rt: HostRuntime) {
 #[test]
 fn a_binary_state_is_no_cv_access(rt: HostRuntime) -> Result<(), Fail> {
     let number = StateNumber::new(127)?;
-    assert_eq!(rt; number.number(), 127);
+    assert!(rt; number.number() == 127);
     let what = What::BinaryState { number, on: true };
     assert!(rt; !what.is_cv_access());
     Ok(())
@@ -91,9 +91,8 @@ fn has_states(rt: &impl Abort, decoder: &dyn Decoder, lines: &[&str], on: On) {
     lacks(rt, decoder, Register::State(0));
     for n in 1..128 {
         let value = if on.has(n) { ON } else { OFF };
-        assert_eq!(rt;
-            decoder.get(Register::State(n)),
-            Some(value),
+        assert!(rt;
+            decoder.get(Register::State(n)) == Some(value),
             "{lines:?} {n}"
         );
     }
@@ -177,11 +176,11 @@ fn refused(rt: &impl Abort, state: &LocoState) {
     assert!(rt; !state.is_possible());
     match LocoDecoder::restore(state) {
         Ok(_) => assert!(rt; false),
-        Err(fault) => assert_eq!(rt; fault.number(), 13),
+        Err(fault) => assert!(rt; fault.number() == 13),
     }
     match PackedLoco::restore(state) {
         Ok(_) => assert!(rt; false),
-        Err(fault) => assert_eq!(rt; fault.number(), 13),
+        Err(fault) => assert!(rt; fault.number() == 13),
     }
 }
 

@@ -16,7 +16,7 @@ fn framer_behind(runs: &[(u16, u32)]) -> Framer {
 /// Asserts what a framer answers to a run behind these runs.
 fn shows(rt: &impl Abort, runs: &[(u16, u32)], us: u16, n: u32, want: &RunSeen) {
     let mut framer = framer_behind(runs);
-    assert_eq!(rt; framer.push_run(us, n), *want, "{us} {n}");
+    assert!(rt; framer.push_run(us, n) == *want, "{us} {n}");
 }
 
 /// A run that shows nothing.
@@ -100,7 +100,7 @@ fn a_packet_may_come_in_runs(rt: HostRuntime) -> Result<(), Fail> {
         last = framer.push_run(us, n);
     }
     let seen = Seen::Packet(Frame::of(&[3, 0x62, 0x61])?);
-    assert_eq!(rt; last, RunSeen { seen, at: 4 });
+    assert!(rt; last == RunSeen { seen, at: 4 });
     Ok(())
 }
 
@@ -110,11 +110,11 @@ fn ones_behind_the_end_bit_of_a_run_are_counted(rt: HostRuntime) -> Result<(), F
         let mut framer = framer_behind(&SPEED_STEP_1[..10]);
         // four ones end the packet, two of them its end bit
         let run = framer.push_run(58, n);
-        assert_eq!(rt; run.at, 4);
+        assert!(rt; run.at == 4);
         assert!(rt; !run.seen.is_nothing());
         framer.push_run(100, 1);
         let split = framer.push_run(58, 1);
-        assert_eq!(rt; !split.seen.is_nothing(), last, "{n}");
+        assert!(rt; !split.seen.is_nothing() == last, "{n}");
     }
     Ok(())
 }
@@ -147,14 +147,13 @@ fn a_run_shows_what_its_halves_show_one_by_one(rt: HostRuntime) -> Result<(), Fa
                     in_runs.push(half);
                     one_by_one.push(half);
                 }
-                assert_eq!(rt;
-                    in_runs.push_run(us, n),
-                    push_one_by_one(&rt, &mut one_by_one, us, n),
+                assert!(rt;
+                    in_runs.push_run(us, n) == push_one_by_one(&rt, &mut one_by_one, us, n),
                     "{n} of {us} behind {cut}"
                 );
                 // a packet behind the run is seen by both or by none
                 for half in Halves::new(frame, Timing::main()) {
-                    assert_eq!(rt; in_runs.push(half), one_by_one.push(half));
+                    assert!(rt; in_runs.push(half) == one_by_one.push(half));
                 }
             }
         }

@@ -29,8 +29,9 @@ runs-init g c = record {
 
 pub runs-preserved : goal.runs-preserved
 runs-preserved g c =
+    let run = c.in_ok-run-in-None in
     let took = rw (c.in-Some-2.is, c.in-None.ensures.none) at
-    (c.in_ok-run-in-None.ensures.reads
+    (run.ensures.reads
     (ap (λ (state : InputState). state.fault) c.in-None.ensures.none ∙ c.runs.invariant.gave.fault)) in
     let before = c.runs.invariant in
     record {
@@ -84,8 +85,9 @@ returns-in_err-run-in-None-clause-runs g c none =
 
 pub returns-clause-runs : goal.returns-clause-runs
 returns-clause-runs g c none =
+    let end = c.in_ok-run-in-None in
     let took = rw (c.in-None-2.is, c.in-None.ensures.none) at
-    (c.in_ok-run-in-None.ensures.reads
+    (end.ensures.reads
     (ap (λ (state : InputState). state.fault) c.in-None.ensures.none ∙ c.runs.invariant.gave.fault)) in
     let before = c.runs.invariant in
     let halves : List ℕ = before.halves in
@@ -111,14 +113,15 @@ returns-clause-runs g c none =
 
 pub returns-in_err-write_fleet-clause-runs : goal.returns-in_err-write_fleet-clause-runs
 returns-in_err-write_fleet-clause-runs g c none =
+    let heard = c.in_ok-run-in-None in
     let took = rw (c.in-None-2.is, c.in-None.ensures.none) at
-    (c.in_ok-run-in-None.ensures.reads
+    (heard.ensures.reads
     (ap (λ (state : InputState). state.fault) c.in-None.ensures.none ∙ c.runs.invariant.gave.fault)) in
     let before = c.runs.invariant in
     let halves : List ℕ = before.halves in
-    let p = err_from_is_err_and c.from_residual-in_err-write_fleet.result
+    let q = err_from_is_err_and c.from_residual-in_err-write_fleet.result
     c.from_residual-in_err-write_fleet.ensures.1 in
-    rw (p.1, p.2)
+    rw (q.1, q.2)
     (stopped (map
     (λ decoder. let is = goal.Decoder-dyn g (decoder.vtable, decoder.value) in
     (is.who decoder.value, is.registers decoder.value)) c.args.decoders.now)
