@@ -1,7 +1,7 @@
 //! A framer in the caller's memory.
 
 ghost use Rattle.std.specs.Prelude.{◌≡◌, ◌≢◌, ◌≤◌, ◌+◌, ◌-◌, ◌++◌, ◌∷◌, [], ℕ, List, length, replicate};
-ghost use Rattle.dcc_wire.specs.declared.fault.Seen.TheVariants.{Nothing};
+ghost use Rattle.dcc_wire.specs.declared.seen.Seen.TheVariants.{Nothing};
 ghost use Rattle.dcc_wire.specs.Framing.{Hunting, StandsFor, seen, report_at};
 ghost use Rattle.dcc_wire.specs.Half.{class_of};
 ghost use Rattle.dcc_wire.specs.Kept.{kept_rest};

@@ -2,9 +2,9 @@
 use Rattle.std.proofs.Common.{◌≡◌, ℕ, ◌+◌, ◌++◌, ◌∷◌, Bool, true, false, List, [], ◌⊎◌, inl, inr, refl, sym, ap, ◌∙◌}
 use Rattle.std.proofs.Common.{subst, append_assoc}
 use Rattle.std.proofs.lemmas.List.{append-nil}
-use Rattle.dcc_wire.specs.declared.fault.Seen.{Seen}
-use Rattle.dcc_wire.specs.declared.fault.Seen.TheVariants.{Nothing, Packet, Refused}
-use Rattle.dcc_wire.specs.declared.fault.Fault.{Fault}
+use Rattle.dcc_wire.specs.declared.seen.Seen.{Seen}
+use Rattle.dcc_wire.specs.declared.seen.Seen.TheVariants.{Nothing, Packet, Refused}
+use Rattle.dcc_wire.specs.declared.seen.Fault.{Fault}
 use Rattle.dcc_wire.specs.declared.frame.Frame.{Frame}
 use Rattle.dcc_wire.specs.Framing.{report_at}
 use Rattle.dcc_packet.specs.Written.{written_line}

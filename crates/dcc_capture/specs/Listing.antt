@@ -2,10 +2,10 @@
 use Rattle.std.specs.Prelude.{◌≡◌, ℕ, ◌+◌, ◌++◌, Bool, List, [], ◌∷◌, decimal, codes}
 use Rattle.std.specs.List.{flat_map}
 use Rattle.hex.specs.Hex.{encode_lower}
-use Rattle.dcc_wire.specs.declared.fault.Seen.{Seen}
-use Rattle.dcc_wire.specs.declared.fault.Seen.TheVariants.{Nothing, Packet, Refused}
-use Rattle.dcc_wire.specs.declared.fault.Fault.{Fault}
-use Rattle.dcc_wire.specs.declared.fault.Fault.TheVariants.{BadHalf, SplitBit, TooShort, TooLong, ErrorByte}
+use Rattle.dcc_wire.specs.declared.seen.Seen.{Seen}
+use Rattle.dcc_wire.specs.declared.seen.Seen.TheVariants.{Nothing, Packet, Refused}
+use Rattle.dcc_wire.specs.declared.seen.Fault.{Fault}
+use Rattle.dcc_wire.specs.declared.seen.Fault.TheVariants.{BadHalf, SplitBit, TooShort, TooLong, ErrorByte}
 use Rattle.dcc_capture.specs.FrameText.{IsFrameText}
 
 abbrev pub refusal_text : Fault → List ℕ

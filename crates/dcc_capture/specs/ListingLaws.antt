@@ -1,6 +1,6 @@
 -- Laws of listings.
 use Rattle.std.specs.Prelude.{◌≡◌, ◌↔◌, ℕ, Bool, false, List}
-use Rattle.dcc_wire.specs.declared.fault.Seen.{Seen}
+use Rattle.dcc_wire.specs.declared.seen.Seen.{Seen}
 use Rattle.dcc_capture.specs.Listing.{IsListing, listing}
 
 -- outcomes have one listing

@@ -4,8 +4,8 @@ use Rattle.std.proofs.Common.{None, Some, Result, Ok, Err, inl, inr, refl, sym, 
 use Rattle.std.proofs.Common.{IfSome, IsSomeAnd}
 use Rattle.std.proofs.lemmas.List.{append-nil, length-replicate}
 use Rattle.dcc_wire.specs.declared.framer.Framer.{Framer}
-use Rattle.dcc_wire.specs.declared.fault.Seen.{Seen}
-use Rattle.dcc_wire.specs.declared.fault.Seen.TheVariants.{Nothing, Packet, Refused}
+use Rattle.dcc_wire.specs.declared.seen.Seen.{Seen}
+use Rattle.dcc_wire.specs.declared.seen.Seen.TheVariants.{Nothing, Packet, Refused}
 use Rattle.dcc_wire.specs.declared.run.RunSeen.{RunSeen}
 use Rattle.dcc_io.specs.declared.word.Run.{Run}
 use Rattle.dcc_wire.specs.Framing.{seen, report_at, StandsFor}

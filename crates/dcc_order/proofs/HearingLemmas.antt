@@ -1,8 +1,8 @@
 -- One half more.
 use Rattle.std.proofs.Common.{◌≡◌, ℕ, List, [], ◌∷◌, ◌++◌, map, refl, sym, ◌∙◌, ap, append_assoc}
 use Rattle.std.proofs.lemmas.List.{map-append}
-use Rattle.dcc_wire.specs.declared.fault.Seen.{Seen}
-use Rattle.dcc_wire.specs.declared.fault.Seen.TheVariants.{Nothing, Packet as PacketSeen, Refused}
+use Rattle.dcc_wire.specs.declared.seen.Seen.{Seen}
+use Rattle.dcc_wire.specs.declared.seen.Seen.TheVariants.{Nothing, Packet as PacketSeen, Refused}
 use Rattle.dcc_wire.specs.Framing.{seen, report_at}
 use Rattle.dcc_wire.proofs.SeenLemmas.{seen-none}
 use Rattle.dcc_packet.specs.declared.packet.Packet.{Packet}

@@ -11,6 +11,16 @@ ghost use Rattle.dcc_order.specs.Laws.{AlikeIsTheVerdict, AlikeListsAgreeAfterEa
 
 use dcc_regs::Decoder;
 
+/// However two streams of halves are cut: two decoders of any types that started as one and the same, and have heard,
+/// each through a new framer and in any pieces, halves whose packets are alike for them, hold the same in each
+/// register. That they have heard their halves is what `hear` promises of each member of a fleet.
+pub fn decoders_that_heard_alike_halves_are_equal(left: &dyn Decoder, right: &dyn Decoder)
+    ensures { (own : Who) (start : RegisterMap) (halves others : List ℕ) → AlikeHalves own halves others →
+        HasHeardHalves halves own start (who left.now) (registers left.now) →
+        HasHeardHalves others own start (who right.now) (registers right.now) →
+        registers left.now ≡ registers right.now }
+{}
+
 /// A list of halves holds one list of packets.
 pub fn one_list_of_packets()
     ensures { OneListOfPackets }
@@ -49,16 +59,6 @@ pub fn alike_is_the_verdict()
 /// Decoders that are equal at the start and hear halves whose packets are alike for them hold the same in each register.
 pub fn alike_halves_leave_the_same()
     ensures { AlikeHalvesLeaveTheSame }
-{}
-
-/// However two streams of halves are cut: two decoders of any types that started as one and the same, and have heard,
-/// each through a new framer and in any pieces, halves whose packets are alike for them, hold the same in each
-/// register. That they have heard their halves is what `hear` promises of each member of a fleet.
-pub fn decoders_that_heard_alike_halves_are_equal(left: &dyn Decoder, right: &dyn Decoder)
-    ensures { (own : Who) (start : RegisterMap) (halves others : List ℕ) → AlikeHalves own halves others →
-        HasHeardHalves halves own start (who left.now) (registers left.now) →
-        HasHeardHalves others own start (who right.now) (registers right.now) →
-        registers left.now ≡ registers right.now }
 {}
 
 /// One more packet that a decoder does not hear changes no block, nor does a write behind two copies of it. Any other write

@@ -2,6 +2,7 @@
 //! lists.
 #![tactic(auto)]
 
+mod alike_tracks;
 mod comparer;
 mod comparing;
 mod comparison;
@@ -13,15 +14,14 @@ mod last_heard;
 pub mod laws;
 mod no_memory;
 mod places;
-mod tracks;
 mod turns;
 mod verdict;
 mod wants;
 
+pub use alike_tracks::{hear_track, hear_two_tracks};
 pub use comparer::Comparer;
 pub use comparing::compare;
 pub use hearing::{hear, hear_half, hear_half_run, hear_piece, hear_run};
 pub use no_memory::NoMemory;
-pub use tracks::{hear_track, hear_two_tracks};
 pub use verdict::Verdict;
 pub use wants::Wants;

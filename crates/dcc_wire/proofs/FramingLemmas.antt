@@ -11,8 +11,8 @@ use Rattle.std.proofs.Math.Seq.{drop-append_seam, take-append_seam, get_or-appen
 use Rattle.std.specs.Option.{option_map_or}
 use Rattle.dcc_wire.specs.declared.half.Half.{Half}
 use Rattle.dcc_wire.specs.declared.half.Half.TheVariants.{One, Zero, Bad}
-use Rattle.dcc_wire.specs.declared.fault.Seen.{Seen}
-use Rattle.dcc_wire.specs.declared.fault.Seen.TheVariants.{Nothing, Packet, Refused}
+use Rattle.dcc_wire.specs.declared.seen.Seen.{Seen}
+use Rattle.dcc_wire.specs.declared.seen.Seen.TheVariants.{Nothing, Packet, Refused}
 use Rattle.dcc_wire.specs.Half.{class_of}
 use Rattle.dcc_wire.specs.Outcomes.{bits_in, behind_bits, bytes_in, by_halves, outcome_of, ones_left}
 use Rattle.dcc_wire.specs.Framing.{ones_before, ones_at_end, is_zero, halves_used, used_up, is_start, starts_below}

@@ -5,8 +5,8 @@ use mathlib.Core.Bool.{beq}
 use Rattle.std.specs.Option.{option_map}
 use Rattle.dcc_wire.specs.declared.half.Half.{Half}
 use Rattle.dcc_wire.specs.declared.half.Half.TheVariants.{One, Zero, Bad}
-use Rattle.dcc_wire.specs.declared.fault.Fault.TheVariants.{BadHalf, SplitBit}
-use Rattle.dcc_wire.specs.declared.fault.Seen.TheVariants.{Nothing, Refused}
+use Rattle.dcc_wire.specs.declared.seen.Fault.TheVariants.{BadHalf, SplitBit}
+use Rattle.dcc_wire.specs.declared.seen.Seen.TheVariants.{Nothing, Refused}
 use Rattle.dcc_wire.specs.Half.{bit_of}
 use Rattle.dcc_wire.specs.Bodies.{halves_of, first_half}
 use Rattle.dcc_wire.specs.Outcomes.{bytes_in, by_bits, outcome_of}

@@ -6,9 +6,9 @@ use Rattle.std.proofs.lemmas.Bool.{cases_lt}
 use Rattle.std.specs.Option.{option_map, option_or}
 use Rattle.dcc_wire.specs.declared.half.Half.{Half}
 use Rattle.dcc_wire.specs.declared.half.Half.TheVariants.{One, Zero, Bad}
-use Rattle.dcc_wire.specs.declared.fault.Fault.TheVariants.{BadHalf, SplitBit, TooLong}
-use Rattle.dcc_wire.specs.declared.fault.Seen.{Seen}
-use Rattle.dcc_wire.specs.declared.fault.Seen.TheVariants.{Refused}
+use Rattle.dcc_wire.specs.declared.seen.Fault.TheVariants.{BadHalf, SplitBit, TooLong}
+use Rattle.dcc_wire.specs.declared.seen.Seen.{Seen}
+use Rattle.dcc_wire.specs.declared.seen.Seen.TheVariants.{Refused}
 use Rattle.dcc_wire.specs.Frames.{xor_of, AllBytes, IsFrame}
 use Rattle.dcc_wire.specs.Bodies.{halves_of, body_bits, body}
 use Rattle.dcc_wire.specs.Outcomes.{bits_in, behind_bits, bytes_in, body_outcome, by_bits, by_halves, outcome_of}

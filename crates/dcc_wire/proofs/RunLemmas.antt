@@ -6,8 +6,8 @@ use Rattle.std.proofs.lemmas.Bool.Decides.{nat_tests}
 use Rattle.std.proofs.Math.ListN.{length-replicate, replicate-append-replicate}
 use Rattle.dcc_wire.specs.declared.half.Half.{Half}
 use Rattle.dcc_wire.specs.declared.half.Half.TheVariants.{One, Zero, Bad}
-use Rattle.dcc_wire.specs.declared.fault.Seen.{Seen}
-use Rattle.dcc_wire.specs.declared.fault.Seen.TheVariants.{Nothing}
+use Rattle.dcc_wire.specs.declared.seen.Seen.{Seen}
+use Rattle.dcc_wire.specs.declared.seen.Seen.TheVariants.{Nothing}
 use Rattle.dcc_wire.specs.Half.{class_of}
 use Rattle.dcc_wire.specs.Outcomes.{ones_left}
 use Rattle.dcc_wire.specs.Framing.{Rest, Hunting, InBody, rest, seen, report_at, StandsFor}

@@ -2,9 +2,9 @@
 use Rattle.std.specs.Prelude.{◌≡◌, ℕ, List, [], ◌∷◌, ◌++◌, take, replicate, refl}
 use Rattle.dcc_wire.specs.declared.half.Half.{Half}
 use Rattle.dcc_wire.specs.declared.half.Half.TheVariants.{One, Zero, Bad}
-use Rattle.dcc_wire.specs.declared.fault.Fault.TheVariants.{BadHalf, SplitBit, TooShort, TooLong, ErrorByte}
-use Rattle.dcc_wire.specs.declared.fault.Seen.{Seen}
-use Rattle.dcc_wire.specs.declared.fault.Seen.TheVariants.{Packet, Refused}
+use Rattle.dcc_wire.specs.declared.seen.Fault.TheVariants.{BadHalf, SplitBit, TooShort, TooLong, ErrorByte}
+use Rattle.dcc_wire.specs.declared.seen.Seen.{Seen}
+use Rattle.dcc_wire.specs.declared.seen.Seen.TheVariants.{Packet, Refused}
 use Rattle.dcc_wire.specs.Bodies.{halves_of, bits_of, number_of, body_bits, body}
 use Rattle.dcc_wire.specs.Outcomes.{bits_in, behind_bits, bytes_in, body_outcome, by_bits, by_halves, outcome_of}
 use Rattle.dcc_wire.specs.Outcomes.{ones_left}

@@ -1,7 +1,7 @@
 -- The numbers by which refusals are told.
 use Rattle.std.specs.Prelude.{ℕ}
-use Rattle.dcc_wire.specs.declared.fault.Fault.{Fault}
-use Rattle.dcc_wire.specs.declared.fault.Fault.TheVariants.{BadHalf, SplitBit, TooShort, TooLong, ErrorByte}
+use Rattle.dcc_wire.specs.declared.seen.Fault.{Fault}
+use Rattle.dcc_wire.specs.declared.seen.Fault.TheVariants.{BadHalf, SplitBit, TooShort, TooLong, ErrorByte}
 use Rattle.dcc_wire.specs.declared.frame.FrameFault.{FrameFault}
 use Rattle.dcc_wire.specs.declared.frame.FrameFault.TheVariants.{Length, XorNotZero}
 use Rattle.dcc_wire.specs.declared.timing.TimingFault.{TimingFault}

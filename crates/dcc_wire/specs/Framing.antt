@@ -4,8 +4,8 @@ use Rattle.std.specs.Prelude.{map, reverse, length, take, drop, slice_index_or, 
 use Rattle.std.specs.Option.{option_map_or}
 use Rattle.dcc_wire.specs.declared.half.Half.{Half}
 use Rattle.dcc_wire.specs.declared.half.Half.TheVariants.{One, Zero, Bad}
-use Rattle.dcc_wire.specs.declared.fault.Seen.{Seen}
-use Rattle.dcc_wire.specs.declared.fault.Seen.TheVariants.{Nothing, Packet, Refused}
+use Rattle.dcc_wire.specs.declared.seen.Seen.{Seen}
+use Rattle.dcc_wire.specs.declared.seen.Seen.TheVariants.{Nothing, Packet, Refused}
 use Rattle.dcc_wire.specs.Half.{class_of}
 use Rattle.dcc_wire.specs.Outcomes.{outcome_of, ones_left}
 

@@ -5,7 +5,6 @@
 #![tactic(auto)]
 
 mod bytes;
-mod fault;
 mod frame;
 mod framer;
 mod half;
@@ -15,13 +14,14 @@ pub mod laws;
 mod open_body;
 mod packed_bits;
 mod run;
+mod seen;
 mod timing;
 
-pub use fault::{Body, Fault, Seen};
 pub use frame::{Frame, FrameFault};
 pub use framer::Framer;
 pub use half::Half;
 pub use halves::Halves;
 pub use kept::KeptFramer;
 pub use run::RunSeen;
+pub use seen::{Body, Fault, Seen};
 pub use timing::{Timing, TimingFault};

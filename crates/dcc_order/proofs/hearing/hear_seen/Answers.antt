@@ -1,5 +1,5 @@
 use Rattle.std.proofs.Common.{◌≡◌, ◌∷◌, [], List, ℕ, subst, ap}
-use Rattle.dcc_wire.specs.declared.fault.Seen.{Seen}
+use Rattle.dcc_wire.specs.declared.seen.Seen.{Seen}
 use Rattle.dcc_order.specs.Hearing.{frames_of, AreSpelled}
 use Rattle.dcc_regs.proofs.InParts.{heard_nothing}
 use Rattle.dcc_order.proofs.ListWalk.{AllZip-same}

@@ -1,5 +1,5 @@
 use Rattle.std.proofs.Common.{◌≡◌, ◌≢◌, ◌++◌, [], ◌∷◌, sym, ap, subst, ◌∙◌, rules}
-use Rattle.dcc_wire.specs.declared.fault.Seen.TheVariants.{Nothing}
+use Rattle.dcc_wire.specs.declared.seen.Seen.TheVariants.{Nothing}
 use Rattle.dcc_wire.specs.Outcomes.{outcome_of}
 use Rattle.dcc_wire.specs.Framing.{Hunting, InBody}
 use Rattle.dcc_wire.specs.FramerState.{rest_of}

@@ -2,7 +2,7 @@ use Rattle.std.proofs.Common.{ℕ, List, take, sym}
 use Rattle.dcc_order.specs.Hearing.{whole_track}
 use Rattle.dcc_order.proofs.HearingLemmas.{no_halves_heard}
 use Rattle.dcc_order.proofs.TrackLemmas.{piece_more, pieces_all, AllZip-viewed, AllZip-start}
-use Rattle.dcc_order.proofs.tracks.hear_track.Goals as goal
+use Rattle.dcc_order.proofs.alike_tracks.hear_track.Goals as goal
 
 pub loop-piece-init : goal.loop-piece-init
 loop-piece-init g c = record {

@@ -2,7 +2,7 @@ use Rattle.std.proofs.Common.{ℕ, List}
 use Rattle.dcc_order.specs.Hearing.{HasHeardHalves, whole_track}
 use Rattle.dcc_order.proofs.WholeTheorem.{alike_halves_leave_the_same}
 use Rattle.dcc_order.proofs.TrackLemmas.{AllZip-both}
-use Rattle.dcc_order.proofs.tracks.hear_two_tracks.Goals as goal
+use Rattle.dcc_order.proofs.alike_tracks.hear_two_tracks.Goals as goal
 
 pub returns-clause-alike : goal.returns-clause-alike
 returns-clause-alike g c =

@@ -1,4 +1,5 @@
-//! Whole tracks, each through a new framer.
+//! The headline: decoders that start equal and hear two tracks that are alike for them end equal. Each track comes whole,
+//! through a new framer.
 
 ghost use Rattle.std.specs.List.{AllZip};
 ghost use Rattle.std.specs.Prelude.{◌≡◌};
@@ -8,18 +9,6 @@ ghost use Rattle.dcc_order.specs.HearingLaws.{AlikeHalves};
 use crate::hearing::hear_piece;
 use dcc_regs::Decoder;
 use dcc_wire::Framer;
-
-/// A fleet hears a track through a new framer. The track may come in pieces of any length.
-pub fn hear_track<D: Decoder>(decoders: &mut [D], pieces: &[&[u16]])
-    ensures { AllZip
-        (λ old new. HasHeardHalves (whole_track pieces.now) (D.who old) (D.registers old) (D.who new) (D.registers new))
-        decoders.old decoders.new }
-{
-    let mut framer = Framer::new();
-    for piece in pieces {
-        hear_piece(decoders, &mut framer, piece);
-    }
-}
 
 /// Two fleets hear two tracks, each through a new framer and in pieces of any length. Where their members were equal, one
 /// by one and of whatever types, and the packets of the two tracks are alike for them, they are equal again.
@@ -46,4 +35,16 @@ pub fn hear_two_tracks<L: Decoder, R: Decoder>(
 {
     hear_track(left, pieces);
     hear_track(right, others);
+}
+
+/// A fleet hears a track through a new framer. The track may come in pieces of any length.
+pub fn hear_track<D: Decoder>(decoders: &mut [D], pieces: &[&[u16]])
+    ensures { AllZip
+        (λ old new. HasHeardHalves (whole_track pieces.now) (D.who old) (D.registers old) (D.who new) (D.registers new))
+        decoders.old decoders.new }
+{
+    let mut framer = Framer::new();
+    for piece in pieces {
+        hear_piece(decoders, &mut framer, piece);
+    }
 }

@@ -4,7 +4,7 @@ use Rattle.dcc_wire.specs.Framing.{StandsFor}
 use Rattle.dcc_regs.specs.Result.{RegisterMap}
 use Rattle.dcc_regs.specs.declared.register.Who.{Who}
 use Rattle.dcc_order.specs.Hearing.{HasHeardHalves, whole_track}
-use Rattle.dcc_order.proofs.tracks.hear_track.Given as goal
+use Rattle.dcc_order.proofs.alike_tracks.hear_track.Given as goal
 
 -- the members have heard the pieces so far
 abbrev pub invariant-loop-piece : goal.invariant-loop-piece
