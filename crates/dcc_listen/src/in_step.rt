@@ -34,6 +34,7 @@ pub(crate) fn compare_in_step<L: Source, R: Source>(
     if let Some(fault) = right.fault() {
         return Err(ToolFault::from(fault));
     }
+    // Each packet takes some of these halves, so of either capture there are fewer than 2^32.
     let most = left.halves_left();
     let other_most = right.halves_left();
     let mut left_framer = Framer::new();
@@ -89,6 +90,7 @@ pub(crate) fn compare_beside<R: Source>(
     if let Some(fault) = input.fault() {
         return Err(ToolFault::from(fault));
     }
+    // Each packet takes some of these halves, so there are fewer than 2^32.
     let most = input.halves_left();
     let mut framer = Framer::new();
     let mut given = 0usize;
