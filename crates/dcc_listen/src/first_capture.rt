@@ -21,7 +21,6 @@ pub fn gather_first<R: Source>(
     if let Some(fault) = input.fault() {
         return Err(ToolFault::from(fault));
     }
-    // Each packet takes some of these halves, so there are fewer than 2^32.
     let most = input.halves_left();
     let mut framer = Framer::new();
     let mut packets = Vec::new(alloc);

@@ -34,7 +34,6 @@ pub(crate) fn compare_in_step<L: Source, R: Source>(
     if let Some(fault) = right.fault() {
         return Err(ToolFault::from(fault));
     }
-    // Each packet takes some of these halves, so of either capture there are fewer than 2^32.
     let most = left.halves_left();
     let other_most = right.halves_left();
     let mut left_framer = Framer::new();
