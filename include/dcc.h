@@ -12,7 +12,7 @@
  *
  * Where he does not keep to this the call may do anything, as with memcpy: the proofs rest on it.
  *
- * Lengths are sizes of 64 bits: the proofs are for 64-bit Linux on x86-64.
+ * For 64-bit Linux on x86-64 and aarch64: the proofs speak of sizes of 64 bits. Other machines are not tested.
  */
 #ifndef DCC_H
 #define DCC_H
@@ -28,7 +28,7 @@ extern "C" {
 #define DCC_ASSERT(condition) _Static_assert(condition, #condition)
 #endif
 
-/* The bytes of a frame, the error byte last, and zeros behind them. len is 0 where there are none. */
+/* The bytes of a frame, the error byte last, and zeros behind them. len is 0 where there are none, and 6 at most. */
 typedef struct {
     uint8_t len;
     uint8_t bytes[6];
@@ -45,13 +45,13 @@ typedef struct {
 typedef struct {
     uint32_t at;     /* the number of its last half in the run that was pushed, from 1 */
     uint8_t refusal; /* 0 for a packet, else 1 to 5: H1 bad half, H2 split bit, H3 too short, H4 too long, H5 error byte */
-    dcc_frame frame; /* the bytes of a packet and of H5 */
+    dcc_frame frame; /* the bytes of a packet and of H5; with H1 to H4 none, so len is 0 */
 } dcc_outcome;
 
 /* A framer that was given no halves. */
 dcc_framer dcc_framer_new(void);
 
-/* Takes a half of so many microseconds. 1: an outcome ends with it, and is written. 0: none does. */
+/* Takes a half of so many microseconds. 1: an outcome ends with it, and is written, at 1. 0: none does, and nothing is written. */
 uint8_t dcc_push(dcc_framer *framer, uint16_t us, dcc_outcome *outcome);
 
 /* Takes n halves of so many microseconds, as n calls of dcc_push would. At most one of them ends an outcome. */
@@ -100,7 +100,8 @@ uint8_t dcc_line(const uint8_t *frame, size_t len, char line[DCC_LINE]);
 uint8_t dcc_frame_of_line(const char *line, size_t len, dcc_frame *frame);
 
 /* Writes what is sent for a frame behind so many ones, 14 to 40: half-bits in microseconds, 58 and 58 for a one, 100 and 100 for
- * a zero. Answers how many there are; 0 where the bytes are no frame or the ones not 14 to 40, and writes nothing then. */
+ * a zero. Answers how many there are, 190 at most, and writes no more than these; 0 where the bytes are no frame or the ones not 14 to
+ * 40, and writes nothing then. */
 uint8_t dcc_halves(const uint8_t *frame, size_t len, uint8_t preamble, uint16_t halves[DCC_HALVES]);
 
 /* ---- decoders ---- */

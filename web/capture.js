@@ -1,5 +1,4 @@
-// Texts to half-bits: captures as docs/FORMATS.md has them, VCD and Saleae CSV as tools/vcd-to-capture.awk and
-// tools/saleae-to-capture.awk read them. Nothing here is proved.
+// Half-bits, and captures as docs/FORMATS.md has them. Nothing here is proved.
 
 const MOST_HALVES = 16777216;
 const MOST_BYTES = 67108864;
@@ -141,85 +140,9 @@ function* linesOf(text) {
   }
 }
 
-/** Half-bits from the times of edges. The first time is the level at the start, and no edge. */
-class Edges {
-  constructor(perMicrosecond) {
-    this.perMicrosecond = perMicrosecond;
-    this.halves = new Halves();
-    this.rows = 0;
-    this.before = 0;
-    this.refused = null;
-  }
-
-  /** Takes a row. Answers whether more may come. */
-  push(line, time) {
-    // to the nearest microsecond, by the sums of the scripts
-    const us = Math.trunc((time - this.before) * this.perMicrosecond + 0.5);
-    if (!Number.isFinite(time)) this.refused = refusal(null, `Line ${line}: there is no time at its front.`);
-    else if (this.rows > 1 && us < 0) this.refused = refusal(null, `Line ${line}: its time lies before that of the row above.`);
-    else if (this.rows > 1 && !this.halves.push(Math.min(us, LONGEST), 1)) this.refused = tooLong();
-    this.rows += 1;
-    this.before = time;
-    return !this.refused;
-  }
-}
-
-const UNITS = { ps: 1e6, ns: 1e3, us: 1, ms: 1e-3 };
-
-/** The single wires of a VCD file: their ids and names. */
-const channelsOf = (text) => [...text.matchAll(/^\$var\s+\w+\s+1\s+(\S+)\s+(\S+)/gm)].map(([, id, name]) => ({ id, name }));
-
-const readVcd = (text, wanted) => {
-  const channels = channelsOf(text);
-  const id = wanted ?? (channels.length && !channels.some((it) => it.id === '!') ? channels[0].id : '!');
-  const scale = text.match(/^\$timescale\s+(\d+)\s*([a-z]+)/m);
-  const none = (text) => ({ halves: new Halves(), channels, id, refused: refusal(null, text) });
-  if (!scale || !UNITS[scale[2]]) {
-    return none('This VCD file has no line as “$timescale 1 ns $end”, with ps, ns, us or ms: its times have no unit.');
-  }
-  const unit = Number(scale[1]) / UNITS[scale[2]];
-  const edges = new Edges(1);
-  for (const [line, row] of linesOf(text)) {
-    if (row[0] !== '#') continue;
-    const [time, ...values] = row.trim().split(/\s+/);
-    if (values.some((it) => it.slice(1) === id) && !edges.push(line, Number(time.slice(1)) * unit)) break;
-  }
-  if (!edges.refused && edges.rows < 3) {
-    return none(
-      `Of the channel with the id ${id} there are no two edges. ` +
-        `An edge stands on the line of its time, as sigrok writes it: “#95125 0${id}”.`,
-    );
-  }
-  return { halves: edges.halves, channels, id, refused: edges.refused };
-};
-
-const readSaleae = (text) => {
-  const edges = new Edges(1e6);
-  const refuse = (text) => ({ halves: edges.halves, refused: refusal(null, text) });
-  const [head] = text.split('\n', 1);
-  if (head.split(',').length > 2) {
-    return refuse('This CSV has several channels, and a row for each edge of any of them. Export the channel of the track alone.');
-  }
-  for (const [line, row] of linesOf(text)) {
-    if (/^[0-9]/.test(row) && !edges.push(line, parseFloat(row))) break;
-  }
-  if (!edges.refused && edges.rows < 3) {
-    return refuse('This CSV has no two edges: a row for each is wanted, its time in seconds first.');
-  }
-  return { halves: edges.halves, refused: edges.refused };
-};
-
 /** The first bytes of a text, as many as a capture may have; null where it has no more. */
 const cutText = (text) => {
   if (3 * text.length <= MOST_BYTES) return null;
   const bytes = new TextEncoder().encode(text);
   return bytes.length > MOST_BYTES ? new TextDecoder('utf-8', { ignoreBOM: true }).decode(bytes.subarray(0, MOST_BYTES)) : null;
-};
-
-/** The half-bits of a text of any of the three forms, up to its first fault. */
-const readText = (text, channel) => {
-  if (/^\$[a-z]/m.test(text)) return { form: 'VCD', ...readVcd(text, channel) };
-  if (/^"?time[^\n]*,/i.test(text)) return { form: 'Saleae CSV', ...readSaleae(text) };
-  const cut = cutText(text);
-  return { form: 'Capture', ...readCapture(cut ?? text, cut !== null) };
 };

@@ -71,12 +71,12 @@ class Page {
 
   read(channel) {
     clearTimeout(this.timer);
-    const { form, halves, refused, channels, id } = readText(this.file ? this.file.text : $('text').value, channel);
+    const { form, halves, refused, channels, key } = readText(this.file ? this.file.text : $('text').value, channel);
     this.halves = halves;
     this.outcomes = this.dcc.outcomes(halves);
     this.tail = tailOf(halves, this.outcomes[this.outcomes.length - 1]);
     tell(refused?.fault, refused?.text);
-    this.offerChannels(channels ?? [], id);
+    this.offerChannels(channels ?? [], key);
     this.sumUp(form);
     this.turn(0);
     this.writeListing();
@@ -84,9 +84,9 @@ class Page {
     document.body.dataset.read = Number(document.body.dataset.read ?? 0) + 1;
   }
 
-  offerChannels(channels, id) {
+  offerChannels(channels, key) {
     $('channels').hidden = channels.length < 2;
-    $('channel').replaceChildren(...channels.map((it) => new Option(`${it.name} (${it.id})`, it.id, false, it.id === id)));
+    $('channel').replaceChildren(...channels.map((it) => new Option(it.label, it.key, false, it.key === key)));
   }
 
   sumUp(form) {

@@ -5,6 +5,7 @@ ghost use Rattle.clap.specs.declared.builder.command.Command.TheViews.{out-Comma
 ghost use Rattle.dcc.specs.CommandLine.{cv_rule, dcc_app, encode_app, encode_flags, flag_rule, readcv_app, run_app};
 ghost use Rattle.dcc.specs.CommandLine.{same_app, show_app, size_rule, top_app, who_rule};
 
+use crate::help_texts;
 use clap::{Arg, ArgAction, Command, value_parser};
 use std::alloc::{AllocError, Global};
 
@@ -37,6 +38,7 @@ fn show<'a>(alloc: Global) -> Result<Command<'a>, AllocError>
 {
     Command::new(alloc, "show")
         .about("Lists the packets and refusals of a capture")
+        .after_help(help_texts::SHOW)
         .arg(flag(alloc, "words", "Packets as lines, in place of their bytes"))
 }
 
@@ -47,6 +49,7 @@ fn encode_flags<'a>(alloc: Global) -> Result<Command<'a>, AllocError>
 {
     Command::new(alloc, "encode")
         .about("Writes the halves that a station sends for packet lines")
+        .after_help(help_texts::ENCODE)
         .arg(flag(
             alloc,
             "hex",
@@ -87,9 +90,11 @@ fn run<'a>(alloc: Global) -> Command<'a>
     ensures app { app_of result ≡ run_app }
     ensures local { (fields_of result).has_globals ≡ false }
 {
-    Command::new(alloc, "run").about(
-        "Plays the capture behind a decoder text to its decoders, and writes them as they are then",
-    )
+    Command::new(alloc, "run")
+        .about(
+            "Plays the capture behind a decoder text to its decoders, and writes them as they are then",
+        )
+        .after_help(help_texts::RUN)
 }
 
 fn same<'a>(alloc: Global) -> Result<Command<'a>, AllocError>
@@ -98,6 +103,7 @@ fn same<'a>(alloc: Global) -> Result<Command<'a>, AllocError>
 {
     Command::new(alloc, "same")
         .about("Tells whether two captures, with a line --- between them, are alike for a decoder")
+        .after_help(help_texts::SAME)
         .arg(who(alloc))
 }
 
@@ -107,6 +113,7 @@ fn readcv<'a>(alloc: Global) -> Result<Command<'a>, AllocError>
 {
     Command::new(alloc, "readcv")
         .about("Reads a CV of the first locomotive of a decoder text, on a programming track")
+        .after_help(help_texts::READCV)
         .arg(cv(alloc))?
         .arg(flag(alloc, "empty", "An empty track; no decoder text is read"))
 }

@@ -1,10 +1,10 @@
 -- What the numbers of an outcome say.
-use Rattle.std.specs.Prelude.{ℕ, ◌==◌, if◌then◌else◌}
+use Rattle.std.specs.Prelude.{ℕ, ◌==◌, if◌then◌else◌, []}
 use Rattle.dcc_wire.specs.declared.seen.Fault.TheVariants.{BadHalf, SplitBit, TooShort, TooLong, ErrorByte}
 use Rattle.dcc_wire.specs.declared.seen.Seen.{Seen}
 use Rattle.dcc_wire.specs.declared.seen.Seen.TheVariants.{Nothing, Packet, Refused}
 use Rattle.dcc_c.specs.declared.outcome.DccOutcome.{DccOutcome}
-use Rattle.dcc_c.specs.Frames.{bytes_of}
+use Rattle.dcc_c.specs.Frames.{bytes_of, frame_numbers}
 
 -- a packet, or a refusal by its number, H1 to H5
 abbrev pub outcome_seen : DccOutcome → Seen
@@ -19,3 +19,13 @@ outcome_seen o =
 -- the answer 0 says that there is none
 abbrev pub seen_at_answer : ℕ → DccOutcome → Seen
 seen_at_answer answer o = if answer == 0 then Nothing else outcome_seen o
+
+-- the numbers of an outcome at a half: the bytes of a packet or of a wrong error byte, none with other refusals
+abbrev pub outcome_numbers : ℕ → Seen → DccOutcome
+outcome_numbers at Nothing = record { at = at; refusal = 0; frame = frame_numbers [] }
+outcome_numbers at (Packet bytes) = record { at = at; refusal = 0; frame = frame_numbers bytes }
+outcome_numbers at (Refused BadHalf) = record { at = at; refusal = 1; frame = frame_numbers [] }
+outcome_numbers at (Refused SplitBit) = record { at = at; refusal = 2; frame = frame_numbers [] }
+outcome_numbers at (Refused TooShort) = record { at = at; refusal = 3; frame = frame_numbers [] }
+outcome_numbers at (Refused TooLong) = record { at = at; refusal = 4; frame = frame_numbers [] }
+outcome_numbers at (Refused (ErrorByte bytes)) = record { at = at; refusal = 5; frame = frame_numbers bytes }

@@ -7,7 +7,7 @@ ghost use Rattle.dcc_wire.specs.Half.{class_of};
 ghost use Rattle.dcc_wire.specs.Kept.{kept_rest};
 ghost use Rattle.dcc_wire.specs.Outcomes.{ones_left};
 ghost use Rattle.dcc_wire.specs.Runs.{rest_after_run};
-ghost use Rattle.dcc_c.specs.Outcomes.{seen_at_answer};
+ghost use Rattle.dcc_c.specs.Outcomes.{outcome_numbers, outcome_seen, seen_at_answer};
 
 use crate::outcome::{DccOutcome, outcome_of};
 use dcc_wire::{Framer, KeptFramer, RunSeen, Seen};
@@ -46,6 +46,7 @@ pub extern "C" fn dcc_push(framer: &mut KeptFramer, us: u16, outcome: &mut DccOu
         seen (halves ++ us ∷ []) ≡ seen halves ++ report_at (length halves) (seen_at_answer result outcome.new) }
     ensures hunts { result ≢ 0 → kept_rest framer.new ≡ Hunting (ones_left (seen_at_answer result outcome.new)) }
     ensures at { result ≢ 0 → outcome.new.at ≡ 1 }
+    ensures numbers { result ≢ 0 → outcome.new ≡ outcome_numbers outcome.new.at (outcome_seen outcome.new) }
     ensures bit { result ≤ 1 }
     ensures kept { result ≡ 0 → outcome.new ≡ outcome.old }
 {
@@ -97,6 +98,7 @@ pub extern "C" fn dcc_push_run(
     ensures something { result ≢ 0 → (1 ≤ outcome.new.at) × (outcome.new.at ≤ n) }
     ensures hunts { result ≢ 0 → kept_rest framer.new
         ≡ rest_after_run (Hunting (ones_left (seen_at_answer result outcome.new))) (class_of us) (n - outcome.new.at) }
+    ensures numbers { result ≢ 0 → outcome.new ≡ outcome_numbers outcome.new.at (outcome_seen outcome.new) }
     ensures bit { result ≤ 1 }
     ensures kept { result ≡ 0 → outcome.new ≡ outcome.old }
 {

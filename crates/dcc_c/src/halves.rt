@@ -1,6 +1,6 @@
 //! The halves of a packet that is sent.
 
-ghost use Rattle.std.specs.Prelude.{◌≡◌, ◌≤◌, length, take, true, false, IfSome, IfNone};
+ghost use Rattle.std.specs.Prelude.{◌≡◌, ◌≤◌, length, take, drop, true, false, IfSome, IfNone};
 ghost use Rattle.dcc_wire.specs.declared.timing.Timing.{Timing};
 ghost use Rattle.dcc_wire.specs.Sending.{sent};
 ghost use Rattle.dcc_wire.specs.Timings.{is_preamble};
@@ -11,11 +11,13 @@ use dcc_wire::{Frame, Halves, Timing};
 
 /// Writes what is sent for the frame of these bytes, behind so many ones, 14 to 40: the halves in microseconds, 58 of a one and
 /// 100 of a zero. The answer is their number, 190 at most, or 0 where the bytes are no frame or the ones not so many; then
-/// nothing is written.
+/// nothing is written. What stands behind the last half stays as it is.
 #[unsafe(no_mangle)]
 pub extern "C" fn dcc_halves(frame: &[u8], preamble: u8, halves: &mut [u16; 190]) -> u8
     ensures sent { is_sendable frame.now preamble ≡ true →
         (timing : Timing) × IsNominal preamble timing × (take result halves.new ≡ sent frame.now timing) }
+    ensures few { result ≤ 190 }
+    ensures behind { drop result halves.new ≡ drop result halves.old }
     ensures refused { is_sendable frame.now preamble ≡ false → result ≡ 0 }
     ensures kept { is_sendable frame.now preamble ≡ false → halves.new ≡ halves.old }
 {
@@ -42,7 +44,9 @@ fn nominal(preamble: u8) -> Option<Timing>
 fn put_halves(frame: Frame, timing: Timing, halves: &mut [u16; 190]) -> u8
     requires few { length frame ≤ 6 }
     requires short { timing.preamble ≤ 40 }
-    ensures { take result halves.new ≡ sent frame timing }
+    ensures halves { take result halves.new ≡ sent frame timing }
+    ensures few { result ≤ 190 }
+    ensures behind { drop result halves.new ≡ drop result halves.old }
 {
     let mut count = 0;
     for us in Halves::new(frame, timing) {

@@ -1,8 +1,8 @@
 //! What a framer answers, as numbers.
 
 ghost use Rattle.std.specs.Prelude.{◌≡◌, ◌≢◌, ◌≤◌, length};
-ghost use Rattle.dcc_c.specs.Frames.{bytes_of};
-ghost use Rattle.dcc_c.specs.Outcomes.{outcome_seen};
+ghost use Rattle.dcc_c.specs.Frames.{bytes_of, frame_numbers};
+ghost use Rattle.dcc_c.specs.Outcomes.{outcome_numbers, outcome_seen};
 
 use crate::frame::DccFrame;
 use dcc_wire::{Fault, Seen};
@@ -23,6 +23,7 @@ pub struct DccOutcome {
 pub(crate) fn outcome_of(at: u32, answer: &Seen) -> DccOutcome
     ensures at { result.at ≡ at }
     ensures says { answer.now ≢ Seen.Nothing → outcome_seen result ≡ answer.now }
+    ensures numbers { result ≡ outcome_numbers at answer.now }
 {
     match answer {
         Seen::Nothing => numbers(at, 0, &[]),
@@ -40,6 +41,7 @@ fn numbers(at: u32, refusal: u8, bytes: &[u8]) -> DccOutcome
     ensures at { result.at ≡ at }
     ensures refusal { result.refusal ≡ refusal }
     ensures bytes { bytes_of result.frame ≡ bytes.now }
+    ensures frame { result.frame ≡ frame_numbers bytes.now }
 {
     DccOutcome {
         at,

@@ -16,12 +16,12 @@ use Rattle.dcc_io.specs.PassedWords.{Passed, IsBeforeWord, AnswersWord}
 use Rattle.dcc_capture.specs.Capture.{halves_of}
 use Rattle.dcc_capture.specs.BothCaptures.{Both, Said, fault_alone, in_front, only_second, has_more_words, behind_mark}
 use Rattle.dcc_capture.specs.BothCaptures.{counted_first, both_of, both_from, in_limit}
-use Rattle.dcc_capture.specs.FirstRead.{LeadsIn, Leads, first_so_far, first_is, StopsBoth, AnswersFirst}
+use Rattle.dcc_capture.specs.FirstRead.{LeadsIn, Leads, first_so_far, first_is, StopsBoth, FirstLinesAt, AnswersFirst}
 use Rattle.dcc_io.specs.LineEnd.{IsBehindLine}
 use Rattle.dcc_capture.specs.Inner.FirstSteps.{CountsWord, EndsMark}
 use Rattle.dcc_io.proofs.TookLemmas.{same_cond, if_some_all, map_text, Took-start, Took-counted, Took-join, told_behind}
-use Rattle.dcc_io.proofs.TookLemmas.{fails_behind, within_limit-used, not_within}
-use Rattle.dcc_capture.proofs.CaptureLemmas.{enough}
+use Rattle.dcc_io.proofs.TookLemmas.{fails_behind, within_limit-used, not_within, LinesAt-behind}
+use Rattle.dcc_capture.proofs.CaptureLemmas.{enough, next_runs_over}
 use Rattle.dcc_capture.proofs.RunWordLemmas.{some_half}
 
 -- each word stands on this line or behind it
@@ -61,19 +61,17 @@ behind_grows line byte = go (eqb byte 10)
 
 from_pieces : (line : ℕ) (text : List ℕ) → AllFrom line (pieces line text)
 from_pieces line [] = (omega arith, tt)
-from_pieces line (byte ∷ text) = go (is_gap byte) (from_pieces (line_behind line byte) text) (from_pieces line text)
+from_pieces line (byte ∷ text) =
+    go (is_gap byte)
+    (from_before line (line_behind line byte) rest (behind_grows line byte) (from_pieces (line_behind line byte) text))
   where
-    go : (gap : Bool) → AllFrom (line_behind line byte) (pieces (line_behind line byte) text)
-        → AllFrom line (pieces line text)
-        → AllFrom line
-        (cond gap (record { line = line; bytes = [] } ∷ pieces (line_behind line byte) text)
-        (onto_first byte (pieces line text)))
-    go true next here = (
-      omega arith,
-      from_before line (line_behind line byte) (pieces (line_behind line byte) text) (behind_grows line byte)
-          next,
-    )
-    go false next here = from_onto_first line byte (pieces line text) here
+    rest : List Word
+    rest = pieces (line_behind line byte) text
+
+    go : (gap : Bool) → AllFrom line rest
+        → AllFrom line (cond gap (record { line = line; bytes = [] } ∷ rest) (onto_first byte rest))
+    go true from = (omega arith, from)
+    go false from = from_onto_first line byte rest from
 
 other_line : (line next : ℕ) → line < next → eqb next line ≡ false
 other_line line next behind = grind (arith, nat_tests)
@@ -153,7 +151,7 @@ module _ (before : ℕ) (old mid : InputState) (F : ℕ → List Word → Option
   -- a fault before the next word
   pub stops_word : (new : InputState) (fault : KeptFault) → Led → AnswersWord mid (Err fault) new
       → ((end : ℕ) (f : KeptFault) → F end [] (Some f) ≡ fault_alone f)
-      → StopsBoth before old fault new × (new.fault ≡ Some fault)
+      → StopsBoth before old fault new × (new.fault ≡ Some fault) × FirstLinesAt before old fault new
   stops_word new Read leads answer each = (
     fails_behind leads (IsBeforeWord mid)
         (λ used. (end : ℕ) → both_from before old end used (Some Read) ≡ fault_alone Read)
@@ -161,6 +159,7 @@ module _ (before : ℕ) (old mid : InputState) (F : ℕ → List Word → Option
         (λ first second says none end. says end second (Some Read) ∙ ap (λ ws. F end ws (Some Read)) none
         ∙ each end Read),
     answer.1,
+    LinesAt-behind leads new Read answer.2,
   )
   stops_word new TooMuch leads answer each = (
     (
@@ -173,6 +172,7 @@ module _ (before : ℕ) (old mid : InputState) (F : ℕ → List Word → Option
           answer.0.1,
     ),
     answer.1,
+    inl (LinesAt-behind leads new TooMuch answer.2),
   )
   stops_word new (Number line) leads answer each = absurd answer
   stops_word new (Line line fault) leads answer each = absurd answer
@@ -219,9 +219,9 @@ module _ (before line : ℕ) (word : List ℕ) (old mid : InputState) (fault : o
       Leads-words before old old mid (record { line = line; bytes = word } ∷ [])
       (λ end ws last. both_of before old.halves end ws last) G (Leads-start before old fault) passed each
 
-  pub counts : (new : InputState) (result : Result (Option (ℕ × Run)) KeptFault) → mark ≡ false → mid.bytes < old.bytes
-      → CountsWord mid line word result new → AnswersFirst before old result new
-  counts new (Ok (Some taken)) none fewer count = rw count.3 (
+  pub counts_run : (new : InputState) (taken : ℕ × Run) → mark ≡ false → mid.bytes < old.bytes
+      → CountsWord mid line word (Ok (Some taken)) new → AnswersFirst before old (Ok (Some taken)) new
+  counts_run new taken none fewer count = rw count.3 (
     rw count.0
         (Took-counted (mid.halves - taken.1.n)
         (led said
@@ -238,32 +238,46 @@ module _ (before line : ℕ) (word : List ℕ) (old mid : InputState) (fault : o
       said end more last =
           in_front (replicate taken.1.n taken.1.us)
           (both_of line (mid.halves - taken.1.n) end (ended_words mid.place more) last)
-  counts new (Ok None) none fewer count = absurd count
-  counts new (Err told) none fewer count = go told count.0 count.1
-    where
-      go : (told : KeptFault) → new ≡ with_fault mid told
-          → ((run_of word ≡ None) × (told ≡ Number line))
-          ⊎ ((run : Run) × (run_of word ≡ Some run) × (told ≡ TooMuch) × (mid.halves < run.n))
-          → StopsBoth before old told new × (new.fault ≡ Some told)
-      go told is_new (inl bad) =
-          rw (is_new, bad.1) (
-            (
-              passed.failures,
-              stops_said before old mid (Number line)
-                  (led (λ end more last. fault_alone (Number line)) (λ end more last. rw (none, bad.0) refl)),
-            ),
-            refl,
-          )
-      go told is_new (inr (run, spells, is_told, no_room)) = rw (is_new, is_told) (
+
+  refuses_word : (new : InputState) (told : KeptFault) → mark ≡ false → IfSome old.text (λ text. mid.lines ≡ line)
+      → new ≡ with_fault mid told
+      → ((run_of word ≡ None) × (told ≡ Number line))
+      ⊎ ((run : Run) × (run_of word ≡ Some run) × (told ≡ TooMuch) × (mid.halves < run.n))
+      → StopsBoth before old told new × (new.fault ≡ Some told) × FirstLinesAt before old told new
+  refuses_word new told none lines is_new (inl bad) =
+      rw (is_new, bad.1) (
         (
           passed.failures,
-          stops_said before old mid TooMuch (led (λ end more last. fault_alone TooMuch)
-              (λ end more last. rw (none, spells, ← passed.halves)
-              (counted_too_many mid.halves run (λ left. both_of line left end (ended_words mid.place more) last)
-              no_room))),
+          stops_said before old mid (Number line)
+              (led (λ end more last. fault_alone (Number line)) (λ end more last. rw (none, bad.0) refl)),
         ),
         refl,
+        lines,
       )
+  refuses_word new told none lines is_new (inr (run, spells, is_told, no_room)) = rw (is_new, is_told) (
+    (
+      passed.failures,
+      stops_said before old mid TooMuch (led (λ end more last. fault_alone TooMuch)
+          (λ end more last. rw (none, spells, ← passed.halves)
+          (counted_too_many mid.halves run (λ left. both_of line left end (ended_words mid.place more) last)
+          no_room))),
+    ),
+    refl,
+    inr record {
+      halves = [];
+      line = before;
+      mid = old;
+      leads = Leads-start before old fault;
+      next = next_runs_over old mid _ line run word passed spells no_room lines;
+    },
+  )
+
+  pub counts : (new : InputState) (result : Result (Option (ℕ × Run)) KeptFault) → mark ≡ false → mid.bytes < old.bytes
+      → IfSome old.text (λ text. mid.lines ≡ line)
+      → CountsWord mid line word result new → AnswersFirst before old result new
+  counts new (Ok (Some taken)) none fewer lines count = counts_run new taken none fewer count
+  counts new (Ok None) none fewer lines count = absurd count
+  counts new (Err told) none fewer lines count = refuses_word new told none lines count.0 count.1
 
   at_mark : mark ≡ true
       → Leads before old mid (λ end more last. behind_mark line old.halves (ended_words mid.place more) last)
@@ -298,6 +312,8 @@ module _ (before line : ℕ) (word : List ℕ) (old mid : InputState) (fault : o
           (λ end rest last. rw (here, eqb_same line) refl)),
     ),
     refl,
+    told_behind passed.took (λ text. next.lines ≡ mid.place.line) (λ text. next.lines ≡ line)
+        (λ text rest uses same. same ∙ here) more.2,
   )
   marks new (Err told) begins reached (here, inr stops) =
       stops_word before old mid (λ end ws last. behind_mark line old.halves ws last) new told (at_mark begins) stops

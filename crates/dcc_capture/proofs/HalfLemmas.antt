@@ -13,7 +13,7 @@ use Rattle.dcc_capture.specs.Capture.{AnswersRun}
 use Rattle.dcc_capture.specs.FirstRead.{AnswersFirst}
 use Rattle.dcc_capture.proofs.RunWordLemmas.{run_of_duration}
 use Rattle.dcc_capture.proofs.CaptureLemmas.{Gave-word}
-use Rattle.dcc_capture.proofs.BothLemmas.{counts}
+use Rattle.dcc_capture.proofs.BothLemmas.{counts_run}
 
 digit_bounds : (byte : ℕ) → is_ascii_digit byte ≡ true → (48 ≤ byte) × (byte ≤ 57)
 digit_bounds byte digit = (grind (arith, nat_tests), grind (arith, nat_tests))
@@ -53,8 +53,8 @@ first_taken before old new us none takes =
     let some = takes.some in
     let fewer = takes.fewer in
     let bytes : new.bytes ≡ takes.mid.bytes = ap (λ (state : InputState). state.bytes) takes.counted in
-    counts before old.place.line takes.word old takes.mid none takes.passed new
-    (Ok (Some (old.place.line, record { us = us; n = 1 })))
+    counts_run before old.place.line takes.word old takes.mid none takes.passed new
+    (old.place.line, record { us = us; n = 1 })
     (rw (no_mark takes.word (duration_parts takes.word us takes.spells)) refl) (omega (arith, fewer, bytes)) (
       refl,
       run_of_duration takes.word us (duration_parts takes.word us takes.spells).digits takes.spells,

@@ -3,3 +3,5 @@ pub mod CaptureLemmas
 pub mod BothLemmas
 pub mod HalfLemmas
 pub mod ListingLaws
+pub mod NumbersTaken
+pub mod WorkedExamples

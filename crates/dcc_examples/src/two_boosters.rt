@@ -1,6 +1,6 @@
 //! Two tracks behind two boosters, compared in step for a locomotive: the comparer says which track it wants to be read next.
 
-ghost use Rattle.std.specs.Prelude.{◌≡◌, ◌∷◌, ◌<◌, ◌^◌, [], IfOk, IfSome, IfNone, false, true, length, take};
+ghost use Rattle.std.specs.Prelude.{◌≤◌, ◌≡◌, ◌∷◌, ◌<◌, ◌^◌, [], IfOk, IfSome, IfNone, false, true, length, take};
 ghost use Rattle.dcc_order.specs.Verdicts.{IsVerdict};
 
 use crate::Fault;
@@ -61,6 +61,8 @@ pub fn compare_in_step(
     // and that of the packets that were read, alone.
     ensures read { IfOk result
         (λ found. IsVerdict who (take found.left left.now) (take found.right right.now) found.verdict) }
+    ensures left_read { IfOk result (λ found. found.left ≤ length left.now) }
+    ensures right_read { IfOk result (λ found. found.right ≤ length right.now) }
 {
     let mut comparer = Comparer::new(alloc, who);
     let mut left = Track {

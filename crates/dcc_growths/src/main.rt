@@ -1,28 +1,48 @@
-//! Calls that may want memory, and calls that take none, each with its full answer or with want of memory and nothing changed.
-//! `tools/growths` runs the program with the first growth of memory refused, with the second, and so on.
+//! Calls that may want memory, and calls that take none, each with its full answer or with want of memory and nothing
+//! changed. `tools/growths` runs the program with the first growth of memory refused, with the second, and so on;
+//! with a word behind its name it makes two calls on many packets, which run under a bound on bytes.
 #![tactic(auto)]
 
 mod lists;
+mod many;
 mod page;
 mod tool;
 
+use std::env;
 use std::process::ExitCode;
 
 fn main(rt: HostRuntime) -> ExitCode {
-    let rows = [
-        ("a station", lists::station(rt.alloc())),
-        ("two lists", lists::two_lists(rt.alloc())),
-        ("two lists in step", lists::in_step(rt.alloc())),
-        ("a fleet", tool::fleet(rt.alloc())),
-        ("a fleet made before", tool::made_before(rt.alloc())),
-        ("a station that is driven", tool::driven(rt.alloc())),
-        ("two captures", tool::two_captures(rt.alloc())),
-        ("two captures in one input", tool::both_captures(rt.alloc())),
-        ("captures that are not heard", tool::unheard(rt.alloc())),
-        ("a listing", tool::listing()),
-        ("lines", tool::lines(rt.alloc())),
-        ("a reading", tool::reading()),
-    ];
+    let is_asked = match env::args(&rt) {
+        Ok(words) => words.count() > 1,
+        Err(_) => false,
+    };
+    if is_asked {
+        let many = [
+            ("many blocks", many::many_blocks(rt.alloc())),
+            ("one block of as many packets", many::one_block(rt.alloc())),
+        ];
+        tell(&rt, &many)
+    } else {
+        let rows = [
+            ("a station", lists::station(rt.alloc())),
+            ("two lists", lists::two_lists(rt.alloc())),
+            ("two lists in step", lists::in_step(rt.alloc())),
+            ("a fleet", tool::fleet(rt.alloc())),
+            ("a fleet made before", tool::made_before(rt.alloc())),
+            ("a station that is driven", tool::driven(rt.alloc())),
+            ("two captures", tool::two_captures(rt.alloc())),
+            ("two captures in one input", tool::both_captures(rt.alloc())),
+            ("captures that are not heard", tool::unheard(rt.alloc())),
+            ("a listing", tool::listing()),
+            ("lines", tool::lines(rt.alloc())),
+            ("a reading", tool::reading()),
+        ];
+        tell(&rt, &rows)
+    }
+}
+
+/// A line for each call, and the status 1 where one is wrong.
+fn tell(rt: &impl Print, rows: &[(&str, Option<bool>)]) -> ExitCode {
     let mut status = 0;
     for (name, came) in rows {
         let word = match came {

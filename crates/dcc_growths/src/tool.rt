@@ -1,4 +1,5 @@
-//! What the program does. Each answers whether memory was wanted, and then nothing was written; none where something is wrong.
+//! What the program does. Each answers whether memory was wanted, and then nothing was written; none where something
+//! is wrong.
 
 use crate::page::Page;
 use dcc_order::Verdict;
@@ -46,7 +47,7 @@ fn input(text: &[u8]) -> Input<Counted<&[u8]>> {
 }
 
 /// The full answer and text, or want of memory and no text.
-fn all_or_nothing(answer: Result<bool, ToolFault>, page: &Page, text: &[u8]) -> Option<bool> {
+pub fn all_or_nothing(answer: Result<bool, ToolFault>, page: &Page, text: &[u8]) -> Option<bool> {
     match answer {
         Ok(true) if page.is(text) => Some(false),
         Err(ToolFault::NoMemory) if page.is(b"") => Some(true),

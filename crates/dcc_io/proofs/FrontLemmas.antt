@@ -12,11 +12,12 @@ use Rattle.std.specs.Char.{is_ascii_digit}
 use Rattle.std.specs.Str.Parse.{digits_value}
 use Rattle.dcc_io.specs.declared.word.FrontWord.{FrontWord}
 use Rattle.dcc_io.specs.TextPlace.{TextPlace, line_behind, lines_with, lines_through}
+use Rattle.dcc_io.specs.Took.{CountsLines}
 use Rattle.dcc_io.specs.Words.{Word, is_gap, comments, ended_words, duration_of, Passes}
 use Rattle.dcc_io.specs.Inner.FrontWords.{BeginsWithWord, HasLineFeedAt, IsFrontWord, is_plain}
 use Rattle.dcc_io.specs.declared.fault.KeptFault.{KeptFault}
 use Rattle.dcc_io.specs.ReaderState.{ReaderState}
-use Rattle.dcc_io.specs.InputState.{InputState, closed_text, closing}
+use Rattle.dcc_io.specs.InputState.{InputState, closed_text, closing, all_lines}
 use Rattle.dcc_io.specs.PassedWords.{Passed}
 use Rattle.dcc_io.specs.Counted.{TakesHalf}
 use Rattle.dcc_io.proofs.WordsLemmas.{eqb_line_feed, behind, opened, opened-none, opened-word, opened-gap, ended}
@@ -60,7 +61,7 @@ plain_digit byte digit =
     let not_35 = ne_eqb byte 35 (λ same. omega (arith, bounds)) in
     rw (not_32, not_9, not_13, not_10, not_35) refl
 
-plain_digits : (word : List ℕ) → list_all is_ascii_digit word ≡ true → list_all is_plain word ≡ true
+pub plain_digits : (word : List ℕ) → list_all is_ascii_digit word ≡ true → list_all is_plain word ≡ true
 plain_digits [] digits = refl
 plain_digits (byte ∷ word) digits =
     let parts = both (is_ascii_digit byte) (list_all is_ascii_digit word) digits in
@@ -105,7 +106,7 @@ ends_word_of line [] some = absurd (omega arith)
 ends_word_of line (byte ∷ word) some = refl
 
 -- a word and a gap hold one word
-passes_front : (line gap : ℕ) (word : List ℕ) → list_all is_plain word ≡ true → 0 < length word → is_gap gap ≡ true
+pub passes_front : (line gap : ℕ) (word : List ℕ) → list_all is_plain word ≡ true → 0 < length word → is_gap gap ≡ true
     → Passes (outside line) (word ++ gap ∷ []) (record { line = line; bytes = word } ∷ [])
     (outside (line_behind line gap))
 passes_front line gap word digits some is = λ more.
@@ -122,24 +123,27 @@ passes_front line gap word digits some is = λ more.
     or_gap false is = is
 
 -- a word and a gap stand on one line
-lines_of_front : (lines line gap : ℕ) (word rest : List ℕ) → list_all is_plain word ≡ true
-    → lines_through lines line ((word ++ gap ∷ []) ++ (rest ++ 10 ∷ [])) ≡ lines_through line (line_behind line gap)
-    (rest ++ 10 ∷ [])
-lines_of_front lines line gap [] rest digits =
-    ap (λ n. lines_through n (line_behind line gap) (rest ++ 10 ∷ [])) (some rest)
-  where
-    some : (rest : List ℕ) → lines_with lines line (rest ++ 10 ∷ []) ≡ line
-    some [] = refl
-    some (byte ∷ rest) = refl
-lines_of_front lines line gap (byte ∷ word) rest digits =
+lines_of_front : (lines line gap : ℕ) (word : List ℕ) (next : ℕ) (more : List ℕ) → list_all is_plain word ≡ true
+    → lines_through lines line ((word ++ gap ∷ []) ++ next ∷ more) ≡ lines_through line (line_behind line gap)
+    (next ∷ more)
+lines_of_front lines line gap [] next more digits = refl
+lines_of_front lines line gap (byte ∷ word) next more digits =
     let parts = both (is_plain byte) (list_all is_plain word) digits in
     let plain = plain_parts byte parts.0 in
-    ap (λ n. lines_through n (line_behind line byte) ((word ++ gap ∷ []) ++ (rest ++ 10 ∷ []))) (some word)
-    ∙ rw plain.no_line (lines_of_front line line gap word rest parts.1)
+    ap (λ n. lines_through n (line_behind line byte) ((word ++ gap ∷ []) ++ next ∷ more)) (some word)
+    ∙ rw plain.no_line (lines_of_front line line gap word next more parts.1)
   where
-    some : (word : List ℕ) → lines_with lines line ((word ++ gap ∷ []) ++ (rest ++ 10 ∷ [])) ≡ line
+    some : (word : List ℕ) → lines_with lines line ((word ++ gap ∷ []) ++ next ∷ more) ≡ line
     some [] = refl
     some (first ∷ word) = refl
+
+-- where something follows bytes, it is counted behind them
+pub counted_behind : (old new : InputState) (used rest text : List ℕ) → text ≡ used ++ (rest ++ 10 ∷ [])
+    → CountsLines old used new → all_lines new (rest ++ 10 ∷ []) ≡ all_lines old text
+counted_behind old new used [] text whole counts =
+    counts 10 [] ∙ ap (λ (bytes : List ℕ). all_lines old bytes) (sym whole)
+counted_behind old new used (next ∷ rest) text whole counts =
+    counts next (rest ++ 10 ∷ []) ∙ ap (λ (bytes : List ℕ). all_lines old bytes) (sym whole)
 
 -- what a word that spells a duration is made of
 pub record IsDuration (word : List ℕ) : Type 0 where
@@ -188,32 +192,38 @@ passes_word old new whole rest ahead len ends_line old_text new_text consumed be
     words : List Word
     words = record { line = old.place.line; bytes = take len ahead } ∷ []
 
+    counts : CountsLines old (take len ahead ++ get_or ahead len 0 ∷ []) new
+    counts next more =
+        ap (λ n. lines_through n new.place.line (next ∷ more)) lines
+        ∙ ap (λ (at : TextPlace). lines_through old.place.line at.line (next ∷ more)) place
+        ∙ sym (lines_of_front old.lines old.place.line (get_or ahead len 0) (take len ahead) next more begins.plain)
+
     go : take (len + 1) ahead ≡ take len ahead ++ get_or ahead len 0 ∷ [] → length (take len ahead) ≡ len
         → (xs ys : Option (List ℕ)) → Consumes xs ys (take (len + 1) ahead)
         → IfSome (closed_text false xs)
         (λ text. IsSomeAnd (closed_text false ys) (λ left. PassesIn old new words text left))
     go used count None ys taken = tt
     go used count (Some xs) None taken = absurd taken
-    go used count (Some xs) (Some ys) taken = let some = begins.some in record {
-      used = take len ahead ++ get_or ahead len 0 ∷ [];
-      whole = ap (λ (zs : List ℕ). zs ++ 10 ∷ []) (taken ∙ ap (λ (zs : List ℕ). zs ++ ys) used)
-          ∙ append_assoc (take len ahead ++ get_or ahead len 0 ∷ []) ys (10 ∷ []);
-      is =
-          λ more. ap
-          (λ (in_comment : Bool). ended_words (record { line = old.place.line; in_comment = in_comment })
-          ((take len ahead ++ get_or ahead len 0 ∷ []) ++ more)) no_comment
-          ∙ passes_front old.place.line (get_or ahead len 0) (take len ahead) begins.plain (omega (arith, count, some))
-          begins.gap more
-          ∙ ap (λ (at : TextPlace). words ++ ended_words at more) (sym place);
-      bytes = simp length-append (omega (arith, bytes, count));
-      room = λ one none. absurd (omega arith);
-      lines = ap (λ n. lines_through n new.place.line (ys ++ 10 ∷ [])) lines
-          ∙ ap (λ (at : TextPlace). lines_through old.place.line at.line (ys ++ 10 ∷ [])) place
-          ∙ sym (lines_of_front old.lines old.place.line (get_or ahead len 0) (take len ahead) ys begins.plain)
-          ∙ ap (λ (zs : List ℕ). lines_through old.lines old.place.line zs)
-          (sym (append_assoc (take len ahead ++ get_or ahead len 0 ∷ []) ys (10 ∷ []))
-          ∙ ap (λ (zs : List ℕ). zs ++ 10 ∷ []) (sym (taken ∙ ap (λ (zs : List ℕ). zs ++ ys) used)));
-    }
+    go used count (Some xs) (Some ys) taken =
+        let some = begins.some in
+        let whole : xs ++ 10 ∷ [] ≡ (take len ahead ++ get_or ahead len 0 ∷ []) ++ (ys ++ 10 ∷ []) =
+        ap (λ (zs : List ℕ). zs ++ 10 ∷ []) (taken ∙ ap (λ (zs : List ℕ). zs ++ ys) used)
+        ∙ append_assoc (take len ahead ++ get_or ahead len 0 ∷ []) ys (10 ∷ []) in
+        record {
+          used = take len ahead ++ get_or ahead len 0 ∷ [];
+          whole = whole;
+          is =
+              λ more. ap
+              (λ (in_comment : Bool). ended_words (record { line = old.place.line; in_comment = in_comment })
+              ((take len ahead ++ get_or ahead len 0 ∷ []) ++ more)) no_comment
+              ∙ passes_front old.place.line (get_or ahead len 0) (take len ahead) begins.plain (omega (arith, count, some))
+              begins.gap more
+              ∙ ap (λ (at : TextPlace). words ++ ended_words at more) (sym place);
+          bytes = simp length-append (omega (arith, bytes, count));
+          room = λ one none. absurd (omega arith);
+          lines = counted_behind old new (take len ahead ++ get_or ahead len 0 ∷ []) ys (xs ++ 10 ∷ []) whole counts;
+          counts = λ some. counts;
+        }
 
 -- a duration at the front is a word there
 pub begins_with : (bytes : List ℕ) (front : FrontWord) → IsFrontWord bytes front
@@ -319,10 +329,6 @@ passes_line_feed source later line lines halves bytes room is_feed consumed fail
     new : InputState
     new = state_of later (line + 1) line false false halves (bytes - 1) None
 
-    some : (rest : List ℕ) → lines_with lines line (rest ++ 10 ∷ []) ≡ line
-    some [] = refl
-    some (byte ∷ rest) = refl
-
     go : (xs ys : Option (List ℕ)) → Consumes xs ys (take 1 source.ahead)
         → IfSome (closed_text false xs)
         (λ text. IsSomeAnd (closed_text false ys)
@@ -338,8 +344,8 @@ passes_line_feed source later line lines halves bytes room is_feed consumed fail
           is = λ more. sym (opened-none (outside line) (10 ∷ more)) ∙ opened-gap (outside line) [] 10 more refl;
           bytes = omega arith;
           room = λ one none. absurd (omega (arith, none));
-          lines = ap (λ n. lines_through n (line + 1) (ys ++ 10 ∷ [])) (sym (some ys))
-              ∙ ap (λ (zs : List ℕ). lines_through lines line zs) (sym whole);
+          lines = counted_behind old new (10 ∷ []) ys (xs ++ 10 ∷ []) whole (λ next more. refl);
+          counts = λ some next more. refl;
         }
 
 first_of : (bytes : List ℕ) (byte : ℕ) → 0 < length bytes → get_or bytes 0 0 ≡ byte → take 1 bytes ≡ byte ∷ []

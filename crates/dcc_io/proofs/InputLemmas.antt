@@ -1,5 +1,6 @@
 -- The line feed that closes an input.
-use Rattle.std.proofs.Common.{◌≡◌, ℕ, List, [], ◌∷◌, ◌++◌, Bool, true, false, Option, None, Some, IfSome, refl}
+use Rattle.std.proofs.Common.{◌≡◌, ℕ, ◌<◌, List, [], ◌∷◌, ◌++◌, length, Bool, true, false, Option, None, Some, IfSome}
+use Rattle.std.proofs.Common.{refl, arith}
 use Rattle.std.specs.Io.KnownBytes.{Keeps}
 use Rattle.dcc_io.specs.TextPlace.{lines_with}
 use Rattle.dcc_io.specs.ReaderState.{BeginsWith, IsAtEnd}
@@ -46,3 +47,13 @@ more_behind closed byte (Some xs) is_open = rw is_open (λ none. go xs none)
     go : (xs : List ℕ) → xs ++ 10 ∷ [] ≡ [] → byte ≡ 10
     go [] none = cc
     go (x ∷ xs) none = cc
+
+-- and so something is still to come of an input that is not closed
+pub more_to_come : (closed : Bool) (text : Option (List ℕ)) → closed ≡ false
+    → IfSome (closed_text closed text) (λ bytes. 0 < length bytes)
+more_to_come closed None is_open = tt
+more_to_come closed (Some xs) is_open = rw is_open (go xs)
+  where
+    go : (xs : List ℕ) → 0 < length (xs ++ 10 ∷ [])
+    go [] = omega arith
+    go (x ∷ xs) = omega arith

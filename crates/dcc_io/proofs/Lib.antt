@@ -17,3 +17,4 @@ pub mod LineCounts
 pub mod DecimalLemmas
 pub mod LineEndLemmas
 pub mod CallLemmas
+pub mod NumberWords

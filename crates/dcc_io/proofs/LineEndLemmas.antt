@@ -1,5 +1,5 @@
 -- How the rest of a line is passed.
-use Rattle.std.proofs.Common.{◌≡◌, ◌≢◌, ◌⊎◌, inr, ℕ, ◌+◌, ◌<◌, List, [], ◌∷◌, ◌++◌, Bool, true, false, eqb, ◌||◌}
+use Rattle.std.proofs.Common.{◌≡◌, ◌≢◌, ◌⊎◌, inr, ℕ, ◌+◌, ◌<◌, List, [], ◌∷◌, ◌++◌, Bool, true, false, eqb, ◌||◌, IfSome}
 use Rattle.std.proofs.Common.{Ok, refl, ap, ◌∙◌, subst, arith}
 use Rattle.std.proofs.lemmas.Bool.Decides.{nat_tests}
 use Rattle.dcc_io.specs.declared.word.RunWord.{RunWord}
@@ -70,4 +70,5 @@ ends_in_word old now new so_far byte so takes gap some =
     let ends = EndsWord-gap old now new so_far byte so.opens takes gap some in (
       ends.word,
       subst (λ (line : ℕ). Passed old (record { line = line; bytes = ends.word } ∷ []) new) so.here ends.passed,
+      subst (λ (line : ℕ). IfSome old.text (λ text. new.lines ≡ line)) so.here ends.lines,
     )

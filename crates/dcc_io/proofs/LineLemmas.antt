@@ -1,6 +1,6 @@
 -- A line that is being read, and what ends it.
 use Rattle.std.proofs.Common.{zero, suc, ◌≡◌, ℕ, ◌+◌, ◌<◌, ◌≤◌, List, [], ◌∷◌, ◌++◌, length, Bool, true}
-use Rattle.std.proofs.Common.{false, eqb, Option, None, Some, refl, sym, ap, ◌∙◌, arith, append_assoc}
+use Rattle.std.proofs.Common.{false, eqb, Option, None, Some, Err, refl, sym, ap, ◌∙◌, subst, arith, append_assoc}
 use Rattle.std.proofs.Common.{length-append, ◌&&◌, ◌⊎◌, inl, inr, IfSome, IsSomeAnd}
 use Rattle.std.proofs.Math.Dec.{leb}
 use Rattle.std.proofs.lemmas.Bool.{lt-leb}
@@ -10,15 +10,17 @@ use Rattle.std.specs.Char.{is_ascii}
 use Rattle.std.specs.List.{list_all}
 use Rattle.std.specs.Prelude.{nat_le, nat_lt}
 use Rattle.dcc_packet.specs.declared.fault.PacketFault.TheVariants as faults
-use Rattle.dcc_io.specs.declared.fault.KeptFault.TheVariants.{Line}
+use Rattle.dcc_io.specs.declared.fault.KeptFault.{KeptFault}
+use Rattle.dcc_io.specs.declared.fault.KeptFault.TheVariants.{Number, Line, Read, TooMuch}
 use Rattle.dcc_io.specs.TextPlace.{TextPlace, line_behind, lines_with, lines_through}
 use Rattle.dcc_io.specs.ReaderState.{BeginsWith, IsAtEnd}
-use Rattle.dcc_io.specs.InputState.{InputState, all_lines, TakesByte}
+use Rattle.dcc_io.specs.InputState.{InputState, all_lines, TakesByte, AnswersByte}
 use Rattle.dcc_io.specs.NumberedLines.{is_good}
 use Rattle.dcc_io.specs.NextLine.{has_line_feed, lines_within, IsOneLine, EndsLine, IsBadAt}
-use Rattle.dcc_io.specs.NextLine.{MeetsBadLine}
-use Rattle.dcc_io.specs.Took.{Uses, Took}
+use Rattle.dcc_io.specs.NextLine.{MeetsBadLine, AnswersLine}
+use Rattle.dcc_io.specs.Took.{CountsLines, Uses, Took}
 use Rattle.dcc_io.proofs.PassedLemmas.{or_false}
+use Rattle.dcc_io.proofs.TookLemmas.{fails_to_read, has_too_many, lines_at_failure, lines_at_overflow}
 
 and_false : (a b : Bool) → (a && b) ≡ false → (a ≡ false) ⊎ (b ≡ false)
 and_false true b h = inr h
@@ -91,6 +93,7 @@ OpensLine-bad old now mid new line byte number opens takes no_end fails is_numbe
   at = is_number;
   text = go old.text now.text mid.text opens.text takes.text takes.last takes.room;
   fault = refl;
+  lines = on_line old.text now.text mid.text opens.text takes.text takes.last takes.lines;
   failures = takes.failures ∙ opens.failures;
 }
   where
@@ -108,6 +111,18 @@ OpensLine-bad old now mid new line byte number opens takes no_end fails is_numbe
 
     not_end : byte ≡ 10 → ⊥
     not_end is_end = let clash : true ≡ false = sym (rw is_end refl) ∙ no_end in cc
+
+    on_line : (whole rest after : Option (List ℕ))
+        → IfSome whole (λ text. IsSomeAnd rest (λ more. LineIn old now line text more)) → BeginsWith rest byte after
+        → IfSome after (λ left. left ≡ [] → byte ≡ 10)
+        → IfSome after (λ left. mid.lines ≡ lines_with now.lines now.place.line left)
+        → IfSome whole (λ text. mid.lines ≡ number)
+    on_line None rest after before taken last lines = tt
+    on_line (Some text) None after before taken last lines = absurd before
+    on_line (Some text) (Some more) None before taken last lines = absurd taken
+    on_line (Some text) (Some more) (Some []) before taken last lines = absurd (not_end (last refl))
+    on_line (Some text) (Some more) (Some (next ∷ left)) before taken last lines =
+        lines ∙ ap (λ (place : TextPlace). place.line) opens.place ∙ sym is_number
 
     some_left : (left : ℕ) (rest : List ℕ) → (rest ≡ [] → byte ≡ 10) → (left ≡ 0 → rest ≡ []) → 0 < left
     some_left zero rest last room = absurd (not_end (last (room refl)))
@@ -130,6 +145,24 @@ OpensLine-bad old now mid new line byte number opens takes no_end fails is_numbe
           one = no_feed-more line byte opens.is_line.one no_end;
           within = simp length-append (omega (arith, opens.count, takes.bytes, left));
         }
+
+-- no byte more of a line could be read
+pub line_stops : (old now new : InputState) (line : List ℕ) (fault : KeptFault) → OpensLine old line now
+    → AnswersByte now (Err fault) new → AnswersLine old (Err fault) new
+line_stops old now new line Read opens answer = (
+  fails_to_read (λ used. used ≡ line) IsOneLine old now new opens.took answer
+      (λ used is. subst IsOneLine (sym is) opens.is_line),
+  answer.fault,
+  lines_at_failure (λ used. used ≡ line) old now new opens.took answer,
+)
+line_stops old now new line TooMuch opens answer = (
+  has_too_many (λ used. used ≡ line) IsOneLine old now new opens.took answer
+      (λ used is. subst IsOneLine (sym is) opens.is_line),
+  answer.fault,
+  lines_at_overflow (λ used. used ≡ line) old now new opens.took answer,
+)
+line_stops old now new line (Number number) opens answer = absurd answer
+line_stops old now new line (Line number why) opens answer = absurd answer
 
 -- a line and its line feed leave the number of all lines
 lines_of_line : (lines number : ℕ) (line rest : List ℕ) → has_line_feed line ≡ false
@@ -159,6 +192,16 @@ kept_lines old new line text rest one whole at lines =
     ∙ ap (λ n. lines_through (lines_with (lines_within old.lines old.place.line line) old.place.line rest) n rest) at
     ∙ sym (lines_of_line old.lines old.place.line line rest one) ∙ ap (λ (xs : List ℕ). all_lines old xs) (sym whole)
 
+-- whatever follows the line
+counts_line : (old new : InputState) (line rest : List ℕ) → has_line_feed line ≡ false → 0 < length rest
+    → new.place.line ≡ old.place.line + 1
+    → new.lines ≡ lines_with (lines_within old.lines old.place.line line) old.place.line rest
+    → CountsLines old (line ++ 10 ∷ []) new
+counts_line old new line [] one some at lines = absurd (omega (arith, some))
+counts_line old new line (first ∷ rest) one some at lines = λ next more.
+    kept_lines old new line (line ++ 10 ∷ next ∷ more) (next ∷ more) one refl at lines
+    ∙ ap (λ (xs : List ℕ). all_lines old xs) (sym (append_assoc line (10 ∷ []) (next ∷ more)))
+
 -- these bytes are a line and its line feed, and a line that has bytes is the last that was used
 abbrev pub IsThrough : InputState → InputState → List ℕ → List ℕ → Type 0
 IsThrough old new line used = (used ≡ line ++ 10 ∷ []) × (0 < length line → new.lines + 1 ≡ new.place.line)
@@ -176,6 +219,7 @@ took_line old new number line ends = record {
         bytes = simp length-append (omega (arith, ends.bytes));
         room = λ some. end;
         lines = kept_lines old new line text rest ends.is_line.one whole next lines;
+        counts = λ some. counts_line old new line rest ends.is_line.one some next lines;
       })
       ends.text ends.lines ends.room;
   bytes = omega (arith, ends.bytes);

@@ -6,13 +6,13 @@ use Rattle.dcc_packet.specs.declared.fault.PacketFault.TheVariants as faults
 use Rattle.dcc_packet.specs.Words.{words}
 use Rattle.dcc_io.specs.declared.fault.KeptFault.{KeptFault}
 use Rattle.dcc_io.specs.declared.fault.KeptFault.TheVariants.{Line, Read, TooMuch}
-use Rattle.dcc_io.specs.TextPlace.{TextPlace}
+use Rattle.dcc_io.specs.TextPlace.{TextPlace, lines_with}
 use Rattle.dcc_io.specs.ReaderState.{IsAtEnd}
 use Rattle.dcc_io.specs.InputState.{InputState}
 use Rattle.dcc_io.specs.NumberedLines.{NumberedLine, lines_from, onto_first_line, is_good}
-use Rattle.dcc_io.specs.NextLine.{has_line_feed, IsOneLine, EndsLine, EndsText, IsBadAt, MeetsBadLine}
+use Rattle.dcc_io.specs.NextLine.{has_line_feed, lines_within, IsOneLine, EndsLine, EndsText, IsBadAt, MeetsBadLine}
 use Rattle.dcc_io.specs.NextLine.{FailsInLine, OverflowsInLine}
-use Rattle.dcc_io.specs.Took.{Uses}
+use Rattle.dcc_io.specs.Took.{Uses, LinesAt}
 use Rattle.dcc_io.specs.Items.{Items, items_behind, only_fault, Gave, StopsAt}
 use Rattle.dcc_io.specs.PacketLines.{is_skipped, Saying, behind_line, items_of, items_in, items_before_failure}
 use Rattle.dcc_io.specs.PacketLines.{lines_by}
@@ -128,6 +128,7 @@ module _ {A B : Type 0} (saying : Saying A B) where
       → EndsLine old number line mid → is_skipped line ≡ false → saying.said (words line) ≡ Err fault
       → new ≡ record mid { fault = Some (Line number fault) }
       → StopsAt (lines_by saying) old (Line number fault) new × (new.fault ≡ Some (Line number fault))
+      × LinesAt old (Line number fault) new
   stops_at_words old mid new number line fault ends some says is_new =
       rw is_new (
         (
@@ -137,8 +138,19 @@ module _ {A B : Type 0} (saying : Saying A B) where
               (took_line old mid number line ends).text,
         ),
         refl,
+        map_text (λ text rest. mid.lines ≡ last_line rest) (λ text. mid.lines ≡ number) old.text mid.text
+            (λ text rest lines. lines ∙ on_line line rest some ∙ sym ends.at) ends.lines,
       )
     where
+      last_line : List ℕ → ℕ
+      last_line rest = lines_with (lines_within old.lines old.place.line line) old.place.line rest
+
+      on_line : (front rest : List ℕ) → is_skipped front ≡ false
+          → lines_with (lines_within old.lines old.place.line front) old.place.line rest ≡ old.place.line
+      on_line [] rest says = cc
+      on_line (byte ∷ front) [] says = refl
+      on_line (byte ∷ front) (next ∷ rest) says = refl
+
       stopped : (text rest : List ℕ) → Uses (IsThrough old mid line) old mid text rest
           → items_in saying old text ≡ only_fault (Some (Line number fault))
       stopped text rest uses =
@@ -165,6 +177,7 @@ module _ {A B : Type 0} (saying : Saying A B) where
   -- a line that is bad at its last byte so far
   pub stops_at_bad_line : (old new : InputState) (number : ℕ) → MeetsBadLine old number new
       → StopsAt (lines_by saying) old (Line number faults.Word) new × (new.fault ≡ Some (Line number faults.Word))
+      × LinesAt old (Line number faults.Word) new
   stops_at_bad_line old new number meets = (
     (
       meets.failures,
@@ -174,6 +187,7 @@ module _ {A B : Type 0} (saying : Saying A B) where
           bad.line bad.rest bad.whole bad.within (bad_here bad.line bad.bad bad.one)) meets.text,
     ),
     meets.fault,
+    meets.lines,
   )
     where
       bad_here : (line : List ℕ) → is_good line ≡ false → has_line_feed line ≡ false → (more : List ℕ)
@@ -191,18 +205,20 @@ module _ {A B : Type 0} (saying : Saying A B) where
       ap (λ lines. items_of saying lines last) (lines_from-open number line is_line.one) ∙ rw is_line.good refl
 
   pub stops_in_line : (old new : InputState) → FailsInLine old new
-      → StopsAt (lines_by saying) old Read new × (new.fault ≡ Some Read)
+      → StopsAt (lines_by saying) old Read new × (new.fault ≡ Some Read) × LinesAt old Read new
   stops_in_line old new fails = (
     Stops-map IsOneLine (λ used. items_before_failure saying old used ≡ only_fault (Some Read)) (λ text. Unit {0})
         (λ text. Unit {0}) old new Read fails.0 (λ used. open_says old.place.line used (Some Read))
         (λ text none. none),
     fails.1,
+    fails.2,
   )
 
   pub overflows_line : (old new : InputState) → OverflowsInLine old new
-      → StopsAt (lines_by saying) old TooMuch new × (new.fault ≡ Some TooMuch)
+      → StopsAt (lines_by saying) old TooMuch new × (new.fault ≡ Some TooMuch) × LinesAt old TooMuch new
   overflows_line old new over = (
     overflows IsOneLine (lines_by saying old) (only_fault (Some TooMuch)) old new over.0
         (λ used. open_says old.place.line used (Some TooMuch)),
     over.1,
+    over.2,
   )

@@ -9,13 +9,28 @@ use Rattle.dcc_io.specs.declared.fault.KeptFault.TheVariants.{Number, Line, Read
 use Rattle.dcc_io.specs.InputState.{InputState}
 use Rattle.dcc_io.specs.NextLine.{EndsLine, EndsText, AnswersLine}
 use Rattle.dcc_io.specs.Items.{Gave, StopsAt}
+use Rattle.dcc_io.specs.Took.{LinesAt}
 use Rattle.dcc_io.specs.PacketLines.{Saying, lines_by, is_skipped}
 use Rattle.dcc_io.specs.PacketRead.{AnswersSaid, ReadsSaid}
 use Rattle.dcc_io.proofs.ItemsLemmas.{Gave-append, StopsAt-behind, all_behind}
+use Rattle.dcc_io.proofs.TookLemmas.{LinesAt-behind}
 use Rattle.dcc_io.proofs.PacketLineLemmas.{Gave-skipped, Gave-said, Gave-end, stops_at_words, stops_at_bad_line}
 use Rattle.dcc_io.proofs.PacketLineLemmas.{stops_in_line, overflows_line}
 
 module _ {A B C : Type 0} (saying : Saying A B) (as_said : C → B) where
+  -- no item can be taken before this fault, which is kept, and its lines are used
+  abbrev Stopped : InputState → KeptFault → InputState → Type 0
+  Stopped old fault new = StopsAt (lines_by saying) old fault new × (new.fault ≡ Some fault) × LinesAt old fault new
+
+  -- told from further back, where nothing was said in between
+  behind_said : (old now new : InputState) (fault : KeptFault) → Gave (lines_by saying) old [] now
+      → Stopped now fault new → Stopped old fault new
+  behind_said old now new fault gave stops = (
+    StopsAt-behind (lines_by saying) old now new fault gave stops.0,
+    stops.1,
+    LinesAt-behind gave new fault stops.2,
+  )
+
   -- a line that says nothing was passed
   pub Gave-passed : (old now new : InputState) (line : TextLine) → Gave (lines_by saying) old [] now
       → EndsLine now line.number line.text.bytes new → is_skipped line.text.bytes ≡ true
@@ -40,7 +55,7 @@ module _ {A B C : Type 0} (saying : Saying A B) (as_said : C → B) where
   answers_said old now mid new line (Err answer) gave ends some reads =
       let stops = stops_at_words saying now mid new line.number line.text.bytes reads.0 ends some reads.2 reads.3 in
       subst (λ (kept : KeptFault). AnswersSaid saying as_said old (Err kept) new) (sym reads.1)
-      (StopsAt-behind (lines_by saying) old now new (Line line.number reads.0) gave stops.0, stops.1)
+      (behind_said old now new (Line line.number reads.0) gave stops)
 
   -- a line with words was taken
   pub answers_line : (old new : InputState) (line : List ℕ) (says : C) → EndsLine old old.place.line line new
@@ -64,13 +79,8 @@ module _ {A B C : Type 0} (saying : Saying A B) (as_said : C → B) where
       → AnswersLine now (Err fault) new → AnswersSaid saying as_said old (Err fault) new
   answers_fault old now new (Number line) gave answer = absurd answer
   answers_fault old now new (Line line why) gave answer =
-      let stops = stops_at_bad_line saying now new line answer.1 in
-      subst (λ (f : PacketFault). StopsAt (lines_by saying) old (Line line f) new × (new.fault ≡ Some (Line line f)))
-      (sym answer.0)
-      (StopsAt-behind (lines_by saying) old now new (Line line faults.Word) gave stops.0, stops.1)
-  answers_fault old now new Read gave answer =
-      let stops = stops_in_line saying now new answer in
-      (StopsAt-behind (lines_by saying) old now new Read gave stops.0, stops.1)
+      subst (λ (f : PacketFault). Stopped old (Line line f) new) (sym answer.0)
+      (behind_said old now new (Line line faults.Word) gave (stops_at_bad_line saying now new line answer.1))
+  answers_fault old now new Read gave answer = behind_said old now new Read gave (stops_in_line saying now new answer)
   answers_fault old now new TooMuch gave answer =
-      let stops = overflows_line saying now new answer in
-      (StopsAt-behind (lines_by saying) old now new TooMuch gave stops.0, stops.1)
+      behind_said old now new TooMuch gave (overflows_line saying now new answer)

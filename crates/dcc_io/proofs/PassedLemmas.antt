@@ -1,20 +1,21 @@
 -- A word that is being read, and what ends it.
 use Rattle.std.proofs.Common.{◌≡◌, ℕ, ◌+◌, ◌<◌, ◌≤◌, List, [], ◌∷◌, ◌++◌, Bool, true, false, not, Err}
-use Rattle.std.proofs.Common.{refl, sym, ap, ◌∙◌, subst, cond, eqb, arith, append_assoc, ◌||◌, IfSome}
+use Rattle.std.proofs.Common.{refl, sym, ap, ◌∙◌, subst, cond, eqb, arith, append_assoc, ◌||◌, IfSome, IsSomeAnd, Option, None, Some, length}
 use Rattle.std.proofs.lemmas.List.{append-nil}
 use Rattle.dcc_io.specs.declared.word.RunWord.{RunWord}
 use Rattle.dcc_io.specs.declared.fault.KeptFault.{KeptFault}
 use Rattle.dcc_io.specs.declared.fault.KeptFault.TheVariants.{Number, Line, Read, TooMuch}
-use Rattle.dcc_io.specs.TextPlace.{TextPlace, line_behind}
+use Rattle.dcc_io.specs.TextPlace.{TextPlace, line_behind, lines_with}
 use Rattle.dcc_io.specs.ReaderState.{IsAtEnd}
 use Rattle.dcc_io.specs.InputState.{InputState, TakesByte, AnswersByte}
 use Rattle.dcc_io.specs.Words.{Word, ended_words, is_some_byte, is_gap, comments, Passes}
 use Rattle.dcc_io.specs.SpelledWords.{Spells}
 use Rattle.dcc_io.specs.Took.{Uses, Took}
 use Rattle.dcc_io.specs.PassedWords.{Passed, IsBeforeWord, EndsWord, AnswersWord}
-use Rattle.dcc_io.proofs.WordsLemmas.{behind, opened, opened-none, opened-word, opened-gap, ended}
-use Rattle.dcc_io.proofs.TookLemmas.{if_some_map, if_some_all, Took-map, Took-closed, Took-join, took_byte}
-use Rattle.dcc_io.proofs.TookLemmas.{fails_to_read, has_too_many}
+use Rattle.dcc_io.proofs.WordsLemmas.{eqb_line_feed, behind, opened, opened-none, opened-word, opened-gap, ended}
+use Rattle.dcc_io.proofs.TookLemmas.{if_some_map, if_some_all, join_whole, Took-map, Took-closed, Took-join}
+use Rattle.dcc_io.proofs.TookLemmas.{told_behind, took_byte, fails_to_read, has_too_many, lines_at_failure}
+use Rattle.dcc_io.proofs.TookLemmas.{lines_at_overflow}
 
 -- these bytes end in the front of a word
 abbrev pub IsOpenBehind : InputState → InputState → List ℕ → List ℕ → Type 0
@@ -34,6 +35,8 @@ pub record Opens (old : InputState) (so_far : RunWord) (now : InputState) : Type
   pub halves : now.halves ≡ old.halves
   -- a text ends with a line feed, and so not within a word
   pub closed : IfSome now.text (λ rest. rest ≡ [] → word ≡ [])
+  -- the line of a word is the last that was used
+  pub lines : IfSome now.text (λ rest. is_some_byte word ≡ true → now.lines ≡ now.place.line)
 
 abbrev no_word : List ℕ
 no_word = []
@@ -45,6 +48,7 @@ pub record TakesNoted (old : InputState) (byte : ℕ) (new : InputState) : Type 
   pub halves : new.halves ≡ old.halves
   pub fewer : new.bytes < old.bytes
   pub last : IfSome new.text (λ rest. rest ≡ [] → byte ≡ 10)
+  pub lines : IfSome new.text (λ rest. new.lines ≡ lines_with old.lines old.place.line rest)
 
 abbrev pub noted : InputState → ℕ → InputState
 noted mid byte =
@@ -68,6 +72,7 @@ takes_noted old mid new byte takes is_new = rw is_new record {
   halves = takes.halves;
   fewer = let bytes = takes.bytes in omega (arith, bytes);
   last = takes.last;
+  lines = takes.lines;
 }
 
 pub or_false : (a b : Bool) → (a || b) ≡ false → (a ≡ false) × (b ≡ false)
@@ -90,6 +95,21 @@ took_more old now new word byte said took takes each =
     ∙ goes_on (byte ∷ more)
     ∙ each more)
 
+-- a byte of a word stands on its line
+line_of_word : (now new : InputState) (byte : ℕ) (K : Type 0) → TakesNoted now byte new → is_gap byte ≡ false
+    → IfSome new.text (λ rest. K → new.lines ≡ new.place.line)
+line_of_word now new byte K takes no_gap = go new.text takes.lines takes.last
+  where
+    same : now.place.line ≡ new.place.line
+    same = sym (ap (λ (place : TextPlace). place.line) takes.place ∙ rw (eqb_line_feed byte no_gap) refl)
+
+    go : (x : Option (List ℕ)) → IfSome x (λ rest. new.lines ≡ lines_with now.lines now.place.line rest)
+        → IfSome x (λ rest. rest ≡ [] → byte ≡ 10) → IfSome x (λ rest. K → new.lines ≡ new.place.line)
+    go None lines last = tt
+    go (Some []) lines last = λ some.
+        let clash : true ≡ false = sym (line_feed_is_gap byte (last refl)) ∙ no_gap in cc
+    go (Some (next ∷ rest)) lines last = λ some. lines ∙ same
+
 -- a byte of the word was taken
 pub Opens-word : (old now new : InputState) (so_far more_far : RunWord) (byte : ℕ) → Opens old so_far now
     → TakesNoted now byte new
@@ -108,6 +128,7 @@ Opens-word old now new so_far more_far byte opens takes no_gap spells =
       closed = if_some_map (λ rest. rest ≡ [] → byte ≡ 10) (λ rest. rest ≡ [] → opens.word ++ byte ∷ [] ≡ []) new.text
           (λ rest last none. let gap = line_feed_is_gap byte (last none) in
           let clash : true ≡ false = sym gap ∙ apart.1 in cc) takes.last;
+      lines = line_of_word now new byte (is_some_byte (opens.word ++ byte ∷ []) ≡ true) takes apart.1;
     }
 
 -- a gap was taken, which ends the word
@@ -148,6 +169,7 @@ Opens-gap old now new so_far byte opens takes gap empty =
       took = Took-map passed.took (λ used passes more. passes more ∙ sym (opened-none new.place more));
       halves = passed.halves;
       closed = if_some_all (λ rest. rest ≡ [] → no_word ≡ []) new.text (λ rest none. refl);
+      lines = if_some_all (λ rest. is_some_byte no_word ≡ true → new.lines ≡ new.place.line) new.text (λ rest some. cc);
     }
 
 ended-some : (line : ℕ) (word : List ℕ) → is_some_byte word ≡ true
@@ -162,6 +184,23 @@ line_grows line byte = go (eqb byte 10)
     go true = omega arith
     go false = omega arith
 
+-- the gap behind a word leaves the line of the word the last that was used
+line_of_ended : (old now new : InputState) (so_far : RunWord) (byte : ℕ) (opens : Opens old so_far now)
+    → TakesNoted now byte new → is_some_byte opens.word ≡ true → IfSome old.text (λ text. new.lines ≡ now.place.line)
+line_of_ended old now new so_far byte opens takes some =
+    told_behind opens.took (λ rest. new.lines ≡ now.place.line) (λ text. new.lines ≡ now.place.line)
+    (λ text rest uses same. same) (go now.text new.text takes.took.text opens.lines takes.lines)
+  where
+    go : (x y : Option (List ℕ))
+        → IfSome x (λ text. IsSomeAnd y (λ rest. Uses (λ used. used ≡ byte ∷ []) now new text rest))
+        → IfSome x (λ rest. is_some_byte opens.word ≡ true → now.lines ≡ now.place.line)
+        → IfSome y (λ rest. new.lines ≡ lines_with now.lines now.place.line rest)
+        → IfSome x (λ rest. new.lines ≡ now.place.line)
+    go None y uses here behind = tt
+    go (Some text) None uses here behind = absurd uses
+    go (Some text) (Some []) uses here behind = behind ∙ here some
+    go (Some text) (Some (next ∷ rest)) uses here behind = behind
+
 -- a gap behind a word
 pub EndsWord-gap : (old now new : InputState) (so_far : RunWord) (byte : ℕ) (opens : Opens old so_far now)
     → TakesNoted now byte new
@@ -175,6 +214,7 @@ EndsWord-gap old now new so_far byte opens takes gap some = record {
   fewer = let before = opens.bytes in let fewer = takes.fewer in omega (arith, before, fewer);
   behind =
       subst (λ (place : TextPlace). now.place.line ≤ place.line) (sym takes.place) (line_grows now.place.line byte);
+  lines = line_of_ended old now new so_far byte opens takes some;
 }
 
 -- the end
@@ -196,11 +236,13 @@ answers_err old now new so_far Read opens answer = (
   fails_to_read (IsOpenBehind old now opens.word) (IsBeforeWord old) old now new opens.took answer
       (before_word old now opens.word),
   answer.fault,
+  lines_at_failure (IsOpenBehind old now opens.word) old now new opens.took answer,
 )
 answers_err old now new so_far TooMuch opens answer = (
   has_too_many (IsOpenBehind old now opens.word) (IsBeforeWord old) old now new opens.took answer
       (before_word old now opens.word),
   answer.fault,
+  lines_at_overflow (IsOpenBehind old now opens.word) old now new opens.took answer,
 )
 answers_err old now new so_far (Number line) opens answer = answer
 answers_err old now new so_far (Line line fault) opens answer = answer
@@ -233,4 +275,6 @@ ends_behind_gaps old mid new line so_far gaps ends = record {
   passed = Passed-join old mid new [] (record { line = line; bytes = ends.word } ∷ []) gaps ends.passed;
   fewer = let fewer = ends.fewer in omega (arith, fewer, gaps.bytes);
   behind = ends.behind;
+  lines = told_behind gaps.took (λ rest. new.lines ≡ line) (λ text. new.lines ≡ line) (λ text rest uses same. same)
+      ends.lines;
 }

@@ -11,8 +11,9 @@ use Rattle.dcc_io.specs.declared.fault.KeptFault.TheVariants.{Number, Line, Read
 use Rattle.dcc_io.specs.TextPlace.{line_behind, lines_with, lines_through}
 use Rattle.dcc_io.specs.Failures.{one_more}
 use Rattle.dcc_io.specs.ReaderState.{BeginsWith, IsAtEnd}
-use Rattle.dcc_io.specs.InputState.{InputState, all_lines, FailsToRead, HasMoreBytes}
-use Rattle.dcc_io.specs.Took.{Uses, Took, within_limit, FailsBehind, OverflowsBehind, Stops}
+use Rattle.dcc_io.specs.InputState.{InputState, all_lines, lines_up_to, FailsToRead, HasMoreBytes}
+use Rattle.dcc_io.specs.Took.{CountsLines, Uses, Took, within_limit, FailsBehind, OverflowsBehind, Stops, LinesAt}
+use Rattle.dcc_io.specs.Took.{UsesLines}
 
 -- a fact of the text, in other words
 pub if_some_map : (P Q : List ℕ → Type 0) (text : Option (List ℕ)) → ((bytes : List ℕ) → P bytes → Q bytes)
@@ -111,6 +112,7 @@ Took-start {P = P} input fault none =
           bytes = omega arith;
           room = λ some. absurd (omega arith);
           lines = refl;
+          counts = λ some next more. refl;
         }
 
 abbrev pub with_left : InputState → ℕ → InputState
@@ -138,6 +140,7 @@ Took-counted {P = P} {Q = Q} {old = old} {new = new} left took each = record {
         bytes = uses.bytes;
         room = uses.room;
         lines = uses.lines;
+        counts = uses.counts;
       })
       took.text;
   bytes = took.bytes;
@@ -172,6 +175,7 @@ Took-closed {P = P} {Q = Q} {old = old} {new = new} K took closed at_end each = 
       bytes = uses.bytes;
       room = uses.room;
       lines = uses.lines;
+      counts = uses.counts;
     }
 
 -- a byte more leaves the number of all lines
@@ -181,6 +185,14 @@ step_lines : (old new : InputState) (byte : ℕ) (rest : List ℕ)
 step_lines old new byte rest lines line =
     ap (λ n. lines_through n new.place.line rest) lines
     ∙ ap (λ n. lines_through (lines_with old.lines old.place.line rest) n rest) line
+
+-- whatever follows it
+counts_byte : (old new : InputState) (byte : ℕ) (rest : List ℕ) → 0 < length rest
+    → new.lines ≡ lines_with old.lines old.place.line rest → new.place.line ≡ line_behind old.place.line byte
+    → CountsLines old (byte ∷ []) new
+counts_byte old new byte [] some lines line = absurd (omega (arith, some))
+counts_byte old new byte (first ∷ rest) some lines line = λ next more.
+    step_lines old new byte (next ∷ more) lines line
 
 -- one byte was read
 pub took_byte : (old new : InputState) (byte : ℕ) → BeginsWith old.text byte new.text
@@ -207,7 +219,21 @@ took_byte old new byte begins lines line bytes room fault failures = record {
       bytes = omega (arith, bytes);
       room = λ some. end;
       lines = step_lines old new byte rest with_rest line ∙ ap (λ (xs : List ℕ). all_lines old xs) (sym taken);
+      counts = λ some. counts_byte old new byte rest some with_rest line;
     }
+
+-- the lines of the bytes that were used, where more is to come
+pub lines_of_used : {P : List ℕ → Type 0} {old new : InputState} {text rest : List ℕ}
+    (uses : Uses P old new text rest) → 0 < length rest → new.lines ≡ lines_up_to old uses.used
+lines_of_used uses some = uses.counts some 10 []
+
+-- a fact of the rest beside one of the text and its rest
+pub with_rest : (P : List ℕ → List ℕ → Type 0) (Q : List ℕ → Type 0) (whole rest : Option (List ℕ))
+    → IfSome whole (λ text. IsSomeAnd rest (λ more. P text more)) → IfSome rest Q
+    → IfSome whole (λ text. IsSomeAnd rest (λ more. P text more × Q more))
+with_rest P Q None rest facts fact = tt
+with_rest P Q (Some text) None facts fact = absurd facts
+with_rest P Q (Some text) (Some more) facts fact = (facts, fact)
 
 -- a read failed behind bytes that were read
 pub fails_to_read : (P Q : List ℕ → Type 0) (old now new : InputState) → Took P old now → FailsToRead now new
@@ -218,6 +244,19 @@ fails_to_read P Q old now new took fails each = (
   map_kept (Uses P old now) (λ text rest. (used : List ℕ) × (text ≡ used ++ rest) × Q used) old.text now.text new.text
       (λ text more uses. (uses.used, uses.whole, each uses.used uses.is)) took.text fails.text,
 )
+
+-- the lines that were used when a read failed
+pub lines_at_failure : (P : List ℕ → Type 0) (old now new : InputState) → Took P old now → FailsToRead now new
+    → LinesAt old Read new
+lines_at_failure P old now new took fails =
+    map_kept (λ text rest. Uses P old now text rest × (0 < length rest))
+    (UsesLines old new) old.text now.text new.text
+    (λ text rest uses. record {
+      used = uses.0.used;
+      whole = uses.0.whole;
+      more = uses.1;
+      lines = fails.lines ∙ lines_of_used uses.0 uses.1;
+    }) (with_rest (Uses P old now) (λ rest. 0 < length rest) old.text now.text took.text fails.more) fails.text
 
 -- how many bytes were used where one more would be too many
 count_used : (most left used : ℕ) (more : List ℕ) → left + used ≡ most → left ≤ 1 → left < length more
@@ -251,6 +290,51 @@ has_too_many P Q old now new took has_more each = (
           subst Q (sym front) (each uses.used uses.is),
         )
 
+-- the lines that were used when there were more bytes than may be taken
+pub lines_at_overflow : (P : List ℕ → Type 0) (old now new : InputState) → Took P old now → HasMoreBytes now new
+    → LinesAt old TooMuch new
+lines_at_overflow P old now new took has_more =
+    join_whole (Uses P old now) (λ more. now.bytes < length more)
+    (λ text. (old.bytes < length text) × (new.lines ≡ lines_up_to old (take (old.bytes - 1) text))) old.text now.text
+    over took.text has_more.text
+  where
+    over : (text more : List ℕ) → Uses P old now text more → now.bytes < length more
+        → (old.bytes < length text) × (new.lines ≡ lines_up_to old (take (old.bytes - 1) text))
+    over text more uses longer =
+        let count = count_used old.bytes now.bytes (length uses.used) more uses.bytes has_more.bytes longer
+        uses.room in
+        let whole : length text ≡ length uses.used + length more =
+        ap length uses.whole ∙ length-append uses.used more in
+        let front : take (old.bytes - 1) text ≡ uses.used =
+        ap (λ n. take n text) count ∙ ap (take (length uses.used)) uses.whole
+        ∙ take-append_seam uses.used more in (
+          omega (arith, whole, uses.bytes, longer),
+          has_more.lines ∙ lines_of_used uses (omega (arith, longer))
+              ∙ ap (λ (bytes : List ℕ). lines_up_to old bytes) (sym front),
+        )
+
+-- the lines of bytes, and then of those behind them
+pub counts_behind : (old mid new : InputState) (front back : List ℕ) → CountsLines old front mid
+    → CountsLines mid back new → CountsLines old (front ++ back) new
+counts_behind old mid new front [] first second = λ next more.
+    second next more ∙ first next more
+    ∙ ap (λ (bytes : List ℕ). all_lines old (bytes ++ next ∷ more)) (sym (append-nil front))
+counts_behind old mid new front (byte ∷ back) first second = λ next more.
+    second next more ∙ first byte (back ++ next ∷ more)
+    ∙ ap (λ (bytes : List ℕ). all_lines old bytes) (sym (append_assoc front (byte ∷ back) (next ∷ more)))
+
+lines_behind : (old mid : InputState) (front back : List ℕ) → CountsLines old front mid
+    → lines_up_to mid back ≡ lines_up_to old (front ++ back)
+lines_behind old mid front [] counts =
+    counts 10 [] ∙ ap (λ (bytes : List ℕ). lines_up_to old bytes) (sym (append-nil front))
+lines_behind old mid front (byte ∷ back) counts =
+    counts byte (back ++ 10 ∷ [])
+    ∙ ap (λ (bytes : List ℕ). all_lines old bytes) (sym (append_assoc front (byte ∷ back) (10 ∷ [])))
+
+some_before : (front rest : List ℕ) → 0 < length rest → 0 < length (front ++ rest)
+some_before [] rest some = some
+some_before (byte ∷ front) rest some = omega arith
+
 room_of : (p q y z : List ℕ) (bytes left : ℕ) → y ≡ q ++ z → left + length q ≡ bytes
     → (0 < length p → bytes ≡ 0 → y ≡ []) → (0 < length q → left ≡ 0 → z ≡ [])
     → 0 < length (p ++ q) → left ≡ 0 → z ≡ []
@@ -276,6 +360,9 @@ module _ {P : List ℕ → Type 0} {old mid : InputState} (front : Took P old mi
           bytes = simp length-append (omega (arith, a.bytes, b.bytes));
           room = room_of a.used b.used between rest mid.bytes new.bytes b.whole b.bytes a.room b.room;
           lines = b.lines ∙ a.lines;
+          counts = λ some. counts_behind old mid new a.used b.used
+              (a.counts (subst (λ (bytes : List ℕ). 0 < length bytes) (sym b.whole) (some_before b.used rest some)))
+              (b.counts some);
         })
         front.text back.text;
     bytes = omega (arith, front.bytes, back.bytes);
@@ -302,6 +389,39 @@ module _ {P : List ℕ → Type 0} {old mid : InputState} (front : Took P old mi
           each a.used b.0 a.is b.2,
         )) front.text fails.2,
   )
+
+  -- the lines that were used when a fault came, told from further back
+  pub LinesAt-behind : (new : InputState) (fault : KeptFault) → LinesAt mid fault new → LinesAt old fault new
+  LinesAt-behind new (Number line) lines =
+      told_behind (λ text. new.lines ≡ line) (λ text. new.lines ≡ line) (λ text rest uses same. same) lines
+  LinesAt-behind new (Line line why) lines =
+      told_behind (λ text. new.lines ≡ line) (λ text. new.lines ≡ line) (λ text rest uses same. same) lines
+  LinesAt-behind new Read lines =
+      join_both (Uses P old mid) (UsesLines mid new) (UsesLines old new) old.text mid.text new.text
+      (λ text between rest a b.
+      let some : 0 < length between =
+      subst (λ (bytes : List ℕ). 0 < length bytes) (sym b.whole) (some_before b.used rest b.more) in
+      record {
+        used = a.used ++ b.used;
+        whole = split_at a.used b.used text between rest a.whole b.whole;
+        more = b.more;
+        lines = b.lines ∙ lines_behind old mid a.used b.used (a.counts some);
+      }) front.text lines
+  LinesAt-behind new TooMuch lines =
+      told_behind (λ text. (mid.bytes < length text) × (new.lines ≡ lines_up_to mid (take (mid.bytes - 1) text)))
+      (λ text. (old.bytes < length text) × (new.lines ≡ lines_up_to old (take (old.bytes - 1) text)))
+      (λ text rest uses over.
+      let longer = over.0 in
+      let whole : length text ≡ length uses.used + length rest =
+      ap length uses.whole ∙ length-append uses.used rest in
+      let count = count_more old.bytes mid.bytes (length uses.used) rest uses.bytes longer uses.room in
+      let cut : take (old.bytes - 1) text ≡ uses.used ++ take (mid.bytes - 1) rest =
+      ap (λ n. take n text) count ∙ ap (take (length uses.used + (mid.bytes - 1))) uses.whole
+      ∙ take-append-add uses.used rest (mid.bytes - 1) in (
+        omega (arith, whole, uses.bytes, longer),
+        over.1 ∙ lines_behind old mid uses.used (take (mid.bytes - 1) rest) (uses.counts (omega (arith, longer)))
+            ∙ ap (λ (bytes : List ℕ). lines_up_to old bytes) (sym cut),
+      )) lines
 
   -- what stops the rest stops the whole
   pub Stops-behind : (F G Q R : List ℕ → Type 0) (new : InputState) (fault : KeptFault) → Stops F Q mid fault new

@@ -69,13 +69,13 @@ opened-word place front byte text no_comment no_gap =
 
 some_pieces : (line : ℕ) (text : List ℕ) → (word : Word) × ((words : List Word) × (pieces line text ≡ word ∷ words))
 some_pieces line [] = (record { line = line; bytes = [] }, ([], refl))
-some_pieces line (byte ∷ text) = some_of (is_gap byte) (some_pieces line text)
+some_pieces line (byte ∷ text) = some_of (is_gap byte) (some_pieces (line_behind line byte) text)
   where
-    some_of : (gap : Bool) → ((word : Word) × ((words : List Word) × (pieces line text ≡ word ∷ words)))
+    some_of : (gap : Bool) → ((word : Word) × ((words : List Word) × (pieces (line_behind line byte) text ≡ word ∷ words)))
         → (word : Word)
         × ((words : List Word)
         × (cond gap (record { line = line; bytes = [] } ∷ pieces (line_behind line byte) text)
-        (onto_first byte (pieces line text)) ≡ word ∷ words))
+        (onto_first byte (pieces (line_behind line byte) text)) ≡ word ∷ words))
     some_of true rest = (_, (_, refl))
     some_of false rest = (_, (_, ap (onto_first byte) rest.1.1))
 

@@ -7,6 +7,7 @@ use Rattle.dcc_io.specs.Failures.{HasRisen}
 use Rattle.dcc_io.specs.Faults.{GivesUp}
 use Rattle.dcc_io.specs.ReaderState.{IsAtEnd}
 use Rattle.dcc_io.specs.InputState.{InputState, UsesAllLines}
+use Rattle.dcc_io.specs.Took.{LinesAt}
 use Rattle.dcc_io.specs.Items.{Grammar, ReadsUpTo, in_text}
 use Rattle.dcc_io.specs.WriterState.{WriterState}
 
@@ -38,12 +39,12 @@ abbrev pub IsOfLines : KeptFault → Type 0
 IsOfLines (kept.Number line) = ⊥
 IsOfLines fault = Unit {0}
 
--- Of each line something is written: this fact holds of what the lines say, all of it, or up to the first fault. Where
--- a write failed no fault was met, and the other fact holds of all that they say.
+-- Of each line something is written: this fact holds of what the lines say, all of it, or up to the first fault, and then the
+-- lines up to it are used. Where a write failed no fault was met, and the other fact holds of all that they say.
 abbrev pub WritesOfLines : {A : Type 0} → Grammar A → (List A → Type 0) → (List A → Type 0) → InputState → WriterState
     → Result (Unit {0}) ToolFault → InputState → WriterState → Type 0
 WritesOfLines grammar whole front old before result new after =
     EndsCall (λ done. ReadsAll grammar old new whole)
-    (λ fault. IsOfLines fault × ReadsTo grammar old fault new whole)
+    (λ fault. IsOfLines fault × ReadsTo grammar old fault new whole × LinesAt old fault new)
     (IfSome old.text (λ text. front (in_text grammar old text).said) × (new.fault ≡ None)
     × (new.failures ≡ old.failures)) ⊥ before result after

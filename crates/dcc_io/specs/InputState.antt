@@ -52,6 +52,11 @@ fresh remaining failures halves bytes = record {
 abbrev pub all_lines : InputState → List ℕ → ℕ
 all_lines input text = lines_through input.lines input.place.line text
 
+-- how many lines an input has given once these bytes are used, behind which more is to come: as many as if its text ended
+-- there
+abbrev pub lines_up_to : InputState → List ℕ → ℕ
+lines_up_to input used = all_lines input (used ++ 10 ∷ [])
+
 -- each line of the text that was to come is used
 abbrev pub UsesAllLines : InputState → InputState → Type 0
 UsesAllLines old new = IfSome old.text (λ text. new.lines ≡ all_lines old text)
@@ -74,9 +79,11 @@ pub record TakesByte (old : InputState) (byte : ℕ) (new : InputState) : Type 0
   pub fault : new.fault ≡ None
   pub failures : new.failures ≡ old.failures
 
--- a read failed behind all the bytes that had come, and took nothing
+-- a read failed behind all the bytes that had come, and took nothing; the line feed that closes the text is still to come
 pub record FailsToRead (old new : InputState) : Type 0 where
   pub text : Keeps old.text new.text
+  pub more : IfSome old.text (λ text. 0 < length text)
+  pub lines : new.lines ≡ old.lines
   pub ahead : new.ahead ≡ []
   pub halves : new.halves ≡ old.halves
   pub fault : new.fault ≡ Some Read
@@ -86,6 +93,7 @@ pub record FailsToRead (old new : InputState) : Type 0 where
 pub record HasMoreBytes (old new : InputState) : Type 0 where
   pub text : IfSome old.text (λ text. old.bytes < length text)
   pub bytes : old.bytes ≤ 1
+  pub lines : new.lines ≡ old.lines
   pub fault : new.fault ≡ Some TooMuch
   pub failures : new.failures ≡ old.failures
 

@@ -9,7 +9,7 @@ use Rattle.dcc_io.specs.declared.fault.KeptFault.TheVariants.{Number, Line, Read
 use Rattle.dcc_io.specs.TextPlace.{lines_with}
 use Rattle.dcc_io.specs.ReaderState.{IsAtEnd}
 use Rattle.dcc_io.specs.InputState.{InputState}
-use Rattle.dcc_io.specs.Took.{Took, FailsBehind, OverflowsBehind}
+use Rattle.dcc_io.specs.Took.{Took, FailsBehind, OverflowsBehind, LinesAt}
 use Rattle.dcc_io.specs.NumberedLines.{is_good}
 
 -- whether there is a line feed
@@ -61,16 +61,17 @@ pub record IsBadAt (old : InputState) (text : List ℕ) : Type 0 where
 pub record MeetsBadLine (old : InputState) (number : ℕ) (new : InputState) : Type 0 where
   pub at : number ≡ old.place.line
   pub text : IfSome old.text (IsBadAt old)
+  pub lines : LinesAt old (Line number faults.Word) new
   pub fault : new.fault ≡ Some (Line number faults.Word)
   pub failures : new.failures ≡ old.failures
 
 -- a read failed behind bytes of one line
 abbrev pub FailsInLine : InputState → InputState → Type 0
-FailsInLine old new = FailsBehind IsOneLine old new × (new.fault ≡ Some Read)
+FailsInLine old new = FailsBehind IsOneLine old new × (new.fault ≡ Some Read) × LinesAt old Read new
 
 -- no line has ended in the bytes that may be taken
 abbrev pub OverflowsInLine : InputState → InputState → Type 0
-OverflowsInLine old new = OverflowsBehind IsOneLine old new × (new.fault ≡ Some TooMuch)
+OverflowsInLine old new = OverflowsBehind IsOneLine old new × (new.fault ≡ Some TooMuch) × LinesAt old TooMuch new
 
 abbrev pub AnswersLine : InputState → Result (Option TextLine) KeptFault → InputState → Type 0
 AnswersLine old (Ok (Some line)) new = EndsLine old line.number line.text.bytes new

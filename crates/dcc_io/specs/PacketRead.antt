@@ -9,6 +9,7 @@ use Rattle.dcc_io.specs.declared.fault.KeptFault.{KeptFault}
 use Rattle.dcc_io.specs.declared.fault.KeptFault.TheVariants as kept
 use Rattle.dcc_io.specs.ReaderState.{IsAtEnd}
 use Rattle.dcc_io.specs.InputState.{InputState}
+use Rattle.dcc_io.specs.Took.{LinesAt}
 use Rattle.dcc_io.specs.Items.{Gave, StopsAt, only_fault}
 use Rattle.dcc_io.specs.PacketLines.{Saying, lines_by, items_in, packet_words}
 
@@ -21,7 +22,8 @@ AnswersSaid saying as_said old (Ok None) new =
     Gave (lines_by saying) old [] new × IsAtEnd new.text
     × IfSome old.text (λ text. items_in saying old text ≡ only_fault None)
 AnswersSaid saying as_said old (Err (kept.Number line)) new = ⊥
-AnswersSaid saying as_said old (Err fault) new = StopsAt (lines_by saying) old fault new × (new.fault ≡ Some fault)
+AnswersSaid saying as_said old (Err fault) new =
+    StopsAt (lines_by saying) old fault new × (new.fault ≡ Some fault) × LinesAt old fault new
 
 -- a line's words say this, or have a fault, which is kept
 abbrev pub ReadsSaid : {A B C : Type 0} → Saying A B → (C → B) → InputState → TextLine → Result (Option C) KeptFault

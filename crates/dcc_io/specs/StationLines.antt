@@ -11,7 +11,7 @@ use Rattle.dcc_io.specs.declared.station_line.StationLine.TheVariants as lines
 use Rattle.dcc_io.specs.Items.{Grammar}
 use Rattle.dcc_io.specs.PacketLines.{Saying, lines_by}
 
--- what is station_requests of a station: to take the command with this frame, or to hand out one packet
+-- what a line asks of a station: to take the command with this frame, or to hand out one packet
 pub data Asked : Type 0 where
   Command : List ℕ → Asked
   Next : Asked

@@ -1,11 +1,15 @@
 -- What was read of an input, whatever is said of it.
-use Rattle.std.specs.Prelude.{◌≡◌, ℕ, ◌+◌, ◌-◌, ◌<◌, ◌≤◌, nat_le, ◌++◌, List, [], Option, None, Some, length, take}
+use Rattle.std.specs.Prelude.{◌≡◌, ℕ, ◌+◌, ◌-◌, ◌<◌, ◌≤◌, nat_le, ◌∷◌, ◌++◌, List, [], Option, None, Some, length, take}
 use Rattle.std.specs.Prelude.{IfSome, IsSomeAnd, if◌then◌else◌}
 use Rattle.dcc_packet.specs.declared.fault.PacketFault.TheVariants as faults
 use Rattle.dcc_io.specs.declared.fault.KeptFault.{KeptFault}
-use Rattle.dcc_io.specs.declared.fault.KeptFault.TheVariants.{Line, Read, TooMuch}
+use Rattle.dcc_io.specs.declared.fault.KeptFault.TheVariants.{Number, Line, Read, TooMuch}
 use Rattle.dcc_io.specs.Failures.{one_more}
-use Rattle.dcc_io.specs.InputState.{InputState, all_lines}
+use Rattle.dcc_io.specs.InputState.{InputState, all_lines, lines_up_to}
+
+-- these bytes lead from one count of lines to the other, whatever follows them
+abbrev pub CountsLines : InputState → List ℕ → InputState → Type 0
+CountsLines old used new = (next : ℕ) (more : List ℕ) → all_lines new (next ∷ more) ≡ all_lines old (used ++ next ∷ more)
 
 -- bytes were used, of which this fact holds, and this is the rest
 pub record Uses (fact : List ℕ → Type 0) (old new : InputState) (text rest : List ℕ) : Type 0 where
@@ -15,6 +19,7 @@ pub record Uses (fact : List ℕ → Type 0) (old new : InputState) (text rest :
   pub bytes : new.bytes + length used ≡ old.bytes
   pub room : 0 < length used → new.bytes ≡ 0 → rest ≡ []
   pub lines : all_lines new rest ≡ all_lines old text
+  pub counts : 0 < length rest → CountsLines old used new
 
 -- bytes were read, of which this fact holds, and nothing went wrong
 pub record Took (fact : List ℕ → Type 0) (old new : InputState) : Type 0 where
@@ -51,3 +56,20 @@ OverflowsBehind fact old new = (new.failures ≡ old.failures)
 abbrev pub Stops : (List ℕ → Type 0) → (List ℕ → Type 0) → InputState → KeptFault → InputState → Type 0
 Stops fails says old Read new = FailsBehind fails old new
 Stops fails says old fault new = (new.failures ≡ old.failures) × IfSome old.text says
+
+-- bytes were used, behind which this rest is still to come, and with them their lines
+pub record UsesLines (old new : InputState) (text rest : List ℕ) : Type 0 where
+  pub used : List ℕ
+  pub whole : text ≡ used ++ rest
+  pub more : 0 < length rest
+  pub lines : new.lines ≡ lines_up_to old used
+
+-- How many lines were used when this fault came: those up to the line that it names, those of the bytes that had come before
+-- a read failed, or those of the bytes that may be taken, where there are more.
+abbrev pub LinesAt : InputState → KeptFault → InputState → Type 0
+LinesAt old (Number line) new = IfSome old.text (λ text. new.lines ≡ line)
+LinesAt old (Line line fault) new = IfSome old.text (λ text. new.lines ≡ line)
+LinesAt old Read new = IfSome old.text (λ text. IsSomeAnd new.text (λ rest. UsesLines old new text rest))
+LinesAt old TooMuch new =
+    IfSome old.text
+    (λ text. (old.bytes < length text) × (new.lines ≡ lines_up_to old (take (old.bytes - 1) text)))

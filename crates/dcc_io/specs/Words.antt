@@ -34,8 +34,8 @@ onto_first byte (word ∷ words) = record { line = word.line; bytes = byte ∷ w
 abbrev pub pieces : ℕ → List ℕ → List Word
 pieces line [] = record { line = line; bytes = [] } ∷ []
 pieces line (byte ∷ text) =
-    if is_gap byte then record { line = line; bytes = [] } ∷ pieces (line_behind line byte) text
-    else onto_first byte (pieces line text)
+    let rest = pieces (line_behind line byte) text in
+    if is_gap byte then record { line = line; bytes = [] } ∷ rest else onto_first byte rest
 
 abbrev pub but_last : List Word → List Word
 but_last [] = []

@@ -51,7 +51,7 @@ pub enum ToolFault {
     #[error("dcc: U6 out of memory")]
     NoMemory,
 
-    /// U7: there are more halves or bytes than may be taken.
+    /// U7: there are more halves, bytes or decoders than may be taken.
     #[error("dcc: U7 input too long")]
     TooMuch,
 }
@@ -84,7 +84,7 @@ pub enum KeptFault {
     Line { line: u64, fault: PacketFault },
     /// U4: a read failed.
     Read,
-    /// U7: there are more halves or bytes than may be taken.
+    /// U7: there are more halves, bytes or decoders than may be taken.
     TooMuch,
 }
 

@@ -98,7 +98,7 @@ impl<R: Source> Input<R> {
         }
     }
 
-    #[tactic(auto, using(crate::proofs::InputLemmas::more_behind, crate::proofs::InputLemmas::line_of_byte))]
+    #[tactic(auto, using(crate::proofs::InputLemmas::more_behind, crate::proofs::InputLemmas::line_of_byte, crate::proofs::InputLemmas::more_to_come))]
     /// The next byte. A line feed closes the input at its end, and then there is none.
     #[inline(always)]
     pub(crate) fn next_byte(&mut self) -> Result<Option<u8>, KeptFault>
@@ -134,7 +134,8 @@ impl<R: Source> Input<R> {
     }
 
     /// How many lines were used so far: those that have begun, so a last one that no line feed ends is
-    /// one of them. The line behind the last is one more.
+    /// one of them. The line behind the last is one more. Behind a fault they tell where it is: up to the line
+    /// of U2 or U3, of the last byte before a failed read or a limit, or of the word of a half too many.
     pub fn lines(&self) -> u32
         ensures { result ≡ self.now.lines }
     {
@@ -234,6 +235,8 @@ impl<R: Source> Input<R> {
         ensures no_comment { self.new.place.in_comment ≡ false }
         ensures bytes { self.new.bytes + (word_len + 1) ≡ self.old.bytes }
         ensures ahead { self.new.ahead ≡ drop (word_len + 1) self.old.ahead }
+        ensures lines { self.new.lines ≡ self.old.place.line }
+        ensures line { ends_line ≡ false → self.new.place.line ≡ self.old.place.line }
     {
         self.source.skip(word_len + 1);
         self.bytes_left -= word_len as u32 + 1;
@@ -243,7 +246,8 @@ impl<R: Source> Input<R> {
         }
     }
 
-    /// The same, and with the line feed behind that gap, where it is asked for and stands there, as in CR LF.
+    /// The same, and with the line feed behind that gap, where it is asked for and stands there, as in CR LF. That of another line
+    /// is left, so that the line of the word is the last that was used.
     #[inline(always)]
     fn pass_word_and_gap(&mut self, word_len: usize, ends_line: bool, with_line_feed: bool)
         requires fault { self.old.fault ≡ None }
@@ -254,9 +258,10 @@ impl<R: Source> Input<R> {
             (record { line = self.old.place.line; bytes = take word_len self.old.ahead } ∷ []) self.new }
         ensures fewer { self.new.bytes < self.old.bytes }
         ensures behind { self.old.place.line ≤ self.new.place.line }
+        ensures lines { self.new.lines ≡ self.old.place.line }
     {
         self.pass_word(word_len, ends_line);
-        if with_line_feed && begins_with_line_feed(self.source.ahead()) {
+        if with_line_feed && !ends_line && begins_with_line_feed(self.source.ahead()) {
             self.pass_line_feed();
         }
     }
@@ -271,6 +276,7 @@ impl<R: Source> Input<R> {
         ensures passed { Passed self.old [] self.new }
         ensures fewer { self.new.bytes < self.old.bytes }
         ensures behind { self.old.place.line ≤ self.new.place.line }
+        ensures lines { self.new.lines ≡ self.old.place.line }
     {
         let ended = self.line;
         self.lines = ended as u32;

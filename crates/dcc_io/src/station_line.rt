@@ -48,7 +48,7 @@ impl StationLine {
 fn send(words: &mut Words) -> Result<u16, PacketFault>
     ensures { result ≡ send words.old }
 {
-    let count = send_count(words.word()?)?;
+    let count = words.word().and_then(send_count)?;
     words.end()?;
     Ok(count)
 }

@@ -19,14 +19,15 @@ use Rattle.dcc_io.specs.Failures.{one_more, HasRisen}
 use Rattle.dcc_io.specs.InputState.{InputState, all_lines}
 use Rattle.dcc_io.specs.Words.{ended_words}
 use Rattle.dcc_io.specs.Items.{EndsWith, ReadsUpTo}
-use Rattle.dcc_capture.specs.Capture.{captures, halves_of, capture_in, capture_before_failure}
+use Rattle.dcc_capture.specs.Capture.{captures, halves_of, capture_in, capture_before_failure, CaptureLinesAt}
 use Rattle.dcc_listen.specs.Gathered.{Gathered, GatherFails, StopsGathering}
 use Rattle.dcc_capture.specs.BothCaptures.{Both, Said, fault_alone, in_front, only_second, both_from, in_limit}
-use Rattle.dcc_capture.specs.FirstRead.{LeadsIn, Leads, first_so_far, first_is, AnswersFirst}
+use Rattle.dcc_capture.specs.FirstRead.{LeadsIn, Leads, first_so_far, first_is, FirstLinesAt, AnswersFirst}
 use Rattle.dcc_listen.specs.GatheredBoth.{both_in, both_before_failure, GatheredFirst, HoldBoth, GatheredBoth}
-use Rattle.dcc_listen.specs.GatheredBoth.{ReadsBothUpTo, StopsBothAt, BothFail}
+use Rattle.dcc_listen.specs.GatheredBoth.{ReadsBothUpTo, BothLinesAt, StopsBothAt, BothFail}
 use Rattle.dcc_listen.proofs.ShowLemmas.{Answers}
 use Rattle.dcc_listen.proofs.GatherLemmas.{few_more}
+use Rattle.dcc_io.proofs.TookLemmas.{told_behind, LinesAt-behind}
 use Rattle.dcc_io.proofs.WrittenLemmas.{HasRisen-one_more}
 use Rattle.dcc_capture.proofs.BothLemmas.{Leads-start, Leads-join, in_limit_of, second_behind}
 
@@ -124,6 +125,29 @@ stopped_behind start now before halves fault leads stops = go start.text now.tex
         (in_limit_of 0 start now (first_so_far halves before now) x y p ∙ front_in_limit halves before now y
         ∙ ap (in_front halves) q)
 
+-- the lines that were used where the first capture met a fault, told from further back
+first_lines : (start now new : InputState) (before : ℕ) (halves : List ℕ) (fault : KeptFault)
+    → Leads 0 start now (first_so_far halves before now) → FirstLinesAt before now fault new
+    → BothLinesAt start fault new
+first_lines start now new before halves (Number line) leads lines = LinesAt-behind leads new (Number line) lines
+first_lines start now new before halves (Line line why) leads (at_end, all) = (
+  at_end,
+  told_behind leads (λ text. new.lines ≡ all_lines now text) (λ text. new.lines ≡ all_lines start text)
+      (λ text rest uses same. same ∙ uses.lines) all,
+)
+first_lines start now new before halves Read leads lines = LinesAt-behind leads new Read lines
+first_lines start now new before halves TooMuch leads (inl lines) = inl (inl (LinesAt-behind leads new TooMuch lines))
+first_lines start now new before halves TooMuch leads (inr over) =
+    inl (inr record {
+      halves = halves ++ over.halves;
+      line = over.line;
+      mid = over.mid;
+      leads = Leads-join 0 before start now over.mid halves (first_so_far over.halves over.line over.mid)
+          (first_so_far (halves ++ over.halves) over.line over.mid) leads over.leads
+          (λ end more last. in_front_twice halves over.halves (both_from over.line over.mid end more last));
+      next = over.next;
+    })
+
 pub first_stops : (start now new : InputState) (before : ℕ) (framer : Framer) (packets : List Packet)
     (fault : KeptFault) → start.fault ≡ None → GatheringFirst start now before framer packets
     → AnswersFirst before now (Err fault) new
@@ -137,6 +161,7 @@ first_stops start now new before framer packets (Number line) none so_far answer
             ∙ so_far.leads.failures,
         stopped_behind start now before so_far.halves (Number line) so_far.leads answer.0.1,
       ),
+      first_lines start now new before so_far.halves (Number line) so_far.leads answer.2,
     )
 first_stops start now new before framer packets (Line line fault) none so_far answer =
     inr (
@@ -147,6 +172,7 @@ first_stops start now new before framer packets (Line line fault) none so_far an
             ∙ so_far.leads.failures,
         stopped_behind start now before so_far.halves (Line line fault) so_far.leads answer.0.1,
       ),
+      first_lines start now new before so_far.halves (Line line fault) so_far.leads answer.2,
     )
 first_stops start now new before framer packets TooMuch none so_far answer =
     inr (
@@ -157,6 +183,7 @@ first_stops start now new before framer packets TooMuch none so_far answer =
             ∙ so_far.leads.failures,
         stopped_behind start now before so_far.halves TooMuch so_far.leads answer.0.1,
       ),
+      first_lines start now new before so_far.halves TooMuch so_far.leads answer.2,
     )
 first_stops start now new before framer packets Read none so_far answer = inr (
   none,
@@ -167,6 +194,7 @@ first_stops start now new before framer packets Read none so_far answer = inr (
     answer.0.1,
     go start.text now.text new.text so_far.leads.text answer.0.2,
   ),
+  first_lines start now new before so_far.halves Read so_far.leads answer.2,
 )
   where
     go : (x y z : Option (List ℕ))
@@ -267,11 +295,21 @@ module _ (old mid : InputState) (packets : List Packet) (first : GatheredFirst o
       from_second (Some fault) (λ halves. Unit {0}) (λ both. both.fault ≡ Some fault)
       (λ both more is fact. ap (λ (b : Both). b.fault) is) ends
 
+  -- the lines that were used where the second capture met a fault
+  second_lines : (new : InputState) (fault : KeptFault) → CaptureLinesAt mid fault new → BothLinesAt old fault new
+  second_lines new (Number line) lines = LinesAt-behind first.ends.leads new (Number line) lines
+  second_lines new (Line line why) lines = absurd lines
+  second_lines new Read lines = LinesAt-behind first.ends.leads new Read lines
+  second_lines new TooMuch (inl lines) = inl (inl (LinesAt-behind first.ends.leads new TooMuch lines))
+  second_lines new TooMuch (inr over) =
+      inr record { halves = first.halves; mid = mid; ends = first.ends; over = over }
+
   stops_at : (new : InputState) (fault : KeptFault) → StopsGathering mid fault new
       → (ReadsUpTo captures mid (Some fault) new (λ halves. Unit {0}) → ReadsBothUpTo old fault new)
       → StopsBothAt old fault new
   stops_at new fault (inl kept) each = let clash : None ≡ Some fault = sym first.ends.leads.fault ∙ kept.0 in cc
-  stops_at new fault (inr (none, kept, reads)) each = inr (first.none_kept, kept, each reads)
+  stops_at new fault (inr (none, kept, reads, lines)) each =
+      inr (first.none_kept, kept, each reads, second_lines new fault lines)
 
   pub second_fails : (new : InputState) (fault : ToolFault) → GatherFails mid fault new → BothFail old fault new
   second_fails new (told.Number line) fails =

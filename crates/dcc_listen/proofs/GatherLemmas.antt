@@ -16,6 +16,7 @@ use Rattle.dcc_capture.specs.Capture.{captures, GaveHalves, AnswersRun}
 use Rattle.dcc_listen.specs.Gathered.{Gathered, GatherFails, StopsGathering}
 use Rattle.dcc_listen.specs.Taking.{Gathering}
 use Rattle.dcc_io.proofs.CallLemmas.{gives_up}
+use Rattle.dcc_capture.proofs.CaptureLemmas.{CaptureLinesAt-behind}
 use Rattle.dcc_io.proofs.ItemsLemmas.{Gave-append, up_to_fault, reads_up_to, uses_all_lines}
 use Rattle.dcc_listen.proofs.ShowLemmas.{Answers, GaveHalves-none, GaveHalves-append, stops_at_run_fault}
 
@@ -73,6 +74,7 @@ gather_stops start now new framer packets fault none so_far answer =
       none,
       stops.1,
       reads_up_to captures start now new fault so_far.halves (λ halves. Unit {0}) so_far.gave.items stops.0 tt,
+      CaptureLinesAt-behind start now new so_far.halves fault so_far.gave.items stops.3,
     ))
 
 -- more was read, and it showed no packet or one

@@ -7,7 +7,7 @@ use Rattle.dcc_io.specs.declared.fault.KeptFault.{KeptFault}
 use Rattle.dcc_io.specs.declared.fault.ToolFault.TheVariants as told
 use Rattle.dcc_io.specs.declared.stream.Failed.{Failed}
 use Rattle.dcc_io.specs.Calls.{ReadsTo}
-use Rattle.dcc_capture.specs.Capture.{IsOfCapture}
+use Rattle.dcc_capture.specs.Capture.{IsOfCapture, CaptureLinesAt}
 use Rattle.dcc_io.specs.Faults.{as_tool_fault}
 use Rattle.dcc_io.specs.InputState.{InputState}
 use Rattle.dcc_io.specs.Items.{Gave}
@@ -18,6 +18,7 @@ use Rattle.dcc_saved.specs.FleetText.{fleet_text}
 use Rattle.dcc_listen.specs.FleetRun.{Fleet, HaveHeard, HearsAll, Runs}
 use Rattle.dcc_io.proofs.CallLemmas.{gives_up}
 use Rattle.dcc_io.proofs.ItemsLemmas.{Gave-append, reads_up_to, up_to_fault, uses_all_lines}
+use Rattle.dcc_capture.proofs.CaptureLemmas.{CaptureLinesAt-behind}
 use Rattle.dcc_listen.proofs.ShowLemmas.{stops_at_run_fault}
 
 -- these halves were taken
@@ -40,7 +41,8 @@ pub hears_up_to : (starts ends : Fleet) (old now new : InputState) (before : Wri
     → AnswersRun now (Err fault) new → Runs starts old before (Err (as_tool_fault fault)) ends new before
 hears_up_to starts ends old now new before halves fault gave heard answer =
     let stops = stops_at_run_fault now new fault answer in
-    gives_up (λ kept. (IsOfCapture kept × ReadsTo captures old kept new (HaveHeard starts ends) × (before ≡ before))
+    gives_up (λ kept. (IsOfCapture kept × ReadsTo captures old kept new (HaveHeard starts ends)
+    × CaptureLinesAt old kept new × (before ≡ before))
     × (before.failures ≡ before.failures)) _ _ fault (
       (
         stops.2,
@@ -48,6 +50,7 @@ hears_up_to starts ends old now new before halves fault gave heard answer =
           kept = stops.1;
           items = reads_up_to captures old now new fault halves (HaveHeard starts ends) gave stops.0 heard;
         },
+        CaptureLinesAt-behind old now new halves fault gave stops.3,
         refl,
       ),
       refl,

@@ -16,7 +16,7 @@ use Rattle.dcc_io.specs.declared.fault.ToolFault.{ToolFault}
 use Rattle.dcc_io.specs.declared.fault.ToolFault.TheVariants.{Write}
 use Rattle.dcc_io.specs.Failures.{HasRisen}
 use Rattle.dcc_io.specs.Calls.{ReadsTo}
-use Rattle.dcc_capture.specs.Capture.{IsOfCapture}
+use Rattle.dcc_capture.specs.Capture.{IsOfCapture, CaptureLinesAt}
 use Rattle.dcc_io.specs.Faults.{as_tool_fault}
 use Rattle.dcc_io.specs.InputState.{InputState}
 use Rattle.dcc_io.specs.WriterState.{WriterState}
@@ -28,6 +28,7 @@ use Rattle.dcc_listen.specs.Shown.{StopsWriting, Lists, ListsFront, Shows}
 use Rattle.dcc_io.specs.Held.{Holds}
 use Rattle.dcc_listen.specs.Inner.Held.{WritesRest}
 use Rattle.dcc_io.proofs.CallLemmas.{gives_up}
+use Rattle.dcc_capture.proofs.CaptureLemmas.{CaptureLinesAt-behind}
 use Rattle.dcc_io.proofs.ItemsLemmas.{Gave-none, Gave-append, in_whole, up_to_fault, reads_up_to, uses_all_lines}
 use Rattle.dcc_capture.proofs.ListingLaws.{IsListing-append}
 use Rattle.dcc_io.proofs.HeldLemmas.{Holds-same, Holds-wrote, Holds-append, Holds-fails, Holds-fails_with, Holds-rest}
@@ -220,11 +221,11 @@ stops_at_run words start now new framer held before after then run answer showin
 
 -- no run could be taken before this fault, which is one of a capture
 pub stops_at_run_fault : (now new : InputState) (fault : KeptFault) → AnswersRun now (Err fault) new
-    → StopsAt captures now fault new × (new.fault ≡ Some fault) × IsOfCapture fault
-stops_at_run_fault now new (Number line) answer = (answer.0, answer.1, tt)
+    → StopsAt captures now fault new × (new.fault ≡ Some fault) × IsOfCapture fault × CaptureLinesAt now fault new
+stops_at_run_fault now new (Number line) answer = (answer.0, answer.1, tt, answer.2)
 stops_at_run_fault now new (Line line fault) answer = absurd answer
-stops_at_run_fault now new Read answer = (answer.0, answer.1, tt)
-stops_at_run_fault now new TooMuch answer = (answer.0, answer.1, tt)
+stops_at_run_fault now new Read answer = (answer.0, answer.1, tt, answer.2)
+stops_at_run_fault now new TooMuch answer = (answer.0, answer.1, tt, answer.2)
 
 -- all before a fault was listed
 lists_up_to : (words : Bool) (start now new : InputState) (halves : List ℕ) (before after : WriterState)
@@ -233,7 +234,8 @@ lists_up_to : (words : Bool) (start now new : InputState) (halves : List ℕ) (b
     → Shows words start before (Err (as_tool_fault fault)) new after
 lists_up_to words start now new halves before after fault gave answer wrote same =
     let stops = stops_at_run_fault now new fault answer in
-    gives_up (λ kept. (IsOfCapture kept × ReadsTo captures start kept new (Lists words before after))
+    gives_up (λ kept. (IsOfCapture kept × ReadsTo captures start kept new (Lists words before after)
+    × CaptureLinesAt start kept new)
     × (after.failures ≡ before.failures)) _ _ fault (
       (
         stops.2,
@@ -241,6 +243,7 @@ lists_up_to words start now new halves before after fault gave answer wrote same
           kept = stops.1;
           items = reads_up_to captures start now new fault halves (Lists words before after) gave.items stops.0 wrote;
         },
+        CaptureLinesAt-behind start now new halves fault gave.items stops.3,
       ),
       same,
     )
@@ -261,11 +264,13 @@ stops_at_fault words start now new framer held before after then fault result sh
     (inr failed) =
     let stops = stops_at_run_fault now new fault answer in
     subst (λ (r : Result (Unit {0}) ToolFault). Shows words start before r new then) (sym failed.0) (
-      subst (λ (kept : Option KeptFault). StopsWriting start kept new (ListsFront words before then)) (sym stops.1)
-          (reads_up_to captures start now new fault showing.halves (ListsFront words before then) showing.gave.items
-          stops.0
-          (front_so_far words showing.halves showing.text before then showing.lists
-          (Holds-fails before after then showing.text held showing.holds failed.1))),
+      subst (λ (kept : Option KeptFault). StopsWriting start kept new (ListsFront words before then)) (sym stops.1) (
+        reads_up_to captures start now new fault showing.halves (ListsFront words before then) showing.gave.items
+            stops.0
+            (front_so_far words showing.halves showing.text before then showing.lists
+            (Holds-fails before after then showing.text held showing.holds failed.1)),
+        CaptureLinesAt-behind start now new showing.halves fault showing.gave.items stops.3,
+      ),
       subst (λ (n : ℕ). HasRisen n then.failures) showing.failures failed.2,
     )
 

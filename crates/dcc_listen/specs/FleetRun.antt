@@ -7,7 +7,7 @@ use Rattle.dcc_regs.specs.Result.{RegisterMap}
 use Rattle.dcc_order.specs.Hearing.{HasHeardHalves}
 use Rattle.dcc_io.specs.declared.fault.ToolFault.{ToolFault}
 use Rattle.dcc_io.specs.Calls.{EndsCall, ReadsAll, ReadsTo}
-use Rattle.dcc_capture.specs.Capture.{IsOfCapture}
+use Rattle.dcc_capture.specs.Capture.{IsOfCapture, CaptureLinesAt}
 use Rattle.dcc_io.specs.InputState.{InputState}
 use Rattle.dcc_capture.specs.Capture.{captures}
 use Rattle.dcc_io.specs.WriterState.{WriterState}
@@ -32,5 +32,6 @@ abbrev pub Runs : Fleet → InputState → WriterState → Result (Unit {0}) Too
     → Type 0
 Runs starts old before result ends new after =
     EndsCall (λ done. HearsAll starts old ends new × Appends before.contents after.contents (fleet_text ends))
-    (λ fault. IsOfCapture fault × ReadsTo captures old fault new (HaveHeard starts ends) × (after ≡ before))
+    (λ fault. IsOfCapture fault × ReadsTo captures old fault new (HaveHeard starts ends)
+    × CaptureLinesAt old fault new × (after ≡ before))
     (HearsAll starts old ends new × AppendsFront before after (fleet_text ends)) ⊥ before result after

@@ -8,7 +8,7 @@ use Rattle.dcc_io.specs.Faults.{GivesUp}
 use Rattle.dcc_io.specs.ReaderState.{IsAtEnd}
 use Rattle.dcc_io.specs.InputState.{InputState, UsesAllLines, HasCause}
 use Rattle.dcc_io.specs.Items.{ReadsUpTo}
-use Rattle.dcc_capture.specs.Capture.{captures}
+use Rattle.dcc_capture.specs.Capture.{captures, CaptureLinesAt}
 
 -- the capture of an input was read to its end without a fault, and its halves hold these packets
 pub record Gathered (old : InputState) (packets : List Packet) (new : InputState) : Type 0 where
@@ -22,7 +22,8 @@ pub record Gathered (old : InputState) (packets : List Packet) (new : InputState
 abbrev pub StopsGathering : InputState → KeptFault → InputState → Type 0
 StopsGathering old fault new =
     ((old.fault ≡ Some fault) × HasCause old.fault old.failures × (new ≡ old))
-    ⊎ ((old.fault ≡ None) × (new.fault ≡ Some fault) × ReadsUpTo captures old (Some fault) new (λ halves. Unit {0}))
+    ⊎ ((old.fault ≡ None) × (new.fault ≡ Some fault) × ReadsUpTo captures old (Some fault) new (λ halves. Unit {0})
+    × CaptureLinesAt old fault new)
 
 -- why the packets of a capture were not read: its fault, or want of memory
 abbrev pub GatherFails : InputState → ToolFault → InputState → Type 0

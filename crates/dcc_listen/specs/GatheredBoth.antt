@@ -9,8 +9,9 @@ use Rattle.dcc_io.specs.Faults.{GivesUp}
 use Rattle.dcc_io.specs.Failures.{HasRisen}
 use Rattle.dcc_io.specs.ReaderState.{IsAtEnd}
 use Rattle.dcc_io.specs.InputState.{InputState, UsesAllLines, HasCause}
+use Rattle.dcc_capture.specs.Capture.{RunsOver}
 use Rattle.dcc_capture.specs.BothCaptures.{Both, both_from, in_limit}
-use Rattle.dcc_capture.specs.FirstRead.{EndsFirst}
+use Rattle.dcc_capture.specs.FirstRead.{EndsFirst, FirstLinesAt}
 
 -- both captures of an input with this text, and of one whose reader fails behind these bytes
 abbrev pub both_in : InputState → List ℕ → Both
@@ -54,11 +55,24 @@ ReadsBothUpTo old (kept.Line line fault) new =
 ReadsBothUpTo old kept.TooMuch new =
     (new.failures ≡ old.failures) × IfSome old.text (λ text. (both_in old text).fault ≡ Some kept.TooMuch)
 
+-- the first capture was read to the end of the line `---`, and in the second a word spells a run of more halves than are
+-- left
+pub record SecondRunsOver (old new : InputState) : Type 0 where
+  pub halves : List ℕ
+  pub mid : InputState
+  pub ends : EndsFirst 0 old halves mid
+  pub over : RunsOver mid new
+
+-- how many lines were used when one of both captures met this fault
+abbrev pub BothLinesAt : InputState → KeptFault → InputState → Type 0
+BothLinesAt old kept.TooMuch new = FirstLinesAt 0 old kept.TooMuch new ⊎ SecondRunsOver old new
+BothLinesAt old fault new = FirstLinesAt 0 old fault new
+
 -- the input keeps this fault already, whose cause stands, or it was read up to it and keeps it now
 abbrev pub StopsBothAt : InputState → KeptFault → InputState → Type 0
 StopsBothAt old fault new =
     ((old.fault ≡ Some fault) × HasCause old.fault old.failures × (new ≡ old))
-    ⊎ ((old.fault ≡ None) × (new.fault ≡ Some fault) × ReadsBothUpTo old fault new)
+    ⊎ ((old.fault ≡ None) × (new.fault ≡ Some fault) × ReadsBothUpTo old fault new × BothLinesAt old fault new)
 
 -- why the packets of both captures were not read: a fault, or want of memory
 abbrev pub BothFail : InputState → ToolFault → InputState → Type 0

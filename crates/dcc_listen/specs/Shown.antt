@@ -6,7 +6,7 @@ use Rattle.dcc_wire.specs.Framing.{seen}
 use Rattle.dcc_io.specs.declared.fault.ToolFault.{ToolFault}
 use Rattle.dcc_io.specs.declared.fault.KeptFault.{KeptFault}
 use Rattle.dcc_io.specs.Calls.{EndsCall, ReadsAll, ReadsTo}
-use Rattle.dcc_capture.specs.Capture.{IsOfCapture}
+use Rattle.dcc_capture.specs.Capture.{IsOfCapture, CaptureLinesAt}
 use Rattle.dcc_io.specs.InputState.{InputState}
 use Rattle.dcc_io.specs.Items.{ReadsUpTo}
 use Rattle.dcc_capture.specs.Capture.{captures, capture_in}
@@ -30,7 +30,7 @@ pub record ListsFront (words : Bool) (before after : WriterState) (halves : List
 
 -- what stands where a write failed, and the input keeps this fault or none
 abbrev pub StopsWriting : InputState → Option KeptFault → InputState → (List ℕ → Type 0) → Type 0
-StopsWriting old (Some fault) new fact = ReadsUpTo captures old (Some fault) new fact
+StopsWriting old (Some fault) new fact = ReadsUpTo captures old (Some fault) new fact × CaptureLinesAt old fault new
 StopsWriting old None new fact =
     IfSome old.text (λ text. fact (capture_in old text).said) × (new.failures ≡ old.failures)
 
@@ -40,5 +40,6 @@ Shows words old before result new after =
     EndsCall
     (λ done. ReadsAll captures old new
     (λ halves. Lists words before after halves × (new.halves + length halves ≡ old.halves)))
-    (λ fault. IsOfCapture fault × ReadsTo captures old fault new (Lists words before after))
+    (λ fault. IsOfCapture fault × ReadsTo captures old fault new (Lists words before after)
+    × CaptureLinesAt old fault new)
     (StopsWriting old new.fault new (ListsFront words before after)) ⊥ before result after

@@ -91,7 +91,7 @@ verdict_of_alike k (Block left w x) (Block right u y) verdict alike v = elim v [
   | inr (inr (m, o, inr good)) ↦ verdict_of_alike (k + 1) x y verdict alike.2 good.1
 ]
 
--- what a decoder hears of a list, without_third_copies, is no longer than the list
+-- a list without third copies is no longer than the list
 pub length-capped : (l : List Packet) → length (without_third_copies l) ≤ length l
 length-capped [] = omega arith
 length-capped (p ∷ l) = by_case (is_own_write p && begins_with_two l p) (length-capped l)

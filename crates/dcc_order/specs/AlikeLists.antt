@@ -40,7 +40,7 @@ abbrev pub cut_by : List Packet → Option Packet → List Packet → Cut
 cut_by block None later = LastBlock block
 cut_by block (Some write) later = Block block write (cut later)
 
--- a list as a decoder hears it, without_third_copies and then cut
+-- a list as a decoder hears it, without third copies, and then cut
 abbrev pub cut_for : Who → List Packet → Cut
 cut_for who packets = cut (without_third_copies (heard who packets))
 

@@ -112,7 +112,7 @@ impl HeldBlocks {
         first.saturating_add(self.others.len() as u64)
     }
 
-    /// Lets all packets go. The room stays.
+    /// Lets all packets go. The room of the lists stays; that of the index, which finds a packet by its number, is given back.
     pub fn clear(&mut self)
         ensures { self.new ≡ nothing_held }
     {

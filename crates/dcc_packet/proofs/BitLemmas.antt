@@ -143,8 +143,17 @@ bit_at-byte_of f =
     by_place (λ k. bit_at (byte_of f) k ≡ bit (f k)) (omega arith) (omega arith) (omega arith) (omega arith)
     (omega arith) (omega arith) (omega arith) (omega arith)
 
-is_one-byte_of : (f : ℕ → Bool) (k : ℕ) → k ≤ 7 → is_one (byte_of f) k ≡ f k
+pub is_one-byte_of : (f : ℕ → Bool) (k : ℕ) → k ≤ 7 → is_one (byte_of f) k ≡ f k
 is_one-byte_of f k h = ap (λ n. n == 1) (bit_at-byte_of f k h) ∙ digit_of_bit (f k)
+
+pub byte_of-lt : (f : ℕ → Bool) → byte_of f < 256
+byte_of-lt f =
+    let w = λ (k weight : ℕ). at_most (f k) weight in
+    omega (arith, w 0 1, w 1 2, w 2 4, w 3 8, w 4 16, w 5 32, w 6 64, w 7 128)
+  where
+    at_most : (one : Bool) (weight : ℕ) → (if one then weight else 0) ≤ weight
+    at_most true weight = omega arith
+    at_most false weight = omega arith
 
 -- the bit that is changed, and the others
 pub bit_at-with_bit : (byte k : ℕ) (one : Bool) → k ≤ 7 → bit_at (with_bit byte k one) k ≡ bit one

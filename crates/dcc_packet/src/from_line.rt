@@ -82,9 +82,9 @@ impl<'a> Words<'a> {
     fn accessory(&mut self) -> Result<Packet, PacketFault>
         ensures { result ≡ accessory self.old }
     {
-        let board = board_number(self.word()?)?;
-        let output = output_number(self.word()?)?;
-        let on = switch(self.word()?)?;
+        let board = self.word().and_then(board_number)?;
+        let output = self.word().and_then(output_number)?;
+        let on = self.word().and_then(switch)?;
         self.end()?;
         Ok(Packet::Accessory { board, output, on })
     }
@@ -93,8 +93,8 @@ impl<'a> Words<'a> {
     fn signal(&mut self) -> Result<Packet, PacketFault>
         ensures { result ≡ signal self.old }
     {
-        let address = signal_number(self.word()?)?;
-        let aspect = small_number(self.word()?)?;
+        let address = self.word().and_then(signal_number)?;
+        let aspect = self.word().and_then(small_number)?;
         self.end()?;
         Ok(Packet::Signal { address, aspect })
     }
@@ -103,7 +103,7 @@ impl<'a> Words<'a> {
     fn frame(&mut self) -> Result<Packet, PacketFault>
         ensures { spelling_or_fault result ≡ frame self.old }
     {
-        let frame = hex_frame(self.word()?)?;
+        let frame = self.word().and_then(hex_frame)?;
         self.end()?;
         Ok(Packet::read(&frame))
     }

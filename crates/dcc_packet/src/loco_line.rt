@@ -17,7 +17,7 @@ impl<'a> Words<'a> {
     pub(crate) fn loco(&mut self) -> Result<Packet, PacketFault>
         ensures { result ≡ loco self.old }
     {
-        let to = address(self.word()?)?;
+        let to = self.word().and_then(address)?;
         let what = self.instruction()?;
         Ok(Packet::Loco { to, what })
     }
@@ -56,8 +56,8 @@ impl<'a> Words<'a> {
     fn speed28(&mut self) -> Result<What, PacketFault>
         ensures { result ≡ speed28 self.old }
     {
-        let forward = direction(self.word()?)?;
-        let bits = speed28_bits(self.word()?)?;
+        let forward = self.word().and_then(direction)?;
+        let bits = self.word().and_then(speed28_bits)?;
         self.end()?;
         Ok(What::Speed28 { forward, bits })
     }
@@ -66,8 +66,8 @@ impl<'a> Words<'a> {
     fn speed128(&mut self) -> Result<What, PacketFault>
         ensures { result ≡ speed128 self.old }
     {
-        let forward = direction(self.word()?)?;
-        let bits = speed128_bits(self.word()?)?;
+        let forward = self.word().and_then(direction)?;
+        let bits = self.word().and_then(speed128_bits)?;
         self.end()?;
         Ok(What::Speed128 { forward, bits })
     }
@@ -76,7 +76,7 @@ impl<'a> Words<'a> {
     fn functions(&mut self) -> Result<What, PacketFault>
         ensures { result ≡ functions self.old }
     {
-        let group = group(self.word()?)?;
+        let group = self.word().and_then(group)?;
         let bits = group_bits(group, self.word()?)?;
         self.end()?;
         Ok(What::Functions(bits))
@@ -86,8 +86,8 @@ impl<'a> Words<'a> {
     fn binary_state(&mut self) -> Result<What, PacketFault>
         ensures { result ≡ binary_state self.old }
     {
-        let number = state_number(self.word()?)?;
-        let on = switch(self.word()?)?;
+        let number = self.word().and_then(state_number)?;
+        let on = self.word().and_then(switch)?;
         self.end()?;
         Ok(What::BinaryState { number, on })
     }
@@ -147,8 +147,8 @@ impl<'a> Words<'a> {
     fn cv_value(&mut self) -> Result<(CvNumber, u8), PacketFault>
         ensures { result ≡ cv_value self.old }
     {
-        let cv = cv_number(self.word()?)?;
-        let value = small_number(self.word()?)?;
+        let cv = self.word().and_then(cv_number)?;
+        let value = self.word().and_then(small_number)?;
         self.end()?;
         Ok((cv, value))
     }
@@ -158,9 +158,9 @@ impl<'a> Words<'a> {
     fn cv_bit(&mut self) -> Result<(CvNumber, BitPlace, bool), PacketFault>
         ensures { result ≡ cv_bit self.old }
     {
-        let cv = cv_number(self.word()?)?;
-        let place = bit_place(self.word()?)?;
-        let one = bit_state(self.word()?)?;
+        let cv = self.word().and_then(cv_number)?;
+        let place = self.word().and_then(bit_place)?;
+        let one = self.word().and_then(bit_state)?;
         self.end()?;
         Ok((cv, place, one))
     }

@@ -132,7 +132,7 @@ result-nothing who start = fun_ext (result_of_nothing start)
 pub heard_nothing : (who : Who) (m : RegisterMap) → HasHeard [] who m who m
 heard_nothing who m = record { same_who = refl; registers = sym (result-nothing who m) }
 
--- one list set_in_turn the other is heard
+-- one list behind the other is heard
 pub heard_more : {who who' who'' : Who} {m m' m'' : RegisterMap} {l k : List Packet} → HasHeard l who m who' m'
     → HasHeard k who' m' who'' m'' → HasHeard (l ++ k) who m who'' m''
 heard_more {who} {who'} {who''} {m} {m'} {m''} {l} {k} before now = record {

@@ -59,7 +59,7 @@ at_looked c d n true true e f h =
     (to_all (c.0 == 0) (d.0 == 0) (1 == c.0) (1 == d.0) c.1 d.1 e f
     (from_all (is_binary_state n) (c.0 == 0) (d.0 == 0) (n == c.0) (n == d.0) c.1 d.1 e f h))
 
--- two packets that differ at some state differ at the one that is differing_state at
+-- two packets that differ at some state differ at the one that is looked at
 pub differ_at_looked : (c d : Option (ℕ × Bool)) (n : ℕ)
     → Differ (option_map Flag (state_by c n)) (option_map Flag (state_by d n))
     → Differ (option_map Flag (state_by c (differing_state c d))) (option_map Flag (state_by d (differing_state c d)))

@@ -2,6 +2,9 @@
 use Rattle.std.proofs.Common.{◌≡◌, ℕ, ◌+◌, ◌-◌, ◌*◌, ◌^◌, ◌%◌, ◌<◌, ◌≤◌, arith, suc, sym, ap, ◌∙◌}
 use Rattle.std.proofs.lemmas.Nat.{pow_pos}
 use Rattle.std.proofs.Math.Nat.{mod-eq_of_lt}
+use Rattle.dcc_saved.specs.declared.decoder_line.Numbered.{Numbered}
+use Rattle.dcc_saved.specs.declared.decoder_line.Numbered.TheVariants as kinds
+use Rattle.dcc_saved.specs.Numbered.{end_of}
 use native.Mathlib.Nat.{pow-le-pow_right, pow-succ'}
 
 pub twice : (n : ℕ) → 2 ^ (n + 1) ≡ 2 * 2 ^ n
@@ -42,3 +45,12 @@ bits_even top n others some room even =
 pub one_bit_fits : (limit least : ℕ) → least ≤ limit → 0 + 2 ^ least ≤ 2 ^ limit
 one_bit_fits limit least within =
     let less : 2 ^ least ≤ 2 ^ limit = pow-le-pow_right {n = 2} (omega arith) within in omega arith
+
+-- the bits of a kind fit in 128
+pub bits_of_kind : (kind : Numbered) → 2 ^ end_of kind ≤ 2 ^ 128
+bits_of_kind kinds.Function = omega arith
+bits_of_kind kinds.State = omega arith
+bits_of_kind kinds.Out = omega arith
+
+pub fits_of_kind : (kind : Numbered) (bits : ℕ) → bits ≤ 2 ^ end_of kind → bits ≤ 2 ^ 128
+fits_of_kind kind bits within = let all = bits_of_kind kind in omega (arith, within)

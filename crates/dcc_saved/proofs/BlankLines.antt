@@ -7,8 +7,9 @@ use Rattle.dcc_regs.specs.declared.register.Speed.{Speed}
 use Rattle.dcc_saved.specs.declared.decoder_line.Head.{Head}
 use Rattle.dcc_saved.specs.declared.decoder_line.LocoLine.{LocoLine}
 use Rattle.dcc_saved.specs.declared.decoder_line.Version.{Version}
-use Rattle.dcc_saved.specs.DecoderLines.{version_line, head_line, speed_line, functions_line, states_line, pending_line}
-use Rattle.dcc_saved.specs.DecoderLines.{loco_line, outs_line, positions_line, aspects_line}
+use Rattle.dcc_saved.specs.DecoderLines.{version_line, head_line, speed_line, numbers_line, pending_line}
+use Rattle.dcc_saved.specs.DecoderLines.{loco_line, positions_line, aspects_line}
+use Rattle.dcc_saved.specs.declared.decoder_line.Numbered.{Numbered}
 
 pub blank_version : (x : Version) → version_line (words []) ≡ Ok x → ⊥
 unfolding version_line
@@ -22,13 +23,9 @@ pub blank_speed : (x : Speed × Bool) → speed_line (words []) ≡ Ok x → ⊥
 unfolding speed_line
 blank_speed x e = cc
 
-pub blank_functions : (x : ℕ) → functions_line (words []) ≡ Ok x → ⊥
-unfolding functions_line
-blank_functions x e = cc
-
-pub blank_states : (x : ℕ) → states_line (words []) ≡ Ok x → ⊥
-unfolding states_line
-blank_states x e = cc
+pub blank_numbers : (kind : Numbered) (x : ℕ) → numbers_line kind (words []) ≡ Ok x → ⊥
+unfolding numbers_line
+blank_numbers kind x e = cc
 
 pub blank_pending : (active : Option Address) (x : Option Packet) → pending_line active (words []) ≡ Ok x → ⊥
 unfolding pending_line
@@ -37,10 +34,6 @@ blank_pending active x e = cc
 pub blank_loco : (least : ℕ) (x : LocoLine) → loco_line least (words []) ≡ Ok x → ⊥
 unfolding loco_line
 blank_loco least x e = cc
-
-pub blank_outs : (x : ℕ) → outs_line (words []) ≡ Ok x → ⊥
-unfolding outs_line
-blank_outs x e = cc
 
 pub blank_positions : (x : List Bool) → positions_line (words []) ≡ Ok x → ⊥
 unfolding positions_line

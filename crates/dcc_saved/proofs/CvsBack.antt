@@ -10,10 +10,10 @@ use Rattle.dcc_saved.specs.declared.decoder_line.Head.{Head}
 use Rattle.dcc_saved.specs.declared.decoder_line.LocoLine.TheVariants as behind
 use Rattle.dcc_io.specs.Spaced.{behind_space}
 use Rattle.dcc_saved.specs.DecoderLines.{loco_line}
-use Rattle.dcc_saved.specs.DecoderText.{behind_loco_line, cvs_from, cvs_lines}
+use Rattle.dcc_saved.specs.DecoderText.{cvs_from}
 use Rattle.dcc_saved.specs.FleetText.{cv_line, cvs_text}
 use Rattle.dcc_saved.specs.TextReader.{line_by}
-use Rattle.dcc_saved.proofs.LinesBack.{at, few_back, then_back}
+use Rattle.dcc_saved.proofs.LinesBack.{at, few_back}
 use Rattle.dcc_saved.proofs.RulesBack.{cv_line_back}
 use Rattle.dcc_saved.proofs.TokensBack.{keyword_token, decimal_token}
 
@@ -101,8 +101,7 @@ module _ (cvs : ℕ → ℕ) (small : (n : ℕ) → cvs n < 256) (text : List �
   no_more k (suc most) least list line ready = record {
     given = list;
     behind_line = line + 1;
-    reads = then_back (line_by (loco_line least)) (behind_loco_line (cvs_from most) list) (behind.Head head)
-        (at line text) (at (line + 1) rest) (Ok ((list, head), at (line + 1) rest)) (ends least line) refl;
+    reads = rw (ends least line) refl;
     whole = ready.whole;
     each = λ i within. ready.below i (omega (arith, within));
   }
@@ -175,11 +174,7 @@ module _ (cvs : ℕ → ℕ) (small : (n : ℕ) → cvs n < 256) (text : List �
         given = all.given;
         behind_line = all.behind_line;
         reads = ap (λ (bytes : List ℕ). cvs_from (suc most) least list (at line bytes)) text_is
-            ∙ then_back (line_by (loco_line least)) (behind_loco_line (cvs_from most) list)
-            (behind.Cv (record { number = suc k; in_range = range }) (cvs (suc k)))
-            (at line (cv_line (suc k) (cvs (suc k)) ++ (cvs_after cvs (suc k) c ++ text)))
-            (at (line + 1) (cvs_after cvs (suc k) c ++ text)) (Ok ((all.given, head), at all.behind_line rest))
-            (one_line least (suc k) line (cvs (suc k)) (cvs_after cvs (suc k) c ++ text) range ready.ascends
+            ∙ rw (one_line least (suc k) line (cvs (suc k)) (cvs_after cvs (suc k) c ++ text) range ready.ascends
             (small (suc k))) all.reads;
         whole = all.whole;
         each = λ i within. all.each i (omega (arith, within));
@@ -189,17 +184,6 @@ module _ (cvs : ℕ → ℕ) (small : (n : ℕ) → cvs n < 256) (text : List �
   cvs_given k zero most least list line ready = no_more k most least list line ready
   cvs_given k (suc c) most least list line ready =
       one_more k c most least list line ready (cvs_given (suc k) c) (eqb (cvs (suc k)) 0) refl
-
--- all CVs
-pub record GivesAllCvs (cvs : ℕ → ℕ) (line : ℕ) (bytes : List ℕ) (head : Head) (rest : List ℕ) : Type 0 where
-  pub given : List ℕ
-  pub behind_line : ℕ
-  pub reads : cvs_lines (at line bytes) ≡ Ok ((given, head), at behind_line rest)
-  pub whole : length given ≡ 1024
-  pub each : (i : ℕ) → i < 1024 → slice_index given i ≡ cvs (suc i)
-
-from_none : (n : ℕ) → n ≡ 0 + n
-from_none n = omega arith
 
 new_list : (cvs : ℕ → ℕ) (c most : ℕ) → c < most → c ≤ 1024 → IsReady cvs 0 c most 1 (replicate 1024 0)
 new_list cvs c most room few = record {
@@ -216,24 +200,18 @@ new_list cvs c most room few = record {
     all_zero (suc n) zero = refl
     all_zero (suc n) (suc i) = all_zero n i
 
-read_all : (cvs : ℕ → ℕ) (small : (n : ℕ) → cvs n < 256) (text : List ℕ) (head : Head) (rest : List ℕ)
-    → IsHeadLine text head rest → (line c most : ℕ) → c < most → c ≤ 1024
-    → GivesCvs cvs c most 1 (replicate 1024 0) line (cvs_text cvs c ++ text) head rest
-read_all cvs small text head rest ends line c most room few =
-    let all = cvs_given cvs small text head rest ends 0 c most 1 (replicate 1024 0) line (new_list cvs c most room few)
-    in
+-- all CVs
+pub all_cvs : (cvs : ℕ → ℕ) (small : (n : ℕ) → cvs n < 256) (text : List ℕ) (head : Head) (rest : List ℕ)
+    → IsHeadLine text head rest → (line : ℕ)
+    → GivesCvs cvs 1024 1025 1 (replicate 1024 0) line (cvs_text cvs 1024 ++ text) head rest
+all_cvs cvs small text head rest ends line =
+    let all = cvs_given cvs small text head rest ends 0 1024 1025 1 (replicate 1024 0) line
+    (new_list cvs 1024 1025 (omega arith) (omega arith)) in
     record {
       given = all.given;
       behind_line = all.behind_line;
-      reads = ap (λ (bytes : List ℕ). cvs_from most 1 (replicate 1024 0) (at line (bytes ++ text))) (all_after cvs c)
+      reads = ap (λ (bytes : List ℕ). cvs_from 1025 1 (replicate 1024 0) (at line (bytes ++ text))) (all_after cvs 1024)
           ∙ all.reads;
       whole = all.whole;
       each = λ i within. all.each i (omega (arith, within));
     }
-
-pub all_cvs : (cvs : ℕ → ℕ) (small : (n : ℕ) → cvs n < 256) (text : List ℕ) (head : Head) (rest : List ℕ)
-    → IsHeadLine text head rest → (line : ℕ) → GivesAllCvs cvs line (cvs_text cvs 1024 ++ text) head rest
-unfolding cvs_lines
-all_cvs cvs small text head rest ends line =
-    let all = read_all cvs small text head rest ends line 1024 1025 (omega arith) (omega arith) in
-    record { given = all.given; behind_line = all.behind_line; reads = all.reads; whole = all.whole; each = all.each }

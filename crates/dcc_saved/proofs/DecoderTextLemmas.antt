@@ -1,7 +1,7 @@
 -- The lines of a decoder text, read one after the other.
 use Rattle.std.proofs.Common.{zero, suc, ◌≡◌, ℕ, ◌+◌, ◌-◌, ◌<◌, ◌≤◌, List, [], ◌∷◌, ◌++◌, length, Bool, Option, None}
 use Rattle.std.proofs.Common.{Some, Result, Ok, Err, refl, ◌∙◌, arith, replicate, slice_set, length-append}
-use Rattle.std.proofs.Common.{if◌then◌else◌, All, IsOk, is_ok, slice_index_or}
+use Rattle.std.proofs.Common.{if◌then◌else◌, All, IfSome, IsOk, is_ok, slice_index_or, inr}
 use Rattle.std.proofs.lemmas.List.Elements.{All-append}
 use Rattle.dcc_packet.specs.declared.accessory.Board.{Board}
 use Rattle.dcc_packet.specs.declared.address.Address.{Address}
@@ -19,9 +19,11 @@ use Rattle.dcc_saved.specs.declared.decoder_line.Head.TheVariants as heads
 use Rattle.dcc_saved.specs.declared.decoder_line.LocoLine.TheVariants as behind
 use Rattle.dcc_io.specs.InputState.{InputState}
 use Rattle.dcc_io.specs.Took.{Uses}
-use Rattle.dcc_saved.specs.DecoderLines.{version_line, head_line, speed_line, functions_line, pending_line, loco_line}
-use Rattle.dcc_saved.specs.DecoderLines.{outs_line, positions_line, aspects_line}
-use Rattle.dcc_saved.specs.TextReader.{Text, Reader, ◌>>=◌, done, line_by}
+use Rattle.dcc_saved.specs.DecoderLines.{version_line, head_line, speed_line, numbers_line, pending_line, loco_line}
+use Rattle.dcc_saved.specs.declared.decoder_line.Numbered.TheVariants as kinds
+use Rattle.dcc_saved.specs.DecoderLines.{positions_line, aspects_line}
+use Rattle.dcc_saved.specs.TextReader.{Text, Reader, ◌>>=◌, done, stop_at, line_by}
+use Rattle.dcc_saved.specs.TextReader.Stop.{too_many}
 use Rattle.dcc_saved.specs.TextRead.{at, GoesOn, Leads, Refuses, Answers, UsedWholeLines}
 use Rattle.dcc_regs.specs.declared.register.Who.{Who}
 use Rattle.dcc_saved.specs.declared.decoder_line.Version.{Version}
@@ -45,7 +47,7 @@ abbrev pub behind_outs : Board → ℕ → Reader (Saved × Head)
 behind_outs board outs = line_by positions_line >>= behind_positions board outs
 
 pub Leads-board : (board : Board) (old : InputState) → old.fault ≡ None
-    → Leads (board_lines board) old (line_by outs_line >>= behind_outs board) old
+    → Leads (board_lines board) old (line_by (numbers_line kinds.Out) >>= behind_outs board) old
 unfolding board_lines
 Leads-board board old fault = Leads-start (board_lines board) old fault
 
@@ -77,7 +79,7 @@ abbrev pub behind_functions : Version → Option Address → Speed × Bool → �
 behind_functions version address speed functions = states_by version >>= behind_states address speed functions
 
 abbrev pub behind_speed : Version → Option Address → Speed × Bool → Reader (Saved × Head)
-behind_speed version address speed = line_by functions_line >>= behind_functions version address speed
+behind_speed version address speed = line_by (numbers_line kinds.Function) >>= behind_functions version address speed
 
 pub Leads-loco : (version : Version) (address : Option Address) (old : InputState) → old.fault ≡ None
     → Leads (loco_lines version address) old (line_by speed_line >>= behind_speed version address) old
@@ -198,12 +200,34 @@ ReadsDecoders-end version old now before reads = ended reads.room reads.leads
     ended zero leads = leads
     ended (suc room) leads = leads
 
+-- a text of no bytes is cut off
+no_empty_stop : (line : ℕ) → decoder_text (record { line = line; bytes = [] }) ≡ Err too_many → ⊥
+unfolding decoder_text
+no_empty_stop line says = cc
+
 pub ReadsDecoders-full : (version : Version) (old now new : InputState) (before : List Saved) (who : Who)
     → ReadsDecoders version old before (heads.Decoder who) now → length before ≡ 64
     → new ≡ record now { fault = Some TooMuch } → Answers decoder_text old (Err TooMuch) new
 ReadsDecoders-full version old now new before who reads full is_new =
-    rw is_new (go reads.room reads.count reads.leads, refl)
+    rw is_new (
+      go reads.room reads.count reads.leads,
+      refl,
+      inr (whole reads.room reads.count reads.leads),
+    )
   where
+    whole : (room : ℕ) → room + length before ≡ 64
+        → Leads decoder_text old (decoders_from version room before (heads.Decoder who)) now
+        → IfSome old.text (λ text. now.lines + 1 ≡ now.place.line)
+    whole zero count leads =
+        map_text (Uses (GoesOn decoder_text old (stop_at too_many) now) old now)
+        (λ text. now.lines + 1 ≡ now.place.line) old.text now.text
+        (λ text rest uses. some uses.used uses.is) leads.text
+      where
+        some : (used : List ℕ) → GoesOn decoder_text old (stop_at too_many) now used → now.lines + 1 ≡ now.place.line
+        some [] goes = absurd (no_empty_stop old.place.line (goes.goes_on []))
+        some (byte ∷ used) goes = goes.last (omega arith)
+    whole (suc room) count leads = absurd (omega (arith, count, full))
+
     go : (room : ℕ) → room + length before ≡ 64
         → Leads decoder_text old (decoders_from version room before (heads.Decoder who)) now
         → Refuses decoder_text old TooMuch (record now { fault = Some TooMuch })

@@ -5,6 +5,7 @@ use Rattle.std.proofs.lemmas.List.{append-nil}
 use Rattle.dcc_packet.specs.declared.accessory.Board.{Board}
 use Rattle.dcc_packet.specs.declared.address.Address.{Address}
 use Rattle.dcc_packet.specs.declared.packet.Packet.{Packet}
+use Rattle.dcc_packet.proofs.BitLemmas.{byte_of-lt}
 use Rattle.dcc_packet.specs.Written.{spaced_words}
 use Rattle.dcc_regs.specs.declared.register.Register.TheVariants as registers
 use Rattle.dcc_regs.specs.declared.register.Speed.{Speed}
@@ -19,26 +20,23 @@ use Rattle.dcc_saved.specs.declared.decoder_line.Head.{Head}
 use Rattle.dcc_saved.specs.declared.decoder_line.Head.TheVariants as heads
 use Rattle.dcc_saved.specs.declared.decoder_line.LocoLine.TheVariants as behind
 use Rattle.dcc_saved.specs.declared.decoder_line.Version.TheVariants as versions
-use Rattle.dcc_saved.specs.DecoderLines.{head_line, loco_line, speed_line, functions_line, pending_line, outs_line}
-use Rattle.dcc_saved.specs.DecoderLines.{positions_line, aspects_line}
-use Rattle.dcc_saved.specs.DecoderText.{decoder_lines, states_by, cvs_lines, loco_lines, board_lines}
+use Rattle.dcc_saved.specs.DecoderLines.{head_line, loco_line}
+use Rattle.dcc_saved.specs.declared.decoder_line.Numbered.TheVariants as kinds
+use Rattle.dcc_saved.specs.DecoderText.{decoder_lines, cvs_lines, loco_lines, board_lines}
 use Rattle.dcc_saved.specs.FleetText.{own_address_word, cvs_text, speed_held, forward_held, pending_held}
 use Rattle.dcc_saved.specs.FleetText.{loco_address_line, board_line}
-use Rattle.dcc_saved.specs.FleetText.{written_speed as speed_bytes, written_functions as functions_bytes}
-use Rattle.dcc_saved.specs.FleetText.{written_states as states_bytes, written_pending as pending_bytes}
-use Rattle.dcc_saved.specs.FleetText.{written_outs as outs_bytes, written_positions as positions_bytes}
+use Rattle.dcc_saved.specs.FleetText.{written_speed as speed_bytes, written_numbers}
+use Rattle.dcc_saved.specs.FleetText.{written_pending as pending_bytes}
+use Rattle.dcc_saved.specs.FleetText.{written_positions as positions_bytes}
 use Rattle.dcc_saved.specs.FleetText.{written_aspects as aspects_bytes}
 use Rattle.dcc_saved.specs.ReadBack.{Saves}
 use Rattle.dcc_saved.specs.TextReader.{line_by}
-use Rattle.dcc_saved.proofs.BoardMapsBack.{four_of, sides_of, positions_of, aspects_of, board_state, sides_are}
+use Rattle.dcc_saved.proofs.BoardMapsBack.{sides_of, positions_of, aspects_of, board_state, sides_are}
 use Rattle.dcc_saved.proofs.BoardMapsBack.{aspects_small, same_board}
 use Rattle.dcc_saved.proofs.CvsBack.{IsHeadLine, all_cvs}
-use Rattle.dcc_saved.proofs.DecoderTextLemmas.{behind_board_head, behind_aspects, behind_positions, behind_outs}
-use Rattle.dcc_saved.proofs.DecoderTextLemmas.{behind_cvs, behind_pending, behind_states, behind_functions}
-use Rattle.dcc_saved.proofs.DecoderTextLemmas.{behind_speed}
-use Rattle.dcc_saved.proofs.LinesBack.{at, few_back, then_back}
-use Rattle.dcc_saved.proofs.MapsBack.{speed_is, pending_is, no_state_0, byte_small, loco_state, same_loco}
-use Rattle.dcc_saved.proofs.RowsBack.{fed, functions_read, states_read, outs_read, speed_read, pending_read}
+use Rattle.dcc_saved.proofs.LinesBack.{at, few_back}
+use Rattle.dcc_saved.proofs.MapsBack.{speed_is, pending_is, no_state_0, loco_state, same_loco}
+use Rattle.dcc_saved.proofs.RowsBack.{fed, numbers_read, speed_read, pending_read}
 use Rattle.dcc_saved.proofs.RowsBack.{aspects_read, positions_read}
 use Rattle.dcc_saved.proofs.RulesBack.{loco_back, board_head_back, end_back, loco_behind, board_behind, end_behind}
 use Rattle.dcc_saved.proofs.TokensBack.{keyword_token, decimal_token, address_token}
@@ -105,33 +103,23 @@ pub record GivesDecoder (decoder : Who × RegisterMap) (n : ℕ) (bytes : List �
 
 pub board_given : (board : Board) (m : RegisterMap) (n : ℕ) (bytes : List ℕ) (head : Head) (rest : List ℕ)
     → IsPossible (who.Board board) m → BeginsWith bytes head rest
-    → GivesDecoder (who.Board board, m) n (outs_bytes m ++ (positions_bytes m ++ (aspects_bytes m ++ bytes))) head rest
+    → GivesDecoder (who.Board board, m) n (written_numbers kinds.Out m ++ (positions_bytes m ++ (aspects_bytes m ++ bytes))) head rest
 unfolding board_lines
 board_given board m n bytes head rest possible begins =
-    let outs = outs_read (λ k. holds_one (m (registers.Out k))) 8 n (positions_bytes m ++ (aspects_bytes m ++ bytes))
-    (omega arith) in
+    let outs = numbers_read kinds.Out (λ k. holds_one (m (registers.Out k))) n
+    (positions_bytes m ++ (aspects_bytes m ++ bytes)) (λ is. absurd cc) in
     let state : Saved = saved.Board (board_state board m outs.value) in
     record {
       state = state;
       line = n + 1 + 1 + 1 + 1;
       reads =
-          then_back (line_by outs_line) (behind_outs board) outs.value
-          (at n (outs_bytes m ++ (positions_bytes m ++ (aspects_bytes m ++ bytes))))
-          (at (n + 1) (positions_bytes m ++ (aspects_bytes m ++ bytes)))
-          (Ok ((state, head), at (n + 1 + 1 + 1 + 1) rest)) outs.reads
-          (then_back (line_by positions_line) (behind_positions board outs.value) (four_of (sides_of m))
-          (at (n + 1) (positions_bytes m ++ (aspects_bytes m ++ bytes)))
-          (at (n + 1 + 1) (aspects_bytes m ++ bytes)) (Ok ((state, head), at (n + 1 + 1 + 1 + 1) rest))
-          (positions_read (positions_of m) (sides_of m) (n + 1) (aspects_bytes m ++ bytes) (sides_are board m possible))
-          (then_back (line_by aspects_line) (behind_aspects board outs.value (four_of (sides_of m)))
-          (four_of (aspects_of m)) (at (n + 1 + 1) (aspects_bytes m ++ bytes)) (at (n + 1 + 1 + 1) bytes)
-          (Ok ((state, head), at (n + 1 + 1 + 1 + 1) rest))
-          (aspects_read (aspects_of m) (n + 1 + 1) bytes (aspects_small board m possible))
-          (then_back (line_by head_line)
-          (behind_board_head board outs.value (four_of (sides_of m)) (four_of (aspects_of m))) head
-          (at (n + 1 + 1 + 1) bytes) (at (n + 1 + 1 + 1 + 1) rest)
-          (Ok ((state, head), at (n + 1 + 1 + 1 + 1) rest))
-          (begins.first (n + 1 + 1 + 1)) refl)));
+          rw (
+            outs.reads,
+            positions_read (positions_of m) (sides_of m) (n + 1) (aspects_bytes m ++ bytes)
+                (sides_are board m possible),
+            aspects_read (aspects_of m) (n + 1 + 1) bytes (aspects_small board m possible),
+            begins.first (n + 1 + 1 + 1),
+          ) refl;
       saves = (refl, same_board board m possible outs.value outs.bits);
     }
 
@@ -139,19 +127,20 @@ pub loco_given : (address : Option Address) (m : RegisterMap) (n : ℕ) (bytes :
     → IsPossible (who.Loco address) m → BeginsWith bytes head rest
     → GivesDecoder (who.Loco address, m) n
     (speed_bytes m
-    ++ (functions_bytes m ++ (states_bytes m ++ (pending_bytes m ++ (cvs_text (cv_held m) 1024 ++ bytes))))) head
+    ++ (written_numbers kinds.Function m ++ (written_numbers kinds.State m ++ (pending_bytes m ++ (cvs_text (cv_held m) 1024 ++ bytes))))) head
     rest
-unfolding loco_lines
+unfolding loco_lines cvs_lines
 loco_given address m n bytes head rest possible begins =
     let speed : Speed = speed_held (m registers.Speed) in
     let pending : Option Packet = pending_held (m registers.Pending) in
     let cvs_and : List ℕ = cvs_text (cv_held m) 1024 ++ bytes in
     let pending_and : List ℕ = pending_bytes m ++ cvs_and in
-    let states_and : List ℕ = states_bytes m ++ pending_and in
-    let functions = functions_read (λ k. holds_one (m (registers.Function k))) 69 (n + 1) states_and (omega arith) in
-    let states = states_read (λ k. holds_one (m (registers.State k))) (n + 1 + 1) pending_and
-    (no_state_0 address (m (registers.State 0)) (possible.registers (registers.State 0))) in
-    let cvs = all_cvs (cv_held m) (λ k. byte_small (λ place. holds_one (m (registers.CvBit k place)))) bytes head rest
+    let states_and : List ℕ = written_numbers kinds.State m ++ pending_and in
+    let functions = numbers_read kinds.Function (λ k. holds_one (m (registers.Function k))) (n + 1) states_and
+    (λ is. absurd cc) in
+    let states = numbers_read kinds.State (λ k. holds_one (m (registers.State k))) (n + 1 + 1) pending_and
+    (λ is. no_state_0 address (m (registers.State 0)) (possible.registers (registers.State 0))) in
+    let cvs = all_cvs (cv_held m) (λ k. byte_of-lt (λ place. holds_one (m (registers.CvBit k place)))) bytes head rest
     begins.behind_cv (n + 1 + 1 + 1 + 1) in
     let state : Saved = saved.Loco (loco_state address m functions.value states.value cvs.given) in
     let line : ℕ = cvs.behind_line in
@@ -159,31 +148,15 @@ loco_given address m n bytes head rest possible begins =
       state = state;
       line = line;
       reads =
-          then_back (line_by speed_line) (behind_speed versions.Two address)
-          (speed, forward_held (m registers.Direction)) (at n (speed_bytes m ++ (functions_bytes m ++ states_and)))
-          (at (n + 1) (functions_bytes m ++ states_and)) (Ok ((state, head), at line rest))
-          (speed_read speed (forward_held (m registers.Direction)) n (functions_bytes m ++ states_and)
-          (speed_is address (m registers.Speed) (possible.registers registers.Speed)).1)
-          (then_back (line_by functions_line)
-          (behind_functions versions.Two address (speed, forward_held (m registers.Direction))) functions.value
-          (at (n + 1) (functions_bytes m ++ states_and)) (at (n + 1 + 1) states_and)
-          (Ok ((state, head), at line rest))
-          functions.reads
-          (then_back (states_by versions.Two)
-          (behind_states address (speed, forward_held (m registers.Direction)) functions.value) states.value
-          (at (n + 1 + 1) states_and) (at (n + 1 + 1 + 1) pending_and) (Ok ((state, head), at line rest))
-          states.reads
-          (then_back (line_by (pending_line address))
-          (behind_pending address (speed, forward_held (m registers.Direction)) functions.value states.value)
-          pending (at (n + 1 + 1 + 1) pending_and) (at (n + 1 + 1 + 1 + 1) cvs_and)
-          (Ok ((state, head), at line rest))
-          (pending_read address pending (n + 1 + 1 + 1) cvs_and
-          (pending_is address (m registers.Pending) (possible.registers registers.Pending)).1)
-          (then_back cvs_lines
-          (behind_cvs address (speed, forward_held (m registers.Direction)) functions.value states.value
-          pending) (cvs.given, head) (at (n + 1 + 1 + 1 + 1) cvs_and) (at line rest)
-          (Ok ((state, head), at line rest))
-          cvs.reads refl))));
+          rw (
+            speed_read speed (forward_held (m registers.Direction)) n (written_numbers kinds.Function m ++ states_and)
+                (speed_is address (m registers.Speed) (possible.registers registers.Speed)).1,
+            functions.reads,
+            states.reads,
+            pending_read address pending (n + 1 + 1 + 1) cvs_and
+                (pending_is address (m registers.Pending) (possible.registers registers.Pending)).1,
+            cvs.reads,
+          ) refl;
       saves = (
         refl,
         same_loco address m possible functions.value functions.bits states.value states.bits cvs.given cvs.each,

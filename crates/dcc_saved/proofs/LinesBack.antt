@@ -11,7 +11,7 @@ use Rattle.dcc_packet.specs.Words.{Word, words}
 use Rattle.dcc_packet.specs.Written.{spaced_words}
 use Rattle.dcc_packet.proofs.WrittenWords.{IsWord, not_true, words_spaced}
 use Rattle.dcc_io.specs.NumberedLines.{is_good}
-use Rattle.dcc_saved.specs.TextReader.{Text, Stop, Reader, ◌>>=◌, read_on, first_line, behind_line, ended_line, line_by}
+use Rattle.dcc_saved.specs.TextReader.{Text, first_line, behind_line, ended_line, line_by}
 use Rattle.dcc_saved.specs.TextReader.Stop.{refused}
 
 -- a byte that may stand in a line
@@ -103,8 +103,3 @@ pub few_back : {A : Type 0} (rule : List Word → Result A PacketFault) (x : A) 
     → line_by rule (at n (line ++ 10 ∷ rest)) ≡ Ok (x, at (n + 1) rest)
 few_back rule x n line word ws rest is token tokens few says =
     line_back rule x n line word ws rest is token tokens (short_line line word ws is token tokens few) says
-
--- a reader behind one that gave a value
-pub then_back : {A B : Type 0} (first : Reader A) (next : A → Reader B) (x : A) (text mid : Text)
-    (result : Result (B × Text) Stop) → first text ≡ Ok (x, mid) → next x mid ≡ result → (first >>= next) text ≡ result
-then_back first next x text mid result one two = ap (λ read. read_on read next) one ∙ two

@@ -13,8 +13,9 @@ use Rattle.dcc_saved.specs.declared.decoder_line.Head.{Head}
 use Rattle.dcc_saved.specs.declared.decoder_line.Head.TheVariants as heads
 use Rattle.dcc_saved.specs.declared.decoder_line.LocoLine.{LocoLine}
 use Rattle.dcc_saved.specs.declared.decoder_line.LocoLine.TheVariants as behind
-use Rattle.dcc_saved.specs.DecoderLines.{version_line, head_line, speed_line, functions_line, states_line, pending_line}
-use Rattle.dcc_saved.specs.DecoderLines.{loco_line, outs_line, positions_line, aspects_line}
+use Rattle.dcc_saved.specs.DecoderLines.{version_line, head_line, speed_line, numbers_line, pending_line}
+use Rattle.dcc_saved.specs.declared.decoder_line.Numbered.TheVariants as kinds
+use Rattle.dcc_saved.specs.DecoderLines.{loco_line, positions_line, aspects_line}
 use Rattle.dcc_saved.specs.declared.decoder_line.Version.{Version}
 use Rattle.dcc_saved.specs.declared.decoder_line.Version.TheVariants as versions
 use Rattle.dcc_saved.specs.DecoderText.{states_by, behind_loco_line, cvs_from, cvs_lines, loco_lines, board_lines}
@@ -97,13 +98,13 @@ all_cvs_keep = cvs_keep 1025 1 (replicate 1024 0)
 
 states_keep : (version : Version) → Keeps (states_by version)
 states_keep versions.One = λ text. refl
-states_keep versions.Two = line_keeps states_line
+states_keep versions.Two = line_keeps (numbers_line kinds.State)
 
 loco_keeps : (version : Version) (address : Option Address) → Keeps (loco_lines version address)
 unfolding loco_lines
 loco_keeps version address =
     then_keeps (line_by speed_line) (behind_speed version address) (line_keeps speed_line)
-    (λ speed. then_keeps (line_by functions_line) (behind_functions version address speed) (line_keeps functions_line)
+    (λ speed. then_keeps (line_by (numbers_line kinds.Function)) (behind_functions version address speed) (line_keeps (numbers_line kinds.Function))
     (λ functions. then_keeps (states_by version) (behind_states address speed functions) (states_keep version)
     (λ states. then_keeps (line_by (pending_line address)) (behind_pending address speed functions states)
     (line_keeps (pending_line address))
@@ -113,7 +114,7 @@ loco_keeps version address =
 board_keeps : (board : Board) → Keeps (board_lines board)
 unfolding board_lines
 board_keeps board =
-    then_keeps (line_by outs_line) (behind_outs board) (line_keeps outs_line)
+    then_keeps (line_by (numbers_line kinds.Out)) (behind_outs board) (line_keeps (numbers_line kinds.Out))
     (λ outs. then_keeps (line_by positions_line) (behind_positions board outs) (line_keeps positions_line)
     (λ positions. then_keeps (line_by aspects_line) (behind_aspects board outs positions) (line_keeps aspects_line)
     (λ aspects. then_keeps (line_by head_line) (behind_board_head board outs positions aspects) (line_keeps head_line)

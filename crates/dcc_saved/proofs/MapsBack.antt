@@ -1,8 +1,9 @@
 -- A map that is possible is that of what its lines say.
-use Rattle.std.proofs.Common.{zero, suc, ◌≡◌, ℕ, ◌+◌, ◌-◌, ◌*◌, ◌/◌, ◌%◌, ◌^◌, ◌<◌, ◌≤◌, Bool, true, false, eqb}
+use Rattle.std.proofs.Common.{suc, ◌≡◌, ℕ, ◌-◌, ◌<◌, Bool, true, false}
 use Rattle.std.proofs.Common.{nat_le, List, slice_index, Option, None, Some, if◌then◌else◌, refl, sym, ap, ◌∙◌, arith}
 use Rattle.std.proofs.lemmas.Bool.{and_parts, leb-true}
 use Rattle.dcc_packet.specs.declared.address.Address.{Address}
+use Rattle.dcc_packet.proofs.BitLemmas.{is_one-byte_of}
 use Rattle.dcc_packet.proofs.WrittenWords.{not_true}
 use Rattle.dcc_regs.specs.declared.loco_state.LocoState.{LocoState}
 use Rattle.dcc_regs.specs.declared.register.Register.{Register}
@@ -10,7 +11,7 @@ use Rattle.dcc_regs.specs.declared.register.Register.TheVariants as registers
 use Rattle.dcc_regs.specs.declared.register.Value.{Value}
 use Rattle.dcc_regs.specs.declared.register.Value.TheVariants as values
 use Rattle.dcc_regs.specs.declared.register.Who.TheVariants as who
-use Rattle.dcc_packet.specs.Bits.{is_one, byte_of}
+use Rattle.dcc_packet.specs.Bits.{is_one}
 use Rattle.dcc_regs.specs.Loco.{is_function, is_cv_bit, is_speed, is_pending_for, holds_one, cv_held, loco_registers}
 use Rattle.dcc_regs.specs.States.{is_binary_state}
 use Rattle.dcc_regs.specs.LocoState.{content as loco_content}
@@ -112,75 +113,6 @@ pub same_flags : (there one other : Bool) → (there ≡ true → one ≡ other)
 same_flags true one other same = ap (λ (b : Bool). Some (values.Flag b)) (same refl)
 same_flags false one other same = refl
 
--- a bit as a number
-abbrev unit : Bool → ℕ
-unit b = if b then 1 else 0
-
-weighs : (b : Bool) (n : ℕ) → (if b then n else 0) ≡ n * unit b
-weighs true n = omega arith
-weighs false n = omega arith
-
-unit_small : (b : Bool) → unit b ≤ 1
-unit_small true = omega arith
-unit_small false = omega arith
-
-unit_is : (b : Bool) → eqb (unit b) 1 ≡ b
-unit_is true = refl
-unit_is false = refl
-
-abbrev sum_of_bits : (ℕ → ℕ) → ℕ
-sum_of_bits n = n 0 + 2 * n 1 + 4 * n 2 + 8 * n 3 + 16 * n 4 + 32 * n 5 + 64 * n 6 + 128 * n 7
-
-digit_of : (n : ℕ → ℕ) → ((k : ℕ) → n k ≤ 1) → (place : ℕ) → place ≤ 7 → sum_of_bits n / 2 ^ place % 2 ≡ n place
-digit_of n small zero h = omega (arith, small 0, small 1, small 2, small 3, small 4, small 5, small 6, small 7)
-digit_of n small (suc zero) h = omega (arith, small 0, small 1, small 2, small 3, small 4, small 5, small 6, small 7)
-digit_of n small (suc (suc zero)) h =
-    omega (arith, small 0, small 1, small 2, small 3, small 4, small 5, small 6, small 7)
-digit_of n small (suc (suc (suc zero))) h =
-    omega (arith, small 0, small 1, small 2, small 3, small 4, small 5, small 6, small 7)
-digit_of n small (suc (suc (suc (suc zero)))) h =
-    omega (arith, small 0, small 1, small 2, small 3, small 4, small 5, small 6, small 7)
-digit_of n small (suc (suc (suc (suc (suc zero))))) h =
-    omega (arith, small 0, small 1, small 2, small 3, small 4, small 5, small 6, small 7)
-digit_of n small (suc (suc (suc (suc (suc (suc zero)))))) h =
-    omega (arith, small 0, small 1, small 2, small 3, small 4, small 5, small 6, small 7)
-digit_of n small (suc (suc (suc (suc (suc (suc (suc zero))))))) h =
-    omega (arith, small 0, small 1, small 2, small 3, small 4, small 5, small 6, small 7)
-digit_of n small (suc (suc (suc (suc (suc (suc (suc (suc k)))))))) h = absurd (omega (arith, h))
-
-byte_is : (bits : ℕ → Bool) → byte_of bits ≡ sum_of_bits (λ k. unit (bits k))
-byte_is bits =
-    omega (
-      arith,
-      weighs (bits 1) 2,
-      weighs (bits 2) 4,
-      weighs (bits 3) 8,
-      weighs (bits 4) 16,
-      weighs (bits 5) 32,
-      weighs (bits 6) 64,
-      weighs (bits 7) 128,
-    )
-
-bit_byte : (bits : ℕ → Bool) (place : ℕ) → place ≤ 7 → is_one (byte_of bits) place ≡ bits place
-bit_byte bits place h =
-    ap (λ n. is_one n place) (byte_is bits)
-    ∙ ap (λ n. eqb n 1) (digit_of (λ k. unit (bits k)) (λ k. unit_small (bits k)) place h) ∙ unit_is (bits place)
-
-pub byte_small : (bits : ℕ → Bool) → byte_of bits < 256
-byte_small bits =
-    omega (
-      arith,
-      byte_is bits,
-      unit_small (bits 0),
-      unit_small (bits 1),
-      unit_small (bits 2),
-      unit_small (bits 3),
-      unit_small (bits 4),
-      unit_small (bits 5),
-      unit_small (bits 6),
-      unit_small (bits 7),
-    )
-
 -- what a locomotive decoder's lines save
 abbrev pub loco_state : Option Address → RegisterMap → ℕ → ℕ → List ℕ → LocoState
 loco_state address m functions states cvs =
@@ -206,7 +138,7 @@ module _ (address : Option Address) (m : RegisterMap) (possible : IsPossible (wh
       let high = leb-true cv 1024 parts.1 in
       let next : suc (cv - 1) ≡ cv = omega (arith, low) in
       ap (λ n. is_one n place) (each (cv - 1) (omega (arith, low, high)) ∙ ap (cv_held m) next)
-      ∙ bit_byte (λ k. holds_one (m (registers.CvBit cv k))) place (leb-true place 7 parts.2)
+      ∙ is_one-byte_of (λ k. holds_one (m (registers.CvBit cv k))) place (leb-true place 7 parts.2)
 
   pub same_loco : SameRegisters (loco_registers (loco_content (loco_state address m functions states cvs))) m
   same_loco registers.Speed = sym (speed_is address (m registers.Speed) (possible.registers registers.Speed)).0

@@ -10,10 +10,12 @@ use Rattle.std.proofs.lemmas.Fmt.{length-decimal-le}
 use Rattle.std.proofs.lemmas.Nat.Bits.{bit_at_lowest, bit_at-suc}
 use Rattle.std.proofs.lemmas.List.{append-nil}
 use Rattle.dcc_packet.specs.Written.{spaced_words}
-use Rattle.dcc_packet.proofs.Decimal.{short}
 use Rattle.dcc_packet.proofs.WordsBack.{small_number-decimal, output_back}
 use Rattle.dcc_packet.specs.Bits.{is_one}
-use Rattle.dcc_saved.specs.DecoderLines.{functions_from, states_from, outs_from}
+use Rattle.dcc_saved.specs.declared.decoder_line.Numbered.{Numbered}
+use Rattle.dcc_saved.specs.declared.decoder_line.Numbered.TheVariants as kinds
+use Rattle.dcc_saved.specs.Numbered.{end_of}
+use Rattle.dcc_saved.specs.DecoderLines.{number_of, numbers_from}
 use Rattle.dcc_saved.specs.FleetText.{numbers_below}
 use Rattle.dcc_io.specs.Spaced.{behind_space}
 
@@ -56,17 +58,6 @@ numbers_are on c = ap (numbers_below on) (from_none c) ∙ numbers_split on 0 c
     from_none : (n : ℕ) → n ≡ 0 + n
     from_none n = omega arith
 
-pub ons_short : (on : ℕ → Bool) (k c : ℕ) → k + c ≤ 100 → length (spaced_words (on_words on k c)) ≤ 6 * c
-ons_short on k zero h = omega arith
-ons_short on k (suc c) h = go (ons_short on (suc k) c (omega (arith, h))) (on k) refl
-  where
-    go : length (spaced_words (on_words on (suc k) c)) ≤ 6 * c → (b : Bool) → on k ≡ b
-        → length (spaced_words (on_words on k (suc c))) ≤ 6 * suc c
-    go rest true is =
-        rw is (omega
-        (arith, rest, short k (omega (arith, h)), length-append (decimal k) (spaced_words (on_words on (suc k) c))))
-    go rest false is = rw is (omega (arith, rest))
-
 -- a space and the digits of a number below 1000, as many as it can have
 abbrev width : ℕ → ℕ
 width k = if nat_lt k 100 then 3 else 4
@@ -100,72 +91,50 @@ ons_fit on k (suc c) h = go (ons_fit on (suc k) c (omega (arith, h))) (on k) ref
         ))
     go rest false is = rw is (omega (arith, rest))
 
--- all binary states stand in one line
-pub states_short : (on : ℕ → Bool) → length (spaced_words (on_words on 0 128)) ≤ 412
-states_short on = ons_fit on 0 128 (omega arith)
+-- the numbers of a kind stand in one line
+pub row_short : (kind : Numbered) (on : ℕ → Bool) → length (spaced_words (on_words on 0 (end_of kind))) ≤ 412
+row_short kinds.Function on = let fit = ons_fit on 0 69 (omega arith) in omega (arith, fit)
+row_short kinds.State on = ons_fit on 0 128 (omega arith)
+row_short kinds.Out on = let fit = ons_fit on 0 8 (omega arith) in omega (arith, fit)
+
+-- there is no state 0
+abbrev pub IsSoundRow : Numbered → (ℕ → Bool) → Type 0
+IsSoundRow kind on = kind ≡ kinds.State → on 0 ≡ false
+
+-- a number that is on is read
+number_back : (kind : Numbered) (on : ℕ → Bool) → IsSoundRow kind on → (n : ℕ) → n < end_of kind → on n ≡ true
+    → number_of kind (decimal n) ≡ Ok n
+number_back kinds.Function on sound n within is =
+    let range : nat_lt 68 n ≡ false = le-ltb 68 n (omega (arith, within)) in
+    rw (small_number-decimal n (omega (arith, within)), range) refl
+number_back kinds.State on sound n within is =
+    let first : nat_lt n 1 ≡ false = le-ltb n 1 (some n is) in
+    let range : nat_lt 127 n ≡ false = le-ltb 127 n (omega (arith, within)) in
+    rw (small_number-decimal n (omega (arith, within)), first, range) refl
+  where
+    some : (n : ℕ) → on n ≡ true → 1 ≤ n
+    some zero is = let clash : true ≡ false = sym is ∙ sound refl in absurd cc
+    some (suc n) is = omega arith
+number_back kinds.Out on sound n within is =
+    rw (output_back (record { number = n; in_range = omega (arith, within) })) refl
 
 -- the value is read
-pub states_are : (on : ℕ → Bool) → on 0 ≡ false → (least k c : ℕ) → least ≤ k → k + c ≤ 128
-    → states_from least (on_words on k c) ≡ Ok (value_of on k c (2 ^ k))
-states_are on none least k zero h few = refl
-states_are on none least k (suc c) h few =
-    go (states_are on none (k + 1) (suc k) c (omega arith) (omega (arith, few)))
-    (states_are on none least (suc k) c (omega (arith, h)) (omega (arith, few))) (on k) refl
+pub ons_are : (kind : Numbered) (on : ℕ → Bool) → IsSoundRow kind on → (least k c : ℕ) → least ≤ k → k + c ≤ end_of kind
+    → numbers_from kind least (on_words on k c) ≡ Ok (value_of on k c (2 ^ k))
+ons_are kind on sound least k zero h few = refl
+ons_are kind on sound least k (suc c) h few =
+    go (ons_are kind on sound (k + 1) (suc k) c (omega arith) (omega (arith, few)))
+    (ons_are kind on sound least (suc k) c (omega (arith, h)) (omega (arith, few))) (on k) refl
   where
     twice : value_of on (suc k) c (2 ^ suc k) ≡ value_of on (suc k) c (2 * 2 ^ k)
     twice = ap (value_of on (suc k) c) (pow-succ' 2 k)
 
-    some : (k : ℕ) → on k ≡ true → 1 ≤ k
-    some zero is = let clash : true ≡ false = sym is ∙ none in absurd cc
-    some (suc k) is = omega arith
-
-    go : states_from (k + 1) (on_words on (suc k) c) ≡ Ok (value_of on (suc k) c (2 ^ suc k))
-        → states_from least (on_words on (suc k) c) ≡ Ok (value_of on (suc k) c (2 ^ suc k))
-        → (b : Bool) → on k ≡ b → states_from least (on_words on k (suc c)) ≡ Ok (value_of on k (suc c) (2 ^ k))
-    go behind same true is =
-        let first : nat_lt k 1 ≡ false = le-ltb k 1 (some k is) in
-        let range : nat_lt 127 k ≡ false = le-ltb 127 k (omega (arith, few)) in
-        let ordered : nat_lt k least ≡ false = le-ltb k least h in
-        rw (is, small_number-decimal k (omega (arith, few)), first, range, ordered, behind)
-        (ap (λ n. Ok (2 ^ k + n)) twice)
-    go behind same false is = rw is (same ∙ ap Ok twice)
-
-pub functions_are : (on : ℕ → Bool) (least k c : ℕ) → least ≤ k → k + c ≤ 69
-    → functions_from least (on_words on k c) ≡ Ok (value_of on k c (2 ^ k))
-functions_are on least k zero h few = refl
-functions_are on least k (suc c) h few =
-    go (functions_are on (k + 1) (suc k) c (omega arith) (omega (arith, few)))
-    (functions_are on least (suc k) c (omega (arith, h)) (omega (arith, few))) (on k) refl
-  where
-    twice : value_of on (suc k) c (2 ^ suc k) ≡ value_of on (suc k) c (2 * 2 ^ k)
-    twice = ap (value_of on (suc k) c) (pow-succ' 2 k)
-
-    go : functions_from (k + 1) (on_words on (suc k) c) ≡ Ok (value_of on (suc k) c (2 ^ suc k))
-        → functions_from least (on_words on (suc k) c) ≡ Ok (value_of on (suc k) c (2 ^ suc k))
-        → (b : Bool) → on k ≡ b → functions_from least (on_words on k (suc c)) ≡ Ok (value_of on k (suc c) (2 ^ k))
-    go behind same true is =
-        let range : nat_lt 68 k ≡ false = le-ltb 68 k (omega (arith, few)) in
-        let ordered : nat_lt k least ≡ false = le-ltb k least h in
-        rw (is, small_number-decimal k (omega (arith, few)), range, ordered, behind) (ap (λ n. Ok (2 ^ k + n)) twice)
-    go behind same false is = rw is (same ∙ ap Ok twice)
-
-pub outs_are : (on : ℕ → Bool) (least k c : ℕ) → least ≤ k → k + c ≤ 8
-    → outs_from least (on_words on k c) ≡ Ok (value_of on k c (2 ^ k))
-outs_are on least k zero h few = refl
-outs_are on least k (suc c) h few =
-    go (outs_are on (k + 1) (suc k) c (omega arith) (omega (arith, few)))
-    (outs_are on least (suc k) c (omega (arith, h)) (omega (arith, few))) (on k) refl
-  where
-    twice : value_of on (suc k) c (2 ^ suc k) ≡ value_of on (suc k) c (2 * 2 ^ k)
-    twice = ap (value_of on (suc k) c) (pow-succ' 2 k)
-
-    go : outs_from (k + 1) (on_words on (suc k) c) ≡ Ok (value_of on (suc k) c (2 ^ suc k))
-        → outs_from least (on_words on (suc k) c) ≡ Ok (value_of on (suc k) c (2 ^ suc k))
-        → (b : Bool) → on k ≡ b → outs_from least (on_words on k (suc c)) ≡ Ok (value_of on k (suc c) (2 ^ k))
+    go : numbers_from kind (k + 1) (on_words on (suc k) c) ≡ Ok (value_of on (suc k) c (2 ^ suc k))
+        → numbers_from kind least (on_words on (suc k) c) ≡ Ok (value_of on (suc k) c (2 ^ suc k))
+        → (b : Bool) → on k ≡ b → numbers_from kind least (on_words on k (suc c)) ≡ Ok (value_of on k (suc c) (2 ^ k))
     go behind same true is =
         let ordered : nat_lt k least ≡ false = le-ltb k least h in
-        rw (is, output_back (record { number = k; in_range = omega (arith, few) }), ordered, behind)
-        (ap (λ n. Ok (2 ^ k + n)) twice)
+        rw (is, number_back kind on sound k (omega (arith, few)) is, ordered, behind) (ap (λ n. Ok (2 ^ k + n)) twice)
     go behind same false is = rw is (same ∙ ap Ok twice)
 
 twice_value : (on : ℕ → Bool) (k c p : ℕ) → value_of on k c (2 * p) ≡ 2 * value_of on k c p

@@ -11,18 +11,18 @@ use Rattle.dcc_saved.specs.declared.saved.Saved.{Saved}
 use Rattle.dcc_saved.specs.declared.decoder_line.Head.{Head}
 use Rattle.dcc_saved.specs.declared.decoder_line.Head.TheVariants as heads
 use Rattle.dcc_saved.specs.declared.decoder_line.Version.TheVariants as versions
-use Rattle.dcc_saved.specs.DecoderLines.{version_line, head_line}
-use Rattle.dcc_saved.specs.DecoderText.{decoder_lines, decoders_from, decoder_text}
+use Rattle.dcc_saved.specs.DecoderLines.{version_line}
+use Rattle.dcc_saved.specs.DecoderText.{decoders_from, decoder_text}
 use Rattle.dcc_saved.specs.FleetText.{cvs_text, text_of, fleet_text, loco_address_line, written_speed}
-use Rattle.dcc_saved.specs.FleetText.{written_functions, written_states, written_pending, board_line, written_outs}
+use Rattle.dcc_saved.specs.FleetText.{written_numbers, written_pending, board_line}
+use Rattle.dcc_saved.specs.declared.decoder_line.Numbered.TheVariants as kinds
 use Rattle.dcc_saved.specs.FleetText.{written_positions, written_aspects}
 use Rattle.dcc_saved.specs.ReadBack.{SavesEach, IsPossibleDecoder, FleetsAreReadBack}
 use Rattle.dcc_saved.specs.TextReader.{line_by}
-use Rattle.dcc_saved.proofs.DecoderTextLemmas.{behind_head, behind_version}
 use Rattle.dcc_saved.proofs.DecodersBack.{BeginsWith, loco_begins, board_begins, end_begins, GivesDecoder}
 use Rattle.dcc_saved.proofs.DecodersBack.{loco_given, board_given}
 use Rattle.dcc_saved.proofs.LinesKept.{read_lines}
-use Rattle.dcc_saved.proofs.LinesBack.{at, few_back, then_back}
+use Rattle.dcc_saved.proofs.LinesBack.{at, few_back}
 use Rattle.dcc_saved.proofs.RulesBack.{version_back}
 use Rattle.dcc_saved.proofs.TokensBack.{keyword_token}
 
@@ -41,8 +41,8 @@ head_of (decoder ∷ fleet) = heads.Decoder decoder.0
 abbrev lines_of : FleetDecoder → List ℕ → List ℕ
 lines_of (who.Loco address, m) text =
     written_speed m
-    ++ (written_functions m ++ (written_states m ++ (written_pending m ++ (cvs_text (cv_held m) 1024 ++ text))))
-lines_of (who.Board board, m) text = written_outs m ++ (written_positions m ++ (written_aspects m ++ text))
+    ++ (written_numbers kinds.Function m ++ (written_numbers kinds.State m ++ (written_pending m ++ (cvs_text (cv_held m) 1024 ++ text))))
+lines_of (who.Board board, m) text = written_numbers kinds.Out m ++ (written_positions m ++ (written_aspects m ++ text))
 
 abbrev rest_of : List FleetDecoder → List ℕ → List ℕ
 rest_of [] text = text
@@ -62,7 +62,7 @@ begins [] text possible = end_begins text
 begins ((who.Loco address, m) ∷ fleet) text possible =
     let behind : List ℕ = lines_of (who.Loco address, m) (tail fleet text) in
     let is : tail ((who.Loco address, m) ∷ fleet) text ≡ loco_address_line address ++ behind =
-    loco_shuffle (loco_address_line address) (written_speed m) (written_functions m) (written_states m)
+    loco_shuffle (loco_address_line address) (written_speed m) (written_numbers kinds.Function m) (written_numbers kinds.State m)
     (written_pending m)
     (cvs_text (cv_held m) 1024) (flat_map text_of fleet) (codes "end\n") text in
     subst (λ (bytes : List ℕ). BeginsWith bytes (heads.Decoder (who.Loco address)) behind) (sym is)
@@ -70,7 +70,7 @@ begins ((who.Loco address, m) ∷ fleet) text possible =
 begins ((who.Board board, m) ∷ fleet) text possible =
     let behind : List ℕ = lines_of (who.Board board, m) (tail fleet text) in
     let is : tail ((who.Board board, m) ∷ fleet) text ≡ board_line board ++ behind =
-    board_shuffle (board_line board) (written_outs m) (written_positions m) (written_aspects m) (flat_map text_of fleet)
+    board_shuffle (board_line board) (written_numbers kinds.Out m) (written_positions m) (written_aspects m) (flat_map text_of fleet)
     (codes "end\n") text in
     subst (λ (bytes : List ℕ). BeginsWith bytes (heads.Decoder (who.Board board)) behind) (sym is)
     (board_begins board behind m possible.0)
@@ -115,13 +115,8 @@ all_given (decoder ∷ fleet) (suc room) before n text few possible =
     record {
       states = one.state ∷ more.states;
       line = more.line;
-      reads = then_back (decoder_lines versions.Two decoder.0)
-          (λ read. decoders_from versions.Two room (before ++ read.0 ∷ []) read.1) (one.state, head_of fleet)
-          (at n (lines_of decoder (tail fleet text))) (at one.line (rest_of fleet text))
-          (Ok (before ++ one.state ∷ more.states, at more.line text)) one.reads
-          (more.reads
-          ∙ ap (λ (xs : List Saved). Ok (xs, at more.line text))
-          (append_assoc before (one.state ∷ []) more.states));
+      reads = rw one.reads (more.reads
+          ∙ ap (λ (xs : List Saved). Ok (xs, at more.line text)) (append_assoc before (one.state ∷ []) more.states));
       saves = (one.saves, more.saves);
     }
 
@@ -140,12 +135,7 @@ fleets_read_back fleet line rest few possible =
     let reads : decoder_text (at line (fleet_text fleet ++ rest)) ≡ Ok (all.states, at all.line rest) =
     ap (λ (bytes : List ℕ). decoder_text (at line bytes))
     (append_assoc (codes "dcc-decoders 2\n") (flat_map text_of fleet ++ codes "end\n") rest)
-    ∙ then_back (line_by version_line) behind_version versions.Two
-    (at line (codes "dcc-decoders 2\n" ++ tail fleet rest)) (at (line + 1) (tail fleet rest))
-    (Ok (all.states, at all.line rest)) (version_read line (tail fleet rest))
-    (then_back (line_by head_line) (behind_head versions.Two) (head_of fleet) (at (line + 1) (tail fleet rest))
-    (at (line + 1 + 1) (rest_of fleet rest)) (Ok (all.states, at all.line rest)) (first.first (line + 1))
-    all.reads) in
+    ∙ rw (version_read line (tail fleet rest), first.first (line + 1)) all.reads in
     record {
       states = all.states;
       behind = all.line;

@@ -1,26 +1,28 @@
 -- How readers of a text follow one another.
 use Rattle.std.proofs.Common.{◌≡◌, ℕ, ◌+◌, ◌-◌, ◌<◌, List, [], ◌∷◌, ◌++◌, length, take, Bool, true, false, eqb}
 use Rattle.std.proofs.Common.{nat_le, Option, None, Some, Result, Ok, Err, refl, sym, ap, ◌∙◌, subst, arith}
-use Rattle.std.proofs.Common.{append_assoc, length-append, ◌⊎◌, inl, inr, IfOk}
+use Rattle.std.proofs.Common.{append_assoc, length-append, ◌⊎◌, inl, inr, IfOk, IfSome, IsSomeAnd}
 use Rattle.std.proofs.lemmas.List.{append-nil}
 use Rattle.dcc_packet.specs.declared.fault.PacketFault.{PacketFault}
 use Rattle.dcc_packet.specs.declared.fault.PacketFault.TheVariants as faults
 use Rattle.dcc_packet.specs.Words.{Word, words}
 use Rattle.dcc_io.specs.declared.fault.KeptFault.{KeptFault}
 use Rattle.dcc_io.specs.declared.fault.KeptFault.TheVariants.{Number, Line, Read, TooMuch}
-use Rattle.dcc_io.specs.TextPlace.{TextPlace}
-use Rattle.dcc_io.specs.InputState.{InputState}
-use Rattle.dcc_io.specs.Took.{Uses, Stops}
+use Rattle.dcc_io.specs.TextPlace.{TextPlace, lines_with}
+use Rattle.dcc_io.specs.ReaderState.{IsAtEnd}
+use Rattle.dcc_io.specs.InputState.{InputState, all_lines, UsesAllLines}
+use Rattle.dcc_io.specs.Took.{Uses, Took, Stops}
 use Rattle.dcc_io.specs.NumberedLines.{is_good}
-use Rattle.dcc_io.specs.NextLine.{has_line_feed, IsOneLine, EndsLine, IsBadAt}
+use Rattle.dcc_io.specs.NextLine.{has_line_feed, lines_within, IsOneLine, EndsLine, IsBadAt}
 use Rattle.dcc_saved.specs.Inner.RequiredLine.{TakesLine, Judges}
 use Rattle.dcc_saved.specs.TextReader.{Text, Stop, Reader, read_on, ◌>>=◌, done, stop_at, first_line, behind_line}
 use Rattle.dcc_saved.specs.TextReader.{line_verdict, line_by}
 use Rattle.dcc_saved.specs.TextReader.Stop.{refused, cut, too_many}
 use Rattle.dcc_saved.specs.TextRead.{at, answer_of, answer_in, answer_before_failure, GoesOn, Leads, Refuses, Answers}
+use Rattle.dcc_saved.specs.TextRead.{TextLinesAt}
 use Rattle.dcc_io.proofs.TookLemmas.{if_some_map, if_some_all, map_text, Took-start, Took-map, Took-join, Stops-map}
 use Rattle.dcc_io.proofs.TookLemmas.{same_cond, Stops-behind, within_limit-used, within_limit-front, overflows}
-use Rattle.dcc_io.proofs.TookLemmas.{zero_fits}
+use Rattle.dcc_io.proofs.TookLemmas.{zero_fits, told_behind, LinesAt-behind}
 use Rattle.dcc_io.proofs.PassedLemmas.{or_false}
 use Rattle.dcc_io.proofs.LineLemmas.{bad-more, IsThrough, took_line}
 
@@ -109,6 +111,22 @@ module _ {A : Type 0} where
       either text true is = rw is refl
       either text false is = rw is refl
 
+-- the lines that were used where a text is refused, told from further back
+pub TextLinesAt-behind : {P : List ℕ → Type 0} (old mid new : InputState) (fault : KeptFault) → Took P old mid
+    → TextLinesAt mid fault new → TextLinesAt old fault new
+TextLinesAt-behind old mid new (Number line) took lines = LinesAt-behind took new (Number line) lines
+TextLinesAt-behind old mid new Read took lines = LinesAt-behind took new Read lines
+TextLinesAt-behind old mid new (Line line why) took (inl lines) = inl (LinesAt-behind took new (Line line why) lines)
+TextLinesAt-behind old mid new (Line line why) took (inr (at_end, all)) = inr (
+  at_end,
+  told_behind took (λ text. new.lines ≡ all_lines mid text) (λ text. new.lines ≡ all_lines old text)
+      (λ text rest uses same. same ∙ uses.lines) all,
+)
+TextLinesAt-behind old mid new TooMuch took (inl lines) = inl (LinesAt-behind took new TooMuch lines)
+TextLinesAt-behind old mid new TooMuch took (inr whole) =
+    inr (told_behind took (λ text. new.lines + 1 ≡ new.place.line) (λ text. new.lines + 1 ≡ new.place.line)
+    (λ text rest uses same. same) whole)
+
 module _ {A B : Type 0} (first : Reader A) (next : A → Reader B) where
   -- the first of two readers gave a value
   Leads-value : (old new : InputState) (x : A) → Leads first old (done x) new → Leads (first >>= next) old (next x) new
@@ -160,8 +178,11 @@ module _ {A B : Type 0} (first : Reader A) (next : A → Reader B) where
 
   pub Answers-fault : {whole : Reader B} {old now : InputState} (new : InputState) {fault : KeptFault}
       → Leads whole old (first >>= next) now → Answers first now (Err fault) new → Answers whole old (Err fault) new
-  Answers-fault {whole = whole} {old = old} {now = now} new {fault = fault} a b =
-      (Refuses-behind whole (first >>= next) old now new fault a (Refuses-first now new fault b.0), b.1)
+  Answers-fault {whole = whole} {old = old} {now = now} new {fault = fault} a b = (
+    Refuses-behind whole (first >>= next) old now new fault a (Refuses-first now new fault b.0),
+    b.1,
+    TextLinesAt-behind old now new fault a.took b.2,
+  )
 
 -- bytes without a line feed begin the first line
 first-goes_on : (line rest : List ℕ) → has_line_feed line ≡ false → first_line (line ++ rest) ≡ line ++ first_line rest
@@ -225,20 +246,23 @@ module _ {A : Type 0} (rule : List Word → Result A PacketFault) where
               (Says (line_by rule) (Line old.place.line faults.Word) old) old.text (missed_text old) h.1.text,
         ),
         rw h.1.at at h.1.fault,
+        rw h.1.at at h.1.lines,
       )
   line-missed old new TooMuch h = (
     overflows IsOneLine (λ bytes last. answer_of last (line_by rule (at old bytes))) (Err TooMuch) old new h.0
         (λ used is_line. ap (answer_of (Some TooMuch)) (line-cut old.place.line used is_line)),
     h.1,
+    inl h.2,
   )
   line-missed old new Read h = (
     Stops-map IsOneLine (Fails (line_by rule) old) (λ text. Unit {0}) (λ text. Unit {0}) old new Read h.0
         (λ used is_line. ap (answer_of (Some Read)) (line-cut old.place.line used is_line)) (λ text none. none),
     h.1,
+    h.2,
   )
   line-missed old new (Number n) h = absurd h
 
-  -- a line that was taken and line_verdict
+  -- a line that was taken and judged
   pub line-judged : ((x : A) → rule (words []) ≡ Ok x → ⊥)
       → (old mid new : InputState) (n : ℕ) (line : List ℕ) (result : Result A KeptFault) → EndsLine old n line mid
       → Judges mid n (rule (words line)) result new → Answers (line_by rule) old result new
@@ -277,6 +301,19 @@ module _ {A : Type 0} (rule : List Word → Result A PacketFault) where
           ∙ ap (answer_of last) (given more ∙ ap (λ read. line_verdict old.place.line read more) is))
           ∙ same_cond (nat_le (length rest) mid.bytes) (Err (Line old.place.line why))
 
+      -- the line is the last that was used, or the text has ended
+      on_line : (x y : Option (List ℕ))
+          → IfSome x
+          (λ text. IsSomeAnd y
+          (λ rest. mid.lines ≡ lines_with (lines_within old.lines old.place.line line) old.place.line rest))
+          → IfSome x (λ text. IsSomeAnd y (λ rest. Uses (IsThrough old mid line) old mid text rest))
+          → IfSome x (λ text. mid.lines ≡ old.place.line)
+          ⊎ (IsAtEnd y × IfSome x (λ text. mid.lines ≡ all_lines old text))
+      on_line None y lines uses = inl tt
+      on_line (Some text) None lines uses = absurd lines
+      on_line (Some text) (Some []) lines uses = inr (refl, uses.lines)
+      on_line (Some text) (Some (next ∷ rest)) lines uses = inl lines
+
       go : (read : Result A PacketFault) → rule (words line) ≡ read → Judges mid n read result new
           → Answers (line_by rule) old result new
       go (Ok x) is h = rw (h.0, h.1) record {
@@ -293,9 +330,10 @@ module _ {A : Type 0} (rule : List Word → Result A PacketFault) where
                   (refused_text why is) (took_line old mid n line ends).text,
             ),
             refl,
+            on_line old.text mid.text ends.lines (took_line old mid n line ends).text,
           )
 
--- what every value of a rule is, a line_verdict one is
+-- what holds of every value of a rule holds of the value of a line that it judged
 pub judged-sound : {A : Type 0} (P : A → Type 0) (old new : InputState) (n : ℕ) (read : Result A PacketFault)
     (result : Result A KeptFault) → Judges old n read result new → IfOk read P → IfOk result P
 judged-sound P old new n (Ok x) result judges sound = rw judges.0 sound

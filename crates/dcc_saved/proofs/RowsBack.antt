@@ -16,13 +16,15 @@ use Rattle.dcc_regs.specs.declared.register.Speed.{Speed}
 use Rattle.dcc_regs.specs.declared.register.Speed.TheVariants.{Stop, Emergency, Step14, Step28, Step126}
 use Rattle.dcc_packet.specs.Bits.{is_one}
 use Rattle.dcc_regs.specs.Loco.{is_speed, is_pending_for}
-use Rattle.dcc_saved.specs.DecoderLines.{functions_line, states_line, outs_line, speed_line, pending_line}
+use Rattle.dcc_saved.specs.declared.decoder_line.Numbered.{Numbered}
+use Rattle.dcc_saved.specs.declared.decoder_line.Numbered.TheVariants as kinds
+use Rattle.dcc_saved.specs.Numbered.{name_of, end_of}
+use Rattle.dcc_saved.specs.DecoderLines.{numbers_line, speed_line, pending_line}
 use Rattle.dcc_saved.specs.DecoderLines.{positions_line, aspects_line}
 use Rattle.dcc_saved.specs.FleetText.{numbers_below, speed_text, pending_text, four_numbers}
 use Rattle.dcc_saved.specs.TextReader.{line_by}
 use Rattle.dcc_saved.proofs.LinesBack.{IsToken, at, line_back, few_back}
-use Rattle.dcc_saved.proofs.NumbersBack.{on_words, value_of, numbers_are, ons_short, functions_are, states_short}
-use Rattle.dcc_saved.proofs.NumbersBack.{states_are, outs_are, value_bits}
+use Rattle.dcc_saved.proofs.NumbersBack.{on_words, value_of, numbers_are, row_short, IsSoundRow, ons_are, value_bits}
 use Rattle.dcc_saved.proofs.PendingBack.{pending_back}
 use Rattle.dcc_saved.proofs.RulesBack.{speed_words, speed_back, positions_back, aspects_back}
 use Rattle.dcc_saved.proofs.TokensBack.{keyword_token, decimal_token, direction_token, state_token, on_tokens}
@@ -45,78 +47,45 @@ row_bits on c j within = value_bits on 0 c j within ∙ ap on (from_none j)
     from_none : (n : ℕ) → 0 + n ≡ n
     from_none n = omega arith
 
-functions_say : (on : ℕ → Bool) (c : ℕ) → c ≤ 69
-    → functions_line (codes "on" ∷ on_words on 0 c) ≡ Ok (value_of on 0 c 1)
-unfolding functions_line
-functions_say on c few = functions_are on 0 0 c (omega arith) (omega (arith, few))
+row_says : (kind : Numbered) (on : ℕ → Bool) → IsSoundRow kind on
+    → numbers_line kind (name_of kind ∷ on_words on 0 (end_of kind)) ≡ Ok (value_of on 0 (end_of kind) 1)
+unfolding numbers_line
+row_says kinds.Function on sound = ons_are kinds.Function on sound 0 0 69 (omega arith) (omega arith)
+row_says kinds.State on sound = ons_are kinds.State on sound 0 0 128 (omega arith) (omega arith)
+row_says kinds.Out on sound = ons_are kinds.Out on sound 0 0 8 (omega arith) (omega arith)
 
-states_say : (on : ℕ → Bool) → on 0 ≡ false
-    → states_line (codes "states" ∷ on_words on 0 128) ≡ Ok (value_of on 0 128 1)
-unfolding states_line
-states_say on none = states_are on none 0 0 128 (omega arith) (omega arith)
+name_token : (kind : Numbered) → IsToken (name_of kind)
+name_token kinds.Function = keyword_token (codes "on") (omega arith) refl refl (omega arith)
+name_token kinds.State = keyword_token (codes "states") (omega arith) refl refl (omega arith)
+name_token kinds.Out = keyword_token (codes "out") (omega arith) refl refl (omega arith)
 
-outs_say : (on : ℕ → Bool) (c : ℕ) → c ≤ 8 → outs_line (codes "out" ∷ on_words on 0 c) ≡ Ok (value_of on 0 c 1)
-unfolding outs_line
-outs_say on c few = outs_are on 0 0 c (omega arith) (omega (arith, few))
+few : (kind : Numbered) → 0 + end_of kind ≤ 1000
+few kinds.Function = omega arith
+few kinds.State = omega arith
+few kinds.Out = omega arith
 
-pub functions_read : (on : ℕ → Bool) (c n : ℕ) (text : List ℕ) → c ≤ 69
-    → GivesBits functions_line on c n (((codes "on" ++ numbers_below on c) ++ codes "\n") ++ text) text
-functions_read on c n text few = record {
-  value = value_of on 0 c 1;
-  reads = ap (λ (bytes : List ℕ). line_by functions_line (at n bytes)) (fed (codes "on" ++ numbers_below on c) text)
-      ∙ line_back functions_line (value_of on 0 c 1) n (codes "on" ++ numbers_below on c) (codes "on") (on_words on 0 c)
-      text
-      (ap (λ (xs : List ℕ). codes "on" ++ xs) (numbers_are on c))
-      (keyword_token (codes "on") (omega arith) refl refl (omega arith)) (on_tokens on 0 c (omega (arith, few)))
-      (omega (
-        arith,
-        few,
-        ap length (numbers_are on c),
-        ons_short on 0 c (omega (arith, few)),
-        length-append (codes "on") (numbers_below on c),
-      ))
-      (functions_say on c few);
-  bits = row_bits on c;
-}
-
-pub states_read : (on : ℕ → Bool) (n : ℕ) (text : List ℕ) → on 0 ≡ false
-    → GivesBits states_line on 128 n (((codes "states" ++ numbers_below on 128) ++ codes "\n") ++ text) text
-states_read on n text none = record {
-  value = value_of on 0 128 1;
-  reads = ap (λ (bytes : List ℕ). line_by states_line (at n bytes)) (fed (codes "states" ++ numbers_below on 128) text)
-      ∙ line_back states_line (value_of on 0 128 1) n (codes "states" ++ numbers_below on 128) (codes "states")
-      (on_words on 0 128) text
-      (ap (λ (xs : List ℕ). codes "states" ++ xs) (numbers_are on 128))
-      (keyword_token (codes "states") (omega arith) refl refl (omega arith)) (on_tokens on 0 128 (omega arith))
-      (omega (
-        arith,
-        ap length (numbers_are on 128),
-        states_short on,
-        length-append (codes "states") (numbers_below on 128),
-      ))
-      (states_say on none);
-  bits = row_bits on 128;
-}
-
-pub outs_read : (on : ℕ → Bool) (c n : ℕ) (text : List ℕ) → c ≤ 8
-    → GivesBits outs_line on c n (((codes "out" ++ numbers_below on c) ++ codes "\n") ++ text) text
-outs_read on c n text few = record {
-  value = value_of on 0 c 1;
-  reads = ap (λ (bytes : List ℕ). line_by outs_line (at n bytes)) (fed (codes "out" ++ numbers_below on c) text)
-      ∙ line_back outs_line (value_of on 0 c 1) n (codes "out" ++ numbers_below on c) (codes "out") (on_words on 0 c)
-      text
-      (ap (λ (xs : List ℕ). codes "out" ++ xs) (numbers_are on c))
-      (keyword_token (codes "out") (omega arith) refl refl (omega arith)) (on_tokens on 0 c (omega (arith, few)))
-      (omega (
-        arith,
-        few,
-        ap length (numbers_are on c),
-        ons_short on 0 c (omega (arith, few)),
-        length-append (codes "out") (numbers_below on c),
-      ))
-      (outs_say on c few);
-  bits = row_bits on c;
-}
+pub numbers_read : (kind : Numbered) (on : ℕ → Bool) (n : ℕ) (text : List ℕ) → IsSoundRow kind on
+    → GivesBits (numbers_line kind) on (end_of kind) n
+    (((name_of kind ++ numbers_below on (end_of kind)) ++ codes "\n") ++ text) text
+numbers_read kind on n text sound =
+    let line : List ℕ = name_of kind ++ numbers_below on (end_of kind) in
+    let token = name_token kind in
+    record {
+      value = value_of on 0 (end_of kind) 1;
+      reads = ap (λ (bytes : List ℕ). line_by (numbers_line kind) (at n bytes)) (fed line text)
+          ∙ line_back (numbers_line kind) (value_of on 0 (end_of kind) 1) n line (name_of kind)
+          (on_words on 0 (end_of kind)) text (ap (λ (xs : List ℕ). name_of kind ++ xs) (numbers_are on (end_of kind)))
+          token (on_tokens on 0 (end_of kind) (few kind))
+          (omega (
+            arith,
+            ap length (numbers_are on (end_of kind)),
+            row_short kind on,
+            token.short,
+            length-append (name_of kind) (numbers_below on (end_of kind)),
+          ))
+          (row_says kind on sound);
+      bits = row_bits on (end_of kind);
+    }
 
 -- the speed
 speed_line_is : (speed : Speed) (word : Word)

@@ -20,6 +20,9 @@ use Rattle.dcc_saved.specs.declared.decoder_line.Version.{Version}
 use Rattle.dcc_saved.specs.declared.decoder_line.Version.TheVariants as versions
 use Rattle.dcc_saved.specs.declared.decoder_line.LocoLine.{LocoLine}
 use Rattle.dcc_saved.specs.declared.decoder_line.LocoLine.TheVariants as behind
+use Rattle.dcc_saved.specs.declared.decoder_line.Numbered.{Numbered}
+use Rattle.dcc_saved.specs.declared.decoder_line.Numbered.TheVariants as kinds
+use Rattle.dcc_saved.specs.Numbered.{name_of}
 use Rattle.dcc_saved.specs.PendingWrite.{pending_write}
 
 -- the word that begins a line of this kind
@@ -132,41 +135,36 @@ function_number word = do
   n ← small_number word
   if nat_lt 68 n then Err faults.State else Ok n
 
--- the functions that are on, as bits, in ascending order from this one on
-abbrev pub functions_from : ℕ → List Word → Result ℕ PacketFault
-functions_from least [] = Ok 0
-functions_from least (word ∷ rest) = do
-  n ← function_number word
-  ordered ← in_order least n
-  others ← functions_from (n + 1) rest
-  Ok (2 ^ n + others)
-
--- on FUNCTION ..
-unfoldable pub functions_line : List Word → Result ℕ PacketFault
-functions_line line = do
-  key ← word_and_rest (keyword (codes "on")) line
-  functions_from 0 key.1
-
 -- a binary state of a locomotive decoder, 1 to 127
 abbrev pub binary_state : Word → Result ℕ PacketFault
 binary_state word = do
   n ← small_number word
   if nat_lt n 1 then Err faults.StateNumber else if nat_lt 127 n then Err faults.StateNumber else Ok n
 
--- the binary states that are on, as bits, in ascending order from this one on
-abbrev pub states_from : ℕ → List Word → Result ℕ PacketFault
-states_from least [] = Ok 0
-states_from least (word ∷ rest) = do
-  n ← binary_state word
+abbrev pub out_number : Word → Result ℕ PacketFault
+out_number word = do
+  output ← output_number word
+  Ok output.number
+
+abbrev pub number_of : Numbered → Word → Result ℕ PacketFault
+number_of kinds.Function word = function_number word
+number_of kinds.State word = binary_state word
+number_of kinds.Out word = out_number word
+
+-- the numbers that are on, as bits, in ascending order from this one on
+abbrev pub numbers_from : Numbered → ℕ → List Word → Result ℕ PacketFault
+numbers_from kind least [] = Ok 0
+numbers_from kind least (word ∷ rest) = do
+  n ← number_of kind word
   ordered ← in_order least n
-  others ← states_from (n + 1) rest
+  others ← numbers_from kind (n + 1) rest
   Ok (2 ^ n + others)
 
--- states STATE ..
-unfoldable pub states_line : List Word → Result ℕ PacketFault
-states_line line = do
-  key ← word_and_rest (keyword (codes "states")) line
-  states_from 0 key.1
+-- on FUNCTION .., states STATE .. or out OUTPUT ..
+unfoldable pub numbers_line : Numbered → List Word → Result ℕ PacketFault
+numbers_line kind line = do
+  key ← word_and_rest (keyword (name_of kind)) line
+  numbers_from kind 0 key.1
 
 abbrev pub framed_write : Option Address → Word → Result (Option Packet) PacketFault
 framed_write active word = do
@@ -207,21 +205,6 @@ loco_line_after least word rest = if is_word word (codes "cv") then cv_words lea
 unfoldable pub loco_line : ℕ → List Word → Result LocoLine PacketFault
 loco_line least [] = Err faults.Word
 loco_line least (word ∷ rest) = loco_line_after least word rest
-
--- the outputs that are on, as bits, in ascending order from this one on
-abbrev pub outs_from : ℕ → List Word → Result ℕ PacketFault
-outs_from least [] = Ok 0
-outs_from least (word ∷ rest) = do
-  output ← output_number word
-  ordered ← in_order least output.number
-  others ← outs_from (output.number + 1) rest
-  Ok (2 ^ output.number + others)
-
--- out OUTPUT ..
-unfoldable pub outs_line : List Word → Result ℕ PacketFault
-outs_line line = do
-  key ← word_and_rest (keyword (codes "out")) line
-  outs_from 0 key.1
 
 -- position SIDE SIDE SIDE SIDE
 unfoldable pub positions_line : List Word → Result (List Bool) PacketFault

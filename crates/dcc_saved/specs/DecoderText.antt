@@ -11,9 +11,10 @@ use Rattle.dcc_saved.specs.declared.decoder_line.Head.TheVariants as heads
 use Rattle.dcc_saved.specs.declared.decoder_line.Version.{Version}
 use Rattle.dcc_saved.specs.declared.decoder_line.Version.TheVariants as versions
 use Rattle.dcc_saved.specs.declared.decoder_line.LocoLine.{LocoLine}
+use Rattle.dcc_saved.specs.declared.decoder_line.Numbered.TheVariants as kinds
 use Rattle.dcc_saved.specs.declared.decoder_line.LocoLine.TheVariants as behind
-use Rattle.dcc_saved.specs.DecoderLines.{version_line, head_line, speed_line, functions_line, states_line, pending_line}
-use Rattle.dcc_saved.specs.DecoderLines.{loco_line, outs_line, positions_line, aspects_line}
+use Rattle.dcc_saved.specs.DecoderLines.{version_line, head_line, speed_line, numbers_line, pending_line}
+use Rattle.dcc_saved.specs.DecoderLines.{loco_line, positions_line, aspects_line}
 use Rattle.dcc_saved.specs.TextReader.{Reader, ◌>>=◌, done, stop_at, line_by}
 use Rattle.dcc_saved.specs.TextReader.Stop.{too_many}
 
@@ -35,13 +36,13 @@ cvs_lines = cvs_from 1025 1 (replicate 1024 0)
 -- the line of the binary states that are on. Version 1 has none, and there all are off
 abbrev pub states_by : Version → Reader ℕ
 states_by versions.One = done 0
-states_by versions.Two = line_by states_line
+states_by versions.Two = line_by (numbers_line kinds.State)
 
 -- the lines of a locomotive decoder behind its first, and the line behind them
 unfoldable pub loco_lines : Version → Option Address → Reader (Saved × Head)
 loco_lines version address = do
   speed ← line_by speed_line
-  functions ← line_by functions_line
+  functions ← line_by (numbers_line kinds.Function)
   states ← states_by version
   pending ← line_by (pending_line address)
   cvs ← cvs_lines
@@ -62,7 +63,7 @@ loco_lines version address = do
 -- the lines of an accessory decoder behind its first, and the line behind them
 unfoldable pub board_lines : Board → Reader (Saved × Head)
 board_lines board = do
-  outs ← line_by outs_line
+  outs ← line_by (numbers_line kinds.Out)
   positions ← line_by positions_line
   aspects ← line_by aspects_line
   head ← line_by head_line

@@ -19,6 +19,9 @@ use Rattle.dcc_regs.specs.declared.register.Value.TheVariants as values
 use Rattle.dcc_regs.specs.Loco.{holds_one, cv_held}
 use Rattle.dcc_regs.specs.Result.{RegisterMap}
 use Rattle.dcc_io.specs.Spaced.{behind_space}
+use Rattle.dcc_saved.specs.declared.decoder_line.Numbered.{Numbered}
+use Rattle.dcc_saved.specs.declared.decoder_line.Numbered.TheVariants as kinds
+use Rattle.dcc_saved.specs.Numbered.{name_of, end_of, register_of}
 
 -- what a register of a decoder holds, and where it has no such register what a new decoder holds
 abbrev pub speed_held : Option Value → Speed
@@ -75,25 +78,21 @@ written_speed m =
     (codes "speed " ++ speed_text (speed_held (m registers.Speed)))
     ++ (32 ∷ direction_word (forward_held (m registers.Direction)) ++ codes "\n")
 
-abbrev pub written_functions : RegisterMap → List ℕ
-written_functions m = (codes "on" ++ numbers_below (λ n. holds_one (m (registers.Function n))) 69) ++ codes "\n"
-
-abbrev pub written_states : RegisterMap → List ℕ
-written_states m = (codes "states" ++ numbers_below (λ n. holds_one (m (registers.State n))) 128) ++ codes "\n"
+abbrev pub written_numbers : Numbered → RegisterMap → List ℕ
+written_numbers kind m =
+    (name_of kind ++ numbers_below (λ n. holds_one (m (register_of kind n))) (end_of kind)) ++ codes "\n"
 
 abbrev pub written_pending : RegisterMap → List ℕ
 written_pending m = (codes "pending " ++ pending_text (pending_held (m registers.Pending))) ++ codes "\n"
 
 abbrev pub loco_front : Option Address → RegisterMap → List ℕ
 loco_front address m =
-    loco_address_line address ++ (written_speed m ++ (written_functions m ++ (written_states m ++ written_pending m)))
+    loco_address_line address
+    ++ (written_speed m ++ (written_numbers kinds.Function m ++ (written_numbers kinds.State m ++ written_pending m)))
 
 -- the lines of an accessory decoder
 abbrev pub board_line : Board → List ℕ
 board_line board = (codes "board" ++ behind_space board.number) ++ codes "\n"
-
-abbrev pub written_outs : RegisterMap → List ℕ
-written_outs m = (codes "out" ++ numbers_below (λ n. holds_one (m (registers.Out n))) 8) ++ codes "\n"
 
 abbrev pub four_numbers : (ℕ → ℕ) → List ℕ
 four_numbers numbers =
@@ -107,7 +106,7 @@ abbrev pub written_aspects : RegisterMap → List ℕ
 written_aspects m = codes "aspect" ++ four_numbers (λ n. number_held (m (registers.Aspect n)))
 
 abbrev pub board_text : Board → RegisterMap → List ℕ
-board_text board m = board_line board ++ (written_outs m ++ (written_positions m ++ written_aspects m))
+board_text board m = board_line board ++ (written_numbers kinds.Out m ++ (written_positions m ++ written_aspects m))
 
 -- the lines of a decoder
 abbrev pub written_decoder : Who → RegisterMap → List ℕ

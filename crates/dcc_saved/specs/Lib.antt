@@ -1,4 +1,5 @@
 pub mod PendingWrite
+pub mod Numbered
 pub mod DecoderLines
 pub mod TextReader
 pub mod DecoderText

@@ -1,9 +1,10 @@
 -- What was read of an input by a reader of texts.
-use Rattle.std.specs.Prelude.{◌≡◌, ℕ, ◌+◌, ◌<◌, ◌++◌, List, Option, Some, Result, Ok, Err, length, IfSome}
+use Rattle.std.specs.Prelude.{◌≡◌, ◌⊎◌, ℕ, ◌+◌, ◌<◌, ◌++◌, List, Option, Some, Result, Ok, Err, length, IfSome}
 use Rattle.dcc_io.specs.declared.fault.KeptFault.{KeptFault}
 use Rattle.dcc_io.specs.declared.fault.KeptFault.TheVariants.{Number, Line, Read, TooMuch}
-use Rattle.dcc_io.specs.InputState.{InputState}
-use Rattle.dcc_io.specs.Took.{Took, within_limit, fault_at_end, Stops}
+use Rattle.dcc_io.specs.ReaderState.{IsAtEnd}
+use Rattle.dcc_io.specs.InputState.{InputState, UsesAllLines}
+use Rattle.dcc_io.specs.Took.{Took, within_limit, fault_at_end, Stops, LinesAt}
 use Rattle.dcc_saved.specs.TextReader.{Text, Stop, Reader, done}
 use Rattle.dcc_saved.specs.TextReader.Stop.{refused, cut, too_many}
 
@@ -53,7 +54,14 @@ Refuses read old fault new =
     Stops (λ used. answer_before_failure read old used ≡ Err Read) (λ text. answer_in read old text ≡ Err fault) old
     fault new
 
+-- How many lines were used where a text is refused: those up to the line that the fault names, or all where the text has
+-- ended, since that may be the line behind its last. Where a decoder is one too many, those through its first line.
+abbrev pub TextLinesAt : InputState → KeptFault → InputState → Type 0
+TextLinesAt old (Line line fault) new = LinesAt old (Line line fault) new ⊎ (IsAtEnd new.text × UsesAllLines old new)
+TextLinesAt old TooMuch new = LinesAt old TooMuch new ⊎ UsedWholeLines old new
+TextLinesAt old fault new = LinesAt old fault new
+
 -- this value was read, or this is why there is none, which is kept
 abbrev pub Answers : {A : Type 0} → Reader A → InputState → Result A KeptFault → InputState → Type 0
 Answers read old (Ok x) new = Leads read old (done x) new
-Answers read old (Err fault) new = Refuses read old fault new × (new.fault ≡ Some fault)
+Answers read old (Err fault) new = Refuses read old fault new × (new.fault ≡ Some fault) × TextLinesAt old fault new

@@ -6,12 +6,13 @@ ghost use Rattle.dcc_regs.specs.Loco.{holds_one as is_on_value, cv_held};
 ghost use Rattle.dcc_io.specs.Spaced.{behind_space};
 ghost use Rattle.dcc_saved.specs.FleetText.{speed_held, forward_held, pending_held, number_held, numbers_below};
 ghost use Rattle.dcc_saved.specs.FleetText.{own_address_word, speed_text, pending_text, cv_line, loco_address_line};
-ghost use Rattle.dcc_saved.specs.FleetText.{written_speed, written_functions, written_states, written_pending};
+ghost use Rattle.dcc_saved.specs.FleetText.{written_speed, written_numbers, written_pending};
 ghost use Rattle.dcc_saved.specs.FleetText.{loco_front};
-ghost use Rattle.dcc_saved.specs.FleetText.{board_line, written_outs, four_numbers, written_positions};
+ghost use Rattle.dcc_saved.specs.FleetText.{board_line, four_numbers, written_positions};
 ghost use Rattle.dcc_saved.specs.FleetText.{written_aspects};
 ghost use Rattle.dcc_saved.specs.FleetText.{board_text};
 
+use crate::decoder_line::Numbered;
 use arrayvec::ArrayVec;
 use dcc_io::{append, append_decimal, append_hex};
 use dcc_packet::{Address, Board, Packet};
@@ -152,42 +153,14 @@ fn append_speed_line(rows: &mut Rows, decoder: &dyn Decoder)
     append(rows, b"\n");
 }
 
-fn append_functions(rows: &mut Rows, decoder: &dyn Decoder)
-    requires { array_vec_len rows.old + 800 ≤ 4096 }
-    ensures items { rows.new.items ≡ rows.old.items ++ written_functions (registers decoder.now) }
-    ensures len { array_vec_len rows.new ≤ array_vec_len rows.old + 800 }
+fn append_numbers(rows: &mut Rows, numbered: Numbered, decoder: &dyn Decoder)
+    requires { array_vec_len rows.old + 1415 ≤ 4096 }
+    ensures items { rows.new.items ≡ rows.old.items ++ written_numbers numbered (registers decoder.now) }
+    ensures len { array_vec_len rows.new ≤ array_vec_len rows.old + 1415 }
 {
-    append(rows, b"on");
-    for n in 0..69u8 {
-        if is_on(decoder.get(Register::Function(n))) {
-            append_number(rows, u32::from(n));
-        }
-    }
-    append(rows, b"\n");
-}
-
-fn append_states(rows: &mut Rows, decoder: &dyn Decoder)
-    requires { array_vec_len rows.old + 1420 ≤ 4096 }
-    ensures items { rows.new.items ≡ rows.old.items ++ written_states (registers decoder.now) }
-    ensures len { array_vec_len rows.new ≤ array_vec_len rows.old + 1420 }
-{
-    append(rows, b"states");
-    for n in 0..128u8 {
-        if is_on(decoder.get(Register::State(n))) {
-            append_number(rows, u32::from(n));
-        }
-    }
-    append(rows, b"\n");
-}
-
-fn append_outs(rows: &mut Rows, decoder: &dyn Decoder)
-    requires { array_vec_len rows.old + 100 ≤ 4096 }
-    ensures items { rows.new.items ≡ rows.old.items ++ written_outs (registers decoder.now) }
-    ensures len { array_vec_len rows.new ≤ array_vec_len rows.old + 100 }
-{
-    append(rows, b"out");
-    for n in 0..8u8 {
-        if is_on(decoder.get(Register::Out(n))) {
+    append(rows, numbered.name());
+    for n in 0..numbered.end() {
+        if is_on(decoder.get(numbered.register(n))) {
             append_number(rows, u32::from(n));
         }
     }
@@ -221,8 +194,8 @@ pub(crate) fn loco_front(address: &Option<Address>, decoder: &dyn Decoder) -> Ro
     let mut rows = Rows::new();
     append_address_line(&mut rows, address);
     append_speed_line(&mut rows, decoder);
-    append_functions(&mut rows, decoder);
-    append_states(&mut rows, decoder);
+    append_numbers(&mut rows, Numbered::Function, decoder);
+    append_numbers(&mut rows, Numbered::State, decoder);
     append_pending_line(&mut rows, decoder);
     rows
 }
@@ -311,7 +284,7 @@ pub(crate) fn board_rows(board: &Board, decoder: &dyn Decoder) -> Rows
     append(&mut rows, b"board");
     append_number(&mut rows, u32::from(board.number()));
     append(&mut rows, b"\n");
-    append_outs(&mut rows, decoder);
+    append_numbers(&mut rows, Numbered::Out, decoder);
     append_position_line(&mut rows, decoder);
     append_aspect_line(&mut rows, decoder);
     rows

@@ -7,15 +7,16 @@ ghost use Rattle.dcc_regs.specs.Possible.{is_decoder};
 ghost use Rattle.dcc_saved.specs.Inner.RequiredLine.{TakesLine, Judges};
 ghost use Rattle.dcc_saved.specs.TextReader.{line_by};
 ghost use Rattle.dcc_saved.specs.TextRead.{Answers};
-ghost use Rattle.dcc_saved.specs.DecoderLines.{version_line, head_line, speed_line, functions_line, states_line};
-ghost use Rattle.dcc_saved.specs.DecoderLines.{pending_line, loco_line, outs_line, positions_line, aspects_line};
+ghost use Rattle.dcc_saved.specs.DecoderLines.{version_line, head_line, speed_line, numbers_line};
+ghost use Rattle.dcc_saved.specs.DecoderLines.{pending_line, loco_line, positions_line, aspects_line};
+ghost use Rattle.dcc_saved.specs.Numbered.{end_of};
 ghost use Rattle.dcc_saved.specs.DecoderText.{board_lines, cvs_lines, decoder_lines, loco_lines, states_by};
 ghost use Rattle.dcc_saved.specs.PossibleLines.{IsPossibleHead, IsSoundLine, is_possible};
 
-use crate::decoder_line::{Head, LocoLine, Version};
+use crate::decoder_line::{Head, LocoLine, Numbered, Version};
 use crate::decoder_words::{
-    aspects_line, functions_line, head_line, loco_line, outs_line, pending_line, positions_line,
-    speed_line, states_line, version_line,
+    aspects_line, head_line, loco_line, numbers_line, pending_line, positions_line, speed_line,
+    version_line,
 };
 use crate::saved::Saved;
 use dcc_io::inputs::{line_of_next_byte, next_line, refuse_line};
@@ -81,24 +82,19 @@ fn read_speed<R: Source>(input: &mut Input<R>) -> Result<(Speed, bool), KeptFaul
     judge(input, line.number, speed_line(line.text.as_bytes()))
 }
 
-/// The line of the functions that are on.
-fn read_functions<R: Source>(input: &mut Input<R>) -> Result<u128, KeptFault>
+/// The line of the numbers that are on.
+fn read_numbers<R: Source>(input: &mut Input<R>, numbered: Numbered) -> Result<u128, KeptFault>
     requires { input.old.fault ≡ None }
-    ensures reads { Answers (line_by functions_line) input.old result input.new }
-    ensures fits { IfOk result (λ functions. functions < 2 ^ 69) }
+    ensures reads { Answers (line_by (numbers_line numbered)) input.old result input.new }
+    ensures fits { IfOk result (λ bits. bits < 2 ^ end_of numbered) }
+    ensures even { numbered ≡ Numbered.State → IfOk result (λ bits. bits % 2 ≡ 0) }
 {
     let line = line_in_place(input)?;
-    judge(input, line.number, functions_line(line.text.as_bytes()))
-}
-
-/// The line of the binary states that are on.
-fn read_states<R: Source>(input: &mut Input<R>) -> Result<u128, KeptFault>
-    requires { input.old.fault ≡ None }
-    ensures reads { Answers (line_by states_line) input.old result input.new }
-    ensures even { IfOk result (λ states. states % 2 ≡ 0) }
-{
-    let line = line_in_place(input)?;
-    judge(input, line.number, states_line(line.text.as_bytes()))
+    judge(
+        input,
+        line.number,
+        numbers_line(numbered, line.text.as_bytes()),
+    )
 }
 
 /// The binary states that are on. Version 1 has no line of them.
@@ -109,7 +105,7 @@ fn states_of<R: Source>(input: &mut Input<R>, version: Version) -> Result<u128, 
 {
     match version {
         Version::One => Ok(0),
-        Version::Two => read_states(input),
+        Version::Two => read_numbers(input, Numbered::State),
     }
 }
 
@@ -138,15 +134,6 @@ fn read_loco_line<R: Source>(input: &mut Input<R>, least: u16) -> Result<LocoLin
 {
     let line = line_in_place(input)?;
     judge(input, line.number, loco_line(line.text.as_bytes(), least))
-}
-
-/// The line of the outputs that are on.
-fn read_outs<R: Source>(input: &mut Input<R>) -> Result<u8, KeptFault>
-    requires { input.old.fault ≡ None }
-    ensures { Answers (line_by outs_line) input.old result input.new }
-{
-    let line = line_in_place(input)?;
-    judge(input, line.number, outs_line(line.text.as_bytes()))
 }
 
 /// The line of the positions.
@@ -198,7 +185,7 @@ fn read_loco<R: Source>(
     ensures possible { IfOk result (λ read. (is_possible read.0 ≡ true) × IsPossibleHead read.1) }
 {
     let (speed, forward) = read_speed(input)?;
-    let functions = read_functions(input)?;
+    let functions = read_numbers(input, Numbered::Function)?;
     let states = states_of(input, version)?;
     let pending = read_pending(input, &address)?;
     let (cvs, head) = read_cvs(input)?;
@@ -221,13 +208,13 @@ fn read_board<R: Source>(input: &mut Input<R>, board: Board) -> Result<(Saved, H
     ensures reads { Answers (board_lines board) input.old result input.new }
     ensures possible { IfOk result (λ read. (is_possible read.0 ≡ true) × IsPossibleHead read.1) }
 {
-    let outs = read_outs(input)?;
+    let outs = read_numbers(input, Numbered::Out)?;
     let positions = read_positions(input)?;
     let aspects = read_aspects(input)?;
     let head = read_head(input)?;
     let state = BoardState {
         board,
-        outs,
+        outs: outs as u8,
         positions,
         aspects,
     };

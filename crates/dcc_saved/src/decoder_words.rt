@@ -8,15 +8,18 @@ ghost use Rattle.dcc_regs.specs.Loco.{is_speed, is_byte_write, is_pending_for};
 ghost use Rattle.dcc_regs.specs.Writes.{is_own_write};
 ghost use Rattle.dcc_saved.specs.DecoderLines.{in_order, version_number, version_line, own_address, own_board};
 ghost use Rattle.dcc_saved.specs.DecoderLines.{loco_head, board_head, end_head, head_after, head_line, step_up_to};
-ghost use Rattle.dcc_saved.specs.DecoderLines.{speed_of, speed_after, speed_line, function_number, functions_from};
-ghost use Rattle.dcc_saved.specs.DecoderLines.{functions_line, binary_state, states_from, states_line, pending_word};
-ghost use Rattle.dcc_saved.specs.DecoderLines.{pending_line, cv_words, loco_line_after, loco_line, outs_from, outs_line};
+ghost use Rattle.dcc_saved.specs.DecoderLines.{speed_of, speed_after, speed_line, function_number, binary_state};
+ghost use Rattle.dcc_saved.specs.DecoderLines.{number_of, numbers_from, numbers_line, pending_word};
+ghost use Rattle.dcc_saved.specs.DecoderLines.{pending_line, cv_words, loco_line_after, loco_line};
+ghost use Rattle.dcc_saved.specs.Numbered.{end_of};
 ghost use Rattle.dcc_saved.specs.DecoderLines.{positions_line, aspects_line};
-ghost use Rattle.dcc_saved.specs.Inner.DecoderWords.{TakesKeyword, TakesSpeed};
+ghost use Rattle.dcc_saved.specs.Inner.DecoderWords.{Gives, TakesKeyword, TakesSpeed};
+ghost use Rattle.dcc_packet.specs.Line.{word_and_rest};
+ghost use Rattle.dcc_packet.specs.LineWords.{bit_state, small_number};
 ghost use Rattle.dcc_saved.specs.PendingWrite.{pending_write};
 ghost use Rattle.dcc_saved.specs.PossibleLines.{IsPossibleHead, IsSoundLine};
 
-use crate::decoder_line::{Head, LocoLine, Version};
+use crate::decoder_line::{Head, LocoLine, Numbered, Version};
 use dcc_packet::line_word::{
     address, bit_state, board_number, cv_number, direction, hex_frame, output_number,
 };
@@ -68,7 +71,7 @@ pub fn version_line(line: &[u8]) -> Result<Version, PacketFault>
 {
     let mut words = Words::new(line);
     take_keyword(&mut words, b"dcc-decoders")?;
-    let version = version_number(words.word()?)?;
+    let version = words.word().and_then(version_number)?;
     words.end()?;
     Ok(version)
 }
@@ -104,7 +107,7 @@ fn loco_head(words: &mut Words) -> Result<Head, PacketFault>
     ensures is { result ≡ loco_head words.old }
     ensures possible { IfOk result IsPossibleHead }
 {
-    let address = own_address(words.word()?)?;
+    let address = words.word().and_then(own_address)?;
     words.end()?;
     Ok(Head::Decoder(Who::Loco(address)))
 }
@@ -113,7 +116,7 @@ fn board_head(words: &mut Words) -> Result<Head, PacketFault>
     ensures is { result ≡ board_head words.old }
     ensures possible { IfOk result IsPossibleHead }
 {
-    let board = own_board(words.word()?)?;
+    let board = words.word().and_then(own_board)?;
     words.end()?;
     Ok(Head::Decoder(Who::Board(board)))
 }
@@ -165,6 +168,14 @@ fn step_up_to(last: u8, word: &[u8]) -> Result<u8, PacketFault>
     }
 }
 
+/// Takes a step from 1 to the last one.
+fn take_step(words: &mut Words, last: u8) -> Result<u8, PacketFault>
+    ensures is { Gives (word_and_rest (step_up_to last) words.old) result words.new }
+    ensures step { IfOk result (λ step. (1 ≤ step) × (step ≤ last)) }
+{
+    step_up_to(last, words.word()?)
+}
+
 fn speed_after(word: &[u8], rest: &mut Words) -> Result<Speed, PacketFault>
     ensures is { TakesSpeed (speed_after word.now rest.old) result rest.new }
     ensures possible { IfOk result (λ speed. is_speed speed ≡ true) }
@@ -174,11 +185,11 @@ fn speed_after(word: &[u8], rest: &mut Words) -> Result<Speed, PacketFault>
     } else if word == b"emergency".as_slice() {
         Ok(Speed::Emergency)
     } else if word == b"14".as_slice() {
-        Ok(Speed::Step14(step_up_to(14, rest.word()?)?))
+        Ok(Speed::Step14(take_step(rest, 14)?))
     } else if word == b"28".as_slice() {
-        Ok(Speed::Step28(step_up_to(28, rest.word()?)?))
+        Ok(Speed::Step28(take_step(rest, 28)?))
     } else if word == b"126".as_slice() {
-        Ok(Speed::Step126(step_up_to(126, rest.word()?)?))
+        Ok(Speed::Step126(take_step(rest, 126)?))
     } else {
         Err(PacketFault::Word)
     }
@@ -201,14 +212,15 @@ pub fn speed_line(line: &[u8]) -> Result<(Speed, bool), PacketFault>
     let mut words = Words::new(line);
     take_keyword(&mut words, b"speed")?;
     let speed = take_speed(&mut words)?;
-    let forward = direction(words.word()?)?;
+    let forward = words.word().and_then(direction)?;
     words.end()?;
     Ok((speed, forward))
 }
 
 /// A function of a locomotive decoder, 0 to 68.
 fn function_number(word: &[u8]) -> Result<u8, PacketFault>
-    ensures { result ≡ function_number word.now }
+    ensures is { result ≡ function_number word.now }
+    ensures range { IfOk result (λ n. n ≤ 68) }
 {
     let n = small_number(word)?;
     if 68 < n {
@@ -216,33 +228,6 @@ fn function_number(word: &[u8]) -> Result<u8, PacketFault>
     } else {
         Ok(n)
     }
-}
-
-fn functions_from(words: &mut Words, least: u8) -> Result<u128, PacketFault>
-    requires { least ≤ 69 }
-    ensures is { result ≡ functions_from least words.old }
-    ensures fits { IfOk result (λ functions. functions + 2 ^ least ≤ 2 ^ 69) }
-{
-    match words.next() {
-        Some(word) => {
-            let n = function_number(word)?;
-            in_order(u16::from(least), u16::from(n))?;
-            let others = functions_from(words, n + 1)?;
-            Ok((1 << n) + others)
-        }
-        None => Ok(0),
-    }
-}
-
-/// `on FUNCTION ..`, as bits
-#[tactic(auto, unfolding(crate::specs::DecoderLines::functions_line))]
-pub fn functions_line(line: &[u8]) -> Result<u128, PacketFault>
-    ensures is { result ≡ functions_line (words line.now) }
-    ensures fits { IfOk result (λ functions. functions < 2 ^ 69) }
-{
-    let mut words = Words::new(line);
-    take_keyword(&mut words, b"on")?;
-    functions_from(&mut words, 0)
 }
 
 /// A binary state of a locomotive decoder, 1 to 127.
@@ -258,32 +243,45 @@ fn binary_state(word: &[u8]) -> Result<u8, PacketFault>
     }
 }
 
-fn states_from(words: &mut Words, least: u8) -> Result<u128, PacketFault>
-    requires { least ≤ 128 }
-    ensures is { result ≡ states_from least words.old }
-    ensures fits { IfOk result (λ states. states + 2 ^ least ≤ 2 ^ 128) }
-    ensures even { IfOk result (λ states. states % 2 ≡ 0) }
+fn number(numbered: Numbered, word: &[u8]) -> Result<u8, PacketFault>
+    ensures is { result ≡ number_of numbered word.now }
+    ensures range { IfOk result (λ n. n < end_of numbered) }
+    ensures some { numbered ≡ Numbered.State → IfOk result (λ n. 1 ≤ n) }
+{
+    match numbered {
+        Numbered::Function => function_number(word),
+        Numbered::State => binary_state(word),
+        Numbered::Out => Ok(output_number(word)?.number()),
+    }
+}
+
+fn numbers_from(words: &mut Words, numbered: Numbered, least: u8) -> Result<u128, PacketFault>
+    requires { least ≤ end_of numbered }
+    ensures is { result ≡ numbers_from numbered least words.old }
+    ensures fits { IfOk result (λ bits. bits + 2 ^ least ≤ 2 ^ end_of numbered) }
+    ensures even { numbered ≡ Numbered.State → IfOk result (λ bits. bits % 2 ≡ 0) }
 {
     match words.next() {
         Some(word) => {
-            let n = binary_state(word)?;
+            let n = number(numbered, word)?;
             in_order(u16::from(least), u16::from(n))?;
-            let others = states_from(words, n + 1)?;
+            let others = numbers_from(words, numbered, n + 1)?;
             Ok((1 << n) + others)
         }
         None => Ok(0),
     }
 }
 
-/// `states STATE ..`, as bits. Bit 0 is none.
-#[tactic(auto, unfolding(crate::specs::DecoderLines::states_line))]
-pub fn states_line(line: &[u8]) -> Result<u128, PacketFault>
-    ensures is { result ≡ states_line (words line.now) }
-    ensures even { IfOk result (λ states. states % 2 ≡ 0) }
+/// `on FUNCTION ..`, `states STATE ..` or `out OUTPUT ..`, as bits
+#[tactic(auto, unfolding(crate::specs::DecoderLines::numbers_line))]
+pub fn numbers_line(numbered: Numbered, line: &[u8]) -> Result<u128, PacketFault>
+    ensures is { result ≡ numbers_line numbered (words line.now) }
+    ensures fits { IfOk result (λ bits. bits < 2 ^ end_of numbered) }
+    ensures even { numbered ≡ Numbered.State → IfOk result (λ bits. bits % 2 ≡ 0) }
 {
     let mut words = Words::new(line);
-    take_keyword(&mut words, b"states")?;
-    states_from(&mut words, 0)
+    take_keyword(&mut words, numbered.name())?;
+    numbers_from(&mut words, numbered, 0)
 }
 
 /// Whether the packet is a CV write to a decoder's own address.
@@ -336,9 +334,9 @@ fn cv_words(words: &mut Words, least: u16) -> Result<LocoLine, PacketFault>
     ensures is { result ≡ cv_words least words.old }
     ensures sound { IfOk result (IsSoundLine least) }
 {
-    let cv = cv_number(words.word()?)?;
+    let cv = words.word().and_then(cv_number)?;
     in_order(least, cv.number())?;
-    let value = small_number(words.word()?)?;
+    let value = words.word().and_then(small_number)?;
     words.end()?;
     Ok(LocoLine::Cv { cv, value })
 }
@@ -365,32 +363,6 @@ pub fn loco_line(line: &[u8], least: u16) -> Result<LocoLine, PacketFault>
     loco_line_after(word, &mut words, least)
 }
 
-fn outs_from(words: &mut Words, least: u8) -> Result<u8, PacketFault>
-    requires { least ≤ 8 }
-    ensures is { result ≡ outs_from least words.old }
-    ensures fits { IfOk result (λ outs. outs + 2 ^ least ≤ 2 ^ 8) }
-{
-    match words.next() {
-        Some(word) => {
-            let output = output_number(word)?.number();
-            in_order(u16::from(least), u16::from(output))?;
-            let others = outs_from(words, output + 1)?;
-            Ok((1 << output) + others)
-        }
-        None => Ok(0),
-    }
-}
-
-/// `out OUTPUT ..`, as bits
-#[tactic(auto, unfolding(crate::specs::DecoderLines::outs_line))]
-pub fn outs_line(line: &[u8]) -> Result<u8, PacketFault>
-    ensures { result ≡ outs_line (words line.now) }
-{
-    let mut words = Words::new(line);
-    take_keyword(&mut words, b"out")?;
-    outs_from(&mut words, 0)
-}
-
 /// `position SIDE SIDE SIDE SIDE`
 #[tactic(auto, unfolding(crate::specs::DecoderLines::positions_line))]
 pub fn positions_line(line: &[u8]) -> Result<[bool; 4], PacketFault>
@@ -398,10 +370,10 @@ pub fn positions_line(line: &[u8]) -> Result<[bool; 4], PacketFault>
 {
     let mut words = Words::new(line);
     take_keyword(&mut words, b"position")?;
-    let first = bit_state(words.word()?)?;
-    let second = bit_state(words.word()?)?;
-    let third = bit_state(words.word()?)?;
-    let fourth = bit_state(words.word()?)?;
+    let first = words.word().and_then(bit_state)?;
+    let second = words.word().and_then(bit_state)?;
+    let third = words.word().and_then(bit_state)?;
+    let fourth = words.word().and_then(bit_state)?;
     words.end()?;
     Ok([first, second, third, fourth])
 }
@@ -413,10 +385,10 @@ pub fn aspects_line(line: &[u8]) -> Result<[u8; 4], PacketFault>
 {
     let mut words = Words::new(line);
     take_keyword(&mut words, b"aspect")?;
-    let first = small_number(words.word()?)?;
-    let second = small_number(words.word()?)?;
-    let third = small_number(words.word()?)?;
-    let fourth = small_number(words.word()?)?;
+    let first = words.word().and_then(small_number)?;
+    let second = words.word().and_then(small_number)?;
+    let third = words.word().and_then(small_number)?;
+    let fourth = words.word().and_then(small_number)?;
     words.end()?;
     Ok([first, second, third, fourth])
 }

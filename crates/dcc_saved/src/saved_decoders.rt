@@ -39,7 +39,7 @@ pub fn read_decoders<R: Source>(
         (λ decoders. Answers decoder_text input.old (Ok decoders.items) input.new)
         (λ fault. ReadFails input.old fault input.new) }
 
-    // The lines that were used are then those through the line of `end`.
+    // The lines that were used are then those through the line of `end`. At a fault `reads` says how many.
     ensures lines { IfOk result (λ decoders. UsedWholeLines input.old input.new) }
 
     // All decoders are such as `restore` takes.

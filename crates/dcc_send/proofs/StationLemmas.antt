@@ -356,7 +356,7 @@ refused_is s packet result not_sendable full back = go (is_sendable packet) (eqb
     go true true is is_full = rw (is, is_full, full.1 (is, eqb-true (length s.waiting) s.queue is_full)) refl
     go true false is is_not = rw (is, is_not) (none result refl is is_not back)
 
--- a command that is with_command
+-- a command that is accepted
 pub answers_accepted : (how : Encode) (s new : Sending) (packet : Packet) (state : WriterState)
     (held : List ℕ) → None ≡ refusal s packet → new ≡ with_command s packet
     → HoldsAnswersOrFails how s (Command (spelling packet) ∷ []) state held (Ok tt) new held state

@@ -83,7 +83,7 @@ acted_on-twice (BitWrite cv bits one) cvs count =
     same_bit_again (is_writable cv) cvs (cv.number - 1) bits.place one (omega (arith, cv.in_range)) bits.in_range
 acted_on-twice (BitVerify cv bits one) cvs count = refl
 
--- and it is is_acknowledged alike
+-- and it is acknowledged alike
 pub acknowledged-again : (packet : ServicePacket) (cvs : List ℕ)
     → is_acknowledged packet (acted_on packet cvs) ≡ is_acknowledged packet cvs
 acknowledged-again (Write cv value) cvs = refl
@@ -139,7 +139,7 @@ Steps-more before (f ∷ frames) middle [] frame after answer steps step = absur
 Steps-more before (f ∷ frames) middle (a ∷ answers) frame after answer (next, first, more) step =
     (next, first, Steps-more next frames middle answers frame after answer more step)
 
--- one of the eight answers is a yes where the packet is is_acknowledged
+-- one of the eight answers is a yes where the packet is acknowledged
 pub any_of_answers : (truth : Bool) → list_any (λ answer. answer) (four_no_then truth) ≡ truth
 any_of_answers true = refl
 any_of_answers false = refl

@@ -26,7 +26,7 @@ acted_on (Verify cv value) cvs = cvs
 acted_on (BitWrite cv bits one) cvs = written cvs cv (with_bit (cv_in cvs cv.number) bits.place one)
 acted_on (BitVerify cv bits one) cvs = cvs
 
--- whether it is is_acknowledged then: a write that was done, a verify that is true
+-- whether it is acknowledged then: a write that was done, a verify that is true
 abbrev pub is_acknowledged : ServicePacket → List ℕ → Bool
 is_acknowledged (Write cv value) cvs = is_writable cv
 is_acknowledged (Verify cv value) cvs = cv_in cvs cv.number == value

@@ -15,7 +15,7 @@ pub record IsAsked (question : ServicePacket) (before after : ServiceState) (ans
   pub cvs : IsCvs before.cvs
   pub steps : Steps before (question_bytes question) after answers
 
--- four times no, then four times whether the packet is is_acknowledged
+-- four times no, then four times whether the packet is acknowledged
 abbrev pub QuestionsAreAnswered : Type 0
 QuestionsAreAnswered =
     (question : ServicePacket) (before after : ServiceState) (answers : List Bool)

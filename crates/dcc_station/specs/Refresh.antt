@@ -9,7 +9,7 @@ use Rattle.dcc_regs.specs.Result.{RegisterMap, result}
 use Rattle.dcc_station.specs.Commands.{is_sendable}
 use Rattle.dcc_station.specs.Sending.{Sending, idle_sending, with_command, Next, NextAll}
 
--- a station that was new, with_command these commands and handed out these packets
+-- a station that was new, accepted these commands and handed out these packets
 pub data StandsFor : Sending → List Packet → List Packet → Type 0 where
   made : (queue slots repeats : ℕ) → 0 < repeats → StandsFor (idle_sending queue slots repeats) [] []
   accepts : (s : Sending) (commands packets : List Packet) (p : Packet) → StandsFor s commands packets
@@ -35,7 +35,7 @@ RefreshIsTransparent =
     (s : Sending) (done packets : List Packet) → StandsFor s (done ++ s.waiting) packets → s.sent ≡ 0 →
     (who : Who) → LeaveTheSameButPending who packets (intended done)
 
--- where nothing waits, these are all the with_command commands
+-- where nothing waits, these are all the accepted commands
 abbrev pub TransparentWhereNothingWaits : Type 0
 TransparentWhereNothingWaits =
     (s : Sending) (commands packets : List Packet) → StandsFor s commands packets → s.waiting ≡ [] →
@@ -48,7 +48,7 @@ EntriesAreHandedOutInTurn =
     (s new : Sending) (packets : List Packet) → s.waiting ≡ [] → length packets ≡ length s.entries
     → NextAll s packets new → (packets ≡ s.entries) × (new ≡ s)
 
--- the commands that wait are the last of those that were with_command
+-- the commands that wait are the last of those that were accepted
 abbrev pub WaitingIsTheEnd : Type 0
 WaitingIsTheEnd =
     (s : Sending) (commands packets : List Packet) → StandsFor s commands packets

@@ -49,7 +49,7 @@ abbrev pub Refreshes : ℕ → Packet → List Packet → List Packet → Type 0
 Refreshes slots p entries new =
     (kept : List Packet) × Leaves p entries kept × (new ≡ (if is_refreshed p then with_entry slots kept p else kept))
 
--- a command is with_command
+-- a command is accepted
 abbrev pub with_command : Sending → Packet → Sending
 with_command s p = record s { waiting = s.waiting ++ p ∷ [] }
 

@@ -1,26 +1,15 @@
-//! Worked examples and hostile tracks: tests of what the crates below `dcc_tool` give out. It has no items of its own.
+//! Worked examples and hostile tracks: tests of what the crates below `dcc_tool` give out to a caller. It has no
+//! items of its own.
 #![tactic(auto)]
 
 #[cfg(test)]
 mod io_counted_tests;
 #[cfg(test)]
-mod io_decoder_text_tests;
-#[cfg(test)]
-mod io_who_tests;
-#[cfg(test)]
 mod kept_tests;
-#[cfg(test)]
-mod order_comparer_tests;
 #[cfg(test)]
 mod order_hearing_tests;
 #[cfg(test)]
-mod order_rows;
-#[cfg(test)]
-mod order_track_tests;
-#[cfg(test)]
 mod order_verdict_tests;
-#[cfg(test)]
-mod packet_rows;
 #[cfg(test)]
 mod packet_tests;
 #[cfg(test)]
@@ -34,8 +23,6 @@ mod regs_examples;
 #[cfg(test)]
 mod regs_loco_tests;
 #[cfg(test)]
-mod regs_packed_tests;
-#[cfg(test)]
 mod regs_restore_tests;
 #[cfg(test)]
 mod regs_tests;
@@ -43,10 +30,6 @@ mod regs_tests;
 mod rows;
 #[cfg(test)]
 mod service_tests;
-#[cfg(test)]
-mod state_tests;
-#[cfg(test)]
-mod station_rows;
 #[cfg(test)]
 mod station_tests;
 #[cfg(test)]

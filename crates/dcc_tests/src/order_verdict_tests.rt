@@ -1,58 +1,96 @@
-//! Worked examples of lists that are compared.
+//! Lists of packets in a text, compared whole and step by step. `examples/rows/same.txt` has them as captures.
 
-use crate::order_rows::{is_told, packets_of};
-use crate::rows::{column, rows_hold_in};
+use crate::rows::{column, number};
 use dcc_order::*;
 use dcc_packet::Packet;
 use dcc_regs::Who;
 use dcc_saved::read_who;
-use dcc_wire::{Frame, FrameFault};
+use dcc_wire::Frame;
 use std::alloc::Global;
 use std::process::Abort;
 use std::test::Fail;
 
-/// The verdict on two lists, none where they are too long.
+/// The line of a packet, by its letter.
+fn line_of(letter: u8) -> &'static str {
+    match letter {
+        // a speed for locomotive 3 that sets F0 where it is read for 14 steps
+        b'X' => "frame 037477",
+        // bit 1 of CV29 of locomotive 3 is to be 0, so that speeds are read for 14 steps
+        b'C' => "frame 03e81cf106",
+        // that bit is to be 1
+        b'D' => "frame 03e81cf90e",
+        // two more speeds for locomotive 3
+        b'P' => "frame 036261",
+        b'Q' => "frame 037f7c",
+        // functions of locomotive 3, a speed for locomotive 4, a reset of all
+        b'F' => "frame 038182",
+        b'O' => "frame 046266",
+        b'R' => "frame 000000",
+        // outputs 5 and 4 of board 12 switched on: one pair
+        b'1' => "frame 8cfd71",
+        b'2' => "frame 8cf579",
+        // state 5 of locomotive 3 is turned on and off
+        b'U' => "frame 03dd855b",
+        b'V' => "frame 03dd05db",
+        _ => "idle",
+    }
+}
+
+/// The packets of these letters.
+fn packets_of(alloc: Global, letters: &str) -> Result<Vec<Packet>, Fail> {
+    let mut packets = Vec::new(alloc);
+    for letter in letters.as_bytes() {
+        packets.push(Packet::from_line(line_of(*letter))?)?;
+    }
+    Ok(packets)
+}
+
+/// Whether a verdict is told by these words.
+fn is_told(verdict: Verdict, words: &str) -> bool {
+    let (kind, block) = match verdict {
+        Verdict::Alike => ("alike", 0),
+        Verdict::Writes => ("writes", 0),
+        Verdict::Members(block) => ("members", block),
+        Verdict::Order(block) => ("order", block),
+    };
+    match words.split_once(' ') {
+        None => words == kind,
+        Some((told, at)) => told == kind && number(at) == block,
+    }
+}
+
+/// The verdict on two lists, given whole and given step by step, and the most that is held of them.
 fn compared(
+    rt: &impl Abort,
     alloc: Global,
     who: Who,
     left: &[Packet],
     right: &[Packet],
-) -> Result<Option<Verdict>, NoMemory> {
-    if left.len() > 1_000_000 || right.len() > 1_000_000 {
-        return Ok(None);
+) -> Result<(Verdict, u64), NoMemory> {
+    assert!(rt; left.len() <= 2000 && right.len() <= 2000);
+    let whole = compare(alloc, who, left, right)?;
+    let mut comparer = Comparer::new(alloc, who);
+    let mut most = 0;
+    for _ in 0..4003u32 {
+        let given = comparer.given();
+        assert!(rt; given.0 <= 2000 && given.1 <= 2000);
+        let item = match comparer.wants() {
+            Wants::Left => left.get(given.0 as usize).copied(),
+            Wants::Right => right.get(given.1 as usize).copied(),
+            Wants::Done(verdict) => {
+                assert!(rt; verdict == whole);
+                return Ok((whole, most));
+            }
+        };
+        comparer.give(item)?;
+        most = most.max(comparer.held());
     }
-    Ok(Some(compare(alloc, who, left, right)?))
+    panic!(rt; "no verdict");
 }
 
-/// Whether two lists have the verdict of these words for the decoder of this name.
-fn have_verdict(
-    alloc: Global,
-    name: &str,
-    left: &[Packet],
-    right: &[Packet],
-    words: &str,
-) -> Result<bool, Fail> {
-    match compared(alloc, read_who(name)?, left, right)? {
-        Some(verdict) => Ok(is_told(verdict, words)),
-        None => Ok(false),
-    }
-}
-
-/// A row: what it shows, for which decoder, two lists, and their verdict.
-pub fn is_compared(alloc: Global, row: &str) -> Result<bool, Fail> {
-    let left = packets_of(alloc, column(row, 2))?;
-    let right = packets_of(alloc, column(row, 3))?;
-    have_verdict(
-        alloc,
-        column(row, 1),
-        left.as_slice(),
-        right.as_slice(),
-        column(row, 4),
-    )
-}
-
-const FOR_A_LOCOMOTIVE: &str = "\
-    two_empty_lists | s3 | | | alike
+/// What a row shows, for which decoder, two lists, their verdict, and the most that is held where that is said.
+const ROWS: &str = "\
+    two_empty_lists | s3 | | | alike | 0
     speed_and_functions_in_either_order | s3 | XF | FX | alike
     a_speed_behind_a_change_of_mode | s3 | XCCXDDX | XCCDDX | members 2
     repeats_count_for_nothing | s3 | PQ | PPQQ | alike
@@ -69,80 +107,69 @@ const FOR_A_LOCOMOTIVE: &str = "\
     empty_blocks | s3 | CDC | CDC | alike
     before_or_behind_a_write | s3 | PC | CP | members 0
     idle_and_others_count_for_nothing | s3 | PCC | IPOCIC | alike
+    a_packet_the_first_lacks | s3 | PPP | PQP | members 0
     a_packet_between_copies | s3 | CC | CPC | members 1
-    packets_to_boards | s3 | 12 | 21 | alike";
-
-#[test]
-fn verdicts_for_a_locomotive(rt: HostRuntime) -> Result<(), Fail> {
-    rows_hold_in(&rt, rt.alloc(), FOR_A_LOCOMOTIVE, is_compared)
-}
-
-const FOR_BOARDS: &str = "\
+    one_block_of_each_side_is_held | s3 | CPCQC | CPCQC | alike | 2
+    packets_to_boards | s3 | 12 | 21 | alike | 0
     both_sides_of_its_pair | b12 | 12 | 21 | order 0
-    the_pair_of_another_board | b13 | 12 | 21 | alike";
-
-#[test]
-fn verdicts_for_boards(rt: HostRuntime) -> Result<(), Fail> {
-    rows_hold_in(&rt, rt.alloc(), FOR_BOARDS, is_compared)
-}
-
-const WITHOUT_AN_ADDRESS: &str = "\
+    the_pair_of_another_board_is_not_held | b13 | 12 | 21 | alike | 0
     broadcasts_alone | none | PR | RQ | alike
-    a_broadcast_in_the_second_alone | none | P | R | members 0";
+    a_broadcast_in_the_second_alone | none | P | R | members 0
+    states_turned | s3 | UV | VU | order 0
+    a_state_repeated | s3 | UU | U | alike
+    states_of_another | l1000 | UV | VU | alike";
 
 #[test]
-fn verdicts_without_an_address(rt: HostRuntime) -> Result<(), Fail> {
-    rows_hold_in(&rt, rt.alloc(), WITHOUT_AN_ADDRESS, is_compared)
-}
-
-/// One of 256 speeds for locomotive 3, any two of which conflict.
-fn speed(number: u8, forward: bool) -> Result<Packet, FrameFault> {
-    let bits = if forward {
-        number | 0x80
-    } else {
-        number & 0x7F
-    };
-    let bytes = [0x03, 0x3F, bits, 0x03 ^ 0x3F ^ bits];
-    Ok(Packet::read(&Frame::of(&bytes)?))
-}
-
-/// A block of so many speeds.
-fn block(alloc: Global, count: u32) -> Result<Vec<Packet>, Fail> {
-    let mut packets = Vec::new(alloc);
-    let mut number = 7u8;
-    for _ in 0..count {
-        number = number.wrapping_mul(77).wrapping_add(31);
-        packets.push(speed(number, number % 3 == 0)?)?;
+fn verdicts(rt: HostRuntime) -> Result<(), Fail> {
+    for row in ROWS.lines() {
+        let who = read_who(column(row, 1))?;
+        let left = packets_of(rt.alloc(), column(row, 2))?;
+        let right = packets_of(rt.alloc(), column(row, 3))?;
+        let (verdict, held) = compared(&rt, rt.alloc(), who, left.as_slice(), right.as_slice())?;
+        assert!(rt; is_told(verdict, column(row, 4)), "{row}");
+        let most = column(row, 5);
+        assert!(rt; most.is_empty() || held == u64::from(number(most)), "{row}");
     }
-    Ok(packets)
-}
-
-/// A block of so many speeds, and two more behind it.
-fn block_and_two(alloc: Global, count: u32, first: u8, second: u8) -> Result<Vec<Packet>, Fail> {
-    let mut packets = block(alloc, count)?;
-    packets.push(speed(first, true)?)?;
-    packets.push(speed(second, true)?)?;
-    Ok(packets)
-}
-
-fn expect(
-    rt: &impl Abort,
-    alloc: Global,
-    left: &Vec<Packet>,
-    right: &Vec<Packet>,
-    words: &str,
-) -> Result<(), Fail> {
-    assert!(rt; have_verdict(alloc, "s3", left.as_slice(), right.as_slice(), words)?);
     Ok(())
 }
 
 #[test]
+fn nothing_changes_once_it_is_done(rt: HostRuntime) -> Result<(), Fail> {
+    let mut comparer = Comparer::new(rt.alloc(), read_who("s3")?);
+    comparer.give(None)?;
+    assert!(rt; comparer.wants() == Wants::Right);
+    comparer.give(None)?;
+    assert!(rt; comparer.wants() == Wants::Done(Verdict::Alike));
+    comparer.give(Some(Packet::from_line(line_of(b'P'))?))?;
+    assert!(rt; comparer.wants() == Wants::Done(Verdict::Alike));
+    assert!(rt; comparer.given() == (0, 0));
+    Ok(())
+}
+
+/// A block of a thousand of 256 speeds for locomotive 3, any two of which conflict, and two more behind it.
+fn block(alloc: Global, first: u8, second: u8) -> Result<Vec<Packet>, Fail> {
+    let mut packets = Vec::new(alloc);
+    let mut number = 7u8;
+    for at in 0..1002u32 {
+        number = number.wrapping_mul(77).wrapping_add(31);
+        let bits = match at {
+            1000 => first,
+            1001 => second,
+            _ => number,
+        };
+        packets.push(Packet::read(&Frame::with_error_byte(&[0x03, 0x3F, bits])?))?;
+    }
+    Ok(packets)
+}
+
+#[test]
 fn long_blocks(rt: HostRuntime) -> Result<(), Fail> {
-    let alloc = rt.alloc();
-    let left = block(alloc, 1_000)?;
-    let right = block(alloc, 1_000)?;
-    expect(&rt, alloc, &left, &right, "alike")?;
-    let left = block_and_two(alloc, 1_000, 4, 5)?;
-    let right = block_and_two(alloc, 1_000, 5, 4)?;
-    expect(&rt, alloc, &left, &right, "order 0")
+    let s3 = read_who("s3")?;
+    let one = block(rt.alloc(), 0x84, 0x85)?;
+    let turned = block(rt.alloc(), 0x85, 0x84)?;
+    let same = compared(&rt, rt.alloc(), s3, one.as_slice(), one.as_slice())?;
+    assert!(rt; same.0 == Verdict::Alike);
+    let other = compared(&rt, rt.alloc(), s3, one.as_slice(), turned.as_slice())?;
+    assert!(rt; other.0 == Verdict::Order(0));
+    Ok(())
 }

@@ -5,7 +5,7 @@ use dcc_wire::{Fault, Framer, Half, Seen};
 use std::alloc::{AllocError, Global};
 
 /// An outcome: the number of its refusal, 0 for a packet, and the bytes that are told with it.
-#[derive(Clone, Copy, Debug, PartialEq, Eq)]
+#[derive(Clone, Copy, PartialEq)]
 pub struct Outcome {
     refusal: u8,
     bytes: [u8; 6],
@@ -23,7 +23,8 @@ impl Outcome {
         }
     }
 
-    /// Whether a word tells it: the bytes of a packet, or `H`, the number of the refusal and, behind a colon, the bytes.
+    /// Whether a word tells it: the bytes of a packet, or `H`, the number of the refusal and, behind a colon, the
+    /// bytes.
     fn is_told(&self, word: &str) -> bool {
         let (refusal, bytes) = match word.strip_prefix('H') {
             None => ("0", word),

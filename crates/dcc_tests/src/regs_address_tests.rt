@@ -1,9 +1,8 @@
-//! Worked examples of active addresses, each held against the plain and the packed type.
+//! Worked examples of active addresses, on the plain and the packed type.
 
 use crate::regs_examples::*;
 use dcc_packet::Address;
-use dcc_regs::{Decoder, LocoDecoder, PackedLoco, Register, Speed, Value, Who};
-use std::process::Abort;
+use dcc_regs::{Decoder, LocoDecoder, PackedLoco, Register, Speed, Value, Who, same_registers};
 use std::test::Fail;
 
 /// Packets to short 3 and short 10, after CV1 was made 10.
@@ -11,44 +10,42 @@ const AS_3: &str = "frame 036261";
 
 const AS_10: &str = "frame 0a6268";
 
-/// A written address waits for the next power-up.
-fn before_power_up(rt: &impl Abort, decoder: &mut dyn Decoder) -> Result<(), Fail> {
-    expect(rt, decoder, &[TO_S10, TO_S10, AS_10], Register::Speed, STOP)?;
-    Ok(expect(rt, decoder, &[AS_3], Register::Speed, STEP_1)?)
-}
-
-/// After it, it is the active one.
-fn after_power_up(rt: &impl Abort, decoder: &mut dyn Decoder) -> Result<(), Fail> {
-    holds(rt, decoder, Register::Speed, STOP);
-    expect(rt, decoder, &[AS_3], Register::Speed, STOP)?;
-    Ok(expect(rt, decoder, &[AS_10], Register::Speed, STEP_1)?)
-}
-
+/// A written address waits for the next power-up; after it, it is the active one.
 #[test]
 fn address_at_power_up(rt: HostRuntime) -> Result<(), Fail> {
-    let mut plain = loco(2);
-    before_power_up(&rt, &mut plain)?;
+    let before = [TO_S10, TO_S10, AS_10];
+    let mut plain = heard_by_loco(&rt, &cvs(2), &before)?;
+    let mut packed = PackedLoco::new(&cvs(2));
+    hear(&mut packed, &before)?;
+    holds(&rt, &plain, Register::Speed, STOP);
+    hear(&mut plain, &[AS_3])?;
+    hear(&mut packed, &[AS_3])?;
+    holds(&rt, &plain, Register::Speed, STEP_1);
+    assert!(rt; same_registers(&plain, &packed));
     plain.power_up();
-    after_power_up(&rt, &mut plain)?;
-    let mut packed = packed_loco(2);
-    before_power_up(&rt, &mut packed)?;
     packed.power_up();
-    after_power_up(&rt, &mut packed)
-}
-
-/// CV29 = 34 asks for a long address.
-fn still_short_3(rt: &impl Abort, decoder: &mut dyn Decoder) -> Result<(), Fail> {
-    hear(decoder, &["frame 03e81cfd0a", "frame 03e81cfd0a"])?;
-    assert!(rt; decoder.who() == Who::Loco(Some(Address::short(3)?)));
+    holds(&rt, &plain, Register::Speed, STOP);
+    hear(&mut plain, &[AS_3])?;
+    hear(&mut packed, &[AS_3])?;
+    holds(&rt, &plain, Register::Speed, STOP);
+    assert!(rt; same_registers(&plain, &packed));
+    hear(&mut plain, &[AS_10])?;
+    hear(&mut packed, &[AS_10])?;
+    holds(&rt, &plain, Register::Speed, STEP_1);
+    assert!(rt; same_registers(&plain, &packed));
     Ok(())
 }
 
+/// CV29 = 34 asks for a long address, from the next power-up on.
 #[test]
 fn address_kind_at_power_up(rt: HostRuntime) -> Result<(), Fail> {
-    let mut plain = loco(2);
-    still_short_3(&rt, &mut plain)?;
-    let mut packed = packed_loco(2);
-    still_short_3(&rt, &mut packed)
+    let lines = ["frame 03e81cfd0a", "frame 03e81cfd0a"];
+    let three = Who::Loco(Some(Address::short(3)?));
+    assert!(rt; heard_by_loco(&rt, &cvs(2), &lines)?.who() == three);
+    let mut packed = PackedLoco::new(&cvs(2));
+    hear(&mut packed, &lines)?;
+    assert!(rt; packed.who() == three);
+    Ok(())
 }
 
 /// CV1, CV17, CV18 and CV29.
@@ -84,31 +81,27 @@ fn active_addresses(rt: HostRuntime) -> Result<(), Fail> {
     Ok(())
 }
 
-fn hears_long_1000(rt: &impl Abort, decoder: &mut dyn Decoder) -> Result<(), Fail> {
-    let last = Value::Speed(Speed::Step126(126));
-    expect(rt, decoder, &["frame c3e83f7f6b"], Register::Speed, last)?;
-    holds(rt, decoder, Register::Direction, REVERSE);
-    Ok(())
-}
-
-fn hears_broadcasts_alone(rt: &impl Abort, decoder: &mut dyn Decoder) -> Result<(), Fail> {
-    let first = Value::Speed(Speed::Step126(1));
-    expect(rt, decoder, &["frame 036261"], Register::Speed, STOP)?;
-    expect(rt, decoder, &["frame 003f82bd"], Register::Speed, first)?;
-    holds(rt, decoder, Register::Direction, FORWARD);
-    Ok(())
-}
-
 #[test]
 fn heard_by_address(rt: HostRuntime) -> Result<(), Fail> {
     let long = address_cvs(3, 195, 232, 34);
-    let mut plain = LocoDecoder::new(&long);
-    hears_long_1000(&rt, &mut plain)?;
-    let mut packed = PackedLoco::new(&long);
-    hears_long_1000(&rt, &mut packed)?;
+    let decoder = heard_by_loco(&rt, &long, &["frame c3e83f7f6b"])?;
+    holds(
+        &rt,
+        &decoder,
+        Register::Speed,
+        Value::Speed(Speed::Step126(126)),
+    );
+    holds(&rt, &decoder, Register::Direction, REVERSE);
     let nobody = address_cvs(0, 191, 232, 34);
-    let mut plain = LocoDecoder::new(&nobody);
-    hears_broadcasts_alone(&rt, &mut plain)?;
-    let mut packed = PackedLoco::new(&nobody);
-    hears_broadcasts_alone(&rt, &mut packed)
+    let decoder = heard_by_loco(&rt, &nobody, &["frame 036261"])?;
+    holds(&rt, &decoder, Register::Speed, STOP);
+    let decoder = heard_by_loco(&rt, &nobody, &["frame 003f82bd"])?;
+    holds(
+        &rt,
+        &decoder,
+        Register::Speed,
+        Value::Speed(Speed::Step126(1)),
+    );
+    holds(&rt, &decoder, Register::Direction, FORWARD);
+    Ok(())
 }

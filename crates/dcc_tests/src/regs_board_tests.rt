@@ -1,9 +1,8 @@
-//! Worked examples of accessory decoders, each held against the plain and the packed type.
+//! Worked examples of accessory decoders, on the plain and the packed type.
 
 use crate::regs_examples::*;
-use dcc_packet::PacketFault;
-use dcc_regs::{Decoder, Register, Value};
-use std::process::Abort;
+use dcc_packet::Board;
+use dcc_regs::{BoardDecoder, Decoder, PackedBoard, Register, Value, same_registers};
 use std::test::Fail;
 
 /// Outputs of board 12, and of all boards.
@@ -19,7 +18,10 @@ const SIDE_0: Value = Value::Number(0);
 
 const SIDE_1: Value = Value::Number(1);
 
-const BOARDS: [BoardRow; 17] = [
+/// Board 12 hears the lines, then holds the value in the register.
+type BoardRow = (&'static [&'static str], Register, Value);
+
+const BOARDS: [BoardRow; 24] = [
     (&["idle"], Register::Out(5), OFF),
     (&["idle"], Register::Position(2), SIDE_0),
     (&[FIVE_ON], Register::Out(5), ON),
@@ -39,10 +41,37 @@ const BOARDS: [BoardRow; 17] = [
         Register::Out(0),
         OFF,
     ),
+    (
+        &[FIVE_ON, FOUR_ON, ZERO_ON_FOR_ALL, RESET],
+        Register::Out(4),
+        OFF,
+    ),
+    (
+        &[FIVE_ON, FOUR_ON, ZERO_ON_FOR_ALL, RESET],
+        Register::Position(2),
+        SIDE_0,
+    ),
+    (
+        &[FIVE_ON, FOUR_ON, ZERO_ON_FOR_ALL, RESET],
+        Register::Position(0),
+        SIDE_0,
+    ),
+    (
+        &[FIVE_ON, FOUR_ON, ZERO_ON_FOR_ALL, RESET],
+        Register::Position(1),
+        SIDE_0,
+    ),
+    (
+        &[FIVE_ON, FOUR_ON, ZERO_ON_FOR_ALL, RESET],
+        Register::Position(3),
+        SIDE_0,
+    ),
     (&[FIVE_ON, RESET], Register::Position(2), SIDE_1),
     // a reset of one locomotive is not for boards
     (&[FIVE_ON, "frame 030003"], Register::Out(5), ON),
     (&[ASPECTS_FOR_ALL], Register::Aspect(0), Value::Number(5)),
+    (&[ASPECTS_FOR_ALL], Register::Aspect(1), Value::Number(5)),
+    (&[ASPECTS_FOR_ALL], Register::Aspect(2), Value::Number(5)),
     (&[ASPECTS_FOR_ALL], Register::Aspect(3), Value::Number(5)),
     // signal 51 is the fourth of board 12, signal 52 the first of board 13
     (
@@ -59,33 +88,35 @@ const BOARDS: [BoardRow; 17] = [
 
 #[test]
 fn boards(rt: HostRuntime) -> Result<(), Fail> {
-    Ok(expect_boards(&rt, &BOARDS)?)
-}
-
-fn before_power_up(decoder: &mut dyn Decoder) -> Result<(), PacketFault> {
-    hear(decoder, &[FIVE_ON, "signal 51 7"])
+    for (lines, register, value) in BOARDS {
+        holds(&rt, &heard_by_board(&rt, lines)?, register, value);
+    }
+    Ok(())
 }
 
 /// Power-up turns the outputs off, and leaves all else.
-fn after_power_up(rt: &impl Abort, decoder: &dyn Decoder) {
-    holds(rt, decoder, Register::Out(5), OFF);
-    holds(rt, decoder, Register::Position(2), SIDE_1);
-    holds(rt, decoder, Register::Aspect(3), Value::Number(7));
-    lacks(rt, decoder, Register::Out(8));
-    lacks(rt, decoder, Register::Position(4));
-    lacks(rt, decoder, Register::Aspect(4));
-    lacks(rt, decoder, Register::Speed);
-}
-
 #[test]
 fn boards_at_power_up(rt: HostRuntime) -> Result<(), Fail> {
-    let mut plain = board()?;
-    before_power_up(&mut plain)?;
+    let board = Board::new(12)?;
+    let mut plain = BoardDecoder::new(board)?;
+    let mut packed = PackedBoard::new(board)?;
+    hear(&mut plain, &[FIVE_ON, "signal 51 7"])?;
+    hear(&mut packed, &[FIVE_ON, "signal 51 7"])?;
     plain.power_up();
-    after_power_up(&rt, &plain);
-    let mut packed = packed_board()?;
-    before_power_up(&mut packed)?;
     packed.power_up();
-    after_power_up(&rt, &packed);
+    assert!(rt; same_registers(&plain, &packed));
+    holds(&rt, &plain, Register::Out(5), OFF);
+    holds(&rt, &plain, Register::Position(2), SIDE_1);
+    holds(&rt, &plain, Register::Aspect(3), Value::Number(7));
+    let none = [
+        Register::Out(8),
+        Register::Position(4),
+        Register::Aspect(4),
+        Register::Speed,
+        Register::State(5),
+    ];
+    lacks(&rt, &plain, &none);
+    lacks(&rt, &packed, &none);
+    lacks(&rt, &heard_by_board(&rt, &["frame 00dd8558"])?, &none);
     Ok(())
 }

@@ -1,9 +1,8 @@
-//! Worked examples of locomotive decoders, each held against the plain and the packed type.
+//! Worked examples of locomotive decoders, on the plain and the packed type.
 
 use crate::regs_examples::*;
-use dcc_packet::Packet;
-use dcc_regs::{Decoder, Register, Speed, Value};
-use std::process::Abort;
+use dcc_packet::{CvNumber, Packet};
+use dcc_regs::{Decoder, LocoDecoder, PackedLoco, Register, Speed, Value, same_registers};
 use std::test::Fail;
 
 /// Forward at the bits 9: step 3 of 14 with F0 on, or step 6 of 28.
@@ -25,30 +24,40 @@ const STEP_28: Value = Value::Speed(Speed::Step28(28));
 
 const EMERGENCY: Value = Value::Speed(Speed::Emergency);
 
-fn is_new(rt: &impl Abort, decoder: &dyn Decoder) {
-    holds(rt, decoder, Register::Speed, STOP);
-    holds(rt, decoder, Register::Direction, FORWARD);
-    holds(rt, decoder, Register::Pending, NOTHING);
-    for n in 0..69 {
-        holds(rt, decoder, Register::Function(n), OFF);
-    }
-    holds(rt, decoder, Register::CvBit(29, 1), ON);
-    holds(rt, decoder, Register::CvBit(1, 1), ON);
-    holds(rt, decoder, Register::CvBit(1, 2), OFF);
-    lacks(rt, decoder, Register::Function(69));
-    lacks(rt, decoder, Register::CvBit(0, 0));
-    lacks(rt, decoder, Register::CvBit(1025, 0));
-    lacks(rt, decoder, Register::CvBit(1, 8));
-    lacks(rt, decoder, Register::Out(0));
-}
-
 #[test]
-fn new_locomotives(rt: HostRuntime) {
-    is_new(&rt, &loco(2));
-    is_new(&rt, &packed_loco(2));
+fn new_locomotives(rt: HostRuntime) -> Result<(), Fail> {
+    let decoder = heard_by_loco(&rt, &cvs(2), &[])?;
+    for n in 0..69 {
+        holds(&rt, &decoder, Register::Function(n), OFF);
+    }
+    for (register, value) in [
+        (Register::Speed, STOP),
+        (Register::Direction, FORWARD),
+        (Register::Pending, NOTHING),
+        (Register::CvBit(29, 1), ON),
+        (Register::CvBit(1, 1), ON),
+        (Register::CvBit(1, 2), OFF),
+    ] {
+        holds(&rt, &decoder, register, value);
+    }
+    let none = [
+        Register::Function(69),
+        Register::CvBit(0, 0),
+        Register::CvBit(1025, 0),
+        Register::CvBit(1, 8),
+        Register::Out(0),
+        Register::State(0),
+        Register::State(128),
+    ];
+    lacks(&rt, &decoder, &none);
+    lacks(&rt, &PackedLoco::new(&cvs(2)), &none);
+    Ok(())
 }
 
-const SPEEDS: [LocoRow; 16] = [
+/// Starts with CV29 as given, hears the lines, then holds the value in the register.
+type LocoRow = (u8, &'static [&'static str], Register, Value);
+
+const REGISTERS: [LocoRow; 34] = [
     (2, &["frame 036261"], Register::Speed, STEP_1),
     (2, &["frame 036261"], Register::Direction, FORWARD),
     (2, &["frame 037f7c"], Register::Speed, STEP_28),
@@ -73,14 +82,7 @@ const SPEEDS: [LocoRow; 16] = [
         Register::Direction,
         REVERSE,
     ),
-];
-
-#[test]
-fn speeds(rt: HostRuntime) -> Result<(), Fail> {
-    Ok(expect_locos(&rt, &SPEEDS)?)
-}
-
-const FUNCTIONS: [LocoRow; 12] = [
+    (0, &[F1_ON, STEP], Register::Speed, STEP_3_OF_14),
     (2, &["frame 039093"], Register::Function(0), ON),
     (2, &["frame 039093"], Register::Function(1), OFF),
     (
@@ -115,14 +117,26 @@ const FUNCTIONS: [LocoRow; 12] = [
         Register::Direction,
         FORWARD,
     ),
-];
-
-#[test]
-fn functions(rt: HostRuntime) -> Result<(), Fail> {
-    Ok(expect_locos(&rt, &FUNCTIONS)?)
-}
-
-const MODES: [LocoRow; 2] = [
+    // F1 to F4 are turned off by the group that turns F0 on
+    (
+        2,
+        &["frame 039f9c", "frame 039093"],
+        Register::Function(1),
+        OFF,
+    ),
+    (
+        2,
+        &["frame 039f9c", "frame 039093"],
+        Register::Function(2),
+        OFF,
+    ),
+    (
+        2,
+        &["frame 039f9c", "frame 039093"],
+        Register::Function(3),
+        OFF,
+    ),
+    // the mode of the moment
     (
         2,
         &[STEP, TO_14, TO_14, STEP, TO_28, TO_28, STEP],
@@ -138,11 +152,99 @@ const MODES: [LocoRow; 2] = [
 ];
 
 #[test]
-fn mode_of_the_moment(rt: HostRuntime) -> Result<(), Fail> {
-    Ok(expect_locos(&rt, &MODES)?)
+fn registers(rt: HostRuntime) -> Result<(), Fail> {
+    for (cv29, lines, register, value) in REGISTERS {
+        holds(
+            &rt,
+            &heard_by_loco(&rt, &cvs(cv29), lines)?,
+            register,
+            value,
+        );
+    }
+    Ok(())
 }
 
-const WRITES: [CvRow; 11] = [
+/// Short 3 with F0, F13, F20 and F68 on, and state 5.
+const MANY_ON: [&str; 4] = [
+    "frame 039093",
+    "frame 03de815c",
+    "frame 03dc805f",
+    "frame 03dd855b",
+];
+
+/// A reset turns all functions and states off, and a packet to long 3 is none to short 3.
+#[test]
+fn a_reset_leaves_a_new_locomotive(rt: HostRuntime) -> Result<(), Fail> {
+    let new = LocoDecoder::new(&cvs(2));
+    let mut decoder = heard_by_loco(&rt, &cvs(2), &MANY_ON)?;
+    assert!(rt; !same_registers(&new, &decoder));
+    hear(&mut decoder, &["frame 030003"])?;
+    assert!(rt; same_registers(&new, &decoder));
+    hear(&mut decoder, &["frame c00362a1"])?;
+    assert!(rt; same_registers(&new, &decoder));
+    assert!(rt; same_registers(&new, &LocoDecoder::new(&cvs(2))));
+    let lit = heard_by_loco(&rt, &cvs(2), &["frame 039093"])?;
+    assert!(rt; !same_registers(&new, &lit));
+    assert!(rt; !same_registers(&new, &heard_by_board(&rt, &[])?));
+    Ok(())
+}
+
+/// The states of short 3 that are on: those of the list, or all but those of the list.
+type StateRow = (u8, &'static [&'static str], bool, &'static [u8]);
+
+const STATES: [StateRow; 12] = [
+    (2, &[], true, &[]),
+    (2, &["frame 03dd855b"], true, &[5]),
+    (2, &["frame 03dd855b", "frame 03dd05db"], true, &[]),
+    (2, &["frame 03dd805e"], false, &[]),
+    (2, &["frame 03dd805e", "frame 03dd05db"], false, &[5]),
+    (2, &["frame 03dd805e", "frame 030003"], true, &[]),
+    (2, &["frame 03dd805e", "frame 000000"], true, &[]),
+    (
+        2,
+        &["frame 03dd855b", "loco s3 state 127 on"],
+        true,
+        &[5, 127],
+    ),
+    // in 14 steps too, and for all
+    (0, &["frame 03dd855b"], true, &[5]),
+    (2, &["frame 00dd8558"], true, &[5]),
+    // another locomotive, and packets of other kinds
+    (2, &["loco s4 state 5 on", "loco l3 state 5 on"], true, &[]),
+    (
+        2,
+        &["frame 03dd855b", "frame 036261", "frame 039093", WRITE],
+        true,
+        &[5],
+    ),
+];
+
+#[test]
+fn states(rt: HostRuntime) -> Result<(), Fail> {
+    for (cv29, lines, listed, numbers) in STATES {
+        let mut decoder = heard_by_loco(&rt, &cvs(cv29), lines)?;
+        for n in 1..128 {
+            let value = Value::Flag(numbers.contains(&n) == listed);
+            assert!(rt;
+                decoder.get(Register::State(n)) == Some(value),
+                "{lines:?} {n}"
+            );
+        }
+        decoder.power_up();
+        for n in 1..128 {
+            assert!(rt;
+                decoder.get(Register::State(n)) == Some(OFF),
+                "{lines:?} {n}"
+            );
+        }
+    }
+    Ok(())
+}
+
+/// Starts with CV29 = 2, hears the lines, then has this value in the CV of this number.
+type CvRow = (&'static [&'static str], u16, u8);
+
+const WRITES: [CvRow; 13] = [
     (&[WRITE], 29, 2),
     (&[WRITE, WRITE], 29, 6),
     (&[WRITE, WRITE, WRITE], 29, 6),
@@ -155,16 +257,22 @@ const WRITES: [CvRow; 11] = [
     (&["frame 03e81cfd0a", "frame 03e81cfd0a"], 29, 34),
     (&["frame 03ec0708e0", "frame 03ec0708e0"], 8, 0),
     (&["frame 03efffffec", "frame 03efffffec"], 1024, 255),
+    (&[WRITE, "frame 03dd855b", WRITE], 29, 2),
+    (&[WRITE, "loco s4 state 5 on", WRITE], 29, 6),
     (&[TO_S10, TO_S10], 1, 10),
 ];
 
 #[test]
 fn writes(rt: HostRuntime) -> Result<(), Fail> {
-    expect_cvs(&rt, &WRITES)?;
+    for (lines, number, value) in WRITES {
+        let decoder = heard_by_loco(&rt, &cvs(2), lines)?;
+        assert!(rt; decoder.cv(CvNumber::new(number)?) == value, "{lines:?}");
+    }
+    let decoder = heard_by_loco(&rt, &cvs(2), &[WRITE])?;
     let pending = Value::Pending(Some(Packet::from_line(WRITE)?));
-    let mut plain = loco(2);
-    expect(&rt, &mut plain, &[WRITE], Register::Pending, pending)?;
-    let mut packed = packed_loco(2);
-    expect(&rt, &mut packed, &[WRITE], Register::Pending, pending)?;
+    holds(&rt, &decoder, Register::Pending, pending);
+    let mut packed = PackedLoco::new(&cvs(2));
+    hear(&mut packed, &[WRITE, WRITE])?;
+    assert!(rt; packed.cv(CvNumber::new(29)?) == 6);
     Ok(())
 }

@@ -1,97 +1,106 @@
-//! Worked examples of saved states, each held against the plain and the packed type.
+//! States that are put away and taken up again, by the plain and the packed type, and states that are no decoder's.
 
 use crate::regs_examples::*;
 use dcc_packet::{Address, Board, CvNumber, Packet, PacketFault};
 use dcc_regs::{
     BoardDecoder, BoardState, Decoder, LocoDecoder, LocoState, PackedBoard, PackedLoco, Register,
-    Speed, Value, Who,
+    Speed, Value, Who, same_registers,
 };
 use std::process::Abort;
 use std::test::Fail;
 
-/// Short 3, stopped, going forward.
-fn stopped() -> Result<LocoState, PacketFault> {
+/// An address, a speed, functions and states as bits, and the line of a pending packet; empty where none is.
+type StateRow = (Option<Address>, Speed, u128, u128, &'static str);
+
+/// Going forward if none of its functions is on; CV29 is 2, CV1024 is 200.
+fn state_of(row: StateRow) -> Result<LocoState, PacketFault> {
+    let (address, speed, functions, states, line) = row;
+    let pending = match line {
+        "" => None,
+        line => Some(Packet::from_line(line)?),
+    };
+    let mut cvs = cvs(2);
+    cvs[1023] = 200;
     Ok(LocoState {
-        address: Some(Address::short(3)?),
-        speed: Speed::Stop,
-        forward: true,
-        functions: 0,
-        states: 0,
-        pending: None,
-        cvs: cvs(2),
+        address,
+        speed,
+        forward: functions == 0,
+        functions,
+        states,
+        pending,
+        cvs,
     })
 }
 
-/// Neither type takes this state.
-fn refused(rt: &impl Abort, state: &LocoState) {
-    match LocoDecoder::restore(state) {
-        Ok(_) => assert!(rt; false),
-        Err(fault) => assert!(rt; fault.number() == 13),
-    }
-    match PackedLoco::restore(state) {
-        Ok(_) => assert!(rt; false),
-        Err(fault) => assert!(rt; fault.number() == 13),
-    }
-}
-
-fn refused_speed(rt: &impl Abort, speed: Speed) -> Result<(), PacketFault> {
-    refused(
-        rt,
-        &LocoState {
-            speed,
-            ..stopped()?
-        },
-    );
-    Ok(())
-}
-
-fn refused_pending(
-    rt: &impl Abort,
-    address: Option<Address>,
-    line: &str,
-) -> Result<(), PacketFault> {
-    refused(
-        rt,
-        &LocoState {
-            address,
-            pending: Some(Packet::from_line(line)?),
-            ..stopped()?
-        },
-    );
-    Ok(())
-}
-
+/// Neither type takes these.
 #[test]
 fn refused_locomotives(rt: HostRuntime) -> Result<(), Fail> {
     let short = Some(Address::short(3)?);
-    refused(
-        &rt,
-        &LocoState {
-            address: Some(Address::Broadcast),
-            ..stopped()?
-        },
-    );
-    refused(
-        &rt,
-        &LocoState {
-            functions: 1 << 69,
-            ..stopped()?
-        },
-    );
-    refused_speed(&rt, Speed::Step14(0))?;
-    refused_speed(&rt, Speed::Step14(15))?;
-    refused_speed(&rt, Speed::Step28(29))?;
-    refused_speed(&rt, Speed::Step126(127))?;
-    refused_pending(&rt, short, "frame 036261")?;
-    refused_pending(&rt, short, "frame 04ec1c06f2")?;
-    refused_pending(&rt, short, "loco all cv write 29 6")?;
-    refused_pending(&rt, None, WRITE)?;
+    let stop = Speed::Stop;
+    let rows: [StateRow; 13] = [
+        (Some(Address::Broadcast), stop, 0, 0, ""),
+        (short, Speed::Step14(0), 0, 0, ""),
+        (short, Speed::Step14(15), 0, 0, ""),
+        (short, Speed::Step28(29), 0, 0, ""),
+        (short, Speed::Step126(127), 0, 0, ""),
+        (short, stop, 1 << 69, 0, ""),
+        (short, stop, 0, 1, ""),
+        (short, stop, 0, 3, ""),
+        (short, stop, 0, u128::MAX, ""),
+        (short, stop, 0, 0, "frame 036261"),
+        (short, stop, 0, 0, "frame 04ec1c06f2"),
+        (short, stop, 0, 0, "loco all cv write 29 6"),
+        (None, stop, 0, 0, WRITE),
+    ];
+    for row in rows {
+        let state = state_of(row)?;
+        assert!(rt; !state.is_possible());
+        match (LocoDecoder::restore(&state), PackedLoco::restore(&state)) {
+            (Err(plain), Err(packed)) => {
+                assert!(rt; plain.number() == 13 && packed.number() == 13);
+            }
+            _ => assert!(rt; false),
+        }
+    }
     Ok(())
 }
 
-/// The decoder is in this state.
-fn is_in(rt: &impl Abort, decoder: &dyn Decoder, state: &LocoState) {
+/// Both types take these, and give them again.
+#[test]
+fn restored_locomotives(rt: HostRuntime) -> Result<(), Fail> {
+    let short = Some(Address::short(3)?);
+    let long = Some(Address::long(1000)?);
+    let rows: [StateRow; 7] = [
+        (short, Speed::Stop, 0, 0, ""),
+        (None, Speed::Stop, 0, 0, ""),
+        (short, Speed::Stop, 1 << 68, 0, ""),
+        (short, Speed::Step126(126), 1 << 68, 0, ""),
+        (short, Speed::Stop, 0, 0, WRITE),
+        (short, Speed::Stop, 0, 1 << 127 | 1 << 5, ""),
+        (
+            long,
+            Speed::Step126(126),
+            1 << 68 | 5,
+            1 << 127 | 2,
+            "loco l1000 cv write 29 6",
+        ),
+    ];
+    for row in rows {
+        let state = state_of(row)?;
+        let plain = LocoDecoder::restore(&state)?;
+        let packed = PackedLoco::restore(&state)?;
+        assert!(rt; same_registers(&plain, &packed));
+        is_in(&rt, &plain, &state)?;
+        is_same(&rt, &plain.state(), &state);
+        is_same(&rt, &packed.state(), &state);
+    }
+    Ok(())
+}
+
+/// The decoder is in this state, in which functions 0, 2 and 68 and the states 1, 5 and 127 alone may be on.
+fn is_in(rt: &impl Abort, decoder: &LocoDecoder, state: &LocoState) -> Result<(), PacketFault> {
     assert!(rt; decoder.who() == Who::Loco(state.address));
+    assert!(rt; decoder.cv(CvNumber::new(1)?) == 3 && decoder.cv(CvNumber::new(1024)?) == 200);
     holds(rt, decoder, Register::Speed, Value::Speed(state.speed));
     holds(
         rt,
@@ -102,87 +111,29 @@ fn is_in(rt: &impl Abort, decoder: &dyn Decoder, state: &LocoState) {
     holds(
         rt,
         decoder,
-        Register::Function(68),
-        Value::Flag(state.functions != 0),
-    );
-    holds(
-        rt,
-        decoder,
         Register::Pending,
         Value::Pending(state.pending),
     );
-    holds(rt, decoder, Register::CvBit(1, 0), ON);
-}
-
-/// Both types take this state.
-fn taken(rt: &impl Abort, state: &LocoState) -> Result<(), PacketFault> {
-    let first = CvNumber::new(1)?;
-    let plain = LocoDecoder::restore(state)?;
-    is_in(rt, &plain, state);
-    assert!(rt; plain.cv(first) == 3);
-    let packed = PackedLoco::restore(state)?;
-    is_in(rt, &packed, state);
-    assert!(rt; packed.cv(first) == 3);
+    for n in 0..69u8 {
+        let on = state.functions >> n & 1 == 1;
+        holds(rt, decoder, Register::Function(n), Value::Flag(on));
+    }
+    for n in 1..128u8 {
+        let on = state.states >> n & 1 == 1;
+        holds(rt, decoder, Register::State(n), Value::Flag(on));
+    }
     Ok(())
 }
 
-#[test]
-fn restored_locomotives(rt: HostRuntime) -> Result<(), Fail> {
-    taken(&rt, &stopped()?)?;
-    taken(
-        &rt,
-        &LocoState {
-            address: None,
-            ..stopped()?
-        },
-    )?;
-    taken(
-        &rt,
-        &LocoState {
-            functions: 1 << 68,
-            ..stopped()?
-        },
-    )?;
-    taken(
-        &rt,
-        &LocoState {
-            speed: Speed::Step126(126),
-            forward: false,
-            ..stopped()?
-        },
-    )?;
-    taken(
-        &rt,
-        &LocoState {
-            pending: Some(Packet::from_line(WRITE)?),
-            ..stopped()?
-        },
-    )?;
-    Ok(())
-}
-
-/// No type takes board 511, which is every board.
-fn refused_board(rt: &impl Abort, state: &BoardState) {
-    match BoardDecoder::new(state.board) {
-        Ok(_) => assert!(rt; false),
-        Err(fault) => assert!(rt; fault.number() == 3),
-    }
-    match PackedBoard::new(state.board) {
-        Ok(_) => assert!(rt; false),
-        Err(fault) => assert!(rt; fault.number() == 3),
-    }
-    match BoardDecoder::restore(state) {
-        Ok(_) => assert!(rt; false),
-        Err(fault) => assert!(rt; fault.number() == 3),
-    }
-    match PackedBoard::restore(state) {
-        Ok(_) => assert!(rt; false),
-        Err(fault) => assert!(rt; fault.number() == 3),
-    }
+fn is_same(rt: &impl Abort, one: &LocoState, other: &LocoState) {
+    assert!(rt; one.address == other.address && one.speed == other.speed);
+    assert!(rt; one.forward == other.forward && one.functions == other.functions);
+    assert!(rt; one.states == other.states && one.pending == other.pending);
+    assert!(rt; one.cvs == other.cvs);
 }
 
 /// The outputs 0 and 7 are on, the pairs 1 and 3 at side 1.
-fn state_of(board: Board) -> BoardState {
+fn board_state(board: Board) -> BoardState {
     BoardState {
         board,
         outs: 0x81,
@@ -191,28 +142,50 @@ fn state_of(board: Board) -> BoardState {
     }
 }
 
+/// No type takes board 511, which is every board.
 #[test]
 fn refused_boards(rt: HostRuntime) -> Result<(), Fail> {
-    refused_board(&rt, &state_of(Board::new(511)?));
+    let all = Board::new(511)?;
+    let state = board_state(all);
+    let refusals = [
+        BoardDecoder::new(all).err(),
+        BoardDecoder::restore(&state).err(),
+        PackedBoard::new(all).err(),
+        PackedBoard::restore(&state).err(),
+    ];
+    for refusal in refusals {
+        match refusal {
+            Some(fault) => assert!(rt; fault.number() == 3),
+            None => assert!(rt; false),
+        }
+    }
     Ok(())
 }
 
-/// The decoder of board 12 is in that state.
-fn is_restored(rt: &impl Abort, decoder: &dyn Decoder) {
-    holds(rt, decoder, Register::Out(0), ON);
-    holds(rt, decoder, Register::Out(1), OFF);
-    holds(rt, decoder, Register::Out(7), ON);
-    holds(rt, decoder, Register::Position(0), Value::Number(0));
-    holds(rt, decoder, Register::Position(1), Value::Number(1));
-    holds(rt, decoder, Register::Position(2), Value::Number(0));
-    holds(rt, decoder, Register::Position(3), Value::Number(1));
-    holds(rt, decoder, Register::Aspect(3), Value::Number(255));
-}
+/// The registers of board 12 in that state.
+const RESTORED: [(Register, Value); 8] = [
+    (Register::Out(0), ON),
+    (Register::Out(1), OFF),
+    (Register::Out(7), ON),
+    (Register::Position(0), Value::Number(0)),
+    (Register::Position(1), Value::Number(1)),
+    (Register::Position(2), Value::Number(0)),
+    (Register::Position(3), Value::Number(1)),
+    (Register::Aspect(3), Value::Number(255)),
+];
 
 #[test]
 fn restored_boards(rt: HostRuntime) -> Result<(), Fail> {
-    let state = state_of(Board::new(12)?);
-    is_restored(&rt, &BoardDecoder::restore(&state)?);
-    is_restored(&rt, &PackedBoard::restore(&state)?);
+    let state = board_state(Board::new(12)?);
+    let plain = BoardDecoder::restore(&state)?;
+    let packed = PackedBoard::restore(&state)?;
+    assert!(rt; same_registers(&plain, &packed));
+    for (register, value) in RESTORED {
+        holds(&rt, &plain, register, value);
+    }
+    for given in [plain.state(), packed.state()] {
+        assert!(rt; given.board.number() == 12 && given.outs == state.outs);
+        assert!(rt; given.positions == state.positions && given.aspects == state.aspects);
+    }
     Ok(())
 }

@@ -1,10 +1,9 @@
 //! Worked examples of the definitions: who hears what, what is told, which packets conflict.
 
-use crate::rows::{column, rows_hold, rows_hold_in};
-use dcc_packet::{Packet, PacketFault};
+use crate::rows::column;
+use dcc_packet::Packet;
 use dcc_regs::*;
 use dcc_saved::read_who;
-use std::alloc::Global;
 use std::test::Fail;
 
 /// A row: a packet, and which of five decoders hear it.
@@ -22,19 +21,16 @@ const HEARD_BY: &str = "\
     signal 2047 1 | b12
     signal 2046 1 |";
 
-fn is_heard_by(_alloc: Global, row: &str) -> Result<bool, Fail> {
-    let packet = Packet::from_line(column(row, 0))?;
-    for name in ["s3", "s124", "l1000", "none", "b12"] {
-        if hears(read_who(name)?, &packet) != column(row, 1).find(name).is_some() {
-            return Ok(false);
-        }
-    }
-    Ok(true)
-}
-
 #[test]
 fn heard_by(rt: HostRuntime) -> Result<(), Fail> {
-    rows_hold_in(&rt, rt.alloc(), HEARD_BY, is_heard_by)
+    for row in HEARD_BY.lines() {
+        let packet = Packet::from_line(column(row, 0))?;
+        for name in ["s3", "s124", "l1000", "none", "b12"] {
+            let heard = column(row, 1).find(name).is_some();
+            assert!(rt; hears(read_who(name)?, &packet) == heard, "{row}");
+        }
+    }
+    Ok(())
 }
 
 const LINES: &str = "\
@@ -47,46 +43,31 @@ const LINES: &str = "\
     loco s3 cv verify 29 6
     loco s3 cv bitwrite 29 5 1
     loco s3 cv bitverify 29 5 0
+    loco s3 state 5 on
+    loco s3 state 5 off
+    loco s3 state 0 on
+    loco all state 5 on
     accessory 12 5 off
     signal 1022 3
     frame 7c000a76";
-
-/// Tells a listener the packet of a line. The answer is whether it was told that one.
-pub fn is_noted(note: &mut LastNote, line: &str) -> Result<bool, PacketFault> {
-    let packet = Packet::from_line(line)?;
-    announce(&packet, note);
-    match note.last() {
-        Some(told) => Ok(told.is(&packet)),
-        None => Ok(false),
-    }
-}
 
 #[test]
 fn notes(rt: HostRuntime) -> Result<(), Fail> {
     let mut note = LastNote::new();
     assert!(rt; note.last().is_none());
     for line in LINES.lines() {
-        assert!(rt; is_noted(&mut note, line)?, "{line}");
+        let packet = Packet::from_line(line)?;
+        announce(&packet, &mut note);
+        match note.last() {
+            Some(told) => assert!(rt; told.is(&packet), "{line}"),
+            None => assert!(rt; false),
+        }
     }
     Ok(())
 }
 
-/// A row: whether two packets conflict, and their lines.
-pub fn conflict_or_not(row: &str) -> bool {
-    match (
-        Packet::from_line(column(row, 1)),
-        Packet::from_line(column(row, 2)),
-    ) {
-        (Ok(one), Ok(other)) => {
-            let wanted = column(row, 0) == "yes";
-            conflict(&one, &other) == wanted && conflict(&other, &one) == wanted
-        }
-        _ => false,
-    }
-}
-
-/// A step to the broadcast address sets nothing. In 14 steps F0 is off in the one and on in the other; it is set by the
-/// one in 28 steps and by the other in 14.
+/// Whether two packets conflict, and their lines. A step to the broadcast address sets nothing. In 14 steps F0 is off
+/// in the one and on in the other; it is set by the one in 28 steps and by the other in 14.
 const CONFLICTS: &str = "\
     yes | loco s3 speed28 f 4 | loco s3 speed28 f 31
     no | loco s3 speed28 f 4 | loco s3 speed28 f 4
@@ -111,9 +92,33 @@ const CONFLICTS: &str = "\
     no | signal 2047 5 | signal 2045 3
     no | signal 2047 5 | signal 1022 5
     no | accessory 12 5 on | signal 48 3
-    no | signal 48 1 | signal 49 2";
+    no | signal 48 1 | signal 49 2
+    yes | loco s3 reset | loco s3 state 5 on
+    no | loco s3 reset | loco s3 state 5 off
+    yes | loco s3 reset | loco s3 state 0 on
+    yes | loco all reset | loco s3 state 5 on
+    yes | loco s3 state 5 on | loco s3 state 5 off
+    no | loco s3 state 5 on | loco s3 state 5 on
+    no | loco s3 state 5 on | loco s3 state 6 off
+    no | loco s3 state 0 on | loco s3 state 5 on
+    yes | loco s3 state 0 on | loco s3 state 5 off
+    yes | loco s3 state 0 on | loco s3 state 0 off
+    no | loco s3 state 0 on | loco s4 state 0 off
+    yes | loco all state 5 on | loco s3 state 5 off
+    yes | loco all state 5 on | loco l1000 state 5 off
+    no | loco s3 state 5 on | loco s3 functions 5 0
+    no | loco s3 state 5 on | loco s3 speed28 f 0
+    no | loco s3 state 5 on | frame 03ec1c06f5
+    no | loco all state 5 on | accessory 12 5 on";
 
 #[test]
-fn conflicts(rt: HostRuntime) {
-    rows_hold(&rt, CONFLICTS, conflict_or_not);
+fn conflicts(rt: HostRuntime) -> Result<(), Fail> {
+    for row in CONFLICTS.lines() {
+        let one = Packet::from_line(column(row, 1))?;
+        let other = Packet::from_line(column(row, 2))?;
+        let wanted = column(row, 0) == "yes";
+        assert!(rt; conflict(&one, &other) == wanted, "{row}");
+        assert!(rt; conflict(&other, &one) == wanted, "{row}");
+    }
+    Ok(())
 }

@@ -3,34 +3,8 @@
 //! `column` and `number` stand in `dcc_tool_tests` too: tests give no items to another crate, and a crate below both
 //! would be one more to prove.
 
-use dcc_wire::Frame;
-use std::alloc::{AllocError, Global};
-use std::process::Abort;
-use std::test::Fail;
-
-/// Asserts that each row of a table holds.
-pub fn rows_hold<F: Fn(&str) -> bool>(rt: &impl Abort, table: &str, holds: F)
-    requires { F.IsAlwaysCallable holds }
-{
-    for row in table.lines() {
-        assert!(rt; holds(row), "{row}");
-    }
-}
-
-/// Asserts that each row of a table holds, where to see it may fail or takes memory.
-pub fn rows_hold_in<F: Fn(Global, &str) -> Result<bool, Fail>>(
-    rt: &impl Abort,
-    alloc: Global,
-    table: &str,
-    holds: F,
-) -> Result<(), Fail>
-    requires { F.IsAlwaysCallable holds }
-{
-    for row in table.lines() {
-        assert!(rt; holds(alloc, row)?, "{row}");
-    }
-    Ok(())
-}
+use dcc_wire::{Frame, Halves, Timing};
+use std::alloc::AllocError;
 
 /// The column of this number, from 0, without the blanks around it: an empty one where the row has fewer.
 pub fn column(row: &str, number: usize) -> &str {
@@ -78,21 +52,34 @@ pub fn frame_of(hex: &str) -> Option<Frame> {
     }
 }
 
-/// Adds the halves of a text of words, each a duration in microseconds or a run such as `58*28`.
+/// Adds the halves of a text of words, each a duration in microseconds, a run such as `58*28`, or a packet on the
+/// main track such as `=036261`.
 pub fn push_halves(halves: &mut Vec<u16>, text: &str) -> Result<(), AllocError> {
     for word in text.split_whitespace() {
-        push_word(halves, word)?;
+        match word.strip_prefix('=') {
+            Some(hex) => push_packet(halves, hex)?,
+            None => push_run(halves, word)?,
+        }
     }
     Ok(())
 }
 
-fn push_word(halves: &mut Vec<u16>, word: &str) -> Result<(), AllocError> {
+fn push_packet(halves: &mut Vec<u16>, hex: &str) -> Result<(), AllocError> {
+    if let Some(frame) = frame_of(hex) {
+        for us in Halves::new(frame, Timing::main()) {
+            halves.push(us)?;
+        }
+    }
+    Ok(())
+}
+
+fn push_run(halves: &mut Vec<u16>, word: &str) -> Result<(), AllocError> {
     let (us, count) = match word.split_once('*') {
         None => (word, "1"),
-        Some((us, count)) => (us, count),
+        Some(run) => run,
     };
     let us = us.parse::<u16>().unwrap_or(0);
-    for _ in 0..count.parse::<u16>().unwrap_or(0) {
+    for _ in 0..number(count) {
         halves.push(us)?;
     }
     Ok(())

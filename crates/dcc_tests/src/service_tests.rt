@@ -1,31 +1,11 @@
 //! Worked frames and their answers, and every frame of four bytes held against the patterns of the table.
 
+use crate::rows::{column, frame_of, is_hex, number};
 use dcc_packet::{BitPlace, CvNumber};
 use dcc_service::{CvReader, Reading, ServiceDecoder, ServicePacket, ask, question_frames};
 use dcc_wire::Frame;
 use std::process::Abort;
-
-const RESET: &[u8] = &[0x00, 0x00, 0x00];
-
-const IDLE: &[u8] = &[0xFF, 0x00, 0xFF];
-
-const WRITE_CV1_10: &[u8] = &[0x7C, 0x00, 0x0A, 0x76];
-
-const WRITE_CV8_8: &[u8] = &[0x7C, 0x07, 0x08, 0x73];
-
-const VERIFY_CV1_10: &[u8] = &[0x74, 0x00, 0x0A, 0x7E];
-
-fn frame(rt: &impl Abort, bytes: &[u8]) -> Frame {
-    Frame::of(bytes).expect(rt, "a frame")
-}
-
-fn cv(rt: &impl Abort, number: u16) -> CvNumber {
-    CvNumber::new(number).expect(rt, "a CV")
-}
-
-fn place(rt: &impl Abort, place: u8) -> BitPlace {
-    BitPlace::new(place).expect(rt, "a place")
-}
+use std::test::Fail;
 
 /// A decoder, just made, whose CV1 has this value, and all others 0.
 fn with_cv1(value: u8) -> ServiceDecoder {
@@ -34,161 +14,106 @@ fn with_cv1(value: u8) -> ServiceDecoder {
     ServiceDecoder::new(&cvs)
 }
 
-/// Applies frames in turn, and compares the acknowledgements.
-fn expect(rt: &impl Abort, decoder: &mut ServiceDecoder, rows: &[(&[u8], bool)], name: &str) {
-    for (bytes, answer) in rows {
-        assert!(rt; decoder.apply(&frame(rt, bytes)) == *answer, "{name}");
+/// What a row shows, CV1 at the start, frames that a decoder gets, each behind `+` where it is acknowledged and `-`
+/// where it is not, and CV1 then. A write of CV1 is 7c000a76, one of CV8 7c070873, a check of CV1 74000a7e. CV8 is
+/// not written.
+const STEPS: &str = "\
+    the second copy of a write | 3 | -000000 -7c000a76 +7c000a76 +7c000a76 | 10
+    an idle packet ends service | 3 | -000000 -7c000a76 +7c000a76 +7c000a76 -ff00ff -7c000a76 -7c000a76 | 10
+    CV8 is not written | 3 | -000000 -7c000a76 +7c000a76 -ff00ff -7c000a76 -7c000a76 -000000 -7c070873 -7c070873 | 10
+    out of service | 10 | -74000a7e -74000a7e | 10
+    in service | 10 | -74000a7e -74000a7e -000000 -74000a7e +74000a7e +74000a7e | 10
+    another packet between | 10 | -000000 -74000a7e -7c070873 -74000a7e +74000a7e | 10
+    a reset in service | 10 | -000000 -74000a7e -000000 -74000a7e +74000a7e | 10
+    the reset of an address ends service | 10 | -000000 -74000a7e +74000a7e -030003 -74000a7e -74000a7e | 10";
+
+#[test]
+fn frames_in_turn(rt: HostRuntime) -> Result<(), Fail> {
+    for row in STEPS.lines() {
+        let mut decoder = with_cv1(column(row, 1).parse::<u8>()?);
+        for step in column(row, 2).split_whitespace() {
+            let yes = step.starts_with('+');
+            let frame = frame_of(step.trim_start_matches(['+', '-'])).expect(&rt, "a frame");
+            assert!(rt; decoder.apply(&frame) == yes, "{row}");
+        }
+        assert!(rt;
+            u32::from(decoder.cvs()[0]) == number(column(row, 3)),
+            "{row}"
+        );
+        assert!(rt; decoder.cvs()[7] == 0, "{row}");
     }
+    Ok(())
 }
 
-/// Applies the eight frames of a question, and compares the acknowledgements.
-fn expect_answers(
-    rt: &impl Abort,
-    decoder: &mut ServiceDecoder,
-    question: &ServicePacket,
-    answers: [bool; 8],
-) {
-    let frames = question_frames(question);
-    for (frame, answer) in frames.iter().zip(answers.iter()) {
-        assert!(rt; decoder.apply(frame) == *answer);
+/// Three resets and five copies.
+#[test]
+fn questions(rt: HostRuntime) -> Result<(), Fail> {
+    let (cv, last) = (CvNumber::new(1)?, CvNumber::new(8)?);
+    let place = BitPlace::new(7)?;
+    let mut decoder = with_cv1(10);
+    for (question, answered, value) in [
+        (ServicePacket::Write { cv, value: 11 }, true, 11),
+        (ServicePacket::Write { cv: last, value: 3 }, false, 11),
+    ] {
+        let mut count = 0u8;
+        for frame in question_frames(&question) {
+            assert!(rt; decoder.apply(&frame) == (answered && count > 3), "{count}");
+            count = count.wrapping_add(1);
+        }
+        assert!(rt; decoder.cvs()[0] == value && decoder.cvs()[7] == 0 && count == 8);
     }
-}
-
-#[test]
-fn a_write_is_done_at_its_second_copy(rt: HostRuntime) {
-    let mut decoder = with_cv1(3);
-    let rows = [
-        (RESET, false),
-        (WRITE_CV1_10, false),
-        (WRITE_CV1_10, true),
-        (WRITE_CV1_10, true),
-    ];
-    expect(&rt, &mut decoder, &rows, "the second copy");
-    assert!(rt; decoder.cvs()[0] == 10);
-    let rows = [(IDLE, false), (WRITE_CV1_10, false), (WRITE_CV1_10, false)];
-    expect(&rt, &mut decoder, &rows, "an idle packet ends service");
-    let rows = [(RESET, false), (WRITE_CV8_8, false), (WRITE_CV8_8, false)];
-    expect(&rt, &mut decoder, &rows, "CV8 is not written");
-    assert!(rt; decoder.cvs()[7] == 0);
-}
-
-#[test]
-fn a_decoder_answers_in_service_alone(rt: HostRuntime) {
-    let mut decoder = with_cv1(10);
-    let rows = [(VERIFY_CV1_10, false), (VERIFY_CV1_10, false)];
-    expect(&rt, &mut decoder, &rows, "out of service");
-    let rows = [
-        (RESET, false),
-        (VERIFY_CV1_10, false),
-        (VERIFY_CV1_10, true),
-        (VERIFY_CV1_10, true),
-    ];
-    expect(&rt, &mut decoder, &rows, "in service");
-}
-
-#[test]
-fn the_pending_packet_decides(rt: HostRuntime) {
-    let mut decoder = with_cv1(10);
-    let rows = [
-        (RESET, false),
-        (VERIFY_CV1_10, false),
-        (WRITE_CV8_8, false),
-        (VERIFY_CV1_10, false),
-        (VERIFY_CV1_10, true),
-    ];
-    expect(&rt, &mut decoder, &rows, "another packet between");
-    let rows = [
-        (RESET, false),
-        (VERIFY_CV1_10, false),
-        (VERIFY_CV1_10, true),
-    ];
-    expect(&rt, &mut decoder, &rows, "a reset in service");
-    let rows: [(&[u8], bool); 4] = [
-        (VERIFY_CV1_10, true),
-        (&[0x03, 0x00, 0x03], false),
-        (VERIFY_CV1_10, false),
-        (VERIFY_CV1_10, false),
-    ];
-    expect(
-        &rt,
-        &mut decoder,
-        &rows,
-        "the reset of an address ends service",
-    );
-}
-
-#[test]
-fn questions_are_three_resets_and_five_copies(rt: HostRuntime) {
-    let mut decoder = with_cv1(10);
-    let write = ServicePacket::Write {
-        cv: cv(&rt, 1),
-        value: 11,
-    };
-    let yes = [false, false, false, false, true, true, true, true];
-    expect_answers(&rt, &mut decoder, &write, yes);
-    assert!(rt; decoder.cvs()[0] == 11);
-    let write = ServicePacket::Write {
-        cv: cv(&rt, 8),
-        value: 3,
-    };
-    expect_answers(&rt, &mut decoder, &write, [false; 8]);
-    assert!(rt; decoder.cvs()[7] == 0);
-    let write = ServicePacket::BitWrite {
-        cv: cv(&rt, 1),
-        place: place(&rt, 7),
-        one: true,
-    };
-    assert!(rt; ask(&mut decoder, &write));
+    let one = true;
+    assert!(rt; ask(&mut decoder, &ServicePacket::BitWrite { cv, place, one }));
     assert!(rt; decoder.cvs()[0] == 139);
-    let verify = ServicePacket::BitVerify {
-        cv: cv(&rt, 1),
-        place: place(&rt, 7),
-        one: false,
-    };
-    assert!(rt; !ask(&mut decoder, &verify));
+    let one = false;
+    assert!(rt; !ask(&mut decoder, &ServicePacket::BitVerify { cv, place, one }));
     assert!(rt; decoder.cvs()[0] == 139);
+    Ok(())
 }
 
 #[test]
-fn packets_have_their_frames(rt: HostRuntime) {
-    let last = cv(&rt, 1024);
-    let rows: [(ServicePacket, [u8; 4]); 4] = [
+fn packets_have_their_frames(rt: HostRuntime) -> Result<(), Fail> {
+    let (first, last) = (CvNumber::new(1)?, CvNumber::new(1024)?);
+    let rows = [
         (
             ServicePacket::Write {
                 cv: last,
                 value: 255,
             },
-            [0x7F, 0xFF, 0xFF, 0x7F],
+            "7fffff7f",
         ),
         (
             ServicePacket::Verify {
-                cv: cv(&rt, 1),
+                cv: first,
                 value: 10,
             },
-            [0x74, 0x00, 0x0A, 0x7E],
+            "74000a7e",
         ),
         (
             ServicePacket::BitWrite {
                 cv: last,
-                place: place(&rt, 5),
+                place: BitPlace::new(5)?,
                 one: true,
             },
-            [0x7B, 0xFF, 0xFD, 0x79],
+            "7bfffd79",
         ),
         (
             ServicePacket::BitVerify {
-                cv: cv(&rt, 1),
-                place: place(&rt, 0),
+                cv: first,
+                place: BitPlace::new(0)?,
                 one: true,
             },
-            [0x78, 0x00, 0xE8, 0x90],
+            "7800e890",
         ),
     ];
-    for (packet, bytes) in rows {
-        assert!(rt; packet.frame().bytes() == bytes.as_slice());
-        let read = ServicePacket::read(&frame(&rt, bytes.as_slice()));
-        assert!(rt; read.expect(&rt, "a service packet").is(&packet));
+    for (packet, hex) in rows {
+        assert!(rt; is_hex(packet.frame().bytes(), hex), "{hex}");
+        match ServicePacket::read(&packet.frame()) {
+            Some(read) => assert!(rt; read.is(&packet), "{hex}"),
+            None => assert!(rt; false),
+        }
     }
+    Ok(())
 }
 
 /// Whether the bytes before the error byte are in the table: its patterns, each as a mask and a value.
@@ -199,11 +124,11 @@ fn is_in_table(first: u8, last: u8) -> bool {
 }
 
 #[test]
-fn exactly_the_frames_of_the_table_are_read(rt: HostRuntime) {
+fn exactly_the_frames_of_the_table_are_read(rt: HostRuntime) -> Result<(), Fail> {
     for first in 0..=255u8 {
         for last in 0..=255u8 {
             let bytes = [first, 0x1C, last, first ^ 0x1C ^ last];
-            let frame = frame(&rt, bytes.as_slice());
+            let frame = Frame::of(&bytes)?;
             match ServicePacket::read(&frame) {
                 Some(packet) => {
                     assert!(rt; is_in_table(first, last));
@@ -213,14 +138,15 @@ fn exactly_the_frames_of_the_table_are_read(rt: HostRuntime) {
             }
         }
     }
-    assert!(rt; ServicePacket::read(&frame(&rt, IDLE)).is_none());
-    let long = [0x03, 0xEC, 0x1C, 0x06, 0xF5];
-    assert!(rt; ServicePacket::read(&frame(&rt, long.as_slice())).is_none());
+    for hex in ["ff00ff", "03ec1c06f5"] {
+        let frame = frame_of(hex).expect(&rt, "a frame");
+        assert!(rt; ServicePacket::read(&frame).is_none(), "{hex}");
+    }
+    Ok(())
 }
 
 /// Reads CV1 of a decoder, or of an empty track, and counts the questions.
-fn read_cv1(rt: &impl Abort, mut decoder: Option<ServiceDecoder>) -> (Option<u8>, u32) {
-    let mut reader = CvReader::new(cv(rt, 1));
+fn read_cv1(mut reader: CvReader, mut decoder: Option<ServiceDecoder>) -> (Option<u8>, u32) {
     for count in 1..=9u32 {
         let question = reader.question();
         let yes = match &mut decoder {
@@ -236,18 +162,16 @@ fn read_cv1(rt: &impl Abort, mut decoder: Option<ServiceDecoder>) -> (Option<u8>
     (None, 10)
 }
 
+/// Nine questions tell every value; eight bits without the byte are none.
 #[test]
-fn nine_questions_tell_every_value(rt: HostRuntime) {
+fn readings(rt: HostRuntime) -> Result<(), Fail> {
+    let cv = CvNumber::new(1)?;
     for value in 0..=255u8 {
-        let read = read_cv1(&rt, Some(with_cv1(value)));
+        let read = read_cv1(CvReader::new(cv), Some(with_cv1(value)));
         assert!(rt; read == (Some(value), 9));
     }
-    assert!(rt; read_cv1(&rt, None) == (None, 9));
-}
-
-#[test]
-fn eight_bits_without_the_byte_are_no_value(rt: HostRuntime) {
-    let mut reader = CvReader::new(cv(&rt, 1));
+    assert!(rt; read_cv1(CvReader::new(cv), None) == (None, 9));
+    let mut reader = CvReader::new(cv);
     for _ in 0..8u32 {
         match reader.answer(true) {
             Reading::More(next) => reader = next,
@@ -255,4 +179,5 @@ fn eight_bits_without_the_byte_are_no_value(rt: HostRuntime) {
         }
     }
     assert!(rt; matches!(reader.answer(false), Reading::NoAnswer));
+    Ok(())
 }

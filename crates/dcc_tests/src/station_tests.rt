@@ -1,20 +1,64 @@
-//! Worked examples of stations.
+//! Worked examples of stations, step by step.
 
-use crate::rows::{column, rows_hold_in};
-use crate::station_rows::{goes, station};
+use crate::rows::{column, number};
+use dcc_packet::Packet;
 use dcc_station::*;
-use std::alloc::Global;
+use std::process::Abort;
 use std::test::Fail;
 
-/// A row: what it shows, a station's queue, slots and repeats, and its steps.
-pub fn goes_on(alloc: Global, row: &str) -> Result<bool, Fail> {
-    let queue = column(row, 1).parse::<u8>()?;
-    let slots = column(row, 2).parse::<u8>()?;
-    let repeats = column(row, 3).parse::<u8>()?;
-    let mut station = station(alloc, queue, slots, repeats)?;
-    Ok(goes(&mut station, column(row, 4))?)
+/// The line of a packet, by its letter.
+fn line_of(letter: &str) -> &'static str {
+    match letter {
+        // speeds and functions for locomotive 3: a speed, functions 5 to 8, functions 9 to 12
+        "A" => "frame 036261",
+        "B" => "frame 03b1b2",
+        "C" => "frame 03a1a2",
+        // a speed for locomotive 1000
+        "L" => "frame c3e86249",
+        // stop, for all decoders
+        "S" => "frame 006060",
+        // CV29 of locomotive 3 is to be 2; its bit 5 is to be 1; CV29 of all is verified, and is to be 2
+        "W" => "frame 03ec1c02f1",
+        "T" => "frame 03e81cfd0a",
+        "V" => "loco all cv verify 29 2",
+        "X" => "loco all cv write 29 2",
+        // state 5 of locomotive 3 is turned on, and of all
+        "U" => "frame 03dd855b",
+        "Z" => "frame 00dd8558",
+        "F" => "frame 7c000a76",
+        _ => "idle",
+    }
 }
 
+/// A station goes a step: `+A` this command is accepted, `-A:4` it is refused as C4 and comes back, `=A` this packet
+/// is sent next, `0:1` so many commands wait, and so many packets are refreshed.
+fn go(rt: &impl Abort, station: &mut Station, step: &str) -> Result<(), Fail> {
+    let (front, count) = match step.split_once(':') {
+        Some(parts) => parts,
+        None => (step, "0"),
+    };
+    let letter = front.trim_start_matches(['+', '-', '=']);
+    let packet = Packet::from_line(line_of(letter))?;
+    if step.starts_with('=') {
+        assert!(rt; station.next().is(&packet), "{step}");
+        return Ok(());
+    }
+    if letter.len() == front.len() {
+        assert!(rt; station.waiting() == number(front) as usize, "{step}");
+        assert!(rt; station.entries() == number(count) as usize, "{step}");
+        return Ok(());
+    }
+    match station.command(packet) {
+        Ok(()) => assert!(rt; step.starts_with('+'), "{step}"),
+        Err((refused, back)) => {
+            assert!(rt; u32::from(refused.number()) == number(count), "{step}");
+            assert!(rt; step.starts_with('-') && back.is(&packet), "{step}");
+        }
+    }
+    Ok(())
+}
+
+/// What a row shows, a station's queue, slots and repeats, and its steps.
 const STATIONS: &str = "\
     nothing_to_send | 4 | 4 | 1 | =I =I 0:0
     sent_and_refreshed | 4 | 4 | 1 | +A 1:0 =A 0:1 =A =A
@@ -24,38 +68,44 @@ const STATIONS: &str = "\
     a_write_ends_refreshing_its_address | 4 | 4 | 1 | +A =A +W =W 1:0 =W =I
     two_slots_and_two_repeats | 4 | 2 | 2 | +A +B =A =A =B =B =A =B =A +C =C =C =A =C
     a_write_leaves_other_addresses | 4 | 4 | 1 | +A +L =A =L +T =T =T =L =L 0:1
-    nothing_comes_between_the_copies_of_a_write | 4 | 4 | 2 | +L =L =L =L +W =W =W =W =L";
+    nothing_comes_between_the_copies_of_a_write | 4 | 4 | 2 | +L =L =L =L +W =W =W =W =L
+    a_state_beside_a_speed | 4 | 4 | 1 | +A +U =A =U =A =A 0:1
+    a_state_of_all | 4 | 4 | 2 | +Z =Z =Z =I 0:0
+    all_of_one_station | 4 | 4 | 1 | +A =A =A +S =S =I =I +A +B +A +B -C:4 -I:3";
 
 #[test]
 fn stations(rt: HostRuntime) -> Result<(), Fail> {
-    rows_hold_in(&rt, rt.alloc(), STATIONS, goes_on)
+    for row in STATIONS.lines() {
+        let queue = number(column(row, 1)) as usize;
+        let slots = number(column(row, 2)) as usize;
+        let mut station = Station::new(rt.alloc(), queue, slots, column(row, 3).parse::<u8>()?)?;
+        for step in column(row, 4).split_whitespace() {
+            go(&rt, &mut station, step)?;
+        }
+    }
+    Ok(())
 }
 
-/// The number of the refusal of a station of these sizes, 0 where there is one.
-fn refusal(alloc: Global, queue: u8, slots: u8, repeats: u8) -> u8 {
-    match station(alloc, queue, slots, repeats) {
-        Ok(_) => 0,
-        Err(fault) => fault.number(),
-    }
-}
+/// A queue, slots and repeats, and the number of the refusal, 0 where there is a station of them.
+const LIMITS: [(usize, usize, u8, u8); 8] = [
+    (0, 4, 1, 1),
+    (65, 4, 1, 1),
+    (4, 0, 1, 1),
+    (4, 129, 1, 1),
+    (4, 4, 0, 1),
+    (4, 4, 9, 1),
+    (1, 1, 1, 0),
+    (64, 128, 8, 0),
+];
 
 #[test]
 fn limits(rt: HostRuntime) {
-    let alloc = rt.alloc();
-    assert!(rt; refusal(alloc, 0, 4, 1) == 1);
-    assert!(rt; refusal(alloc, 65, 4, 1) == 1);
-    assert!(rt; refusal(alloc, 4, 0, 1) == 1);
-    assert!(rt; refusal(alloc, 4, 129, 1) == 1);
-    assert!(rt; refusal(alloc, 4, 4, 0) == 1);
-    assert!(rt; refusal(alloc, 4, 4, 9) == 1);
-    assert!(rt; refusal(alloc, 1, 1, 1) == 0);
-    assert!(rt; refusal(alloc, 64, 128, 8) == 0);
-}
-
-#[test]
-fn numbers(rt: HostRuntime) {
-    assert!(rt; StationFault::Limit.number() == 1);
-    assert!(rt; StationFault::NoMemory.number() == 2);
-    assert!(rt; Refused::NotSendable.number() == 3);
-    assert!(rt; Refused::QueueFull.number() == 4);
+    for (queue, slots, repeats, refusal) in LIMITS {
+        match Station::new(rt.alloc(), queue, slots, repeats) {
+            Ok(_) => assert!(rt; refusal == 0),
+            Err(fault) => assert!(rt; fault.number() == refusal),
+        }
+    }
+    assert!(rt; StationFault::Limit.number() == 1 && StationFault::NoMemory.number() == 2);
+    assert!(rt; Refused::NotSendable.number() == 3 && Refused::QueueFull.number() == 4);
 }

@@ -4,73 +4,50 @@ use dcc_wire::{Fault, Frame, Framer, Halves, RunSeen, Seen, Timing};
 use std::process::Abort;
 use std::test::Fail;
 
-/// A framer that was given these runs, each as a duration and a number of halves.
-fn framer_behind(runs: &[(u16, u32)]) -> Framer {
-    let mut framer = Framer::new();
-    for (us, n) in runs {
-        framer.push_run(*us, *n);
-    }
-    framer
-}
+/// A duration, and how many halves of it.
+type Run = (u16, u32);
 
-/// Asserts what a framer answers to a run behind these runs.
-fn shows(rt: &impl Abort, runs: &[(u16, u32)], us: u16, n: u32, want: &RunSeen) {
-    let mut framer = framer_behind(runs);
-    assert!(rt; framer.push_run(us, n) == *want, "{us} {n}");
-}
-
-/// A run that shows nothing.
-fn nothing(n: u32) -> RunSeen {
-    RunSeen {
-        seen: Seen::Nothing,
-        at: n,
-    }
-}
-
-/// A run that shows a refusal.
-fn refused(fault: Fault, at: u32) -> RunSeen {
-    RunSeen {
-        seen: Seen::Refused(fault),
-        at,
-    }
-}
-
-#[test]
-fn a_run_that_ends_no_body_shows_nothing(rt: HostRuntime) {
-    shows(&rt, &[], 58, 4_294_967_295, &nothing(4_294_967_295));
-    shows(&rt, &[], 100, 4_294_967_295, &nothing(4_294_967_295));
-    shows(&rt, &[], 58, 0, &nothing(0));
-    shows(&rt, &[(58, 28)], 100, 0, &nothing(0));
-    shows(&rt, &[(58, 28)], 100, 109, &nothing(109));
-}
-
-#[test]
-fn a_run_shows_a_refusal_at_the_number_of_its_half(rt: HostRuntime) {
-    let too_long = refused(Fault::TooLong, 110);
-    shows(&rt, &[(58, 28)], 100, 110, &too_long);
-    shows(&rt, &[(58, 28)], 100, 1000, &too_long);
-    shows(&rt, &[(58, 28)], 100, 4_294_967_295, &too_long);
-    shows(
-        &rt,
+/// Runs, a run behind them, what it shows and at which of its halves.
+const RUNS: [(&[Run], Run, Seen, u32); 11] = [
+    (&[], (58, 4_294_967_295), Seen::Nothing, 4_294_967_295),
+    (&[], (100, 4_294_967_295), Seen::Nothing, 4_294_967_295),
+    (&[], (58, 0), Seen::Nothing, 0),
+    (&[(58, 28)], (100, 0), Seen::Nothing, 0),
+    (&[(58, 28)], (100, 109), Seen::Nothing, 109),
+    (&[(58, 28)], (100, 110), TOO_LONG, 110),
+    (&[(58, 28)], (100, 1000), TOO_LONG, 110),
+    (&[(58, 28)], (100, 4_294_967_295), TOO_LONG, 110),
+    (
         &[(58, 28), (100, 2)],
-        70,
-        3,
-        &refused(Fault::BadHalf, 1),
-    );
-    shows(
-        &rt,
+        (70, 3),
+        Seen::Refused(Fault::BadHalf),
+        1,
+    ),
+    (
         &[(58, 28), (100, 1)],
-        58,
-        50,
-        &refused(Fault::SplitBit, 1),
-    );
-    shows(
-        &rt,
+        (58, 50),
+        Seen::Refused(Fault::SplitBit),
+        1,
+    ),
+    (
         &[(58, 28), (100, 18)],
-        58,
-        50,
-        &refused(Fault::TooShort, 2),
-    );
+        (58, 50),
+        Seen::Refused(Fault::TooShort),
+        2,
+    ),
+];
+
+const TOO_LONG: Seen = Seen::Refused(Fault::TooLong);
+
+#[test]
+fn a_run_shows_a_refusal_at_the_number_of_its_half_or_nothing(rt: HostRuntime) {
+    for (before, (us, n), seen, at) in RUNS {
+        let mut framer = Framer::new();
+        for (us, n) in before {
+            framer.push_run(*us, *n);
+        }
+        assert!(rt; framer.push_run(us, n) == RunSeen { seen, at }, "{us} {n}");
+    }
 }
 
 /// The runs of `03 62 61` in the timing of the main track.
@@ -107,7 +84,10 @@ fn a_packet_may_come_in_runs(rt: HostRuntime) -> Result<(), Fail> {
 #[test]
 fn ones_behind_the_end_bit_of_a_run_are_counted(rt: HostRuntime) -> Result<(), Fail> {
     for (n, last) in [(21, false), (22, true), (1000, true)] {
-        let mut framer = framer_behind(&SPEED_STEP_1[..10]);
+        let mut framer = Framer::new();
+        for (us, n) in &SPEED_STEP_1[..10] {
+            framer.push_run(*us, *n);
+        }
         // four ones end the packet, two of them its end bit
         let run = framer.push_run(58, n);
         assert!(rt; run.at == 4);

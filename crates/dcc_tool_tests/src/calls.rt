@@ -1,7 +1,7 @@
-//! The calls of the program over one input, and what they answer and write, in words.
+//! The calls of the program over one input, and what a table says of them, in words.
 
-use crate::rows::column;
-use dcc_regs::{BoardDecoder, Decoder, LocoDecoder, Who};
+use crate::rows::number;
+use dcc_regs::{BoardDecoder, Decoder, LocoDecoder};
 use dcc_tool::{
     Counted, Encode, Input, Limits, Saved, Sink, Source, ToolFault, encode, read_decoders,
     read_who, run, same, same_input, show,
@@ -20,43 +20,41 @@ pub enum Call {
     Show { words: bool },
     Encode(Encode),
     Run,
-    /// The input is the second capture, behind `CAPTURE`.
+    /// The input is the second capture, behind `CAPTURE`, for locomotive 3.
     Same,
     SameInput,
 }
 
-pub const HEX: Call = Call::Encode(Encode {
-    hex: true,
-    service: false,
-    station: None,
-});
-
-/// The bytes of the packets of a station of these sizes.
-pub fn station(queue: u8, slots: u8, repeats: u8) -> Call {
+/// The bytes of packets, of a station of these sizes if they are given.
+pub fn hex(station: Option<(usize, usize, u8)>) -> Call {
     Call::Encode(Encode {
         hex: true,
         service: false,
-        station: Some((usize::from(queue), usize::from(slots), repeats)),
+        station,
     })
 }
 
-pub fn s3() -> Result<Who, ToolFault> {
-    read_who("s3")
-}
-
-/// A decoder as it was saved.
-fn restored(alloc: Global, saved: &Saved) -> Result<Box<dyn Decoder>, Fail> {
-    match saved {
-        Saved::Loco(state) => Ok(Box::new(alloc, LocoDecoder::restore(state)?)?),
-        Saved::Board(state) => Ok(Box::new(alloc, BoardDecoder::restore(state)?)?),
+/// The call of a word: `show`, `hex`, `station` of queue and slots 4 and one repeat, `run`, and `both` captures of
+/// an input for locomotive 3.
+pub fn call_of(word: &str) -> Call {
+    match word {
+        "show" => Call::Show { words: false },
+        "hex" => hex(None),
+        "station" => hex(Some((4, 4, 1))),
+        "run" => Call::Run,
+        _ => Call::SameInput,
     }
 }
 
-/// The fleet of these.
+/// The fleet of saved decoders.
 pub fn fleet_of(alloc: Global, saved: &[Saved]) -> Result<Vec<Box<dyn Decoder>>, Fail> {
     let mut fleet: Vec<Box<dyn Decoder>> = Vec::new(alloc);
     for decoder in saved {
-        fleet.push(restored(alloc, decoder)?)?;
+        let restored: Box<dyn Decoder> = match decoder {
+            Saved::Loco(state) => Box::new(alloc, LocoDecoder::restore(state)?)?,
+            Saved::Board(state) => Box::new(alloc, BoardDecoder::restore(state)?)?,
+        };
+        fleet.push(restored)?;
     }
     Ok(fleet)
 }
@@ -75,30 +73,6 @@ fn play_fleet<R: Source, W: Sink>(
     Ok(run(fleet.as_mut_slice(), input, writer))
 }
 
-/// The capture, and behind it this one.
-fn play_second<R: Source, W: Sink>(
-    alloc: Global,
-    input: &mut Input<R>,
-    writer: &mut W,
-) -> Result<(), ToolFault> {
-    let mut first = Input::new(Counted::new(CAPTURE.as_bytes()), Limits::full());
-    match same(alloc, &mut first, input, writer, s3()?) {
-        Ok(_) => Ok(()),
-        Err(fault) => Err(fault),
-    }
-}
-
-fn play_both<R: Source, W: Sink>(
-    alloc: Global,
-    input: &mut Input<R>,
-    writer: &mut W,
-) -> Result<(), ToolFault> {
-    match same_input(alloc, input, writer, s3()?) {
-        Ok(_) => Ok(()),
-        Err(fault) => Err(fault),
-    }
-}
-
 impl Call {
     pub fn play<R: Source, W: Sink>(
         &self,
@@ -110,118 +84,74 @@ impl Call {
             Call::Show { words } => Ok(show(input, writer, *words)),
             Call::Encode(how) => Ok(encode(alloc, input, writer, *how)),
             Call::Run => play_fleet(alloc, input, writer),
-            Call::Same => Ok(play_second(alloc, input, writer)),
-            Call::SameInput => Ok(play_both(alloc, input, writer)),
+            Call::Same => {
+                let mut first = Input::new(Counted::new(CAPTURE.as_bytes()), Limits::full());
+                match same(alloc, &mut first, input, writer, read_who("s3")?) {
+                    Ok(_) => Ok(Ok(())),
+                    Err(fault) => Ok(Err(fault)),
+                }
+            }
+            Call::SameInput => match same_input(alloc, input, writer, read_who("s3")?) {
+                Ok(_) => Ok(Ok(())),
+                Err(fault) => Ok(Err(fault)),
+            },
         }
     }
 }
 
-/// Whether a fault is told so, behind `dcc: `.
-pub fn is_told(alloc: Global, fault: &ToolFault, told: &str) -> Result<bool, AllocError> {
-    let text = format!(in alloc; "{fault}")?;
-    Ok(text.as_str().strip_prefix("dcc: ") == Some(told))
-}
-
-/// Whether an answer is this fault, none where it is not said.
-pub fn ends(alloc: Global, answer: &Result<(), ToolFault>, told: &str) -> Result<bool, AllocError> {
+/// A fault in words, without `dcc: ` before them; no words where there is none.
+pub fn told(alloc: Global, answer: &Result<(), ToolFault>) -> Result<String, AllocError> {
     match answer {
-        Ok(()) => Ok(told.is_empty()),
-        Err(fault) => is_told(alloc, fault, told),
+        Ok(()) => Ok(String::new(alloc)),
+        Err(fault) => {
+            let text = format!(in alloc; "{fault}")?;
+            String::from_str(alloc, text.as_str().strip_prefix("dcc: ").unwrap_or(""))
+        }
     }
 }
 
-/// Whether a call writes this and ends so.
-pub fn gives<R: Source>(
-    alloc: Global,
-    call: Call,
-    input: &mut Input<R>,
-    written: &[u8],
-    told: &str,
-) -> Result<bool, Fail> {
-    let mut writer = Counted::new(Vec::new(alloc));
-    let answer = call.play(alloc, input, &mut writer)?;
-    Ok(ends(alloc, &answer, told)? && writer.inner.as_slice() == written)
+/// The first two numbers of a column, these where it is empty.
+pub fn pair(column: &str, or: (u32, u32)) -> (u32, u32) {
+    let mut words = column.split_whitespace();
+    match (words.next(), words.next()) {
+        (Some(first), Some(second)) => (number(first), number(second)),
+        _ => or,
+    }
 }
 
-/// Whether a call writes this and ends so, and, where it is made again, ends so with nothing more written.
-pub fn gives_and_keeps<R: Source>(
-    alloc: Global,
-    call: Call,
-    input: &mut Input<R>,
-    written: &[u8],
-    told: &str,
-) -> Result<bool, Fail> {
-    Ok(gives(alloc, call, input, written, told)? && keeps(alloc, call, input, told)?)
-}
-
-/// Whether a call that is made again ends as before, and writes nothing.
-fn keeps<R: Source>(
-    alloc: Global,
-    call: Call,
-    input: &mut Input<R>,
-    told: &str,
-) -> Result<bool, Fail> {
-    gives(alloc, call, input, b"", told)
-}
-
-/// Whether a call over this text writes this and ends so, within these limits.
-pub fn is_within(
-    alloc: Global,
-    call: Call,
-    text: &[u8],
-    limits: Limits,
-    written: &[u8],
-    told: &str,
-) -> Result<bool, Fail> {
-    let mut input = Input::new(Counted::new(text), limits);
-    gives(alloc, call, &mut input, written, told)
-}
-
-/// Whether a call over this text writes this and ends so.
-pub fn is_given(
-    alloc: Global,
-    call: Call,
-    text: &[u8],
-    written: &[u8],
-    told: &str,
-) -> Result<bool, Fail> {
-    is_within(alloc, call, text, Limits::full(), written, told)
-}
-
-/// Whether a call over this text writes this and ends so, and keeps that.
-pub fn is_kept(
-    alloc: Global,
-    call: Call,
-    text: &[u8],
-    written: &[u8],
-    told: &str,
-) -> Result<bool, Fail> {
-    let mut input = Input::new(Counted::new(text), Limits::full());
-    gives_and_keeps(alloc, call, &mut input, written, told)
-}
-
-/// The limits of a number of halves and of bytes.
-pub fn limits(halves: u32, bytes: u32) -> Limits {
-    Limits { halves, bytes }
-}
-
-/// The text of a column, where `/` is a line feed, `^` a carriage return, `~` a tab, `%` a vertical tab and `_` a space.
+/// A text of a table. `/` is a line feed, `^` a carriage return, `~` a tab, `%` a vertical tab and `_` a space;
+/// capitals are packets in runs, two speeds `S` and `F`, a write `T`, an idle one `I` and one of a wrong error byte
+/// `B`, and the text of a locomotive and a board, `D`, which is `A` when it has heard `S`.
 pub fn text_of(alloc: Global, column: &str) -> Result<Vec<u8>, AllocError> {
     let mut text = Vec::new(alloc);
     for byte in column.as_bytes() {
-        text.push(match *byte {
-            b'/' => b'\n',
-            b'^' => b'\r',
-            b'~' => b'\t',
-            b'%' => 0x0B,
-            b'_' => b' ',
-            byte => byte,
+        let one = [*byte];
+        text.extend_from_slice(match *byte {
+            b'/' => b"\n".as_slice(),
+            b'^' => b"\r".as_slice(),
+            b'~' => b"\t".as_slice(),
+            b'%' => b"\x0B".as_slice(),
+            b'_' => b" ".as_slice(),
+            b'S' => b"58*28 100*14 58*4 100*4 58*4 100*6 58*2 100*6 58*4 100*8 58*4".as_slice(),
+            b'F' => b"58*28 100*14 58*4 100*4 58*14 100*4 58*10 100*4 58*2".as_slice(),
+            b'T' =>
+                b"58*28 100*14 58*4 100*2 58*6 100*2 58*2 100*14 58*6 100*6 58*8 100*6 58*2 100*12 58*4 100*2 58*2".as_slice(),
+            b'B' => b"58*28 100*14 58*4 100*4 58*4 100*6 58*2 100*6 58*4 100*10 58*2".as_slice(),
+            b'I' => b"58*28 100*2 58*16 100*20 58*18".as_slice(),
+            b'D' => TEXT,
+            b'A' => AFTER,
+            _ => one.as_slice(),
         })?;
     }
     Ok(text)
 }
 
-/// The text of a row's column of this number.
-pub fn text_in(alloc: Global, row: &str, number: usize) -> Result<Vec<u8>, AllocError> {
-    text_of(alloc, column(row, number))
-}
+/// A locomotive decoder at short 3, and board 12.
+pub const TEXT: &[u8] =
+    b"dcc-decoders 2\nloco s3\nspeed stop f\non\nstates\npending none\ncv 1 3\ncv 29 2\n\
+    board 12\nout\nposition 0 0 0 0\naspect 0 0 0 0\nend\n";
+
+/// The same behind a packet of speed step 1 of 28.
+const AFTER: &[u8] =
+    b"dcc-decoders 2\nloco s3\nspeed 28 1 f\non\nstates\npending none\ncv 1 3\ncv 29 2\n\
+    board 12\nout\nposition 0 0 0 0\naspect 0 0 0 0\nend\n";

@@ -1,11 +1,9 @@
 //! Readers and writers that fail at each of their calls in turn: what is answered, and what was written.
 
-use crate::calls::{CAPTURE, Call, HEX, gives_and_keeps, is_kept, limits, station};
+use crate::calls::{CAPTURE, Call, hex};
 use crate::fakes::{Giving, Taking};
-use dcc_packet::{CvNumber, PacketFault};
-use dcc_service::ServiceDecoder;
-use dcc_tool::{Counted, Input, Limits, ToolFault, readcv};
-use std::alloc::{AllocError, Global};
+use dcc_tool::{Input, Limits, ToolFault};
+use std::alloc::Global;
 use std::process::Abort;
 use std::test::Fail;
 
@@ -23,124 +21,90 @@ const CAPTURES: &[u8] = b"58*28 100*14 58*4 100*4 58*4 100*6 58*2 100*6 58*4 100
     58*28 100*2 58*16 100*20 58*18\n\
     58*28 100*14 58*4 100*4 58*4 100*6 58*2 100*6 58*4 100*8 58*4\n";
 
+/// Two captures, and a comment behind the dashes between them.
+const DASHES: &[u8] = b"58 58\n---  #c\n58 58\n";
+
 /// A call, its input, and what it writes for it.
-#[derive(Clone, Copy)]
-struct Played {
-    call: Call,
-    text: &'static [u8],
-    want: &'static [u8],
+type Played = (Call, &'static [u8], &'static [u8]);
+
+fn calls() -> [Played; 8] {
+    [
+        (
+            Call::Show { words: false },
+            CAPTURE.as_bytes(),
+            b"84 036261\n168 ff00ff\n252 refused H5 036260\n",
+        ),
+        (
+            Call::Show { words: true },
+            CAPTURE.as_bytes(),
+            b"84 loco s3 speed28 f 4\n168 idle\n252 refused H5 036260\n",
+        ),
+        (hex(None), LINES, b"036261\nff00ff\nc3e8ec1c06dd\n"),
+        (
+            hex(Some((16, 32, 1))),
+            COMMANDS,
+            b"036261\n036261\n# refused C3\n030003\nff00ff\nff00ff\n",
+        ),
+        (
+            Call::Run,
+            FLEET,
+            b"dcc-decoders 2\nloco s3\nspeed 28 1 f\non\nstates\npending none\ncv 1 3\ncv 29 2\nend\n",
+        ),
+        (Call::Same, CAPTURE.as_bytes(), b"alike\n"),
+        (Call::SameInput, CAPTURES, b"alike\n"),
+        (Call::SameInput, DASHES, b"alike\n"),
+    ]
 }
 
-/// How many of them there are.
-const CALLS: u32 = 7;
-
-/// The call of this number, from 0.
-fn call_of(number: u32) -> Played {
-    match number {
-        0 => Played {
-            call: Call::Show { words: false },
-            text: CAPTURE.as_bytes(),
-            want: b"84 036261\n168 ff00ff\n252 refused H5 036260\n",
-        },
-        1 => Played {
-            call: Call::Show { words: true },
-            text: CAPTURE.as_bytes(),
-            want: b"84 loco s3 speed28 f 4\n168 idle\n252 refused H5 036260\n",
-        },
-        2 => Played {
-            call: HEX,
-            text: LINES,
-            want: b"036261\nff00ff\nc3e8ec1c06dd\n",
-        },
-        3 => Played {
-            call: station(16, 32, 1),
-            text: COMMANDS,
-            want: b"036261\n036261\n# refused C3\n030003\nff00ff\nff00ff\n",
-        },
-        4 => Played {
-            call: Call::Run,
-            text: FLEET,
-            want: b"dcc-decoders 2\nloco s3\nspeed 28 1 f\non\nstates\npending none\ncv 1 3\ncv 29 2\nend\n",
-        },
-        5 => Played {
-            call: Call::Same,
-            text: CAPTURE.as_bytes(),
-            want: b"alike\n",
-        },
-        _ => Played {
-            call: Call::SameInput,
-            text: CAPTURES,
-            want: b"alike\n",
-        },
+/// Whether all that stood before a fault of the input is written. Else nothing is.
+fn lists_up_to_a_fault(call: Call) -> bool {
+    match call {
+        Call::Show { .. } | Call::Encode(_) => true,
+        Call::Run | Call::Same | Call::SameInput => false,
     }
 }
 
-impl Played {
-    /// Whether all that stood before a fault of the input is written. Else nothing is.
-    fn lists_up_to_a_fault(&self) -> bool {
-        match self.call {
-            Call::Show { .. } | Call::Encode(_) => true,
-            Call::Run | Call::Same | Call::SameInput => false,
-        }
-    }
-
-    /// Whether this may have been written where the input failed.
-    fn may_be_written(&self, written: &[u8]) -> bool {
-        if self.lists_up_to_a_fault() {
-            is_front_of_lines(written, self.want)
-        } else {
-            written.is_empty()
-        }
-    }
-}
-
-/// Whether a text is one of the fronts of another that end with a line, none too.
-fn is_front_of_lines(front: &[u8], text: &[u8]) -> bool {
-    text.starts_with(front) && (front.is_empty() || front.ends_with(b"\n"))
-}
-
-/// Plays a call with a reader that fails behind so many calls of seven bytes. The answer is whether all was read.
+/// Plays a call with a reader that fails behind so many calls of some bytes. The answer is whether all was read.
+/// Where it was not, a front of whole lines may be written, and the fault is kept.
 fn play_behind_reads(
     rt: &impl Abort,
     alloc: Global,
     played: Played,
+    each: usize,
     calls_left: u32,
 ) -> Result<bool, Fail> {
-    let mut input = Input::new(
-        Giving::new(played.text, 7, calls_left, false),
-        Limits::full(),
-    );
-    let mut writer = Counted::new(Vec::new(alloc));
-    let answer = played.call.play(alloc, &mut input, &mut writer)?;
+    let (call, text, want) = played;
+    let mut input = Input::new(Giving::new(text, each, calls_left, false), Limits::full());
+    let mut writer = Taking::new(alloc, 1000, 1000);
+    let answer = call.play(alloc, &mut input, &mut writer)?;
+    let written = writer.taken.as_slice();
     if answer.is_ok() {
-        assert!(rt; writer.inner.as_slice() == played.want);
+        assert!(rt; written == want);
         return Ok(true);
     }
     assert!(rt; answer == Err(ToolFault::Read));
-    assert!(rt; played.may_be_written(writer.inner.as_slice()));
-    // the fault is kept, and nothing more is written
-    assert!(rt; gives_and_keeps(alloc, played.call, &mut input, b"", "U4 read failed")?);
+    assert!(rt; written.is_empty() || lists_up_to_a_fault(call) && written.ends_with(b"\n"));
+    assert!(rt; want.starts_with(written));
+    let mut writer = Taking::new(alloc, 1000, 1000);
+    let again = call.play(alloc, &mut input, &mut writer)?;
+    assert!(rt; again == Err(ToolFault::Read) && writer.taken.is_empty());
     Ok(false)
 }
 
-/// Fails each read of a call in turn, up to the hundredth, behind which the call is done.
-fn fail_reads(rt: &impl Abort, alloc: Global, played: Played) -> Result<(), Fail> {
-    let mut whole = 0;
-    for calls_left in 0..100u32 {
-        if play_behind_reads(rt, alloc, played, calls_left)? {
-            whole = whole.max(calls_left);
-        } else {
-            assert!(rt; whole == 0);
-        }
-    }
-    assert!(rt; whole == 99);
-    Ok(())
-}
-
+/// Each read of a call fails in turn, up to the hundredth, behind which the call is done.
 #[test]
 fn each_read_fails_in_turn(rt: HostRuntime) -> Result<(), Fail> {
-    for number in 0..CALLS {
-        fail_reads(&rt, rt.alloc(), call_of(number))?;
+    for played in calls() {
+        let each = if played.1.len() < 30 { 1 } else { 7 };
+        let mut whole = 0;
+        for calls_left in 0..100u32 {
+            if play_behind_reads(&rt, rt.alloc(), played, each, calls_left)? {
+                whole = whole.max(calls_left);
+            } else {
+                assert!(rt; whole == 0);
+            }
+        }
+        assert!(rt; whole == 99);
     }
     Ok(())
 }
@@ -152,128 +116,36 @@ fn play_to(
     played: Played,
     mut writer: Taking,
 ) -> Result<bool, Fail> {
-    let mut input = Input::new(Counted::new(played.text), Limits::full());
-    let answer = played.call.play(alloc, &mut input, &mut writer)?;
+    let (call, text, want) = played;
+    let mut input = Input::new(Giving::new(text, 512, 1000, false), Limits::full());
+    let answer = call.play(alloc, &mut input, &mut writer)?;
     if answer.is_ok() {
-        assert!(rt; writer.taken.as_slice() == played.want);
+        assert!(rt; writer.taken.as_slice() == want);
         return Ok(true);
     }
     assert!(rt; answer == Err(ToolFault::Write));
-    assert!(rt; played.want.starts_with(writer.taken.as_slice()));
+    assert!(rt; want.starts_with(writer.taken.as_slice()));
     assert!(rt; writer.each > 0 || writer.taken.is_empty());
     Ok(false)
 }
 
-/// Fails each write of so many bytes of a call in turn, up to the two hundredth, behind which the call is done.
-fn fail_writes(rt: &impl Abort, alloc: Global, played: Played, each: usize) -> Result<(), Fail> {
-    let mut whole = false;
-    for calls_left in 0..200u32 {
-        if play_to(rt, alloc, played, Taking::new(alloc, each, calls_left))? {
-            whole = true;
-        } else {
-            assert!(rt; !whole);
-        }
-    }
-    assert!(rt; whole);
-    Ok(())
-}
-
+/// Each write of so many bytes of a call fails in turn, up to the two hundredth, behind which the call is done.
 #[test]
 fn each_write_fails_in_turn(rt: HostRuntime) -> Result<(), Fail> {
-    let alloc = rt.alloc();
-    for number in 0..CALLS {
-        let played = call_of(number);
-        fail_writes(&rt, alloc, played, 1)?;
-        fail_writes(&rt, alloc, played, 3)?;
-        fail_writes(&rt, alloc, played, 1000)?;
-        assert!(rt; !play_to(&rt, alloc, played, Taking::new(alloc, 0, 1000))?);
-    }
-    Ok(())
-}
-
-/// Reads a CV whose value is 0 to this writer. The answer is whether all was written.
-fn read_to(rt: &impl Abort, cv: CvNumber, mut writer: Taking) -> bool {
-    let mut decoder = ServiceDecoder::new(&[0; 1024]);
-    let answer = readcv(Some(&mut decoder), cv, &mut writer);
-    assert!(rt; answer == Ok(Some(0)) || answer == Err(ToolFault::Write));
-    answer.is_ok()
-}
-
-/// Fails each write of so many bytes in turn, up to the two hundredth, behind which the reading is done.
-fn fail_writes_of_a_reading(rt: &impl Abort, alloc: Global, cv: CvNumber, each: usize) {
-    let mut whole = false;
-    for calls_left in 0..200u32 {
-        if read_to(rt, cv, Taking::new(alloc, each, calls_left)) {
-            whole = true;
-        } else {
-            assert!(rt; !whole);
+    for played in calls() {
+        for each in [1, 3, 1000] {
+            let mut whole = false;
+            for calls_left in 0..200u32 {
+                let writer = Taking::new(rt.alloc(), each, calls_left);
+                if play_to(&rt, rt.alloc(), played, writer)? {
+                    whole = true;
+                } else {
+                    assert!(rt; !whole);
+                }
+            }
+            assert!(rt; whole);
         }
+        assert!(rt; !play_to(&rt, rt.alloc(), played, Taking::new(rt.alloc(), 0, 1000))?);
     }
-    assert!(rt; whole);
-}
-
-/// Whether an empty track gives no answer.
-fn is_no_answer(alloc: Global, cv: CvNumber) -> bool {
-    let mut full = Counted::new(Vec::new(alloc));
-    readcv(None, cv, &mut full) == Ok(None)
-}
-
-#[test]
-fn each_write_of_a_reading_fails_in_turn(rt: HostRuntime) -> Result<(), Fail> {
-    let cv = CvNumber::new(1)?;
-    assert!(rt; is_no_answer(rt.alloc(), cv));
-    fail_writes_of_a_reading(&rt, rt.alloc(), cv, 1);
-    fail_writes_of_a_reading(&rt, rt.alloc(), cv, 1000);
-    Ok(())
-}
-
-/// Whether a call over a text of bad words writes this and ends so, and keeps that.
-fn is_kept_for(alloc: Global, number: u32) -> Result<bool, Fail> {
-    match number {
-        0 => is_kept(
-            alloc,
-            Call::Show { words: false },
-            b"58*28 100*14 58*4 100*4 58*4 100*6 58*2 100*6 58*4 100*8 58*4\n58x\n",
-            b"84 036261\n",
-            "U2 line 2: bad number",
-        ),
-        1 => is_kept(
-            alloc,
-            HEX,
-            b"idle\nx\nidle\n",
-            b"ff00ff\n",
-            "U3 line 2: P10",
-        ),
-        2 => is_kept(
-            alloc,
-            station(4, 4, 1),
-            b"send 1\nsend 0\nsend 1\n",
-            b"ff00ff\n",
-            "U3 line 2: P11",
-        ),
-        3 => is_kept(
-            alloc,
-            Call::SameInput,
-            b"58\n---\n\n58x\n",
-            b"",
-            "U2 line 4: bad number",
-        ),
-        _ => is_kept(alloc, Call::SameInput, b"58\n58", b"", "U3 line 3: P10"),
-    }
-}
-
-#[test]
-fn faults_of_words_and_lines_are_kept(rt: HostRuntime) -> Result<(), Fail> {
-    for number in 0..5u32 {
-        assert!(rt; is_kept_for(rt.alloc(), number)?, "{number}");
-    }
-    Ok(())
-}
-
-#[test]
-fn spaces_for_ever_are_too_much(rt: HostRuntime) -> Result<(), Fail> {
-    let show = Call::Show { words: false };
-    let mut input = Input::new(Giving::new(b" ", 1, 1_000_000, true), limits(100, 1000));
-    assert!(rt; gives_and_keeps(rt.alloc(), show, &mut input, b"", "U7 input too long")?);
     Ok(())
 }

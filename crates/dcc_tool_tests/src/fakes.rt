@@ -1,64 +1,9 @@
-//! Captures, readers and writers for the tests.
+//! Readers and writers for the tests.
 ghost use Rattle.std.specs.Prelude.{None};
 
 use dcc_tool::{Failed, Sink, Source};
-use std::alloc::{AllocError, Global};
+use std::alloc::Global;
 use std::cell::Cell;
-
-/// A capture that is written half by half, with this gap behind each word.
-#[derive(Drop)]
-pub struct Text<'a> {
-    pub bytes: Vec<u8>,
-    gap: &'a [u8],
-}
-
-impl<'a> Text<'a> {
-    pub fn new(alloc: Global, gap: &'a [u8]) -> Text<'a> {
-        Text {
-            bytes: Vec::new(alloc),
-            gap,
-        }
-    }
-
-    pub fn word(&mut self, word: &[u8]) -> Result<(), AllocError> {
-        self.bytes.extend_from_slice(word)?;
-        self.bytes.extend_from_slice(self.gap)
-    }
-
-    /// One-halves, two of which are a one.
-    pub fn one_halves(&mut self, count: u32) -> Result<(), AllocError> {
-        for _ in 0..count {
-            self.word(b"58")?;
-        }
-        Ok(())
-    }
-
-    pub fn zero(&mut self) -> Result<(), AllocError> {
-        self.word(b"100")?;
-        self.word(b"100")
-    }
-
-    /// A zero and eight bits for each byte, the highest first, and then a one.
-    pub fn body(&mut self, bytes: &[u8]) -> Result<(), AllocError> {
-        for byte in bytes {
-            self.byte(*byte)?;
-        }
-        self.one_halves(2)
-    }
-
-    /// A zero and the eight bits of a byte.
-    pub fn byte(&mut self, byte: u8) -> Result<(), AllocError> {
-        self.zero()?;
-        for place in 0..8u8 {
-            if (byte << place) & 0x80 == 0 {
-                self.zero()?;
-            } else {
-                self.one_halves(2)?;
-            }
-        }
-        Ok(())
-    }
-}
 
 /// Gives some bytes at each call, until its call of this number fails; at their end it begins again,
 /// or ends.
@@ -194,8 +139,8 @@ impl<'a> Source for Watching<'a> {
     }
 }
 
-/// Gives so many bytes at each call of lines of one length, and notes it where another number of lines of 7 bytes is out
-/// than was given whole.
+/// Gives so many bytes at each call of lines of one length, and notes it where another number of lines of 7 bytes is
+/// out than was given whole.
 #[derive(Drop)]
 pub struct WatchingLines<'a> {
     pub lines: &'a [u8],

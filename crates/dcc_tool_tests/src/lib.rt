@@ -1,14 +1,13 @@
-//! Whole calls of `dcc_tool`, over readers and writers that fail, give little at a time or watch each other. It has no items of its own.
+//! Whole calls of `dcc_tool`, over readers and writers that fail, give little at a time or watch each other. It has
+//! no items of its own.
 #![tactic(auto)]
 
 #[cfg(test)]
+mod call_tests;
+#[cfg(test)]
 mod calls;
 #[cfg(test)]
-mod capture_runs_tests;
-#[cfg(test)]
 mod encode_order_tests;
-#[cfg(test)]
-mod encode_tests;
 #[cfg(test)]
 mod ending_tests;
 #[cfg(test)]
@@ -22,12 +21,6 @@ mod rows;
 #[cfg(test)]
 mod run_tests;
 #[cfg(test)]
-mod same_input_tests;
-#[cfg(test)]
 mod same_tests;
 #[cfg(test)]
-mod show_fault_tests;
-#[cfg(test)]
 mod show_order_tests;
-#[cfg(test)]
-mod show_tests;

@@ -1,10 +1,9 @@
 //! Readings of a decoder in service, and writers that fail.
 
 use crate::fakes::Taking;
-use dcc_packet::{CvNumber, PacketFault};
+use dcc_packet::CvNumber;
 use dcc_service::{ServiceDecoder, ServicePacket, ask};
-use dcc_tool::{Counted, Sink, ToolFault, readcv};
-use std::alloc::Global;
+use dcc_tool::{ToolFault, readcv};
 use std::test::Fail;
 
 const TEN: &[u8] =
@@ -18,70 +17,44 @@ fn with_cv1(value: u8) -> ServiceDecoder {
     ServiceDecoder::new(&cvs)
 }
 
-/// The reading of CV1, without what its contract says.
-fn read_cv1<W: Sink>(
-    decoder: Option<&mut ServiceDecoder>,
-    writer: &mut W,
-) -> Result<Option<u8>, ToolFault> {
-    match CvNumber::new(1) {
-        Ok(cv) => readcv(decoder, cv, writer),
-        Err(_) => Err(ToolFault::NoMemory),
-    }
-}
-
-/// Whether a reading of CV1 tells this value and writes this.
-fn tells(
-    alloc: Global,
-    decoder: Option<&mut ServiceDecoder>,
-    value: Option<u8>,
-    text: &[u8],
-) -> bool {
-    let mut writer = Counted::new(Vec::new(alloc));
-    let answer = read_cv1(decoder, &mut writer);
-    answer == Ok(value) && writer.inner.as_slice() == text
-}
-
-/// Whether a write of CV1 is answered, which leaves the decoder in service.
-fn is_written(decoder: &mut ServiceDecoder, value: u8) -> Result<bool, PacketFault> {
-    let cv = CvNumber::new(1)?;
-    Ok(ask(decoder, &ServicePacket::Write { cv, value }))
-}
-
+/// A write is answered, which leaves the decoder in service. It then tells its value, as often as it is asked.
 #[test]
 fn a_decoder_in_service_tells_its_value(rt: HostRuntime) -> Result<(), Fail> {
     let mut decoder = with_cv1(3);
-    assert!(rt; is_written(&mut decoder, 10)?);
+    let cv = CvNumber::new(1)?;
+    assert!(rt; ask(&mut decoder, &ServicePacket::Write { cv, value: 10 }));
     for _ in 0..2u32 {
-        assert!(rt; tells(rt.alloc(), Some(&mut decoder), Some(10), TEN));
+        let mut writer = Taking::new(rt.alloc(), 1000, 1000);
+        assert!(rt; readcv(Some(&mut decoder), cv, &mut writer) == Ok(Some(10)));
+        assert!(rt; writer.taken.as_slice() == TEN);
     }
+    let mut writer = Taking::new(rt.alloc(), 1000, 1000);
+    assert!(rt; readcv(None, cv, &mut writer) == Ok(None));
     Ok(())
 }
 
-/// Whether a writer takes this of a reading of CV1, which is 10 and stays so, and the reading ends so.
-fn takes(mut writer: Taking, answer: Result<Option<u8>, ToolFault>, taken: &[u8]) -> bool {
-    let mut decoder = with_cv1(10);
-    let read = read_cv1(Some(&mut decoder), &mut writer);
-    read == answer && writer.taken.as_slice() == taken && decoder.cvs()[0] == 10
-}
-
+/// Each write of so many bytes fails in turn, up to the two hundredth, behind which the reading is done. The decoder
+/// keeps its value.
 #[test]
-fn a_writer_takes_a_reading_in_parts(rt: HostRuntime) {
-    assert!(rt; takes(Taking::new(rt.alloc(), 1, 1000), Ok(Some(10)), TEN));
-}
-
-/// Whether a reading of an empty track by a writer that takes nothing is a failed write.
-fn is_failed(mut writer: Taking) -> bool {
-    read_cv1(None, &mut writer) == Err(ToolFault::Write) && writer.taken.is_empty()
-}
-
-#[test]
-fn a_failed_write_ends_a_reading(rt: HostRuntime) {
-    for calls in 0..TEN.len() as u32 {
-        let writer = Taking::new(rt.alloc(), 1, calls);
-        assert!(rt;
-            takes(writer, Err(ToolFault::Write), &TEN[..calls as usize]),
-            "{calls}"
-        );
+fn each_write_of_a_reading_fails_in_turn(rt: HostRuntime) -> Result<(), Fail> {
+    let cv = CvNumber::new(1)?;
+    for each in [1, 1000] {
+        for calls in 0..200u32 {
+            let mut writer = Taking::new(rt.alloc(), each, calls);
+            let mut decoder = with_cv1(10);
+            let answer = readcv(Some(&mut decoder), cv, &mut writer);
+            let taken = writer.taken.as_slice();
+            assert!(rt; decoder.cvs()[0] == 10 && TEN.starts_with(taken));
+            if answer == Ok(Some(10)) {
+                assert!(rt; taken.len() == TEN.len());
+            } else {
+                assert!(rt; answer == Err(ToolFault::Write) && taken.len() < TEN.len());
+                assert!(rt; each > 1 || taken.len() == calls as usize);
+            }
+        }
     }
-    assert!(rt; is_failed(Taking::new(rt.alloc(), 0, 1)));
+    let mut writer = Taking::new(rt.alloc(), 0, 1);
+    assert!(rt; readcv(None, cv, &mut writer) == Err(ToolFault::Write));
+    assert!(rt; writer.taken.is_empty());
+    Ok(())
 }

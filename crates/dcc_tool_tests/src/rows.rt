@@ -3,25 +3,6 @@
 //! `column` and `number` stand in `dcc_tests` too: tests give no items to another crate, and a crate below both
 //! would be one more to prove.
 
-use std::alloc::Global;
-use std::process::Abort;
-use std::test::Fail;
-
-/// Asserts that each row of a table holds.
-pub fn rows_hold<F: Fn(Global, &str) -> Result<bool, Fail>>(
-    rt: &impl Abort,
-    alloc: Global,
-    table: &str,
-    holds: F,
-) -> Result<(), Fail>
-    requires { F.IsAlwaysCallable holds }
-{
-    for row in table.lines() {
-        assert!(rt; holds(alloc, row)?, "{row}");
-    }
-    Ok(())
-}
-
 /// The column of this number, from 0, without the blanks around it: an empty one where the row has fewer.
 pub fn column(row: &str, number: usize) -> &str {
     let mut rest = row;

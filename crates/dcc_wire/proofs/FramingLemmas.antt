@@ -57,7 +57,7 @@ pub used_ended : (halves : List Half) (p : ℕ × Seen) → outcome_of halves �
 unfolding halves_used
 used_ended halves p e = ap (λ o. option_map_or (λ p. p.0 - ones_left p.1) o (length halves)) e
 
--- no start place among the halves_used halves, nor right behind them
+-- no start place among the halves that were used, nor right behind them
 
 and_false : (b : Bool) → (b && false) ≡ false
 and_false true = refl

@@ -1,4 +1,4 @@
--- How words of a decoder text are word_and_rest.
+-- How words of a decoder text are read.
 use Rattle.std.specs.Prelude.{◌≡◌, ℕ, List, Result, Ok, Err}
 use Rattle.dcc_packet.specs.declared.fault.PacketFault.{PacketFault}
 use Rattle.dcc_packet.specs.Words.{Word}

@@ -7,11 +7,13 @@ use Rattle.dcc_io.specs.declared.fault.KeptFault.{KeptFault}
 use Rattle.dcc_io.specs.declared.fault.KeptFault.TheVariants.{Number, Line, Read, TooMuch}
 use Rattle.dcc_io.specs.InputState.{InputState}
 use Rattle.dcc_io.specs.NextLine.{EndsLine, IsBadAt, FailsInLine, OverflowsInLine}
+use Rattle.dcc_saved.specs.TextRead.{TextLinesAt}
 
 -- the next line is bad, or there is none
 pub record MissesLine (old : InputState) (number : ℕ) (new : InputState) : Type 0 where
   pub at : number ≡ old.place.line
   pub text : IfSome old.text (λ text. IsBadAt old text ⊎ (text ≡ []))
+  pub lines : TextLinesAt old (Line number faults.Word) new
   pub fault : new.fault ≡ Some (Line number faults.Word)
   pub failures : new.failures ≡ old.failures
 

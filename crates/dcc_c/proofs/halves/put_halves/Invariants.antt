@@ -1,4 +1,4 @@
-use Rattle.std.proofs.Common.{◌≡◌, ◌+◌, ◌≤◌, ◌++◌, length, take}
+use Rattle.std.proofs.Common.{◌≡◌, ◌+◌, ◌≤◌, ◌++◌, length, take, drop}
 use Rattle.dcc_wire.specs.HalvesLeft.{halves_left}
 use Rattle.dcc_wire.specs.Sending.{sent}
 use Rattle.dcc_c.proofs.halves.put_halves.Given as goal
@@ -6,5 +6,6 @@ use Rattle.dcc_c.proofs.halves.put_halves.Given as goal
 abbrev pub invariant-loop-us : goal.invariant-loop-us
 invariant-loop-us l = record {
   written : take l.count l.halves ++ halves_left l.us-iterator ≡ sent l.fn.frame l.fn.timing;
+  behind : drop l.count l.halves ≡ drop l.count l.fn.halves;
   room : l.count + length (halves_left l.us-iterator) ≤ 190;
 }

@@ -15,5 +15,5 @@ returns-else-begins_with_mark g c =
     let ends = rw c.in-Some.is at (c.in_ok-line.ensures.reads c.requires) in
     counts c.args.before c.in-Some.line ends.word c.args.input.now c.next_word.new.input c.requires ends.passed
     c.count_word.new.input c.count_word.result
-    (sym (c.begins_with_mark.ensures ends.word ends.spelled) ∙ c.if-begins_with_mark.false) ends.fewer
+    (sym (c.begins_with_mark.ensures ends.word ends.spelled) ∙ c.if-begins_with_mark.false) ends.fewer ends.lines
     (c.count_word.ensures ends.word ends.spelled)

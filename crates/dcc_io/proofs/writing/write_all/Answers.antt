@@ -1,4 +1,4 @@
-use Rattle.std.proofs.Common.{rules, ◌∙◌}
+use Rattle.std.proofs.Common.{rules, arith, ◌∙◌}
 use Rattle.std.proofs.lemmas.Result.{err_from_is_err_and}
 use Rattle.dcc_io.proofs.WrittenLemmas.{taken_some, taken_none, some_left, goes_on_writing, stops_writing}
 use Rattle.dcc_io.proofs.WrittenLemmas.{stops_at_none, HasRisen-one_more}
@@ -22,7 +22,7 @@ returns-in-0 g c =
       rw (
         ← c.calls.invariant.failures,
         wrote.failures,
-        taken_none _ _ (some_left c.args.bytes.now c.calls.done c.calls-test.true),
+        taken_none _ _ (some_left c.args.bytes.now c.calls.done (omega arith)),
       ) (HasRisen-one_more _),
     )
 

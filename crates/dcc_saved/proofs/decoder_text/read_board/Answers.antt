@@ -1,5 +1,6 @@
 use Rattle.std.proofs.lemmas.Result.{err_from_is_err_and}
-use Rattle.dcc_saved.specs.DecoderLines.{outs_line, positions_line, aspects_line, head_line}
+use Rattle.dcc_saved.specs.DecoderLines.{numbers_line, positions_line, aspects_line, head_line}
+use Rattle.dcc_saved.specs.declared.decoder_line.Numbered.TheVariants as kinds
 use Rattle.dcc_saved.specs.TextReader.{line_by}
 use Rattle.dcc_saved.proofs.ReadLemmas.{Leads-then, Answers-fault}
 use Rattle.dcc_saved.proofs.DecoderTextLemmas.{Leads-board, behind_outs, behind_positions, behind_aspects}
@@ -11,14 +12,14 @@ returns-in_err-outs-clause-reads g c =
     let p = err_from_is_err_and c.from_residual.result c.from_residual.ensures.1 in
     let first = Leads-board c.args.board c.args.input.now c.requires.fault in
     rw (p.1, p.2)
-    (Answers-fault (line_by outs_line) (behind_outs c.args.board) _ first c.in_err-outs.ensures)
+    (Answers-fault (line_by (numbers_line kinds.Out)) (behind_outs c.args.board) _ first c.in_err-outs.ensures.reads)
 
 pub returns-in_err-positions-clause-reads : goal.returns-in_err-positions-clause-reads
 returns-in_err-positions-clause-reads g c =
     let p = err_from_is_err_and c.from_residual-in_err-positions.result
     c.from_residual-in_err-positions.ensures.1 in
     let first = Leads-board c.args.board c.args.input.now c.requires.fault in
-    let outs = Leads-then _ _ first c.in_ok-outs.ensures in
+    let outs = Leads-then _ _ first c.in_ok-outs.ensures.reads in
     rw (p.1, p.2)
     (Answers-fault (line_by positions_line) (behind_positions c.args.board c.in_ok-outs.outs) _ outs
     c.in_err-positions.ensures)
@@ -27,7 +28,7 @@ pub returns-in_err-aspects-clause-reads : goal.returns-in_err-aspects-clause-rea
 returns-in_err-aspects-clause-reads g c =
     let p = err_from_is_err_and c.from_residual-in_err-aspects.result c.from_residual-in_err-aspects.ensures.1 in
     let first = Leads-board c.args.board c.args.input.now c.requires.fault in
-    let outs = Leads-then _ _ first c.in_ok-outs.ensures in
+    let outs = Leads-then _ _ first c.in_ok-outs.ensures.reads in
     let positions = Leads-then _ _ outs c.in_ok-positions.ensures in
     rw (p.1, p.2)
     (Answers-fault (line_by aspects_line)
@@ -37,7 +38,7 @@ pub returns-in_err-head-clause-reads : goal.returns-in_err-head-clause-reads
 returns-in_err-head-clause-reads g c =
     let p = err_from_is_err_and c.from_residual-in_err-head.result c.from_residual-in_err-head.ensures.1 in
     let first = Leads-board c.args.board c.args.input.now c.requires.fault in
-    let outs = Leads-then _ _ first c.in_ok-outs.ensures in
+    let outs = Leads-then _ _ first c.in_ok-outs.ensures.reads in
     let positions = Leads-then _ _ outs c.in_ok-positions.ensures in
     let aspects = Leads-then _ _ positions c.in_ok-aspects.ensures in
     rw (p.1, p.2)
@@ -48,7 +49,7 @@ returns-in_err-head-clause-reads g c =
 pub returns-clause-reads : goal.returns-clause-reads
 returns-clause-reads g c =
     let first = Leads-board c.args.board c.args.input.now c.requires.fault in
-    let outs = Leads-then _ _ first c.in_ok-outs.ensures in
+    let outs = Leads-then _ _ first c.in_ok-outs.ensures.reads in
     let positions = Leads-then _ _ outs c.in_ok-positions.ensures in
     let aspects = Leads-then _ _ positions c.in_ok-aspects.ensures in
     Leads-then _ _ aspects c.in_ok-head.ensures.reads

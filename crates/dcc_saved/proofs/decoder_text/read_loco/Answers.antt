@@ -1,5 +1,6 @@
 use Rattle.std.proofs.lemmas.Result.{err_from_is_err_and}
-use Rattle.dcc_saved.specs.DecoderLines.{speed_line, functions_line, pending_line}
+use Rattle.dcc_saved.specs.DecoderLines.{speed_line, numbers_line, pending_line}
+use Rattle.dcc_saved.specs.declared.decoder_line.Numbered.TheVariants as kinds
 use Rattle.dcc_saved.specs.TextReader.{line_by}
 use Rattle.dcc_saved.specs.DecoderText.{cvs_lines, states_by}
 use Rattle.dcc_saved.proofs.ReadLemmas.{Leads-then, Answers-fault}
@@ -22,7 +23,7 @@ returns-in_err-functions-clause-reads g c =
     let first = Leads-loco c.args.version c.args.address c.args.input.now c.requires.fault in
     let speed = Leads-then _ _ first c.in_ok-speed.ensures.reads in
     rw (p.1, p.2)
-    (Answers-fault (line_by functions_line)
+    (Answers-fault (line_by (numbers_line kinds.Function))
     (behind_functions c.args.version c.args.address (c.in_ok-speed.speed, c.in_ok-speed.forward)) _ speed
     c.in_err-functions.ensures.reads)
 

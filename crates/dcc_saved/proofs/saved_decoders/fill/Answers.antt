@@ -41,7 +41,7 @@ pub decoders-preserved : goal.decoders-preserved
 decoders-preserved g c =
     let before = rw c.in-Decoder.is at c.decoders.invariant.0 in
     let some : length c.decoders.decoders.items ≡ 64 → ⊥ =
-    λ full. c.if-len-eq-MOST.false (omega (arith, c.decoders.decoders.ok, c.len.ensures, full)) in
+    λ full. omega (arith, c.decoders.decoders.ok, c.len.ensures, c.if-len-eq-MOST.false, full) in
     let count = before.count in
     let room : vec_len c.decoders.decoders < vec_capacity c.decoders.decoders =
     omega (arith, c.decoders.decoders.ok, c.len.ensures, some, count, c.decoders.invariant.2) in
@@ -61,7 +61,7 @@ pub returns-in_err-decoder-in-Decoder-clause-reads : goal.returns-in_err-decoder
 returns-in_err-decoder-in-Decoder-clause-reads g c =
     let before = rw c.in-Decoder.is at c.decoders.invariant.0 in
     let some : length c.decoders.decoders.items ≡ 64 → ⊥ =
-    λ full. c.if-len-eq-MOST.false (omega (arith, c.decoders.decoders.ok, c.len.ensures, full)) in
+    λ full. omega (arith, c.decoders.decoders.ok, c.len.ensures, c.if-len-eq-MOST.false, full) in
     let p = err_from_is_err_and c.from_residual-in_err-decoder-in-Decoder.result
     c.from_residual-in_err-decoder-in-Decoder.ensures.1 in
     rw (p.1, p.2)

@@ -1,6 +1,7 @@
 use Rattle.std.proofs.Common.{refl, sym, ◌∙◌}
 use Rattle.std.proofs.lemmas.Bool.{ne_eqb}
-use Rattle.dcc_io.proofs.LineLemmas.{OpensLine-bad}
+use Rattle.std.proofs.lemmas.Result.{err_from_is_err_and}
+use Rattle.dcc_io.proofs.LineLemmas.{OpensLine-bad, line_stops}
 use Rattle.dcc_io.proofs.input.Input.next_line.Goals as goal
 
 pub returns-then-not-has_room_for : goal.returns-then-not-has_room_for
@@ -13,3 +14,10 @@ returns-then-not-has_room_for g c =
           c.in-Some.byte c.bytes.line.number
           c.bytes.invariant.1 takes (ne_eqb _ _ c.if-byte-eq10.false) bad c.bytes.invariant.0 c.refuse.ensures.kept,
     )
+
+pub returns-in_err-byte : goal.returns-in_err-byte
+returns-in_err-byte g c =
+    let p = err_from_is_err_and c.from_residual.result c.from_residual.ensures.1 in
+    rw (p.1, p.2)
+    (line_stops c.args.self.now c.bytes.self c.next_byte.new.self c.bytes.line.text.bytes _ c.bytes.invariant.1
+    c.in_err-byte.ensures)

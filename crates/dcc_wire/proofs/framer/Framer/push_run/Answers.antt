@@ -11,7 +11,7 @@ use Rattle.dcc_wire.proofs.framer.Framer.push_run.Goals.{After-skip, After-skip-
 pub returns-then-at-n-clause-sees : goal.returns-then-at-n-clause-sees
 returns-then-at-n-clause-sees c = λ durations h.
     nothing_seen durations (durations ++ replicate c.args.n c.args.us) _
-    (subst (λ k. seen (durations ++ replicate k c.args.us) ≡ seen durations) c.if-at-n.true
+    (subst (λ k. seen (durations ++ replicate k c.args.us) ≡ seen durations) (omega arith)
     (c.loop-half.invariant.0.quiet durations h))
 
 pub returns-then-at-n-clause-before : goal.returns-then-at-n-clause-before

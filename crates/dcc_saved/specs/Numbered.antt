@@ -1,0 +1,23 @@
+-- The lines that tell which registers of a kind are on.
+use Rattle.std.specs.Prelude.{ℕ, List, codes}
+use Rattle.dcc_regs.specs.declared.register.Register.{Register}
+use Rattle.dcc_regs.specs.declared.register.Register.TheVariants as registers
+use Rattle.dcc_saved.specs.declared.decoder_line.Numbered.{Numbered}
+use Rattle.dcc_saved.specs.declared.decoder_line.Numbered.TheVariants.{Function, State, Out}
+
+-- the word that begins the line
+abbrev pub name_of : Numbered → List ℕ
+name_of Function = codes "on"
+name_of State = codes "states"
+name_of Out = codes "out"
+
+-- the number behind the last: F0 to F68, the states up to 127, the outputs 0 to 7
+abbrev pub end_of : Numbered → ℕ
+end_of Function = 69
+end_of State = 128
+end_of Out = 8
+
+abbrev pub register_of : Numbered → ℕ → Register
+register_of Function n = registers.Function n
+register_of State n = registers.State n
+register_of Out n = registers.Out n

@@ -1,0 +1,119 @@
+-- What `encode` writes, `show` lists.
+use Rattle.std.proofs.Common.{◌≡◌, ℕ, ◌+◌, ◌-◌, ◌<◌, ◌≤◌, List, [], ◌∷◌, ◌++◌, length, Bool, true, false, Option, None}
+use Rattle.std.proofs.Common.{Some, IfSome, cond, refl, ap, ◌∙◌, subst, arith, length-append, append_assoc}
+use Rattle.std.specs.Fmt.{decimal}
+use Rattle.std.specs.List.{flat_map, AllByRecursion}
+use Rattle.dcc_wire.specs.declared.seen.Seen.{Seen}
+use Rattle.dcc_wire.specs.declared.timing.Timing.{Timing}
+use Rattle.dcc_wire.specs.NominalTimings.{main_timing, service_timing}
+use Rattle.dcc_wire.specs.Framing.{seen}
+use Rattle.dcc_wire.specs.Sending.{durations_of, sent_bits, sent, sent_all}
+use Rattle.dcc_wire.proofs.SendingLemmas.{seen-sent_all}
+use Rattle.dcc_io.specs.Spaced.{behind_space}
+use Rattle.dcc_io.specs.Items.{Items, items_behind, EndsWith}
+use Rattle.dcc_io.specs.Words.{Word, ended_words}
+use Rattle.dcc_io.proofs.HandLemmas.{outside}
+use Rattle.dcc_io.proofs.NumberWords.{IsSmall, number_words, numbers_back, empty_line_back}
+use Rattle.dcc_capture.specs.Capture.{capture_in, halves_of}
+use Rattle.dcc_capture.specs.Listing.{IsListing}
+use Rattle.dcc_capture.proofs.CaptureLemmas.{enough}
+use Rattle.dcc_capture.proofs.NumbersTaken.{numbers_taken}
+use Rattle.dcc_listen.specs.Shown.{Lists}
+use Rattle.dcc_send.specs.declared.encoding.Encode.{Encode}
+use Rattle.dcc_send.specs.Encoded.{spaced_numbers, timing_of, encoding}
+use Rattle.dcc_tool.specs.EncodedShown.{to_send, halves_to_send, closed_encoding, EncodingsAreCaptures}
+use Rattle.dcc_tool.specs.EncodedShown.{EncodedFramesAreSeen, EncodingsAreShown}
+
+-- the durations of a timing are of 16 bits
+record IsShort (timing : Timing) : Type 0 where
+  one : IsSmall timing.one
+  zero_first : IsSmall timing.zero_first
+  zero_second : IsSmall timing.zero_second
+
+durations_small : (timing : Timing) (bits : List Bool) → IsShort timing
+    → AllByRecursion IsSmall (durations_of timing bits)
+unfolding durations_of
+durations_small timing [] short = tt
+durations_small timing (true ∷ bits) short = (short.one, (short.one, durations_small timing bits short))
+durations_small timing (false ∷ bits) short =
+    (short.zero_first, (short.zero_second, durations_small timing bits short))
+
+short_timing : (how : Encode) → IsShort (timing_of how)
+short_timing how = go how.service
+  where
+    go : (service : Bool) → IsShort (cond service service_timing main_timing)
+    go true = record { one = omega arith; zero_first = omega arith; zero_second = omega arith }
+    go false = record { one = omega arith; zero_first = omega arith; zero_second = omega arith }
+
+sent_small : (how : Encode) (frame : List ℕ) → AllByRecursion IsSmall (sent frame (timing_of how))
+unfolding sent
+sent_small how frame =
+    durations_small (timing_of how) (sent_bits frame (timing_of how).preamble) (short_timing how)
+
+-- a line of numbers is read as its words
+line_back : (line : ℕ) (ns more : List ℕ) → AllByRecursion IsSmall ns
+    → ended_words (outside line) ((spaced_numbers ns ++ 10 ∷ []) ++ more) ≡ number_words line ns
+    ++ ended_words (outside (line + 1)) more
+line_back line [] more small = empty_line_back line more
+line_back line (n ∷ ns) more small =
+    ap (ended_words (outside line))
+    (append_assoc (spaced_numbers (n ∷ ns)) (10 ∷ []) more
+    ∙ append_assoc (decimal n) (flat_map behind_space ns) (10 ∷ more))
+    ∙ numbers_back line n ns more small
+
+-- line by line
+lines_back : (how : Encode) (most line : ℕ) (frames : List (List ℕ)) → how.hex ≡ false
+    → length (halves_to_send how frames) ≤ most
+    → halves_of most (ended_words (outside line) (closed_encoding how frames)) None ≡ record {
+      said = halves_to_send how frames;
+      fault = None;
+    }
+unfolding sent_all
+lines_back how most line [] in_halves fits =
+    ap (λ (ws : List Word). halves_of most ws None) (empty_line_back line [])
+lines_back how most line (frame ∷ frames) in_halves fits =
+    ap (λ (t : List ℕ). halves_of most (ended_words (outside line) ((t ++ encoding how frames) ++ 10 ∷ [])) None)
+    (rw in_halves refl)
+    ∙ ap (λ (t : List ℕ). halves_of most (ended_words (outside line) t) None)
+    (append_assoc (spaced_numbers (sent frame (timing_of how)) ++ 10 ∷ []) (encoding how frames) (10 ∷ []))
+    ∙ ap (λ (ws : List Word). halves_of most ws None)
+    (line_back line (sent frame (timing_of how)) (closed_encoding how frames) (sent_small how frame))
+    ∙ numbers_taken most line (sent frame (timing_of how))
+    (ended_words (outside (line + 1)) (closed_encoding how frames)) None
+    (sent_small how frame) (omega (arith, both))
+    ∙ ap (items_behind (sent frame (timing_of how)))
+    (lines_back how (most - length (sent frame (timing_of how))) (line + 1) frames in_halves (omega (arith, both)))
+  where
+    both : length (sent frame (timing_of how)) + length (halves_to_send how frames) ≤ most
+    both = subst (λ n. n ≤ most) (length-append (sent frame (timing_of how)) (halves_to_send how frames)) fits
+
+pub encodings_are_captures : EncodingsAreCaptures
+encodings_are_captures how frames input takes =
+    rw (enough (length (closed_encoding how frames)) input.bytes (within takes.bytes))
+    (ap (λ (in_comment : Bool).
+    halves_of input.halves
+    (ended_words (record { line = input.place.line; in_comment = in_comment }) (closed_encoding how frames)) None)
+    takes.in_no_comment
+    ∙ lines_back how input.halves input.place.line frames takes.in_halves takes.halves)
+  where
+    within : length (encoding how frames) < input.bytes → length (closed_encoding how frames) ≤ input.bytes
+    within fewer = omega (arith, fewer, length-append (encoding how frames) (10 ∷ []))
+
+pub encoded_frames_are_seen : EncodedFramesAreSeen
+encoded_frames_are_seen how frames input takes are =
+    ap (λ (items : Items ℕ). seen items.said) (encodings_are_captures how frames input takes)
+    ∙ seen-sent_all (to_send how frames) are
+
+pub encodings_are_shown : EncodingsAreShown
+encodings_are_shown how frames words old new before after takes are whole shows =
+    let ends = subst
+    (λ (text : Option (List ℕ)).
+    IfSome text (λ text. EndsWith None
+    (λ halves. Lists words before after halves × (new.halves + length halves ≡ old.halves)) (capture_in old text)))
+    whole shows.0.items.0 in
+    let lists = ends.1.0 in (
+      lists.0,
+      subst (λ (outcomes : List (ℕ × Seen)). IsListing words outcomes lists.0)
+          (encoded_frames_are_seen how frames old takes are) lists.1,
+      lists.2,
+    )

@@ -1,0 +1,187 @@
+//! Calls of the program over readers that give little, fail or never end, within limits, and writers that fail or
+//! take little: rows of a table each.
+//!
+//! The columns of a row: what it shows; the call; the input; how many bytes a read gives, behind how many reads one
+//! fails, and `again` where the input has no end; the limits of halves and of bytes; how many bytes a write takes,
+//! and behind how many writes one fails; what is written; the fault; how many lines the input then has; the fault of
+//! a second call, which writes nothing. An input whose reads are not told is read byte by byte and at once. A fault
+//! that is no failed write is that of a second call too.
+
+use crate::calls::{call_of, pair, text_of, told};
+use crate::fakes::{Giving, Taking};
+use crate::rows::{column, number};
+use dcc_tool::{Input, Limits};
+use std::alloc::Global;
+use std::process::Abort;
+use std::test::Fail;
+
+const SHOWN: &str = "\
+    a gap | show | 58*28_100*14_58*4_100*4_58*4_100*6_58*2_100*6_58*4_100*8_58*4_ |  |  |  | 84 036261/
+    a gap | show | 58*28/100*14/58*4/100*4/58*4/100*6/58*2/100*6/58*4/100*8/58*4/ |  |  |  | 84 036261/
+    a gap | show | 58*28^/100*14^/58*4^/100*4^/58*4^/100*6^/58*2^/100*6^/58*4^/100*8^/58*4^/ |  |  |  | 84 036261/
+    a gap | show | 58*28~__100*14~__58*4~__100*4~__58*4~__100*6~__58*2~__100*6~__58*4~__100*8~__58*4~__ |  |  |  | 84 036261/
+    a gap | show | 58*28_# 58x/100*14_# 58x/58*4_# 58x/100*4_# 58x/58*4_# 58x/100*6_# 58x/58*2_# 58x/100*6_# 58x/58*4_# 58x/100*8_# 58x/58*4_# 58x/ |  |  |  | 84 036261/
+    a gap | show | 58*28# 58x 70^/100*14# 58x 70^/58*4# 58x 70^/100*4# 58x 70^/58*4# 58x 70^/100*6# 58x 70^/58*2# 58x 70^/100*6# 58x 70^/58*4# 58x 70^/100*8# 58x 70^/58*4# 58x 70^/ |  |  |  | 84 036261/
+    a gap | show | 58*28/#//_/100*14/#//_/58*4/#//_/100*4/#//_/58*4/#//_/100*6/#//_/58*2/#//_/100*6/#//_/58*4/#//_/100*8/#//_/58*4/#//_/ |  |  |  | 84 036261/
+    lines | show |  |  |  |  |  |  | 0
+    lines | show | 58 58 |  |  |  |  |  | 1
+    lines | show | 58 58/ |  |  |  |  |  | 1
+    lines | show | 58/58 |  |  |  |  |  | 2
+    lines | show | 58//58 100 # x/ |  |  |  |  |  | 3
+    lines | show | 58/58 100/# x |  |  |  |  |  | 3
+    lines up to a bad word | show | 58/58x/58/ |  |  |  |  | U2 line 2: bad number | 2
+    lines up to a bad word before an empty line | show | _58x//58/ |  |  |  |  | U2 line 1: bad number | 1
+    no line before the first byte | show | 58/58/58/ | 3 0 again |  |  |  | U4 read failed | 0
+    lines up to a failed read | show | 58/58/58/ | 3 2 again |  |  |  | U4 read failed | 2
+    lines up to a failed read within a line | show | 58/58/58/ | 4 1 again |  |  |  | U4 read failed | 2
+    lines of the bytes that may be taken | show | 58/58/58/ |  | 9 6 |  |  | U7 input too long | 2
+    lines of the bytes that may be taken | show | 58/58/58/ |  | 9 7 |  |  | U7 input too long | 3
+    lines up to a half too many | show | 58/58*9//58/ |  | 9 99 |  |  | U7 input too long | 2
+    lines up to a half too many | show | _58*10//58/ |  | 9 99 |  |  | U7 input too long | 1
+    ten halves | show | 58 58 58 58 58 58 58 58 58 58 |  | 10 1000
+    an eleventh half | show | 58 58 58 58 58 58 58 58 58 58 58 |  | 10 1000 |  |  | U7 input too long
+    the last byte | show | 58_ |  | 1 3
+    a byte too many | show | 58 58 |  | 9 3 |  |  | U7 input too long
+    a bad word that the limit cuts | show | 58 58x |  | 9 5 |  |  | U7 input too long
+    a bad word that just fits | show | 58 58x |  | 9 6 |  |  | U2 line 1: bad number
+    a bad word is told before a half too many | show | 58 58x_ |  | 1 9 |  |  | U2 line 1: bad number
+    nothing of nothing | show |  |  | 0 0
+    a comment of nothing | show | # |  | 0 0 |  |  | U7 input too long
+    too many halves | show | 58_ | 1 1000000 again | 100 4000 |  |  | U7 input too long
+    a word without an end | show | 58 | 1 1000000 again | 100 4000 |  |  | U7 input too long
+    a comment without an end | show | #_ | 1 1000000 again | 100 4000 |  |  | U7 input too long
+    spaces for ever | show | _ | 1 1000000 again | 100 1000 |  |  | U7 input too long
+    at the first read | show | S_ | 512 0 again |  |  |  | U4 read failed
+    behind the first read | show | S_ | 512 1 again |  |  | 84 036261/ | U4 read failed
+    behind all bytes | show | S_ | 1 62 again |  |  | 84 036261/ | U4 read failed
+    within the last word | show | S_ | 1 61 again |  |  |  | U4 read failed
+    within the packet | show | S_ | 20 2 again |  |  |  | U4 read failed
+    the third call fails | show | S 58x | 512 |  | 1 2 | 84 | U5 write failed |  | U2 line 1: bad number
+    the last call fails | show | S 58x | 512 |  | 1 9 | 84 036261 | U5 write failed |  | U2 line 1: bad number
+    one byte at a call | show | S 58x | 512 |  | 1 100 | 84 036261/ | U2 line 1: bad number |  | U2 line 1: bad number
+    no byte is taken | show | S 58x | 512 |  | 0 100 |  | U5 write failed |  | U2 line 1: bad number
+    the first call fails | show | S 58x | 512 |  | 100 0 |  | U5 write failed |  | U2 line 1: bad number
+    a packet | show | 58*28 100*14 58*4 100*4 58*4 100*6 58*2 100*6 58*4 100*8 58*4/ |  | 16777216 67108864 |  | 84 036261/
+    a run that goes on behind the packet | show | 58*28 100*14 58*4 100*4 58*4 100*6 58*2 100*6 58*4 100*8 58*30 |  | 16777216 67108864 |  | 84 036261/
+    runs and halves in turn | show | 58*9#c/58*19 100*7~100*7 58 58 58*2^100*4 58*4 100*5 100 58*2 100*6 58*4 100*8 58*3 58 |  | 16777216 67108864 |  | 84 036261/
+    as many digits as may be | show | 0000000058*00000028 100*14 58*4 100*4 58*4 100*6 58*2 100*6 58*4 100*8 58*4 |  | 16777216 67108864 |  | 84 036261/
+    zeros without an end | show | 58*28 100*1000 |  | 16777216 67108864 |  | 138 refused H4/
+    three bad halves | show | 58*28 100*2 70*3 |  | 16777216 67108864 |  | 31 refused H1/
+    a duration above 65535 | show | 58*28 100*2 9999999999*3 |  | 16777216 67108864 |  | 31 refused H1/
+    a bit that is split | show | 58*28 100*3 58*9 |  | 16777216 67108864 |  | 32 refused H2/
+    the longest run | show | 58*16777216 |  | 16777216 67108864
+    a run of one half | show | 58*1 |  | 16777216 67108864
+    as many as may be | show | 58*10 |  | 10 67108864
+    one too many | show | 58*11 |  | 10 67108864 |  |  | U7 input too long
+    together as many | show | 58*5 58 58*4 |  | 10 67108864
+    together one too many | show | 58*5 58*6 |  | 10 67108864 |  |  | U7 input too long
+    a half too many | show | 58*10 58 |  | 10 67108864 |  |  | U7 input too long
+    a half too many | show | 58*16777216 58 |  | 16777216 67108864 |  |  | U7 input too long
+    before a bad word | show | 58*11 58x |  | 10 67108864 |  |  | U7 input too long
+    the outcome of a run that fits | show | 58*28 100*2 70*5 |  | 35 67108864 |  | 31 refused H1/
+    not even its first half | show | 58*28 100*2 70*5 |  | 34 67108864 |  |  | U7 input too long
+    not even its first half | show | 58*28 100*2 70*5 |  | 31 67108864 |  |  | U7 input too long
+    a bad word behind a packet | show | S/58x/ |  |  |  | 84 036261/ | U2 line 2: bad number";
+
+const ENCODED: &str = "\
+    line feeds for ever | hex | / | 1 5000 again | 0 1000 |  |  | U7 input too long
+    the last byte | hex | idle/ |  | 0 5 |  | ff00ff/
+    a byte too many | hex | idle/ |  | 0 4 |  |  | U7 input too long
+    a failed read behind a line | hex | idle/idle/ | 4 2 |  |  | ff00ff/ | U4 read failed
+    a byte a write | hex | idle | 512 |  | 1 100 | ff00ff/
+    two writes | hex | idle/x | 512 |  | 2 2 | ff00 | U5 write failed
+    no byte is taken | hex | idle | 512 |  | 0 2 |  | U5 write failed
+    within the packets of a station | station | send 9/idle | 512 |  | 4 3 | ff00ff/ff00f | U5 write failed
+    lines | hex |  |  |  |  |  |  | 0
+    lines | hex | idle |  |  |  | ff00ff/ |  | 1
+    lines | hex | idle/ |  |  |  | ff00ff/ |  | 1
+    lines | hex | / |  |  |  |  |  | 1
+    lines | hex | idle/idle |  |  |  | ff00ff/ff00ff/ |  | 2
+    lines | hex | idle/idle/ |  |  |  | ff00ff/ff00ff/ |  | 2
+    lines | hex | idle// |  |  |  | ff00ff/ |  | 2
+    lines | hex | idle//_/# |  |  |  | ff00ff/ |  | 4
+    lines | hex | idle/x/idle/ |  |  |  | ff00ff/ | U3 line 2: P10 | 2
+    lines up to a failed read | hex | idle/idle/ | 4 2 |  |  | ff00ff/ | U4 read failed | 2
+    lines of the bytes that may be taken | hex | idle/idle/ |  | 0 7 |  | ff00ff/ | U7 input too long | 2
+    lines up to a bad line of a station | station | send 1//send 0/send 1/ |  |  |  | ff00ff/ | U3 line 3: P11 | 3
+    a bad number of a station | station | send 1/send 0/send 1/ |  |  |  | ff00ff/ | U3 line 2: P11
+    a bad line | hex | idle/x/idle/ |  |  |  | ff00ff/ | U3 line 2: P10";
+
+const COMPARED: &str = "\
+    limits | both | 58 58/---/58 58/ |  | 4 16 |  | alike/
+    limits | both | 58 58/---/58 58/ |  | 3 16 |  |  | U7 input too long
+    limits | both | 58 58/---/58 58/ |  | 1 16 |  |  | U7 input too long
+    limits | both | 58 58/---/58 58/ |  | 4 15 |  |  | U7 input too long
+    limits | both | 58 58/---/58 58/ |  | 4 9 |  |  | U7 input too long
+    limits | both | --- 58x/ |  | 4 7 |  |  | U7 input too long
+    limits | both | 58x 58/ |  | 4 3 |  |  | U7 input too long
+    limits | both | 58x 58/ |  | 4 4 |  |  | U2 line 1: bad number
+    limits of runs | both | 58*6/---/58*4 |  | 10 100 |  | alike/
+    limits of runs | both | 58*6/---/58*5 |  | 10 100 |  |  | U7 input too long
+    limits of runs | both | 58*11/---/ |  | 10 100 |  |  | U7 input too long
+    limits of runs | both | 58*2 ---/ |  | 10 100 |  |  | U2 line 1: bad number
+    three bytes are written | both | 58 58/---__#c/58 58/ | 512 |  | 1 3 | ali | U5 write failed
+    a bad word of the second | both | 58/---//58x/ |  |  |  |  | U2 line 4: bad number
+    lines up to a word behind the dashes | both | 58/--- 58//58/ |  |  |  |  | U2 line 2: bad number | 2
+    lines of both up to a half too many | both | 58/---/58*9/ |  | 9 99 |  |  | U7 input too long | 3
+    no dashes | both | 58/58 |  |  |  |  | U3 line 3: P10 | 2";
+
+const PLAYED: &str = "\
+    a packet within the limit | run | DS |  | 84 1000 |  | A
+    its last run past the limit | run | DS |  | 83 1000 |  |  | U7 input too long
+    halves and bytes | run | dcc-decoders 2/end/58 58/ |  | 2 25 |  | dcc-decoders 2/end/
+    a half too many | run | dcc-decoders 2/end/58 58/ |  | 1 25 |  |  | U7 input too long
+    a byte too many | run | dcc-decoders 2/end/58 58/ |  | 2 24 |  |  | U7 input too long
+    lines up to a bad line | run | dcc-decoders 2/x/58/ |  |  |  |  | U3 line 2: P10 | 2
+    lines of a text that ends too early | run | dcc-decoders 2/ |  |  |  |  | U3 line 2: P10 | 1
+    lines behind the decoders | run | dcc-decoders 2/end/58/58x/ |  |  |  |  | U2 line 4: bad number | 4
+    a byte a write | run | D | 512 |  | 1 1000 | D
+    two writes | run | D | 512 |  | 2 2 | dcc- | U5 write failed";
+
+/// Plays a row's call with so many bytes a read.
+fn play(rt: &impl Abort, alloc: Global, row: &str, each: u32) -> Result<(), Fail> {
+    let text = text_of(alloc, column(row, 2))?;
+    let written = text_of(alloc, column(row, 6))?;
+    let reads = column(row, 3);
+    let (halves, bytes) = pair(column(row, 4), (16_777_216, 67_108_864));
+    let (takes, writes) = pair(column(row, 5), (100_000, 100_000));
+    let reader = Giving::new(
+        text.as_slice(),
+        each as usize,
+        pair(reads, (each, 1_000_000)).1,
+        reads.ends_with("again"),
+    );
+    let call = call_of(column(row, 1));
+    let mut input = Input::new(reader, Limits { halves, bytes });
+    let mut writer = Taking::new(alloc, takes as usize, writes);
+    let fault = told(alloc, &call.play(alloc, &mut input, &mut writer)?)?;
+    assert!(rt; fault.as_str() == column(row, 7), "{row}");
+    assert!(rt; writer.taken.as_slice() == written.as_slice(), "{row}");
+    let lines = column(row, 8);
+    assert!(rt; lines.is_empty() || input.lines() == number(lines), "{row}");
+    let then = match column(row, 9) {
+        "" => column(row, 7),
+        then => then,
+    };
+    if !then.is_empty() && !then.starts_with("U5") {
+        let mut writer = Taking::new(alloc, 1000, 1000);
+        let fault = told(alloc, &call.play(alloc, &mut input, &mut writer)?)?;
+        assert!(rt; fault.as_str() == then && writer.taken.is_empty(), "{row}");
+    }
+    Ok(())
+}
+
+#[test]
+fn calls(rt: HostRuntime) -> Result<(), Fail> {
+    for table in [SHOWN, ENCODED, COMPARED, PLAYED] {
+        for row in table.lines() {
+            if column(row, 3).is_empty() {
+                play(&rt, rt.alloc(), row, 1)?;
+                play(&rt, rt.alloc(), row, 512)?;
+            } else {
+                play(&rt, rt.alloc(), row, pair(column(row, 3), (512, 0)).0)?;
+            }
+        }
+    }
+    Ok(())
+}

@@ -1,0 +1,107 @@
+# What vcd.awk and csv.awk share: which form a file has, which of its channels is read, and of levels a capture, a word for each time
+# between two edges, in whole microseconds. -v channel=.. chooses a channel, else it is the first. tools/to-capture calls all three.
+
+# a channel's name is text, even where it is a number
+BEGIN { channel = channel "" }
+
+# ends the reading: status 1, and on standard error what was found and what to write
+function refuse(text) {
+    print "to-capture: " text > "/dev/stderr"
+    refused = 1
+    exit 1
+}
+
+# a piece of the file within such a sentence
+function quoted(text) {
+    gsub(/[^ -~]/, "?", text)
+    return "\"" (length(text) > 40 ? substr(text, 1, 40) ".." : text) "\""
+}
+
+function refuse_line(text) { refuse("line " NR ": " text) }
+
+# a channel of the file; in a VCD file it has an id
+function add_channel(name, id) {
+    name_of[++channels] = name
+    id_of[channels] = id
+}
+
+function label(place) { return name_of[place] (id_of[place] == "" ? "" : " (" id_of[place] ")") }
+
+# the channels, where there is a choice
+function choice(    place, text) {
+    if (channels < 2) return ""
+    for (place = 1; place <= channels && place <= 20; place++) text = text (place > 1 ? ", " : "") label(place)
+    return "; the channels are " text (channels > 20 ? " and " channels - 20 " more" : "") ", and -c takes another"
+}
+
+function is_called(place, how) {
+    if (how == 1) return name_of[place] == channel
+    if (how == 2) return id_of[place] == channel
+    return match(name_of[place], /[0-9]+$/) && substr(name_of[place], RSTART) == channel
+}
+
+# picks the channel that is asked for: by its name, else by its id, else by the number that its name ends in
+function pick(    how, place, fits) {
+    picked = 1
+    if (channel == "") return
+    for (how = 1; how <= 3 && !fits; how++)
+        for (place = 1; place <= channels; place++)
+            if (is_called(place, how)) {
+                # one wire of a VCD file may have several names
+                if (!fits || id_of[place] == "" || id_of[place] != id_of[picked]) fits++
+                picked = place
+            }
+    if (fits == 1) return
+    refuse((fits ? "more than one channel is" : "no channel is") " called " quoted(channel) \
+        (channels == 1 ? "; the only one is " label(1) : choice()))
+}
+
+# a level at a time in microseconds. Only a change of it is an edge; the first level is that at the start
+function take(at, level) {
+    if (levels && level == last_level) return
+    if (levels++ > 1) half(at - last_edge)
+    last_level = level
+    last_edge = at
+}
+
+# a half, to the nearest microsecond; a capture counts longer ones as 65535 too. It is written at once, since the next may be long in coming
+function half(us) {
+    us = int(us + .5)
+    if (us > 65535) us = 65535
+    print us
+    fflush()
+    if (!halves++ || us < shortest) shortest = us
+    if (us > longest) longest = us
+    last_half = us
+    # a packet begins behind twenty halves of ones, with a half of a zero
+    if (us >= 90 && us <= 10000 && ones >= 20) begins++
+    ones = us >= 52 && us <= 64 ? ones + 1 : 0
+}
+
+NR == 1 {
+    if (index($0, "PK") == 1)
+        refuse("this is a zip archive, as .sr of sigrok and PulseView, .sal of Logic 2 and .dsl of DSView are: " \
+            "export it as VCD or CSV, as by sigrok-cli -i track.sr -O vcd")
+    if (index($0, "\377\376") == 1)
+        refuse("this text is UTF-16, as PowerShell writes it behind >: let sigrok-cli write the file, by -o track.vcd")
+    # a byte order mark
+    sub(/^\357\273\277/, "")
+}
+{ sub(/\r$/, "") }
+# sigrok-cli may write this before the file
+form == "" && /^META / { next }
+form == "" && /[^ \t]/ { form = /^[ \t]*\$/ ? "vcd" : "csv" }
+
+END {
+    if (refused) exit 1
+    if (form == "") refuse("the input is empty")
+    if (!picked) refuse("the input ends before its first level")
+    # nothing tells when the last level ends: as long as the half before it, it is the other half of its bit, so that a packet which ends
+    # there is kept
+    if (halves) half(last_half)
+    name = "the channel " quoted(label(picked))
+    if (!halves) refuse(name " has no two edges" choice())
+    if (!begins)
+        refuse(name " has no packet: " halves " halves, of " shortest " to " longest + 0 " microseconds, and nowhere " \
+            "20 halves of ones (52 to 64) before a half of a zero (90 to 10000)" choice())
+}

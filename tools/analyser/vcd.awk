@@ -1,0 +1,62 @@
+# A VCD file (IEEE 1364) to levels, behind edges.awk. Its words may stand on lines of their own, as Icarus, Verilator and GTKWave write
+# them, or values on the line of their time, as sigrok does.
+
+BEGIN {
+    microseconds["s"] = 1e6
+    microseconds["ms"] = 1e3
+    microseconds["us"] = 1
+    microseconds["ns"] = 1e-3
+    microseconds["ps"] = 1e-6
+    microseconds["fs"] = 1e-9
+}
+
+form == "vcd" { for (i = 1; i <= NF; i++) vcd_word($i) }
+
+# $dumpvars, $dumpall and the like stand around values, which are read as any. The values x and z are no level of a track
+function vcd_word(word,    first) {
+    first = substr(word, 1, 1)
+    if (command != "") {
+        if (word == "$end") end_command()
+        else text = text " " word
+    } else if (vector != "") {
+        # behind a value of several bits stands its id; a single bit may be written so too
+        if (word == id_of[picked] && vector ~ /^[bB].*[01]$/) take(at, substr(vector, length(vector)))
+        vector = ""
+    } else if (first == "#") {
+        vcd_time(word)
+    } else if (first == "0" || first == "1") {
+        if (substr(word, 2) == id_of[picked]) take(at, first)
+    } else if (first ~ /[bBrRsS]/) {
+        vector = word
+    } else if (word ~ /^\$(comment|date|enddefinitions|scope|timescale|upscope|var|version)$/) {
+        command = word
+        text = ""
+    }
+}
+
+# what stands from such a word to $end
+function end_command(    part) {
+    split(text, part, " ")
+    if (command == "$timescale") {
+        text = part[1] part[2]
+        unit = text * microseconds[substr(text, match(text, /[a-z]/))]
+    }
+    # a module may have the same wire by the same name
+    if (command == "$var" && part[2] == 1 && !known[part[4] part[5], part[3]]++) add_channel(part[4] part[5], part[3])
+    if (command == "$enddefinitions") begin_values()
+    command = ""
+}
+
+function begin_values() {
+    if (!channels) refuse("no $var of one bit stands before the times: there is no channel")
+    pick()
+}
+
+function vcd_time(word,    time) {
+    if (!picked) begin_values()
+    if (!unit) refuse("no $timescale, as $timescale 1 ns $end, stands before the times: they have no unit")
+    if (word !~ /^#[0-9]+$/) refuse_line(quoted(word) " is no time")
+    time = substr(word, 2) * unit
+    if (time < at) refuse_line("its time lies before that of the line above")
+    at = time
+}
