@@ -1,5 +1,6 @@
-/* The other calls: `calls encode` writes the half-bits of packet lines, `calls lines` writes the lines again, `calls readcv CV
- * VALUE` puts nine questions to a decoder on the programming track. As `dcc encode`, `dcc show --words` and `dcc readcv`. */
+/* The other calls: `calls encode` writes the half-bits of packet lines, `calls send` the same, asking for one after the other, `calls
+ * lines` writes the lines again, `calls readcv CV VALUE` puts nine questions to a decoder on the programming track. As `dcc encode`,
+ * `dcc show --words` and `dcc readcv`. */
 #include "dcc.h"
 #include <stdio.h>
 #include <stdlib.h>
@@ -18,8 +19,17 @@ static dcc_frame frame_of(const char *line) {
 
 static void encode(const dcc_frame *frame) {
     uint16_t halves[DCC_HALVES];
-    int count = dcc_halves(frame->bytes, frame->len, 14, halves);
+    int count = dcc_halves(frame->bytes, frame->len, DCC_MAIN_TRACK, halves);
     for (int i = 0; i < count; i++) printf(i ? " %u" : "%u", halves[i]);
+    printf("\n");
+}
+
+/* The same half-bits, one by one, as an interrupt of a timer asks for them. */
+static void send(const dcc_frame *frame) {
+    static const dcc_timing main_track = DCC_MAIN_TIMING;
+    dcc_sender sender;
+    if (dcc_sender_start(&sender, frame->bytes, frame->len, &main_track)) exit(1);
+    for (uint16_t us = dcc_sender_half(&sender); us; us = dcc_sender_half(&sender)) printf(sender.place > 1 ? " %u" : "%u", us);
     printf("\n");
 }
 
@@ -30,34 +40,40 @@ static void write_line(const dcc_frame *frame) {
 }
 
 /* Whether a decoder acknowledges one of five copies of a question behind three resets. */
-static bool ask(dcc_service *service, const uint8_t question[4]) {
-    static const uint8_t reset[3] = {0, 0, 0};
+static bool ask(dcc_service *service, const dcc_frame *question) {
+    static const dcc_frame reset = {3, {0}};
     bool any = false;
     for (int i = 0; i < 8; i++) {
+        const dcc_frame *frame = i < 3 ? &reset : question;
         bool acknowledged;
-        if (dcc_service_apply(service, i < 3 ? reset : question, i < 3 ? 3 : 4, &acknowledged)) exit(1);
+        if (dcc_service_apply(service, frame->bytes, frame->len, &acknowledged)) exit(1);
         any |= acknowledged;
     }
     return any;
 }
 
-/* Asks for what a byte of the instruction and a last byte say of a CV, and writes question and answer. */
-static bool ask_for(dcc_service *service, uint8_t kind, int cv, uint8_t last) {
-    uint8_t question[4] = {(uint8_t)(kind | (cv - 1) >> 8), (uint8_t)((cv - 1) & 255), last, 0};
-    question[3] = question[0] ^ question[1] ^ question[2];
-    bool yes = ask(service, question);
-    printf("%02x%02x%02x%02x %s\n", question[0], question[1], question[2], question[3], yes ? "yes" : "no");
-    return yes;
+static void write_question(const dcc_frame *question, bool yes) {
+    for (int i = 0; i < question->len; i++) printf("%02x", question->bytes[i]);
+    printf(" %s\n", yes ? "yes" : "no");
 }
 
-static void read_cv(int cv, uint8_t value) {
+/* Reads a CV of a decoder on the programming track that has this value in it. */
+static void read_cv(uint16_t cv, uint8_t value) {
     static dcc_service service;
     static uint8_t cvs[DCC_CVS];
-    uint8_t found = 0;
+    dcc_reader reader;
+    dcc_frame question;
+    uint8_t found, told = DCC_MORE;
+    if (dcc_reader_new(&reader, cv)) exit(2);
     cvs[cv - 1] = value;
     dcc_service_new(&service, cvs);
-    for (int place = 0; place < 8; place++) found |= (uint8_t)(ask_for(&service, 0x78, cv, (uint8_t)(0xE8 | place)) << place);
-    if (ask_for(&service, 0x74, cv, found)) {
+    while (told == DCC_MORE) {
+        if (dcc_reader_question(&reader, &question)) exit(1);
+        bool yes = ask(&service, &question);
+        write_question(&question, yes);
+        told = dcc_reader_answer(&reader, yes, &found);
+    }
+    if (told == DCC_VALUE) {
         printf("value %u\n", found);
     } else {
         printf("no answer\n");
@@ -67,7 +83,7 @@ static void read_cv(int cv, uint8_t value) {
 int main(int argc, char **argv) {
     char line[512];
     if (argc == 4 && !strcmp(argv[1], "readcv")) {
-        read_cv(atoi(argv[2]), (uint8_t)atoi(argv[3]));
+        read_cv((uint16_t)atoi(argv[2]), (uint8_t)atoi(argv[3]));
         return 0;
     }
     while (argc == 2 && fgets(line, sizeof line, stdin)) {
@@ -75,6 +91,8 @@ int main(int argc, char **argv) {
         dcc_frame frame = frame_of(line);
         if (!strcmp(argv[1], "encode")) {
             encode(&frame);
+        } else if (!strcmp(argv[1], "send")) {
+            send(&frame);
         } else {
             write_line(&frame);
         }

@@ -1,6 +1,6 @@
-/* A locomotive with short address 3 and board 12 hear a capture on standard input. For each packet that one of them may be told
- * by there is a call, notify_..; this program writes the packet's line there, to standard error. At the end it writes what
- * they hold, as `dcc run` does. */
+/* A locomotive with short address 3 and board 12 hear a capture on standard input. For each packet that is for one of them there is a
+ * call, notify_..; this program writes the packet's line there, to standard error. At the end it writes what they hold, as `dcc run`
+ * does. */
 #include "capture.h"
 #include "dcc.h"
 
@@ -10,10 +10,6 @@ static const char *name_of(const dcc_packet *p) {
     if (p->to == DCC_ALL) return "all";
     snprintf(name, sizeof name, "%c%u", p->to == DCC_SHORT ? 's' : 'l', p->address);
     return name;
-}
-
-static void notify_idle(void) {
-    fprintf(stderr, "idle\n");
 }
 
 static void notify_reset(const dcc_packet *p) {
@@ -57,10 +53,9 @@ static void notify_other(const dcc_frame *frame) {
     fprintf(stderr, "\n");
 }
 
-/* The call of a packet's kind. */
+/* The call of a packet's kind. Nobody hears an idle packet. */
 static void notify(const dcc_packet *p, const dcc_frame *frame) {
     switch (p->kind) {
-    case DCC_IDLE: notify_idle(); break;
     case DCC_RESET: notify_reset(p); break;
     case DCC_SPEED28:
     case DCC_SPEED128: notify_speed(p); break;
@@ -125,25 +120,33 @@ static void print_board(const dcc_board *board) {
     printf("\n");
 }
 
+static dcc_loco loco;
+static dcc_board board;
+
+/* Hands a packet to the decoders, and to the listener where it is for one of them. 1 where the library refuses it. */
+static int hear(const dcc_frame *frame) {
+    dcc_packet packet;
+    bool loco_hears, board_hears;
+    if (dcc_loco_hears(&loco, frame->bytes, frame->len, &loco_hears)) return 1;
+    if (dcc_board_hears(&board, frame->bytes, frame->len, &board_hears)) return 1;
+    if (!loco_hears && !board_hears) return 0;
+    if (dcc_read(frame->bytes, frame->len, &packet)) return 1;
+    notify(&packet, frame);
+    if (loco_hears && dcc_loco_apply(&loco, frame->bytes, frame->len)) return 1;
+    return board_hears && dcc_board_apply(&board, frame->bytes, frame->len);
+}
+
 int main(void) {
-    static dcc_loco loco;
-    static dcc_board board;
     static const uint8_t cvs[DCC_CVS] = {[0] = 3, [28] = 2};
     dcc_framer framer = dcc_framer_new();
     dcc_outcome outcome;
-    dcc_packet packet;
     uint16_t us;
     uint32_t n;
     dcc_loco_new(&loco, cvs);
     if (dcc_board_new(&board, 12)) return 1;
     while (next_run(&us, &n)) {
         for (; n > 0; n--) {
-            if (!dcc_push(&framer, us, &outcome) || outcome.refusal) continue;
-            const dcc_frame *frame = &outcome.frame;
-            if (dcc_read(frame->bytes, frame->len, &packet)) return 1;
-            notify(&packet, frame);
-            if (dcc_loco_apply(&loco, frame->bytes, frame->len)) return 1;
-            if (dcc_board_apply(&board, frame->bytes, frame->len)) return 1;
+            if (dcc_push(&framer, us, &outcome) && outcome.refusal == 0 && hear(&outcome.frame)) return 1;
         }
     }
     printf("dcc-decoders 2\n");

@@ -17,6 +17,7 @@ static void holds(bool condition, const char *text, int line) {
 /* loco s3 speed28 f 4 */
 static const uint8_t speed[3] = {0x03, 0x62, 0x61};
 static const uint8_t wrong_error_byte[3] = {0x03, 0x62, 0x60};
+static const uint8_t seven_bytes[7] = {0};
 
 static bool is_frame(const dcc_frame *frame, const uint8_t *bytes, int len) {
     return frame->len == len && !memcmp(frame->bytes, bytes, len);
@@ -130,6 +131,82 @@ static void halves_are_sent_behind_14_to_40_ones(void) {
     HOLDS(halves[79] == 58 && halves[80] == 100 && halves[189] == 58);
 }
 
+static void a_sender_gives_the_halves_one_by_one(void) {
+    static const dcc_timing tracks[] = {DCC_MAIN_TIMING, DCC_PROGRAMMING_TIMING};
+    static const uint8_t six[6] = {1, 2, 4, 8, 16, 31};
+    uint16_t halves[DCC_HALVES];
+    dcc_sender sender;
+    for (int i = 0; i < 2; i++) {
+        int count = dcc_halves(six, 6, tracks[i].preamble, halves);
+        HOLDS(dcc_sender_start(&sender, six, 6, &tracks[i]) == 0);
+        HOLDS(sender.place == 0 && is_frame(&sender.frame, six, 6) && sender.timing.preamble == tracks[i].preamble);
+        for (int k = 0; k < count; k++) HOLDS(dcc_sender_half(&sender) == halves[k]);
+        HOLDS(sender.place == count);
+        HOLDS(dcc_sender_half(&sender) == 0);
+        HOLDS(sender.place == count);
+    }
+}
+
+static void a_sender_has_the_timing_of_its_caller(void) {
+    static const dcc_timing timing = {55, 9900, 2100, 40};
+    dcc_sender sender;
+    HOLDS(dcc_sender_start(&sender, speed, 3, &timing) == 0);
+    for (int k = 0; k < 80; k++) HOLDS(dcc_sender_half(&sender) == 55);
+    HOLDS(dcc_sender_half(&sender) == 9900);
+    HOLDS(dcc_sender_half(&sender) == 2100);
+}
+
+/* The first fault is answered: that of the timing, in the order of its numbers, and then that of the frame. */
+static void a_sender_that_is_refused_is_left(void) {
+    static const struct {
+        dcc_timing timing;
+        const uint8_t *frame;
+        size_t len;
+        uint8_t refusal;
+    } rows[] = {
+        {{54, 94, 100, 13}, speed, 2, DCC_H6_ONE},
+        {{62, 100, 100, 14}, speed, 3, DCC_H6_ONE},
+        {{58, 94, 100, 13}, speed, 2, DCC_H7_ZERO},
+        {{58, 100, 94, 14}, speed, 3, DCC_H7_ZERO},
+        {{58, 9901, 100, 14}, speed, 3, DCC_H7_ZERO},
+        {{58, 9900, 2101, 14}, speed, 3, DCC_H7_ZERO},
+        {{58, 100, 100, 13}, speed, 2, DCC_H8_PREAMBLE},
+        {{58, 100, 100, 41}, wrong_error_byte, 3, DCC_H8_PREAMBLE},
+        {DCC_MAIN_TIMING, speed, 2, DCC_L1_LENGTH},
+        {DCC_MAIN_TIMING, wrong_error_byte, 3, DCC_L2_ERROR_BYTE},
+        {DCC_MAIN_TIMING, seven_bytes, 7, DCC_L1_LENGTH},
+    };
+    for (size_t i = 0; i < sizeof rows / sizeof *rows; i++) {
+        dcc_sender sender, before;
+        memset(&sender, 7, sizeof sender);
+        memcpy(&before, &sender, sizeof before);
+        HOLDS(dcc_sender_start(&sender, rows[i].frame, rows[i].len, &rows[i].timing) == rows[i].refusal);
+        HOLDS(!memcmp(&sender, &before, sizeof sender));
+    }
+}
+
+/* Numbers that were written into a sender by hand, with which no packet is sent: 0, and nothing changes. */
+static void a_sender_of_no_packet_gives_nothing(void) {
+    static const dcc_timing timing = DCC_MAIN_TIMING;
+    static dcc_sender zeros;
+    HOLDS(dcc_sender_half(&zeros) == 0);
+    for (int i = 0; i < 8; i++) {
+        dcc_sender sender, before;
+        HOLDS(dcc_sender_start(&sender, speed, 3, &timing) == 0);
+        if (i == 0) sender.timing.one = 0;
+        if (i == 1) sender.timing.zero_first = 65535;
+        if (i == 2) sender.timing.zero_second = 10;
+        if (i == 3) sender.timing.preamble = 255;
+        if (i == 4) sender.frame.len = 0;
+        if (i == 5) sender.frame.len = 255, sender.frame.bytes[5] = 1;
+        if (i == 6) sender.frame.bytes[1] ^= 1;
+        if (i == 7) sender.place = 255;
+        memcpy(&before, &sender, sizeof before);
+        HOLDS(dcc_sender_half(&sender) == 0);
+        HOLDS(!memcmp(&sender, &before, sizeof sender));
+    }
+}
+
 static uint8_t hear(dcc_loco *loco, const char *line) {
     dcc_frame frame = frame_of(line);
     return dcc_loco_apply(loco, frame.bytes, frame.len);
@@ -200,6 +277,96 @@ static void a_board_turns_its_outputs(void) {
     HOLDS(board.outs == 32);
 }
 
+static bool loco_hears(const dcc_loco *loco, const char *line) {
+    dcc_frame frame = frame_of(line);
+    bool heard = false;
+    HOLDS(dcc_loco_hears(loco, frame.bytes, frame.len, &heard) == 0);
+    return heard;
+}
+
+static bool board_hears(const dcc_board *board, const char *line) {
+    dcc_frame frame = frame_of(line);
+    bool heard = false;
+    HOLDS(dcc_board_hears(board, frame.bytes, frame.len, &heard) == 0);
+    return heard;
+}
+
+static void who_hears_what(void) {
+    static const struct {
+        const char *line;
+        bool short_3, long_3, none, board_12;
+    } rows[] = {
+        {"idle", false, false, false, false},
+        {"loco s3 reset", true, false, false, false},
+        {"loco s4 speed28 f 4", false, false, false, false},
+        {"loco l3 speed28 f 4", false, true, false, false},
+        {"loco all speed28 f 0", true, true, true, false},
+        {"loco all reset", true, true, true, true},
+        {"accessory 12 5 on", false, false, false, true},
+        {"accessory 11 5 on", false, false, false, false},
+        {"accessory 511 5 on", false, false, false, true},
+        {"signal 47 1", false, false, false, false},
+        {"signal 48 1", false, false, false, true},
+        {"signal 51 1", false, false, false, true},
+        {"signal 52 1", false, false, false, false},
+        {"signal 2044 1", false, false, false, false},
+        {"signal 2047 1", false, false, false, true},
+        {"frame 03010200", true, false, false, false},
+        {"frame 00010203", true, true, true, false},
+        {"frame 7c000a76", false, false, false, false},
+    };
+    static dcc_loco short_3, long_3, none;
+    static dcc_board board_12;
+    make(&short_3);
+    long_3 = none = short_3;
+    long_3.address_kind = DCC_LONG;
+    none.address_kind = none.address = 0;
+    HOLDS(dcc_board_new(&board_12, 12) == 0);
+    for (size_t i = 0; i < sizeof rows / sizeof *rows; i++) {
+        HOLDS(loco_hears(&short_3, rows[i].line) == rows[i].short_3);
+        HOLDS(loco_hears(&long_3, rows[i].line) == rows[i].long_3);
+        HOLDS(loco_hears(&none, rows[i].line) == rows[i].none);
+        HOLDS(board_hears(&board_12, rows[i].line) == rows[i].board_12);
+    }
+}
+
+static void nothing_is_told_where_hearing_is_refused(void) {
+    static const struct {
+        uint8_t kind;
+        uint16_t address;
+        const uint8_t *frame;
+        size_t len;
+        uint8_t refusal;
+    } rows[] = {
+        {DCC_SHORT, 3, speed, 2, DCC_L1_LENGTH},
+        {DCC_SHORT, 3, wrong_error_byte, 3, DCC_L2_ERROR_BYTE},
+        {DCC_SHORT, 0, speed, 2, DCC_L1_LENGTH},
+        {DCC_SHORT, 0, speed, 3, DCC_P13_STATE},
+        {DCC_SHORT, 128, speed, 3, DCC_P13_STATE},
+        {DCC_SHORT, 259, speed, 3, DCC_P13_STATE},
+        {DCC_LONG, 10240, speed, 3, DCC_P13_STATE},
+        {0, 3, speed, 3, DCC_P13_STATE},
+        {3, 3, speed, 3, DCC_P13_STATE},
+    };
+    static dcc_loco loco;
+    make(&loco);
+    for (size_t i = 0; i < sizeof rows / sizeof *rows; i++) {
+        for (int heard = 0; heard < 2; heard++) {
+            bool told = heard;
+            loco.address_kind = rows[i].kind;
+            loco.address = rows[i].address;
+            HOLDS(dcc_loco_hears(&loco, rows[i].frame, rows[i].len, &told) == rows[i].refusal);
+            HOLDS(told == heard);
+        }
+    }
+    dcc_board board = {.number = 511};
+    bool told = true;
+    HOLDS(dcc_board_hears(&board, speed, 2, &told) == DCC_L1_LENGTH);
+    HOLDS(dcc_board_hears(&board, wrong_error_byte, 3, &told) == DCC_L2_ERROR_BYTE);
+    HOLDS(dcc_board_hears(&board, speed, 3, &told) == DCC_P13_STATE);
+    HOLDS(told);
+}
+
 static void a_decoder_in_service_acknowledges(void) {
     static dcc_service service = {.in_service = true};
     static const uint8_t cvs[DCC_CVS] = {10}, reset[3] = {0}, verify[4] = {0x74, 0x00, 0x0A, 0x7E};
@@ -219,6 +386,83 @@ static void a_decoder_in_service_acknowledges(void) {
     HOLDS(yes && service.pending.len == 5);
 }
 
+static void a_cv_is_read_by_nine_questions(void) {
+    /* CV1024 has 0xA5; a verify of a bit, and of the byte */
+    static const uint8_t first[4] = {0x7B, 0xFF, 0xE8, 0x6C}, ninth[4] = {0x77, 0xFF, 0xA5, 0x2D};
+    dcc_reader reader;
+    dcc_frame question;
+    uint8_t value = 7;
+    HOLDS(dcc_reader_new(&reader, 1024) == 0);
+    HOLDS(dcc_reader_question(&reader, &question) == 0 && is_frame(&question, first, 4));
+    for (int place = 0; place < 8; place++) {
+        HOLDS(reader.known == place);
+        HOLDS(dcc_reader_answer(&reader, 0xA5 >> place & 1, &value) == DCC_MORE);
+    }
+    HOLDS(value == 7 && reader.cv == 1024 && reader.known == 8 && reader.value == 0xA5);
+    HOLDS(dcc_reader_question(&reader, &question) == 0 && is_frame(&question, ninth, 4));
+    HOLDS(dcc_reader_answer(&reader, false, &value) == DCC_NO_ANSWER);
+    HOLDS(value == 7 && reader.known == 8 && reader.value == 0xA5);
+    HOLDS(dcc_reader_answer(&reader, true, &value) == DCC_VALUE);
+    HOLDS(value == 0xA5 && reader.known == 8 && reader.value == 0xA5);
+}
+
+static void a_reading_of_no_cv_is_refused(void) {
+    static const dcc_reader rows[] = {{0, 0, 0}, {1025, 0, 0}, {1, 9, 0}, {1, 0, 1}, {1, 3, 8}, {1, 7, 128}};
+    dcc_reader reader = {7, 7, 7};
+    HOLDS(dcc_reader_new(&reader, 0) == DCC_P6_CV);
+    HOLDS(dcc_reader_new(&reader, 1025) == DCC_P6_CV);
+    HOLDS(reader.cv == 7 && reader.known == 7 && reader.value == 7);
+    for (size_t i = 0; i < sizeof rows / sizeof *rows; i++) {
+        dcc_frame question = {.len = 99};
+        uint8_t value = 99;
+        reader = rows[i];
+        HOLDS(dcc_reader_question(&reader, &question) == DCC_P13_STATE && question.len == 99);
+        HOLDS(dcc_reader_answer(&reader, true, &value) == DCC_P13_STATE && value == 99);
+        HOLDS(!memcmp(&reader, &rows[i], sizeof reader));
+    }
+}
+
+/* Whether the next packet of a station is that of a line. */
+static bool sends(dcc_station *station, const char *line) {
+    dcc_frame expected = frame_of(line), frame = {0};
+    dcc_station_next(station, &frame);
+    return is_frame(&frame, expected.bytes, expected.len);
+}
+
+/* What a station answers to the command of a line. */
+static uint8_t commanded(dcc_station *station, const char *line) {
+    dcc_frame frame = frame_of(line);
+    return dcc_station_command(station, frame.bytes, frame.len);
+}
+
+static void a_station_sends_and_refreshes(void) {
+    static dcc_station station, before;
+    dcc_station *s = &station;
+    /* one of zeros has no room, and sends idle packets */
+    HOLDS(commanded(s, "loco s3 speed28 f 4") == 4 && sends(s, "idle") && dcc_station_waiting(s) == 0);
+    static const uint8_t past[6][3] = {{0, 4, 1}, {65, 4, 1}, {4, 0, 1}, {4, 129, 1}, {4, 4, 0}, {4, 4, 9}};
+    for (int i = 0; i < 6; i++) HOLDS(dcc_station_new(s, past[i][0], past[i][1], past[i][2]) == 1);
+    HOLDS(!memcmp(s, &before, sizeof before));
+    HOLDS(dcc_station_new(s, 64, 128, 8) == 0 && dcc_station_new(s, 1, 1, 1) == 0 && dcc_station_new(s, 2, 4, 2) == 0);
+    HOLDS(sends(s, "idle") && dcc_station_waiting(s) == 0 && dcc_station_entries(s) == 0);
+    HOLDS(commanded(s, "loco s3 speed28 f 4") == 0 && commanded(s, "loco s3 cv write 29 2") == 0);
+    before = station;
+    HOLDS(commanded(s, "loco s4 reset") == 4 && commanded(s, "idle") == 3 && commanded(s, "frame 7c000a76") == 3);
+    HOLDS(commanded(s, "loco all cv write 29 2") == 3 && commanded(s, "loco all cv verify 29 2") == 3);
+    HOLDS(dcc_station_command(s, speed, 2) == 1 && dcc_station_command(s, wrong_error_byte, 3) == 2);
+    HOLDS(!memcmp(s, &before, sizeof before));
+    HOLDS(dcc_station_waiting(s) == 2 && dcc_station_entries(s) == 0);
+    /* each twice, the write once more; it ends the refreshing of its address */
+    HOLDS(sends(s, "loco s3 speed28 f 4") && dcc_station_waiting(s) == 2 && dcc_station_entries(s) == 1);
+    HOLDS(sends(s, "loco s3 speed28 f 4") && dcc_station_waiting(s) == 1);
+    for (int i = 0; i < 3; i++) HOLDS(sends(s, "loco s3 cv write 29 2"));
+    HOLDS(sends(s, "idle") && dcc_station_waiting(s) == 0 && dcc_station_entries(s) == 0);
+    HOLDS(commanded(s, "loco s3 speed28 f 4") == 0 && commanded(s, "loco l1000 functions 0 16") == 0);
+    for (int i = 0; i < 4; i++) HOLDS(sends(s, i < 2 ? "loco s3 speed28 f 4" : "loco l1000 functions 0 16"));
+    for (int i = 0; i < 300; i++) HOLDS(sends(s, i % 2 ? "loco l1000 functions 0 16" : "loco s3 speed28 f 4"));
+    HOLDS(dcc_station_entries(s) == 2);
+}
+
 int main(void) {
     a_packet_is_found_at_its_last_half();
     runs_tell_the_half_and_refusals_their_numbers();
@@ -226,10 +470,19 @@ int main(void) {
     no_frame_is_read();
     lines_and_their_faults();
     halves_are_sent_behind_14_to_40_ones();
+    a_sender_gives_the_halves_one_by_one();
+    a_sender_has_the_timing_of_its_caller();
+    a_sender_that_is_refused_is_left();
+    a_sender_of_no_packet_gives_nothing();
     a_loco_runs();
     a_loco_writes_at_the_second_copy();
     a_loco_is_left_where_it_is_refused();
     a_board_turns_its_outputs();
+    who_hears_what();
+    nothing_is_told_where_hearing_is_refused();
     a_decoder_in_service_acknowledges();
+    a_cv_is_read_by_nine_questions();
+    a_reading_of_no_cv_is_refused();
+    a_station_sends_and_refreshes();
     return wrong;
 }

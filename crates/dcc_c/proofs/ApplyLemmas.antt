@@ -1,6 +1,7 @@
 -- A decoder that applied a packet, under other names.
 use Rattle.std.proofs.Common.{◌≡◌, true, subst}
-use Rattle.std.specs.Prelude.{Option, None, Some, IfSome, Result, Ok}
+use Rattle.std.specs.Prelude.{Option, None, Some, IfSome, Result, Ok, Err, MatchResult}
+use Rattle.std.specs.Result.{result_ok}
 use Rattle.dcc_packet.specs.declared.packet.Packet.{Packet}
 use Rattle.dcc_regs.specs.declared.loco_state.LocoState.{LocoState}
 use Rattle.dcc_regs.specs.declared.register.Who.{Who}
@@ -51,3 +52,9 @@ none_some o x e f = cc
 pub if_some : {A : Type 0} (o : Option A) (P Q : A → Type 0) → ((x : A) → P x → Q x) → IfSome o P → IfSome o Q
 if_some None P Q f h = h
 if_some (Some x) P Q f h = f x h
+
+-- what holds of a value that is taken of a result
+pub ok_of : {A E : Type 0} (P : A → Type 0) (Q : E → Type 0) (r : Result A E) (x : A) → Some x ≡ result_ok r
+    → MatchResult r P Q → P x
+ok_of P Q (Ok y) x e h = let same : y ≡ x = cc in subst P same h
+ok_of P Q (Err fault) x e h = absurd (cc)

@@ -7,3 +7,9 @@ pub mod Locos
 pub mod Applied
 pub mod Boards
 pub mod Services
+pub mod Timings
+pub mod Senders
+pub mod Readers
+pub mod KeptPackets
+pub mod KeptPacketLaw
+pub mod Stations

@@ -1,8 +1,9 @@
 -- The numbers of a locomotive decoder.
-use Rattle.std.specs.Prelude.{ℕ, ◌%◌, ◌/◌, ◌^◌, Option, None, Some, List, [], ◌∷◌}
+use Rattle.std.specs.Prelude.{◌≡◌, ℕ, true, ◌%◌, ◌/◌, ◌^◌, Option, None, Some, List, [], ◌∷◌}
 use Rattle.dcc_packet.specs.declared.address.Address.{Address}
 use Rattle.dcc_packet.specs.declared.packet.Packet.{Packet}
 use Rattle.dcc_packet.specs.Spelling.{spelling}
+use Rattle.dcc_regs.specs.Addresses.{is_active}
 use Rattle.dcc_regs.specs.declared.loco_state.LocoState.{LocoState}
 use Rattle.dcc_regs.specs.declared.register.Speed.{Speed}
 use Rattle.dcc_regs.specs.declared.register.Speed.TheVariants.{Stop, Emergency, Step14, Step28, Step126}
@@ -19,6 +20,12 @@ own_kind (Some own) = address_kind own
 abbrev pub own_number : Option Address → ℕ
 own_number None = 0
 own_number (Some own) = address_number own
+
+-- the address of a decoder's numbers is this one, to which a decoder may listen, or there is none
+pub record HasAddress (loco : DccLoco) (own : Option Address) : Type 0 where
+  pub active : is_active own ≡ true
+  pub kind : loco.address_kind ≡ own_kind own
+  pub number : loco.address ≡ own_number own
 
 -- the speed: 0 stop, 1 emergency stop, or how many steps there are, and the step
 abbrev pub speed_mode : Speed → ℕ

@@ -1,11 +1,13 @@
 //! Accessory decoders.
 
-ghost use Rattle.std.specs.Prelude.{◌≡◌, ◌≢◌, true, false, nat_le, Some, Ok, Err, IfSome};
+ghost use Rattle.std.specs.Prelude.{◌≡◌, ◌≢◌, true, false, nat_le, Some, Ok, Err, IfOk, IfErr, IfSome};
 ghost use Rattle.dcc_packet.specs.declared.accessory.Board.{Board};
 ghost use Rattle.dcc_packet.specs.declared.packet.Packet.{Packet};
 ghost use Rattle.dcc_packet.specs.Spelling.{spelling};
 ghost use Rattle.dcc_regs.specs.declared.board_state.BoardState.{BoardState};
+ghost use Rattle.dcc_regs.specs.declared.register.Who.{Who};
 ghost use Rattle.dcc_regs.specs.Board.{board_registers, made};
+ghost use Rattle.dcc_regs.specs.Heard.{hears as is_heard_by};
 ghost use Rattle.dcc_c.specs.Applied.{HasApplied};
 ghost use Rattle.dcc_c.specs.Boards.{is_single, board_numbers};
 ghost use Rattle.dcc_regs.specs.BoardState.{board_map, board_who};
@@ -13,7 +15,7 @@ ghost use Rattle.dcc_c.specs.Frames.{frame_answer};
 
 use crate::frame::frame_of;
 use dcc_packet::{Board, Packet, PacketFault};
-use dcc_regs::{BoardState, Decoder, PackedBoard};
+use dcc_regs::{BoardState, Decoder, PackedBoard, Who, hears};
 
 /// What an accessory decoder holds.
 #[repr(C)]
@@ -84,6 +86,41 @@ pub extern "C" fn dcc_board_apply(board: &mut DccBoard, frame: &[u8]) -> u8
         },
         Err(number) => number,
     }
+}
+
+/// Tells whether the packet that these bytes spell is for the decoder. The answer is 0; 1 or 2 where the bytes are no frame (L1,
+/// L2), 13 where there is no single board of this number (P13). In these cases nothing is told.
+#[unsafe(no_mangle)]
+pub extern "C" fn dcc_board_hears(board: &DccBoard, frame: &[u8], heard: &mut bool) -> u8
+    ensures no_frame { frame_answer frame.now ≢ 0 → result ≡ frame_answer frame.now }
+    ensures tells { frame_answer frame.now ≡ 0 → nat_le board.now.number 510 ≡ true →
+        (own : Board) × (packet : Packet) × (own.number ≡ board.now.number) × (spelling packet ≡ frame.now)
+        × (heard.new ≡ is_heard_by (Who.Board own) packet) × (result ≡ 0) }
+    ensures board { result ≡ 0 → nat_le board.now.number 510 ≡ true }
+    ensures refused { result ≢ 0 → result ≢ frame_answer frame.now → result ≡ 13 }
+    ensures untold { result ≢ 0 → heard.new ≡ heard.old }
+{
+    match frame_of(frame) {
+        Ok(frame) => match own_board(board) {
+            Ok(own) => {
+                *heard = hears(Who::Board(own), &Packet::read(&frame));
+                0
+            }
+            Err(refusal) => refusal.number(),
+        },
+        Err(number) => number,
+    }
+}
+
+/// The board of these numbers. P13 where there is no single board of this number.
+fn own_board(board: &DccBoard) -> Result<Board, PacketFault>
+    ensures board { IfOk result (λ own. (own.number ≡ board.now.number) × (nat_le board.now.number 510 ≡ true)) }
+    ensures fault { IfErr result (λ fault. (fault ≡ PacketFault.State) × (nat_le board.now.number 510 ≡ false)) }
+{
+    if board.number > 510 {
+        return Err(PacketFault::State);
+    }
+    Board::new(board.number)
 }
 
 /// The state of a decoder with these numbers after a packet.

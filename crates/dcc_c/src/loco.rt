@@ -1,20 +1,23 @@
 //! Locomotive decoders.
 
-ghost use Rattle.std.specs.Prelude.{◌≡◌, ◌≢◌, true, Some, IfSome};
+ghost use Rattle.std.specs.Prelude.{◌≡◌, ◌≢◌, true, Option, Some, IfSome};
+ghost use Rattle.dcc_packet.specs.declared.address.Address.{Address};
 ghost use Rattle.dcc_packet.specs.declared.packet.Packet.{Packet};
 ghost use Rattle.dcc_packet.specs.Spelling.{spelling};
 ghost use Rattle.dcc_regs.specs.declared.loco_state.LocoState.{LocoState};
 ghost use Rattle.dcc_packet.specs.Cvs.{cv_in};
+ghost use Rattle.dcc_regs.specs.declared.register.Who.{Who};
+ghost use Rattle.dcc_regs.specs.Heard.{hears as is_heard_by};
 ghost use Rattle.dcc_regs.specs.Loco.{start_map, start_who};
 ghost use Rattle.dcc_regs.specs.LocoState.{is_state, loco_map, loco_who};
 ghost use Rattle.dcc_c.specs.Frames.{frame_answer};
 ghost use Rattle.dcc_c.specs.Applied.{HasApplied};
-ghost use Rattle.dcc_c.specs.Locos.{loco_numbers};
+ghost use Rattle.dcc_c.specs.Locos.{HasAddress, loco_numbers};
 
 use crate::frame::frame_of;
-use crate::loco_numbers::{DccLoco, numbers, state_of};
+use crate::loco_numbers::{DccLoco, numbers, own_address, state_of};
 use dcc_packet::{Packet, PacketFault};
-use dcc_regs::{Decoder, LocoState, PackedLoco};
+use dcc_regs::{Decoder, LocoState, PackedLoco, Who, hears};
 
 /// Makes a decoder that is powered up with these CVs, that of CV1 first: stopped, forward, all functions and binary states off.
 #[unsafe(no_mangle)]
@@ -45,6 +48,29 @@ pub extern "C" fn dcc_loco_apply(loco: &mut DccLoco, frame: &[u8]) -> u8
                 0
             }
             None => PacketFault::State.number(),
+        },
+        Err(number) => number,
+    }
+}
+
+/// Tells whether the packet that these bytes spell is for the decoder. The answer is 0; 1 or 2 where the bytes are no frame (L1,
+/// L2), 13 where no decoder has the address of these numbers (P13). In these cases nothing is told. The other numbers say nothing of it.
+#[unsafe(no_mangle)]
+pub extern "C" fn dcc_loco_hears(loco: &DccLoco, frame: &[u8], heard: &mut bool) -> u8
+    ensures no_frame { frame_answer frame.now ≢ 0 → result ≡ frame_answer frame.now }
+    ensures tells { frame_answer frame.now ≡ 0 → (own : Option Address) → HasAddress loco.now own →
+        (packet : Packet) × (spelling packet ≡ frame.now) × (heard.new ≡ is_heard_by (Who.Loco own) packet) × (result ≡ 0) }
+    ensures address { result ≡ 0 → (own : Option Address) × HasAddress loco.now own }
+    ensures refused { result ≢ 0 → result ≢ frame_answer frame.now → result ≡ 13 }
+    ensures untold { result ≢ 0 → heard.new ≡ heard.old }
+{
+    match frame_of(frame) {
+        Ok(frame) => match own_address(loco) {
+            Ok(own) => {
+                *heard = hears(Who::Loco(own), &Packet::read(&frame));
+                0
+            }
+            Err(refusal) => refusal.number(),
         },
         Err(number) => number,
     }

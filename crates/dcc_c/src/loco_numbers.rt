@@ -1,6 +1,6 @@
 //! The numbers of a locomotive decoder, and the state that they stand for.
 
-ghost use Rattle.std.specs.Prelude.{◌≡◌, ◌↔◌, ℕ, ◌≤◌, ◌^◌, ◌<◌, true, Option, Some, None, IfSome, IsTrue};
+ghost use Rattle.std.specs.Prelude.{◌≡◌, ◌↔◌, ℕ, ◌≤◌, ◌^◌, ◌<◌, true, Option, Some, None, Ok, IfSome, IfOk, IfErr, IsTrue};
 ghost use Rattle.dcc_packet.specs.declared.address.Address.{Address};
 ghost use Rattle.dcc_packet.specs.declared.address.LongAddress.{LongAddress};
 ghost use Rattle.dcc_packet.specs.declared.address.ShortAddress.{ShortAddress};
@@ -10,12 +10,13 @@ ghost use Rattle.dcc_regs.specs.declared.register.Speed.{Speed};
 ghost use Rattle.dcc_regs.specs.Addresses.{is_active};
 ghost use Rattle.dcc_regs.specs.Loco.{is_pending_for};
 ghost use Rattle.dcc_regs.specs.LocoState.{is_state};
-ghost use Rattle.dcc_c.specs.Locos.{loco_numbers, own_kind, own_number, pending_numbers, speed_mode, speed_step};
+ghost use Rattle.dcc_c.specs.Packets.{address_kind};
+ghost use Rattle.dcc_c.specs.Locos.{HasAddress, loco_numbers, own_kind, own_number, pending_numbers, speed_mode, speed_step};
 ghost use Rattle.dcc_c.specs.Locos.{words_of};
 
 use crate::frame::DccFrame;
 use crate::packet::{address_kind, address_number};
-use dcc_packet::{Address, Packet};
+use dcc_packet::{Address, Packet, PacketFault};
 use dcc_regs::{LocoState, Speed};
 use dcc_wire::Frame;
 
@@ -151,8 +152,21 @@ fn read(loco: &DccLoco) -> Option<LocoState>
     })
 }
 
+/// The address of these numbers, or none. P13 where no decoder has such an address.
+pub(crate) fn own_address(loco: &DccLoco) -> Result<Option<Address>, PacketFault>
+    ensures found { (own : Option Address) → HasAddress loco.now own → result ≡ Ok own }
+    ensures address { IfOk result (HasAddress loco.now) }
+    ensures fault { IfErr result (λ fault. fault ≡ PacketFault.State) }
+{
+    match address_of(loco.address_kind, loco.address) {
+        Some(own) if own_number(&own) == loco.address => Ok(own),
+        _ => Err(PacketFault::State),
+    }
+}
+
 fn address_of(kind: u8, number: u16) -> Option<Option<Address>>
-    ensures { (own : Option Address) → is_active own ≡ true → kind ≡ own_kind own → number ≡ own_number own
+    ensures kind { IfSome result (λ own. (is_active own ≡ true) × (kind ≡ own_kind own)) }
+    ensures found { (own : Option Address) → is_active own ≡ true → kind ≡ own_kind own → number ≡ own_number own
         → result ≡ Some own }
 {
     match kind {
@@ -164,7 +178,8 @@ fn address_of(kind: u8, number: u16) -> Option<Option<Address>>
 }
 
 fn short(number: u16) -> Option<Address>
-    ensures { (own : ShortAddress) → number ≡ own.number → result ≡ Some (Address.Short own) }
+    ensures kind { IfSome result (λ own. address_kind own ≡ 1) }
+    ensures found { (own : ShortAddress) → number ≡ own.number → result ≡ Some (Address.Short own) }
 {
     if number > 127 {
         return None;
@@ -173,7 +188,8 @@ fn short(number: u16) -> Option<Address>
 }
 
 fn long(number: u16) -> Option<Address>
-    ensures { (own : LongAddress) → number ≡ own.number → result ≡ Some (Address.Long own) }
+    ensures kind { IfSome result (λ own. address_kind own ≡ 2) }
+    ensures found { (own : LongAddress) → number ≡ own.number → result ≡ Some (Address.Long own) }
 {
     Address::long(number).ok()
 }

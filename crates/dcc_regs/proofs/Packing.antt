@@ -93,6 +93,39 @@ high_bits word (suc k) h =
     bit_at-suc (word - word % 2) k ∙ ap (λ x. bit_at x k) half ∙ sym (bit_at-suc word k) in
     rw b refl
 
+-- all bits but the lowest are turned off
+off_above : (word k : ℕ) → k ≢ 0 → is_one (word % 2) k ≡ false
+off_above word zero some = absurd (some refl)
+off_above word (suc k) some =
+    let none : word % 2 / 2 ≡ 0 = omega arith in
+    let b : bit_at (word % 2) (suc k) ≡ 0 = bit_at-suc (word % 2) k ∙ ap (λ x. bit_at x k) none ∙ bit_at-zero k in
+    rw b refl
+
+pub all_off : (word k : ℕ) → is_one (word % 2) k ≡ (if k == 0 then is_one word k else false)
+all_off word k =
+    by_number k 0 _ _ _
+    (λ lowest. let b : bit_at (word % 2) 0 ≡ bit_at word 0 = omega arith in rw (lowest, b) refl)
+    (off_above word k)
+
+-- and turned on, in a word of 128 bits
+on_above : (word k : ℕ) → k ≢ 0 → k ≤ 127 → is_one (340282366920938463463374607431768211454 + word % 2) k ≡ true
+on_above word zero some h = absurd (some refl)
+on_above word (suc k) some h =
+    let half : (340282366920938463463374607431768211454 + word % 2) / 2 ≡ 2 ^ 127 - 1 = omega arith in
+    let b : bit_at (340282366920938463463374607431768211454 + word % 2) (suc k) ≡ 1 =
+    bit_at-suc (340282366920938463463374607431768211454 + word % 2) k ∙ ap (λ x. bit_at x k) half
+    ∙ bit_at_ones 127 k (omega arith) in
+    rw b refl
+
+pub all_on : (word k : ℕ) → k ≤ 127
+    → is_one (340282366920938463463374607431768211454 + word % 2) k ≡ (if k == 0 then is_one word k else true)
+all_on word k h =
+    by_number k 0 _ _ _
+    (λ lowest.
+    let b : bit_at (340282366920938463463374607431768211454 + word % 2) 0 ≡ bit_at word 0 = omega arith in
+    rw (lowest, b) refl)
+    (λ some. on_above word k some h)
+
 -- a word of 128 bits with one bit turned off
 pub turned_off : (word n k : ℕ) → n ≤ 127 → k ≤ 127
     → is_one

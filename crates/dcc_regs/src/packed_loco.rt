@@ -1,5 +1,5 @@
 //! A locomotive decoder with its functions packed into one number, its binary states into another.
-ghost use Rattle.std.specs.Prelude.{◌≡◌, ◌==◌, ℕ, ◌<◌, ◌≤◌, ◌⊎◌, Some, None, if◌then◌else◌, unwrap_or, true, ◌↔◌};
+ghost use Rattle.std.specs.Prelude.{◌≡◌, ◌==◌, ℕ, ◌<◌, ◌≤◌, Some, None, if◌then◌else◌, unwrap_or, true, ◌↔◌};
 ghost use Rattle.std.specs.Prelude.{IsOk, IfOk, IfErr};
 ghost use Rattle.dcc_regs.specs.Addresses.{is_active};
 ghost use Rattle.dcc_packet.specs.Bits.{is_one};
@@ -16,7 +16,7 @@ use crate::register::{Register, Speed, SpeedMode, Value, Who};
 use crate::speeds::{direction_set, speed_set};
 use crate::states::{state_set, turned_states};
 use crate::writes::leave_pending;
-use dcc_packet::{Address, CvNumber, Cvs, Packet, PacketFault};
+use dcc_packet::{Address, CvNumber, Cvs, Packet, PacketFault, What};
 
 /// A locomotive decoder: bit n of `functions` is function n, bit n of `states` state n, its CVs are bytes. It
 /// keeps the contracts of `LocoDecoder`.
@@ -114,8 +114,22 @@ impl PackedLoco {
     }
 }
 
-/// The functions after a heard packet. Those that the packet is not for stay as they are, unlooked at.
+/// The functions after a heard packet. A reset turns all off at once: one by one would take long where many decoders hear many
+/// resets.
 fn functions_after(functions: u128, mode: SpeedMode, packet: &Packet) -> u128
+    ensures { (n : ℕ) → n ≤ 68 → is_one result n ≡ unwrap_or (function_set_of mode packet.now n) (is_one functions n) }
+{
+    match packet {
+        Packet::Loco {
+            what: What::Reset,
+            ..
+        } => 0,
+        _ => functions_looked_at(functions, mode, packet),
+    }
+}
+
+/// The functions after a heard packet, looked at one by one. Those that the packet is not for stay as they are, unlooked at.
+fn functions_looked_at(functions: u128, mode: SpeedMode, packet: &Packet) -> u128
     ensures { (n : ℕ) → n ≤ 68 → is_one result n ≡ unwrap_or (function_set_of mode packet.now n) (is_one functions n) }
 {
     let (first, end) = function_range(mode, packet);
@@ -127,29 +141,25 @@ fn functions_after(functions: u128, mode: SpeedMode, packet: &Packet) -> u128
     after
 }
 
-/// The binary states after a heard packet. Those that the packet is not for stay as they are, unlooked at.
+/// The binary states after a heard packet.
 fn states_after(states: u128, packet: &Packet) -> u128
     ensures { (n : ℕ) → n ≤ 127 → is_one result n ≡ unwrap_or (state_set_of packet.now n) (is_one states n) }
 {
-    let (first, end) = states_of(packet);
-    let mut after = states;
-    for n in first..end {
-        let on = state_set(packet, n).unwrap_or(states >> n & 1 == 1);
-        after = with_bit(after, n, on);
+    match turned_states(packet) {
+        Some((0, on)) => all_turned(states, on),
+        Some((number, on)) if number <= 127 => with_bit(states, number, on),
+        _ => states,
     }
-    after
 }
 
-/// The binary states that a packet may turn on or off: from the first up to the second, without it.
-fn states_of(packet: &Packet) -> (u8, u8)
-    ensures others { (n : ℕ) → n ≤ 127 → (n < result.0) ⊎ (result.1 ≤ n) → state_set_of packet.now n ≡ None }
-    ensures end { result.1 ≤ 128 }
+/// A word with all bits but the lowest turned on, or off.
+fn all_turned(word: u128, on: bool) -> u128
+    ensures { (k : ℕ) → k ≤ 127 → is_one result k ≡ (if k == 0 then is_one word k else on) }
 {
-    match turned_states(packet) {
-        Some((0, _)) => (1, 128),
-        Some((number, _)) if number <= 127 => (number, number + 1),
-        Some(_) => (0, 0),
-        None => (0, 0),
+    if on {
+        u128::MAX - 1 + word % 2
+    } else {
+        word % 2
     }
 }
 

@@ -1,5 +1,5 @@
 -- The bits of a number, the lowest first.
-use Rattle.std.proofs.Common.{◌≡◌, ℕ, zero, suc, ◌+◌, ◌*◌, ◌/◌, ◌%◌, ◌^◌, ◌<◌, ◌≤◌, Bool, true, false, [], ◌∷◌, ◌++◌}
+use Rattle.std.proofs.Common.{◌≡◌, ℕ, List, zero, suc, ◌+◌, ◌*◌, ◌/◌, ◌%◌, ◌^◌, ◌<◌, ◌≤◌, Bool, true, false, [], ◌∷◌, ◌++◌}
 use Rattle.std.proofs.Common.{length, refl, ap, ◌∙◌, arith}
 use Rattle.std.specs.Prelude.{◌==◌}
 use Rattle.std.proofs.Math.Nat.{pow-suc}
@@ -45,3 +45,24 @@ bits_from_lowest-more (suc n) number one h =
 pub byte_weight : (one : Bool) (k : ℕ) → k ≤ 7 → bit one * 2 ^ k % 256 ≡ bit one * 2 ^ k
 byte_weight true k h = omega (arith, shifted_one k h)
 byte_weight false k h = omega arith
+
+-- the bits of the number that has them
+pub bits_from_lowest-number : (bits : List Bool) → bits_from_lowest (length bits) (number_from_lowest bits) ≡ bits
+unfolding bits_from_lowest number_from_lowest
+bits_from_lowest-number [] = refl
+bits_from_lowest-number (true ∷ bits) =
+    let low : (1 + 2 * number_from_lowest bits) % 2 ≡ 1 = omega arith in
+    let high : (1 + 2 * number_from_lowest bits) / 2 ≡ number_from_lowest bits = omega arith in
+    rw (low, high, bits_from_lowest-number bits) refl
+bits_from_lowest-number (false ∷ bits) =
+    let low : (0 + 2 * number_from_lowest bits) % 2 ≡ 0 = omega arith in
+    let high : (0 + 2 * number_from_lowest bits) / 2 ≡ number_from_lowest bits = omega arith in
+    rw (low, high, bits_from_lowest-number bits) refl
+
+pub number_from_lowest-small : (bits : List Bool) → number_from_lowest bits < 2 ^ length bits
+unfolding number_from_lowest
+number_from_lowest-small [] = omega arith
+number_from_lowest-small (true ∷ bits) =
+    omega (arith, number_from_lowest-small bits, pow-suc 2 (length bits))
+number_from_lowest-small (false ∷ bits) =
+    omega (arith, number_from_lowest-small bits, pow-suc 2 (length bits))

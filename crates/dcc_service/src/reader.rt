@@ -41,7 +41,8 @@ pub enum Reading {
 }
 
 impl CvReader {
-    ghost use Rattle.std.specs.Prelude.{◌≡◌, ◌≤◌, ◌++◌, [], ◌∷◌, length};
+    ghost use Rattle.std.specs.Prelude.{◌≡◌, ◌↔◌, ◌<◌, ◌≤◌, ◌^◌, ◌++◌, [], ◌∷◌, length, IsSome, IfSome};
+    ghost use Rattle.dcc_service.specs.Bits.{bits_from_lowest, number_from_lowest};
     ghost use Rattle.dcc_service.specs.CvAnswers.{Asks};
     ghost use Rattle.dcc_service.specs.Readings.{Comes};
 
@@ -54,6 +55,40 @@ impl CvReader {
             known: 0,
             value: 0,
         }
+    }
+
+    /// A reading that was put away: of this CV, with so many answers, which are the bits of this value, the lowest first. None where
+    /// there are more than 8 of them, or where the value has more bits.
+    pub fn restore(cv: CvNumber, known: u8, value: u8) -> Option<CvReader>
+        ensures valid { IsSome result ↔ ((known ≤ 8) × (value < 2 ^ known)) }
+        ensures reading { IfSome result (λ r. r ≡ record { cv = cv; answers = bits_from_lowest known value }) }
+    {
+        if known > 8 || u16::from(value) >= 1 << known {
+            return None;
+        }
+        Some(CvReader { cv, known, value })
+    }
+
+    /// The CV that is read.
+    pub fn cv(&self) -> CvNumber
+        ensures { result ≡ self.now.cv }
+    {
+        self.cv
+    }
+
+    /// How many answers there are, 0 to 8: as many bits of the CV are known, from the lowest on.
+    pub fn known(&self) -> u8
+        ensures known { result ≡ length self.now.answers }
+        ensures few { result ≤ 8 }
+    {
+        self.known
+    }
+
+    /// The value of these bits.
+    pub fn value(&self) -> u8
+        ensures { result ≡ number_from_lowest self.now.answers }
+    {
+        self.value
     }
 
     /// The next question.

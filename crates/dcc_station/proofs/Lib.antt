@@ -5,3 +5,4 @@ pub mod NextPackets
 pub mod EntriesLeft
 pub mod EntriesInTurn
 pub mod StatePackets
+pub mod RingItems

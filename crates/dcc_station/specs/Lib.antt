@@ -4,3 +4,4 @@ pub mod Limits
 pub mod Refresh
 pub mod FaultNumbers
 pub mod States
+pub mod Rings

@@ -6,19 +6,19 @@ ghost use Rattle.dcc_regs.specs.Heard as heard;
 ghost use Rattle.dcc_station.specs.Sending.{Displaces, Leaves, Refreshes};
 
 use crate::commands::{is_refreshed, writes_cv29};
-use circular_buffer::HeapCircularBuffer;
+use crate::ring::PacketRing;
 use dcc_packet::Packet;
 use dcc_regs::{address_of, conflict};
 
 /// The front entry, which goes to the end. Nothing changes where there is none.
-pub fn rotated(entries: &mut HeapCircularBuffer<Packet>) -> Option<Packet>
-    ensures front { result ≡ slice_get entries.old.items 0 }
-    ensures entries { IfSome result
-        (λ entry. entries.new ≡ buffer (drop 1 entries.old.items ++ entry ∷ []) entries.old.capacity) }
-    ensures none { IfNone result (entries.new ≡ entries.old) }
+pub fn rotated<R: PacketRing>(entries: &mut R) -> Option<Packet>
+    ensures front { result ≡ slice_get (R.buffer entries.old).items 0 }
+    ensures entries { IfSome result (λ entry. R.buffer entries.new
+        ≡ buffer (drop 1 (R.buffer entries.old).items ++ entry ∷ []) (R.buffer entries.old).capacity) }
+    ensures none { IfNone result (R.buffer entries.new ≡ R.buffer entries.old) }
 {
     let front = match entries.front() {
-        Some(entry) => *entry,
+        Some(entry) => entry,
         None => return None,
     };
     // The length is within the capacity, so there is room behind once the front one is taken.
@@ -34,9 +34,10 @@ pub fn rotated(entries: &mut HeapCircularBuffer<Packet>) -> Option<Packet>
 
 /// What the first copy of a command does to the entries: those that it puts an end to are removed, and then it is one
 /// itself, the last, where it sets the speed or functions of one locomotive.
-pub fn refresh_after(entries: &mut HeapCircularBuffer<Packet>, command: &Packet)
-    ensures entries { Refreshes entries.old.capacity command.now entries.old.items entries.new.items }
-    ensures capacity { entries.new.capacity ≡ entries.old.capacity }
+pub fn refresh_after<R: PacketRing>(entries: &mut R, command: &Packet)
+    ensures entries { Refreshes (R.buffer entries.old).capacity command.now
+        (R.buffer entries.old).items (R.buffer entries.new).items }
+    ensures capacity { (R.buffer entries.new).capacity ≡ (R.buffer entries.old).capacity }
 {
     remove_displaced(entries, command);
     if is_refreshed(command) {
@@ -45,9 +46,9 @@ pub fn refresh_after(entries: &mut HeapCircularBuffer<Packet>, command: &Packet)
 }
 
 /// Removes the entries that a command puts an end to.
-fn remove_displaced(entries: &mut HeapCircularBuffer<Packet>, command: &Packet)
-    ensures entries { Leaves command.now entries.old.items entries.new.items }
-    ensures capacity { entries.new.capacity ≡ entries.old.capacity }
+fn remove_displaced<R: PacketRing>(entries: &mut R, command: &Packet)
+    ensures entries { Leaves command.now (R.buffer entries.old).items (R.buffer entries.new).items }
+    ensures capacity { (R.buffer entries.new).capacity ≡ (R.buffer entries.old).capacity }
 {
     for _ in 0..entries.len() {
         if let Some(entry) = entries.pop_front() {

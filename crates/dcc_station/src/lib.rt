@@ -4,8 +4,14 @@
 mod commands;
 mod entries;
 mod fault;
+mod fixed_ring;
 pub mod laws;
+mod machine;
+mod ring;
 mod station;
 
 pub use fault::{Refused, StationFault};
-pub use station::Station;
+pub use fixed_ring::FixedRing;
+pub use machine::{hand_out, take_command};
+pub use ring::PacketRing;
+pub use station::{FixedStation, Station, StationOver, are_within_limits};

@@ -1,52 +1,63 @@
 //! A command station.
 
-ghost use Rattle.std.specs.Prelude.{◌≡◌, ◌≤◌, ◌<◌, true, false, List, [], ◌∷◌, ◌++◌, length, drop, slice_get, IfOk};
-ghost use Rattle.std.specs.Prelude.{OnOk, OnErr, IfErr, IsTrue, ◌↔◌};
+ghost use Rattle.std.specs.Prelude.{◌≡◌, ◌≤◌, ◌<◌, ◌&&◌, nat_le, true, false, List, [], ◌∷◌, ◌++◌, length, IfOk, IfErr, IsOk};
+ghost use Rattle.std.specs.Prelude.{OnOk, OnErr, ◌↔◌};
 ghost use Rattle.dcc_packet.specs.declared.packet.Packet.{Packet};
 ghost use Rattle.dcc_station.specs.Commands as commands;
 ghost use Rattle.dcc_station.specs.Limits.{is_within_limits};
 ghost use Rattle.dcc_station.specs.Refresh.{StandsFor};
-ghost use Rattle.dcc_station.specs.Sending.{idle_sending, with_command, sent_once_more, Next, ChangesEntries};
+ghost use Rattle.dcc_station.specs.Sending.{idle_sending, with_command, Next};
 
-use crate::commands::{copies, is_sendable};
-use crate::entries::{refresh_after, rotated};
 use crate::fault::{Refused, StationFault};
+use crate::fixed_ring::FixedRing;
+use crate::machine::{hand_out, take_command};
+use crate::ring::PacketRing;
 use circular_buffer::HeapCircularBuffer;
 use dcc_packet::Packet;
 use std::alloc::{AllocError, Global};
 use std::marker::Model;
 
-/// A command station: a queue of commands and a list of entries that it refreshes. The first command of the queue is
-/// sent so many times in a row, a write of a configuration variable once more, with nothing between, and then leaves the
-/// queue. While nothing waits, the entries are sent in turn, as packets may be lost on the track and are to be
-/// repeated (NMRA S-9.2). It takes memory where it is made, and none from then on.
+/// A command station: a queue of commands and a list of entries that it refreshes, over a ring for each. The first command
+/// of the queue is sent so many times in a row, a write of a configuration variable once more, with nothing between, and
+/// then leaves the queue. While nothing waits, the entries are sent in turn, as packets may be lost on the track and are
+/// to be repeated (NMRA S-9.2). It takes no memory once it is made.
 #[derive(Drop)]
-pub struct Station {
-    commands: HeapCircularBuffer<Packet>,
+pub struct StationOver<Q: PacketRing, S: PacketRing> {
+    commands: Q,
     sent: u8,
-    entries: HeapCircularBuffer<Packet>,
+    entries: S,
     repeats: u8,
 }
 
-impl Model for Station {
+/// A command station whose sizes are chosen where it is made, and which takes memory there.
+pub type Station = StationOver<HeapCircularBuffer<Packet>, HeapCircularBuffer<Packet>>;
+
+/// A command station that takes no memory: it has room in itself for `QUEUE` commands that wait and `SLOTS` entries.
+pub type FixedStation<const QUEUE: usize, const SLOTS: usize> = StationOver<
+    FixedRing<QUEUE>,
+    FixedRing<SLOTS>,
+>;
+
+impl<Q: PacketRing, S: PacketRing> Model for StationOver<Q, S> {
     ghost use Rattle.std.specs.Prelude.{◌≤◌, ◌<◌};
+    ghost use Rattle.dcc_station.specs.Rings.{sending_over};
     ghost use Rattle.dcc_station.specs.Sending.{Sending};
 
     ghost Value = { Sending };
 
-    ghost view = { λ s. record {
-      waiting = s.commands.items;
-      sent = s.sent;
-      entries = s.entries.items;
-      queue = s.commands.capacity;
-      slots = s.entries.capacity;
-      repeats = s.repeats;
-    } };
+    ghost view = { λ s. sending_over (Q.buffer s.commands) s.sent (S.buffer s.entries) s.repeats };
 
     ghost invariant = { λ s. (0 < s.repeats) × (s.repeats ≤ 8) × (s.sent ≤ 8) };
 }
 
-impl Station {
+/// Whether a station may have these sizes.
+pub fn are_within_limits(queue: usize, slots: usize, repeats: u8) -> bool
+    ensures { result ≡ is_within_limits queue slots repeats }
+{
+    (1..=64).contains(&queue) && (1..=128).contains(&slots) && (1..=8).contains(&repeats)
+}
+
+impl StationOver<HeapCircularBuffer<Packet>, HeapCircularBuffer<Packet>> {
     /// A station with no command, for at most so many commands that wait, so many entries, and so many copies of a
     /// command. C1 where one of them is past its limits: 1 to 64, 1 to 128, 1 to 8. Then C2 for want of memory.
     pub fn new(
@@ -59,10 +70,7 @@ impl Station {
         ensures made { IfOk result (λ s. s ≡ idle_sending queue slots repeats) }
         ensures stands { IfOk result (λ s. StandsFor s [] []) }
     {
-        let within = (1..=64).contains(&queue)
-            && (1..=128).contains(&slots)
-            && (1..=8).contains(&repeats);
-        if !within {
+        if !are_within_limits(queue, slots, repeats) {
             return Err(StationFault::Limit);
         }
         match Station::with_sizes(alloc, queue, slots, repeats) {
@@ -84,12 +92,48 @@ impl Station {
     {
         let commands = HeapCircularBuffer::with_capacity(alloc, queue)?;
         let entries = HeapCircularBuffer::with_capacity(alloc, slots)?;
-        Ok(Station {
+        Ok(StationOver::over(commands, entries, repeats))
+    }
+}
+
+impl<const QUEUE: usize, const SLOTS: usize> StationOver<FixedRing<QUEUE>, FixedRing<SLOTS>> {
+    /// A station with no command, for at most so many commands that wait, so many entries, and so many copies of a
+    /// command. C1 where one of them is past its limits: 1 to 64 and no more than `QUEUE`, 1 to 128 and no more than
+    /// `SLOTS`, 1 to 8. It never wants memory.
+    pub fn new(
+        queue: usize,
+        slots: usize,
+        repeats: u8,
+    ) -> Result<FixedStation<QUEUE, SLOTS>, StationFault>
+        ensures limit { (result ≡ Err StationFault.Limit)
+            ↔ ((is_within_limits queue slots repeats && nat_le queue QUEUE && nat_le slots SLOTS) ≡ false) }
+        ensures no_other { IfErr result (λ fault. fault ≡ StationFault.Limit) }
+        ensures made { IfOk result (λ s. s ≡ idle_sending queue slots repeats) }
+        ensures stands { IfOk result (λ s. StandsFor s [] []) }
+    {
+        if !are_within_limits(queue, slots, repeats) || queue > QUEUE || slots > SLOTS {
+            return Err(StationFault::Limit);
+        }
+        Ok(StationOver::over(FixedRing::new(queue), FixedRing::new(slots), repeats))
+    }
+}
+
+impl<Q: PacketRing, S: PacketRing> StationOver<Q, S> {
+    /// A station with no command over two empty rings.
+    fn over(commands: Q, entries: S, repeats: u8) -> StationOver<Q, S>
+        requires some { 0 < repeats }
+        requires few { repeats ≤ 8 }
+        requires none_waits { (Q.buffer commands).items ≡ [] }
+        requires no_entries { (S.buffer entries).items ≡ [] }
+        ensures made { result ≡ idle_sending (Q.buffer commands).capacity (S.buffer entries).capacity repeats }
+        ensures stands { StandsFor result [] [] }
+    {
+        StationOver {
             commands,
             sent: 0,
             entries,
             repeats,
-        })
+        }
     }
 
     /// A command waits behind the others. C3 where it is none that a station sends: an idle packet, a frame of no row, or
@@ -106,28 +150,7 @@ impl Station {
             ((commands packets : List Packet) → StandsFor self.old commands packets
             → StandsFor self.new (commands ++ packet ∷ []) packets) }
     {
-        if !is_sendable(&packet) {
-            return Err((Refused::NotSendable, packet));
-        }
-        if self.is_full() {
-            return Err((Refused::QueueFull, packet));
-        }
-        self.accept(packet);
-        Ok(())
-    }
-
-    fn is_full(&self) -> bool
-        ensures full { IsTrue result ↔ (length self.now.waiting ≡ self.now.queue) }
-        ensures within { length self.now.waiting ≤ self.now.queue }
-    {
-        self.commands.capacity() == self.commands.len()
-    }
-
-    fn accept(&mut self, packet: Packet)
-        requires { length self.old.waiting < self.old.queue }
-        ensures { self.new ≡ with_command self.old packet }
-    {
-        let _ = self.commands.try_push_back(packet);
+        take_command(&mut self.commands, packet)
     }
 
     /// How many commands wait.
@@ -155,54 +178,11 @@ impl Station {
         ensures stands { (commands packets : List Packet) → StandsFor self.old commands packets
             → StandsFor self.new commands (packets ++ result ∷ []) }
     {
-        match self.first_command() {
-            Some(command) => self.send(command),
-            None => self.refresh(),
-        }
-    }
-
-    fn first_command(&self) -> Option<Packet>
-        ensures { result ≡ slice_get self.now.waiting 0 }
-    {
-        self.commands.front().copied()
-    }
-
-    /// A copy of the first command.
-    fn send(&mut self, command: Packet) -> Packet
-        requires { slice_get self.old.waiting 0 ≡ Some command }
-        ensures { Next self.old result self.new }
-    {
-        self.change_entries(&command);
-        self.count_copy(&command);
-        command
-    }
-
-    /// The first copy of a command changes the entries.
-    fn change_entries(&mut self, command: &Packet)
-        ensures { ChangesEntries self.old command.now self.new }
-    {
-        if self.sent == 0 {
-            refresh_after(&mut self.entries, command);
-        }
-    }
-
-    /// One more copy of the first command was sent.
-    fn count_copy(&mut self, command: &Packet)
-        ensures { self.new ≡ sent_once_more self.old command.now (drop 1 self.old.waiting) self.old.entries }
-    {
-        if self.sent + 1 >= copies(self.repeats, command) {
-            self.commands.pop_front();
-            self.sent = 0;
-        } else {
-            self.sent += 1;
-        }
-    }
-
-    /// The front entry, which goes to the end, or Idle where there is none.
-    fn refresh(&mut self) -> Packet
-        requires { self.old.waiting ≡ [] }
-        ensures { Next self.old result self.new }
-    {
-        rotated(&mut self.entries).unwrap_or(Packet::Idle)
+        hand_out(
+            &mut self.commands,
+            &mut self.sent,
+            &mut self.entries,
+            self.repeats,
+        )
     }
 }

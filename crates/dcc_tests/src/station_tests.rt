@@ -32,7 +32,11 @@ fn line_of(letter: &str) -> &'static str {
 
 /// A station goes a step: `+A` this command is accepted, `-A:4` it is refused as C4 and comes back, `=A` this packet
 /// is sent next, `0:1` so many commands wait, and so many packets are refreshed.
-fn go(rt: &impl Abort, station: &mut Station, step: &str) -> Result<(), Fail> {
+fn go<Q: PacketRing, S: PacketRing>(
+    rt: &impl Abort,
+    station: &mut StationOver<Q, S>,
+    step: &str,
+) -> Result<(), Fail> {
     let (front, count) = match step.split_once(':') {
         Some(parts) => parts,
         None => (step, "0"),
@@ -71,6 +75,7 @@ const STATIONS: &str = "\
     nothing_comes_between_the_copies_of_a_write | 4 | 4 | 2 | +L =L =L =L +W =W =W =W =L
     a_state_beside_a_speed | 4 | 4 | 1 | +A +U =A =U =A =A 0:1
     a_state_of_all | 4 | 4 | 2 | +Z =Z =Z =I 0:0
+    rings_go_round | 2 | 3 | 1 | +A +B -C:4 =A +C =B =C 0:3 =A +L +A =L 1:3 =A +B =B =L =A =B +C +U =C =U =A =B =C
     all_of_one_station | 4 | 4 | 1 | +A =A =A +S =S =I =I +A +B +A +B -C:4 -I:3";
 
 #[test]
@@ -78,9 +83,12 @@ fn stations(rt: HostRuntime) -> Result<(), Fail> {
     for row in STATIONS.lines() {
         let queue = number(column(row, 1)) as usize;
         let slots = number(column(row, 2)) as usize;
-        let mut station = Station::new(rt.alloc(), queue, slots, column(row, 3).parse::<u8>()?)?;
+        let repeats = column(row, 3).parse::<u8>()?;
+        let mut station = Station::new(rt.alloc(), queue, slots, repeats)?;
+        let mut fixed = FixedStation::<64, 128>::new(queue, slots, repeats)?;
         for step in column(row, 4).split_whitespace() {
             go(&rt, &mut station, step)?;
+            go(&rt, &mut fixed, step)?;
         }
     }
     Ok(())
@@ -105,7 +113,31 @@ fn limits(rt: HostRuntime) {
             Ok(_) => assert!(rt; refusal == 0),
             Err(fault) => assert!(rt; fault.number() == refusal),
         }
+        // with more room than a station may have, it has the same limits
+        let made = FixedStation::<100, 200>::new(queue, slots, repeats);
+        assert!(rt; number_of(made) == refusal);
     }
     assert!(rt; StationFault::Limit.number() == 1 && StationFault::NoMemory.number() == 2);
     assert!(rt; Refused::NotSendable.number() == 3 && Refused::QueueFull.number() == 4);
+}
+
+/// The number of the refusal, 0 where there is a station.
+fn number_of<const QUEUE: usize, const SLOTS: usize>(
+    made: Result<FixedStation<QUEUE, SLOTS>, StationFault>,
+) -> u8 {
+    match made {
+        Ok(_) => 0,
+        Err(fault) => fault.number(),
+    }
+}
+
+#[test]
+fn a_fixed_station_has_no_more_than_its_room(rt: HostRuntime) {
+    assert!(rt; number_of(FixedStation::<3, 5>::new(3, 5, 8)) == 0);
+    assert!(rt; number_of(FixedStation::<3, 5>::new(1, 1, 1)) == 0);
+    assert!(rt; number_of(FixedStation::<3, 5>::new(4, 5, 8)) == 1);
+    assert!(rt; number_of(FixedStation::<3, 5>::new(3, 6, 8)) == 1);
+    assert!(rt; number_of(FixedStation::<3, 5>::new(0, 5, 8)) == 1);
+    assert!(rt; number_of(FixedStation::<3, 5>::new(3, 0, 8)) == 1);
+    assert!(rt; number_of(FixedStation::<3, 5>::new(3, 5, 9)) == 1);
 }

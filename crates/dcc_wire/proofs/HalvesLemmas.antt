@@ -4,6 +4,8 @@ use Rattle.std.proofs.Common.{eqb, List, [], ◌∷◌, ◌++◌, length, length
 use Rattle.std.proofs.Common.{Some, None, refl, sym, ap, ◌∙◌, arith}
 use Rattle.std.proofs.lemmas.Bool.{cases_lt}
 use Rattle.std.proofs.lemmas.Bool.Decides.{nat_tests}
+use Rattle.std.proofs.lemmas.List.{drop_more}
+use Rattle.std.proofs.lemmas.Option.{slice_get_past, slice_get_within, get_or_from_slice_get}
 use Rattle.std.proofs.Math.ListN.{drop_of_length-le, length-replicate}
 use Rattle.std.specs.Int.{bit_at}
 use Rattle.dcc_wire.specs.Bodies.{bits_of, body_bits}
@@ -97,41 +99,37 @@ pub second_of : Timing → Bool → ℕ
 second_of timing true = timing.one
 second_of timing false = timing.zero_second
 
-pub drop-durations : (timing : Timing) (bits : List Bool) (i : ℕ) (bit : Bool) → slice_get bits i ≡ Some bit
-    → drop (2 * i) (durations_of timing bits) ≡ first_of timing bit ∷ drop (2 * i + 1) (durations_of timing bits)
+pub durations-first : (timing : Timing) (bits : List Bool) (i : ℕ) (bit : Bool) → slice_get bits i ≡ Some bit
+    → slice_get (durations_of timing bits) (2 * i) ≡ Some (first_of timing bit)
 unfolding durations_of first_of
-drop-durations timing [] i bit e = cc
-drop-durations timing (true ∷ bits) zero bit e = let same : true ≡ bit = some_same e in rw (← same) refl
-drop-durations timing (false ∷ bits) zero bit e = let same : false ≡ bit = some_same e in rw (← same) refl
-drop-durations timing (true ∷ bits) (suc i) bit e =
-    let d : 2 * suc i ≡ suc (suc (2 * i)) = omega arith in
-    let f : 2 * suc i + 1 ≡ suc (suc (2 * i + 1)) = omega arith in rw (f, d) (drop-durations timing bits i bit e)
-drop-durations timing (false ∷ bits) (suc i) bit e =
-    let d : 2 * suc i ≡ suc (suc (2 * i)) = omega arith in
-    let f : 2 * suc i + 1 ≡ suc (suc (2 * i + 1)) = omega arith in rw (f, d) (drop-durations timing bits i bit e)
+durations-first timing [] i bit e = cc
+durations-first timing (true ∷ bits) zero bit e = let same : true ≡ bit = some_same e in rw (← same) refl
+durations-first timing (false ∷ bits) zero bit e = let same : false ≡ bit = some_same e in rw (← same) refl
+durations-first timing (true ∷ bits) (suc i) bit e =
+    let d : 2 * suc i ≡ suc (suc (2 * i)) = omega arith in rw d (durations-first timing bits i bit e)
+durations-first timing (false ∷ bits) (suc i) bit e =
+    let d : 2 * suc i ≡ suc (suc (2 * i)) = omega arith in rw d (durations-first timing bits i bit e)
 
-pub drop-durations_second : (timing : Timing) (bits : List Bool) (i : ℕ) (bit : Bool) → slice_get bits i ≡ Some bit
-    → drop (2 * i + 1) (durations_of timing bits) ≡ second_of timing bit ∷ drop (2 * i + 2) (durations_of timing bits)
+pub durations-second : (timing : Timing) (bits : List Bool) (i : ℕ) (bit : Bool) → slice_get bits i ≡ Some bit
+    → slice_get (durations_of timing bits) (2 * i + 1) ≡ Some (second_of timing bit)
 unfolding durations_of second_of
-drop-durations_second timing [] i bit e = cc
-drop-durations_second timing (true ∷ bits) zero bit e = let same : true ≡ bit = some_same e in rw (← same) refl
-drop-durations_second timing (false ∷ bits) zero bit e = let same : false ≡ bit = some_same e in rw (← same) refl
-drop-durations_second timing (true ∷ bits) (suc i) bit e =
-    let d : 2 * suc i + 1 ≡ suc (suc (2 * i + 1)) = omega arith in
-    let f : 2 * suc i + 2 ≡ suc (suc (2 * i + 2)) = omega arith in rw (f, d) (drop-durations_second timing bits i bit e)
-drop-durations_second timing (false ∷ bits) (suc i) bit e =
-    let d : 2 * suc i + 1 ≡ suc (suc (2 * i + 1)) = omega arith in
-    let f : 2 * suc i + 2 ≡ suc (suc (2 * i + 2)) = omega arith in rw (f, d) (drop-durations_second timing bits i bit e)
+durations-second timing [] i bit e = cc
+durations-second timing (true ∷ bits) zero bit e = let same : true ≡ bit = some_same e in rw (← same) refl
+durations-second timing (false ∷ bits) zero bit e = let same : false ≡ bit = some_same e in rw (← same) refl
+durations-second timing (true ∷ bits) (suc i) bit e =
+    let d : 2 * suc i + 1 ≡ suc (suc (2 * i + 1)) = omega arith in rw d (durations-second timing bits i bit e)
+durations-second timing (false ∷ bits) (suc i) bit e =
+    let d : 2 * suc i + 1 ≡ suc (suc (2 * i + 1)) = omega arith in rw d (durations-second timing bits i bit e)
 
 past_bits : (bits : List Bool) (i : ℕ) → slice_get bits i ≡ None → length bits ≤ i
 past_bits [] i e = omega arith
 past_bits (bit ∷ bits) zero e = cc
 past_bits (bit ∷ bits) (suc i) e = omega (arith, past_bits bits i e)
 
-pub drop-durations_past : (timing : Timing) (bits : List Bool) (place : ℕ) → slice_get bits (place / 2) ≡ None
-    → drop place (durations_of timing bits) ≡ []
-drop-durations_past timing bits place e =
-    drop_of_length-le (durations_of timing bits) {i = place}
+pub durations-past : (timing : Timing) (bits : List Bool) (place : ℕ) → slice_get bits (place / 2) ≡ None
+    → slice_get (durations_of timing bits) place ≡ None
+durations-past timing bits place e =
+    slice_get_past (durations_of timing bits) place
     (omega (arith, length-durations timing bits, past_bits bits (place / 2) e))
 
 within_bits : (bits : List Bool) (i : ℕ) (bit : Bool) → slice_get bits i ≡ Some bit → i < length bits
@@ -152,49 +150,59 @@ place_small bytes preamble place bit e few =
     )
 
 -- the half at an even and at an odd place
-pub next_first : (timing : Timing) (bits : List Bool) (place : ℕ) (bit : Bool) → slice_get bits (place / 2) ≡ Some bit
-    → place % 2 ≡ 0
-    → drop place (durations_of timing bits) ≡ first_of timing bit ∷ drop (place + 1) (durations_of timing bits)
-next_first timing bits place bit e even =
+pub even_half : (timing : Timing) (bits : List Bool) (place : ℕ) (bit : Bool) → slice_get bits (place / 2) ≡ Some bit
+    → place % 2 ≡ 0 → slice_get (durations_of timing bits) place ≡ Some (first_of timing bit)
+even_half timing bits place bit e even =
     let whole : place ≡ 2 * (place / 2) = omega (arith, even) in
-    ap (λ k. drop k (durations_of timing bits)) whole ∙ drop-durations timing bits (place / 2) bit e
-    ∙ ap (λ k. first_of timing bit ∷ drop (k + 1) (durations_of timing bits)) (sym whole)
+    ap (slice_get (durations_of timing bits)) whole ∙ durations-first timing bits (place / 2) bit e
 
-pub next_second : (timing : Timing) (bits : List Bool) (place : ℕ) (bit : Bool) → slice_get bits (place / 2) ≡ Some bit
-    → 0 < place % 2
-    → drop place (durations_of timing bits) ≡ second_of timing bit ∷ drop (place + 1) (durations_of timing bits)
-next_second timing bits place bit e odd =
+pub odd_half : (timing : Timing) (bits : List Bool) (place : ℕ) (bit : Bool) → slice_get bits (place / 2) ≡ Some bit
+    → 0 < place % 2 → slice_get (durations_of timing bits) place ≡ Some (second_of timing bit)
+odd_half timing bits place bit e odd =
     let whole : place ≡ 2 * (place / 2) + 1 = omega (arith, odd) in
-    let next : 2 * (place / 2) + 2 ≡ place + 1 = omega (arith, odd) in
-    ap (λ k. drop k (durations_of timing bits)) whole ∙ drop-durations_second timing bits (place / 2) bit e
-    ∙ ap (λ k. second_of timing bit ∷ drop k (durations_of timing bits)) next
+    ap (slice_get (durations_of timing bits)) whole ∙ durations-second timing bits (place / 2) bit e
 
 -- what the bit at a place says of the half there
 
 module _ (bytes : List ℕ) (timing : Timing) (place : ℕ) where
-  pub no_half : slice_get (sent_bits bytes timing.preamble) (place / 2) ≡ None → drop place (sent bytes timing) ≡ []
+  pub no_half : slice_get (sent_bits bytes timing.preamble) (place / 2) ≡ None
+      → slice_get (sent bytes timing) place ≡ None
   unfolding sent
-  no_half e = drop-durations_past timing (sent_bits bytes timing.preamble) place e
+  no_half e = durations-past timing (sent_bits bytes timing.preamble) place e
 
   pub half_of_one : slice_get (sent_bits bytes timing.preamble) (place / 2) ≡ Some true
-      → drop place (sent bytes timing) ≡ timing.one ∷ drop (place + 1) (sent bytes timing)
+      → slice_get (sent bytes timing) place ≡ Some timing.one
   unfolding sent first_of second_of
   half_of_one e = elim (cases_lt 0 (place % 2)) [
-    | inl odd ↦ next_second timing (sent_bits bytes timing.preamble) place true e odd
-    | inr even ↦ next_first timing (sent_bits bytes timing.preamble) place true e (omega (arith, even))
+    | inl odd ↦ odd_half timing (sent_bits bytes timing.preamble) place true e odd
+    | inr even ↦ even_half timing (sent_bits bytes timing.preamble) place true e (omega (arith, even))
   ]
 
   pub first_of_zero : slice_get (sent_bits bytes timing.preamble) (place / 2) ≡ Some false → place % 2 ≡ 0
-      → drop place (sent bytes timing) ≡ timing.zero_first ∷ drop (place + 1) (sent bytes timing)
+      → slice_get (sent bytes timing) place ≡ Some timing.zero_first
   unfolding sent first_of
-  first_of_zero e even = next_first timing (sent_bits bytes timing.preamble) place false e even
+  first_of_zero e even = even_half timing (sent_bits bytes timing.preamble) place false e even
 
   pub second_of_zero : slice_get (sent_bits bytes timing.preamble) (place / 2) ≡ Some false → 0 < place % 2
-      → drop place (sent bytes timing) ≡ timing.zero_second ∷ drop (place + 1) (sent bytes timing)
+      → slice_get (sent bytes timing) place ≡ Some timing.zero_second
   unfolding sent second_of
-  second_of_zero e odd = next_second timing (sent_bits bytes timing.preamble) place false e odd
+  second_of_zero e odd = odd_half timing (sent_bits bytes timing.preamble) place false e odd
 
   pub short_place : (bit : Bool) → slice_get (sent_bits bytes timing.preamble) (place / 2) ≡ Some bit → length bytes ≤ 6
-      → place < 1000
+      → place < 190
   short_place bit e few =
       let c = classes timing in omega (arith, place_small bytes timing.preamble place bit e few, c.most)
+
+-- what is left from a place on, by what stands there
+pub left_from : {A : Type 0} (xs : List A) (place : ℕ) (x : A) → slice_get xs place ≡ Some x
+    → drop place xs ≡ x ∷ drop (place + 1) xs
+left_from xs place x e =
+    drop_more xs place x (slice_get_within xs place x e)
+    ∙ ap (λ first. first ∷ drop (place + 1) xs) (get_or_from_slice_get xs place x x e)
+
+pub nothing_left : {A : Type 0} (xs : List A) (place : ℕ) → slice_get xs place ≡ None → drop place xs ≡ []
+nothing_left [] place e = drop_of_length-le [] {i = place} (omega arith)
+nothing_left (x ∷ xs) zero e = cc
+nothing_left (x ∷ xs) (suc place) e = nothing_left xs place e
+
+pub ruleset by_place = (left_from, nothing_left)

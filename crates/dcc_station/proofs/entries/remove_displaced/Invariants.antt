@@ -3,6 +3,7 @@ use Rattle.dcc_station.proofs.EntriesLeft.{Passed}
 use Rattle.dcc_station.proofs.entries.remove_displaced.Given as goal
 
 abbrev pub invariant-loop : goal.invariant-loop
-invariant-loop l =
-    Passed l.command l.counter l.fn.entries.items l.entries.items l.fn.entries.capacity
-    × (l.entries.capacity ≡ l.fn.entries.capacity)
+invariant-loop g l =
+    let old = g.R.PacketRing.buffer l.fn.entries in
+    let now = g.R.PacketRing.buffer l.entries in
+    Passed l.command l.counter old.items now.items old.capacity × (now.capacity ≡ old.capacity)

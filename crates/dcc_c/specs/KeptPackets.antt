@@ -1,0 +1,47 @@
+-- A packet that is kept as the numbers of a frame.
+use Rattle.std.specs.Prelude.{◌≡◌, ℕ, ◌≤◌, ◌-◌, ◌++◌, List, [], ◌∷◌, length, replicate, refl}
+use Rattle.std.specs.Coded.{coded_list, coded_ℕ, Coded-set}
+use Rattle.std.proofs.Common.{◌∙◌, sym, ap, subst, arith}
+use Rattle.dcc_packet.specs.declared.packet.Packet.{Packet}
+use Rattle.dcc_packet.specs.declared.packet.Packet.TheVariants.{Idle, Loco, Accessory, Signal, Other}
+use Rattle.dcc_packet.specs.Rows.{loco_bytes, accessory_bytes, signal_bytes}
+use Rattle.dcc_packet.specs.Spelling.{spelling}
+use Rattle.dcc_wire.specs.Frames.{with_error_byte}
+use Rattle.dcc_packet.proofs.OneSpelling.{one_packet}
+
+-- the bytes by which a packet is kept: those that spell it, and none for Idle, so that zeros keep a packet too
+abbrev pub kept_bytes : Packet → List ℕ
+kept_bytes Idle = []
+kept_bytes packet = spelling packet
+
+-- the packet that is kept by these bytes
+abbrev pub KeptBy : List ℕ → Type 0
+KeptBy bytes = (packet : Packet) × (kept_bytes packet ≡ bytes)
+
+some_behind : (bytes : List ℕ) → with_error_byte bytes ≡ [] → ⊥
+some_behind [] e = cc
+some_behind (byte ∷ bytes) e = cc
+
+some_bytes : (packet : Packet) → spelling packet ≡ [] → ⊥
+some_bytes Idle e = cc
+some_bytes (Loco to what) e = some_behind (loco_bytes to what) e
+some_bytes (Accessory board output on) e = some_behind (accessory_bytes board output on) e
+some_bytes (Signal address aspect) e = some_behind (signal_bytes address aspect) e
+some_bytes (Other other) e = let none : length other.frame ≡ 0 = ap length e in let most = other.valid.least in omega arith
+
+pub one_kept : (packet other : Packet) → kept_bytes packet ≡ kept_bytes other → packet ≡ other
+one_kept Idle Idle e = refl
+one_kept Idle other e = absurd (some_bytes other (sym e))
+one_kept packet Idle e = absurd (some_bytes packet e)
+one_kept packet other e = one_packet packet other e
+
+same_pair : (bytes : List ℕ) (p q : Packet) → p ≡ q → (h : kept_bytes p ≡ bytes) (k : kept_bytes q ≡ bytes)
+    → ◌≡◌ {A = KeptBy bytes} (p, h) (q, k)
+same_pair bytes p q e =
+    subst (λ (r : Packet). (h : kept_bytes p ≡ bytes) (k : kept_bytes r ≡ bytes)
+    → ◌≡◌ {A = KeptBy bytes} (p, h) (r, k)) e
+    (λ h k. ap (λ (m : kept_bytes p ≡ bytes). (p, m)) (Coded-set (coded_list coded_ℕ) _ _ h k))
+
+-- there is one at most
+pub KeptBy-prop : (bytes : List ℕ) → IsProp (KeptBy bytes)
+KeptBy-prop bytes a b = same_pair bytes a.0 b.0 (one_kept a.0 b.0 (a.1 ∙ sym b.1)) a.1 b.1

@@ -1,0 +1,100 @@
+//! A ring of packets in the caller's memory.
+
+ghost use Rattle.std.specs.Prelude.{◌≡◌, ◌≤◌, ◌<◌, length};
+ghost use Rattle.circular_buffer.specs.Places.{Wraps};
+
+use crate::kept_packet::KeptPacket;
+use dcc_packet::Packet;
+use dcc_station::PacketRing;
+
+/// A ring of at most 128 packets, each kept as its frame. Behind the last place comes the first.
+#[repr(C)]
+#[derive(Clone, Copy, Drop)]
+pub struct DccRing {
+    packets: [KeptPacket; 128],
+    start: u8,
+    len: u8,
+    capacity: u8,
+    ghost fits: { (start < 128) × (len ≤ capacity) × (capacity ≤ 128) × (length packets ≡ 128) },
+}
+
+impl DccRing {
+    ghost use Rattle.std.specs.Prelude.{◌≡◌, ◌≤◌, ◌<◌, ◌∷◌, ◌++◌, [], length, drop};
+    ghost use Rattle.circular_buffer.specs.Buffer.{buffer};
+    ghost use Rattle.dcc_c.specs.Stations.{ring_of};
+
+    /// No packet is left in it, and it is for so many.
+    pub fn clear(&mut self, capacity: u8)
+        requires { capacity ≤ 128 }
+        ensures { ring_of self.new ≡ buffer [] capacity }
+    {
+        self.start = 0;
+        self.len = 0;
+        self.capacity = capacity;
+    }
+
+    /// Takes the front one away. There is one.
+    fn remove_front(&mut self)
+        requires { 0 < length (ring_of self.old).items }
+        ensures { ring_of self.new ≡ buffer (drop 1 (ring_of self.old).items) (ring_of self.old).capacity }
+    {
+        self.start = place_behind(self.start, 1);
+        self.len -= 1;
+    }
+
+    /// Adds one at the end. There is room.
+    fn add(&mut self, packet: &Packet)
+        requires { length (ring_of self.old).items < (ring_of self.old).capacity }
+        ensures { ring_of self.new ≡ buffer ((ring_of self.old).items ++ packet.now ∷ []) (ring_of self.old).capacity }
+    {
+        let behind = place_behind(self.start, self.len);
+        self.packets[usize::from(behind)] = KeptPacket::of(packet);
+        self.len += 1;
+    }
+}
+
+impl PacketRing for DccRing {
+    ghost use Rattle.dcc_c.specs.Stations.{ring_of};
+
+    ghost buffer = { ring_of };
+
+    fn len(&self) -> usize {
+        usize::from(self.len)
+    }
+
+    fn capacity(&self) -> usize {
+        usize::from(self.capacity)
+    }
+
+    fn front(&self) -> Option<Packet> {
+        if self.len == 0 {
+            return None;
+        }
+        Some(self.packets[usize::from(self.start)].packet())
+    }
+
+    fn pop_front(&mut self) -> Option<Packet> {
+        let front = self.front()?;
+        self.remove_front();
+        Some(front)
+    }
+
+    fn push_back(&mut self, packet: Packet) {
+        if self.capacity == 0 {
+            return;
+        }
+        if self.len == self.capacity {
+            self.remove_front();
+        }
+        self.add(&packet);
+    }
+}
+
+/// The place so many places behind another.
+fn place_behind(place: u8, by: u8) -> u8
+    requires inside { place < 128 }
+    requires once { by ≤ 128 }
+    ensures { Wraps place by 128 result }
+{
+    (place + by) % 128
+}

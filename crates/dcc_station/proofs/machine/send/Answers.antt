@@ -1,0 +1,24 @@
+use Rattle.std.proofs.Common.{◌∙◌, ap, drop}
+use Rattle.dcc_station.specs.Rings.{sending_over}
+use Rattle.dcc_station.specs.Sending.{sent_once_more}
+use Rattle.dcc_station.proofs.NextPackets.{hands_out_command}
+use Rattle.dcc_station.proofs.machine.send.Goals as goal
+
+pub returns-clause-next : goal.returns-clause-next
+returns-clause-next g c =
+    let waiting = g.Q.PacketRing.buffer c.args.waiting.now in
+    let entries = g.S.PacketRing.buffer c.args.entries.now in
+    let after = g.S.PacketRing.buffer c.change_entries.new.entries in
+    hands_out_command waiting.items entries.items
+    (sending_over waiting c.args.sent.now entries c.args.repeats) c.args.command
+    (sending_over (g.Q.PacketRing.buffer c.count_copy.new.waiting) c.count_copy.new.sent after c.args.repeats)
+    c.requires.first after.items c.change_entries.ensures.entries
+    (c.count_copy.ensures.counts after
+    ∙ ap (λ n. sent_once_more (record {
+      waiting = waiting.items;
+      sent = c.args.sent.now;
+      entries = after.items;
+      queue = waiting.capacity;
+      slots = n;
+      repeats = c.args.repeats;
+    }) c.args.command (drop 1 waiting.items) after.items) c.change_entries.ensures.capacity)

@@ -1,0 +1,123 @@
+//! Rings in an array.
+
+ghost use Rattle.std.specs.Prelude.{◌≡◌, ◌≤◌, ◌<◌, ◌∷◌, ◌++◌, [], length, drop, slice_get, Some};
+ghost use Rattle.circular_buffer.specs.Buffer.{buffer};
+ghost use Rattle.circular_buffer.specs.Places.{Wraps};
+
+use crate::ring::PacketRing;
+use dcc_packet::Packet;
+use std::marker::Model;
+
+/// A ring of at most `CAP` packets, which lie in the ring itself: it takes no memory.
+#[derive(Drop)]
+pub struct FixedRing<const CAP: usize> {
+    packets: [Packet; CAP],
+    start: usize,
+    len: usize,
+    capacity: usize,
+}
+
+impl<const CAP: usize> Model for FixedRing<CAP> {
+    ghost use Rattle.std.specs.Prelude.{◌≡◌, ◌<◌, ◌≤◌, length};
+    ghost use Rattle.dcc_packet.specs.declared.packet.Packet.{Packet};
+    ghost use Rattle.circular_buffer.specs.Buffer.{Buffer, buffer};
+    ghost use Rattle.dcc_station.specs.Rings.{ring_items};
+
+    ghost Value = { Buffer Packet };
+
+    ghost view = { λ r. buffer (ring_items r.start r.len r.packets) r.capacity };
+
+    ghost invariant = { λ r. (r.start < CAP) × (r.len ≤ r.capacity) × (r.capacity ≤ CAP) × (0 < r.capacity) × (length r.packets ≡ CAP) };
+}
+
+impl<const CAP: usize> FixedRing<CAP> {
+    /// A ring with no packet, for so many.
+    pub(crate) fn new(capacity: usize) -> FixedRing<CAP>
+        requires some { 0 < capacity }
+        requires room { capacity ≤ CAP }
+        ensures { result ≡ buffer [] capacity }
+    {
+        FixedRing {
+            packets: [Packet::Idle; CAP],
+            start: 0,
+            len: 0,
+            capacity,
+        }
+    }
+
+    /// Takes the front one away. There is one.
+    fn take_front(&mut self) -> Packet
+        requires { 0 < length self.old.items }
+        ensures front { slice_get self.old.items 0 ≡ Some result }
+        ensures others { self.new ≡ buffer (drop 1 self.old.items) self.old.capacity }
+    {
+        let front = self.packets[self.start];
+        self.start = place_behind(self.start, 1, CAP);
+        self.len -= 1;
+        front
+    }
+
+    /// Adds one at the end. There is room.
+    fn add(&mut self, packet: Packet)
+        requires { length self.old.items < self.old.capacity }
+        ensures { self.new ≡ buffer (self.old.items ++ packet ∷ []) self.old.capacity }
+    {
+        let behind = place_behind(self.start, self.len, CAP);
+        self.packets[behind] = packet;
+        self.len += 1;
+    }
+}
+
+/// The place so many places behind another. Behind the last of all places comes the first.
+fn place_behind(place: usize, by: usize, places: usize) -> usize
+    requires inside { place < places }
+    requires once { by ≤ places }
+    ensures { Wraps place by places result }
+{
+    let to_end = places - place;
+    if by < to_end { place + by } else { by - to_end }
+}
+
+impl<const CAP: usize> PacketRing for FixedRing<CAP> {
+    ghost buffer = { λ r. r };
+
+    // (here and in the next the packets are named since the checker takes no method of the numbers alone)
+    fn len(&self) -> usize {
+        let FixedRing {
+            packets: _packets,
+            len,
+            ..
+        } = self;
+        *len
+    }
+
+    fn capacity(&self) -> usize {
+        let FixedRing {
+            packets: _packets,
+            capacity,
+            ..
+        } = self;
+        *capacity
+    }
+
+    fn front(&self) -> Option<Packet> {
+        if self.len == 0 {
+            return None;
+        }
+        self.packets.get(self.start).copied()
+    }
+
+    fn pop_front(&mut self) -> Option<Packet> {
+        if self.len == 0 {
+            return None;
+        }
+        Some(self.take_front())
+    }
+
+    fn push_back(&mut self, packet: Packet) {
+        if self.len == self.capacity {
+            let _ = self.take_front();
+        }
+        self.add(packet);
+    }
+}

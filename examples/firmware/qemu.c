@@ -1,0 +1,37 @@
+/* What boards under qemu have in common, or those whose debugger has semihosting: bytes from standard input, text to standard output. */
+#include "board.h"
+#include "semihosting.h"
+
+int read_byte(void) {
+    static uint8_t bytes[256];
+    static uint32_t len, place;
+    static intptr_t input = -1;
+    if (input < 0) input = host_stream(HOST_INPUT);
+    if (place == len) {
+        len = host_read(input, bytes, sizeof bytes);
+        place = 0;
+    }
+    return place < len ? bytes[place++] : -1;
+}
+
+void show(const char *text) {
+    static intptr_t output = -1;
+    uint32_t len = 0;
+    if (output < 0) output = host_stream(HOST_OUTPUT);
+    while (text[len]) len++;
+    host_write(output, text, len);
+}
+
+void show_number(uint32_t number) {
+    char digits[11], *first = digits + 10;
+    *first = 0;
+    do {
+        *--first = (char)('0' + number % 10);
+        number /= 10;
+    } while (number);
+    show(first);
+}
+
+_Noreturn void stop(int status) {
+    host_exit(status);
+}

@@ -1,0 +1,36 @@
+/* A station's board under qemu: lines are typed on standard input, and the half-bits of the track go to standard output, a line each. A line
+ * `wait N` is none that is typed: so many half-bits pass before the next one. */
+#include "board.h"
+
+static uint32_t left; /* how many half-bits pass before the next line */
+static bool is_over;
+
+/* The number behind `wait `, 0 where the line is another one. */
+static uint32_t waits(const char *line, uint32_t len) {
+    static const char word[] = "wait ";
+    uint32_t number = 0;
+    for (uint32_t i = 0; i < len; i++) {
+        if (i < 5 && line[i] != word[i]) return 0;
+        if (i >= 5) number = number * 10 + (uint32_t)(line[i] - '0');
+    }
+    return number;
+}
+
+bool next_line(char line[LINE], uint32_t *len) {
+    if (left > 0 || is_over) return false;
+    int c = read_byte();
+    for (*len = 0; c >= 0 && c != '\n'; c = read_byte()) {
+        if (*len < LINE) line[(*len)++] = (char)c;
+    }
+    is_over = c < 0;
+    left = waits(line, *len);
+    return left == 0 && !is_over;
+}
+
+bool wait_for_interrupt(void) {
+    if (is_over) return false;
+    show_number(on_timer());
+    show("\n");
+    if (left > 0) left--;
+    return true;
+}

@@ -1,0 +1,59 @@
+/* A command station. Commands are lines of text, as `loco s3 speed28 f 4` (docs/FORMATS.md); a timer's interrupt asks how long the track
+ * keeps its level. The station sends what waits, and what it refreshes while nothing waits. */
+#include "board.h"
+#include "dcc.h"
+#include <stdatomic.h>
+
+static dcc_station station;
+static dcc_sender sender;
+
+/* The packet behind the one that is on the track: the main loop writes it where it is not ready, the interrupt reads it where it is. */
+static dcc_frame next;
+static atomic_bool is_ready;
+
+/* To find the next packet may take milliseconds on a small chip, so it is no work for the interrupt. Where the main loop is late an
+ * idle packet goes out: the track is never without a signal. */
+uint16_t on_timer(void) {
+    static const dcc_timing timing = DCC_MAIN_TIMING;
+    static const uint8_t idle[3] = {0xff, 0x00, 0xff};
+    uint16_t us = dcc_sender_half(&sender);
+    if (us > 0) return us;
+    if (is_ready) {
+        dcc_sender_start(&sender, next.bytes, next.len, &timing);
+    } else {
+        dcc_sender_start(&sender, idle, sizeof idle, &timing);
+    }
+    is_ready = false;
+    return dcc_sender_half(&sender);
+}
+
+static void tell(const char *refusal, uint8_t number) {
+    show(refusal);
+    show_number(number);
+    show("\n");
+}
+
+static void command(const char *line, uint32_t len) {
+    dcc_frame frame;
+    uint8_t fault = dcc_frame_of_line(line, len, &frame);
+    if (fault) {
+        tell("# refused P", fault);
+        return;
+    }
+    fault = dcc_station_command(&station, frame.bytes, frame.len);
+    if (fault) tell("# refused C", fault);
+}
+
+int main(void) {
+    static char line[LINE];
+    uint32_t len;
+    if (dcc_station_new(&station, 16, 32, 2)) return 1;
+    do {
+        while (next_line(line, &len)) command(line, len);
+        if (!is_ready) {
+            dcc_station_next(&station, &next);
+            is_ready = true;
+        }
+    } while (wait_for_interrupt());
+    return 0;
+}

@@ -1,0 +1,187 @@
+/* What each call takes on a microcontroller, over the packets of a capture on standard input: a line with the instructions of one call, in the mean
+ * and at most, and the bytes of stack. Run by tools/mcu/measure, under qemu where an instruction takes a nanosecond. */
+#include "dcc.h"
+#include <stdio.h>
+#include <stdlib.h>
+#include <string.h>
+
+static uint16_t halves[1300000];
+static dcc_frame frames[12000];
+static char lines[12000][DCC_LINE];
+static uint32_t half_count, frame_count;
+
+/* which of them the next call is given, and what it writes */
+static uint32_t at;
+static dcc_framer framer;
+static dcc_outcome outcome;
+static dcc_packet packet;
+static char line[DCC_LINE];
+static uint16_t sent[DCC_HALVES];
+static dcc_frame frame;
+static const dcc_timing timing = DCC_MAIN_TIMING;
+static dcc_sender sender;
+static dcc_loco loco;
+static dcc_board board;
+static dcc_service service;
+static dcc_reader reader;
+static dcc_station station;
+static bool yes;
+static uint8_t value;
+static uint8_t cvs[DCC_CVS] = {[0] = 3, [28] = 2};
+
+#define GIVEN frames[at].bytes, frames[at].len
+
+static void nothing(void) {}
+static void push(void) { dcc_push(&framer, halves[at], &outcome); }
+static void push_run(void) { dcc_push_run(&framer, halves[at], 1, &outcome); }
+static void read_frame(void) { dcc_read(GIVEN, &packet); }
+static void write_line(void) { dcc_line(GIVEN, line); }
+static void send(void) { dcc_halves(GIVEN, 16, sent); }
+static void start_sender(void) { dcc_sender_start(&sender, GIVEN, &timing); }
+static void send_half(void) {
+    sender.place = (uint8_t)(at % 84);
+    dcc_sender_half(&sender);
+}
+static void new_loco(void) { dcc_loco_new(&loco, cvs); }
+static void apply_loco(void) { dcc_loco_apply(&loco, GIVEN); }
+static void loco_hears(void) { dcc_loco_hears(&loco, GIVEN, &yes); }
+static void new_board(void) { dcc_board_new(&board, 12); }
+static void apply_board(void) { dcc_board_apply(&board, GIVEN); }
+static void board_hears(void) { dcc_board_hears(&board, GIVEN, &yes); }
+static void new_service(void) { dcc_service_new(&service, cvs); }
+static void apply_service(void) { dcc_service_apply(&service, GIVEN, &yes); }
+static void new_reader(void) { dcc_reader_new(&reader, (uint16_t)(at + 1)); }
+static void ask_reader(void) {
+    reader.known = (uint8_t)(at % 8);
+    dcc_reader_question(&reader, &frame);
+}
+static void answer_reader(void) {
+    reader = (dcc_reader){.cv = 29, .known = (uint8_t)(at % 9)};
+    dcc_reader_answer(&reader, true, &value);
+}
+static void new_station(void) { dcc_station_new(&station, 64, 128, 1); }
+static void command_station(void) { dcc_station_command(&station, GIVEN); }
+static void next_packet(void) { dcc_station_next(&station, &frame); }
+static void tell_waiting(void) { value = dcc_station_waiting(&station); }
+static void tell_entries(void) { value = dcc_station_entries(&station); }
+static void make_room(void) {
+    if (dcc_station_waiting(&station) == 64) new_station();
+}
+
+static void read_line(void) { dcc_frame_of_line(lines[at], strlen(lines[at]), &frame); }
+
+/* ---- the clock ---- */
+
+/* now() is a place in time, and since(now()) how many instructions were done from there on */
+#ifdef __riscv
+static void start_clock(void) {}
+static uint32_t now(void) {
+    uint32_t count;
+    __asm__ volatile(".option push\n.option arch, +zicsr\nrdinstret %0\n.option pop" : "=r"(count));
+    return count;
+}
+static uint32_t since(uint32_t then) { return now() - then; }
+#else
+/* SysTick counts down 24 bits, on these boards at 25 MHz: a step for 40 instructions */
+#define SYSTICK ((volatile uint32_t *)0xE000E010)
+static void start_clock(void) {
+    SYSTICK[1] = 0xffffff;
+    SYSTICK[2] = 0;
+    SYSTICK[0] = 5;
+}
+static uint32_t now(void) { return SYSTICK[2]; }
+static uint32_t since(uint32_t then) { return ((then - now()) & 0xffffff) * 40; }
+#endif
+
+/* ---- the calls ---- */
+
+/* the stack is painted below where it stands, and looked at afterwards */
+extern uint32_t stack_top[];
+enum { STACK = 32768 / 4, PAINT = 0x5a5a5a5a };
+
+static inline volatile uint32_t *stack_pointer(void) {
+    volatile uint32_t *at;
+#ifdef __riscv
+    __asm__ volatile("mv %0, sp" : "=r"(at));
+#else
+    __asm__ volatile("mov %0, sp" : "=r"(at));
+#endif
+    return at;
+}
+
+/* so many calls, what is done before each of them left out */
+static void measure_behind(const char *name, void (*before)(void), void (*call)(void), uint32_t count) {
+    static uint32_t own;
+    volatile uint32_t *top = stack_pointer(), *word = stack_top - STACK;
+    uint64_t sum = 0;
+    uint32_t most = 0;
+    while (word < top) *word++ = PAINT;
+    for (at = 0; at < count; at++) {
+        before();
+        uint32_t then = now();
+        call();
+        uint32_t took = since(then);
+        sum += took;
+        if (took > most) most = took;
+    }
+    for (word = stack_top - STACK; *word == PAINT;) word++;
+    uint32_t mean = (uint32_t)(sum / count);
+    if (call == nothing) {
+        own = mean;
+    } else {
+        printf("%s %u %u %u\n", name, (unsigned)(mean - own), (unsigned)(most - own), (unsigned)((uintptr_t)top - (uintptr_t)word));
+    }
+}
+
+static void measure(const char *name, void (*call)(void), uint32_t count) {
+    measure_behind(name, nothing, call, count);
+}
+
+static void take_capture(void) {
+    uint32_t us = 0;
+    framer = dcc_framer_new();
+    for (int c = getchar(), before = ' '; c != EOF; before = c, c = getchar()) {
+        bool is_digit = c >= '0' && c <= '9';
+        if (is_digit) us = us * 10 + (uint32_t)(c - '0');
+        if (is_digit || before < '0' || before > '9') continue;
+        if (half_count == sizeof halves / sizeof *halves || frame_count == sizeof frames / sizeof *frames) exit(2);
+        halves[half_count++] = (uint16_t)us;
+        if (dcc_push(&framer, (uint16_t)us, &outcome) && outcome.refusal == 0) frames[frame_count++] = outcome.frame;
+        us = 0;
+    }
+}
+
+int main(void) {
+    take_capture();
+    start_clock();
+    for (at = 0; at < frame_count; at++) dcc_line(GIVEN, lines[at]);
+    measure("", nothing, frame_count);
+    measure("dcc_push", push, half_count);
+    measure("dcc_push_run", push_run, half_count);
+    measure("dcc_read", read_frame, frame_count);
+    measure("dcc_line", write_line, frame_count);
+    measure("dcc_frame_of_line", read_line, frame_count);
+    measure("dcc_halves", send, frame_count);
+    measure("dcc_sender_start", start_sender, frame_count);
+    measure("dcc_sender_half", send_half, 84 * 100);
+    measure("dcc_loco_new", new_loco, 100);
+    measure("dcc_loco_apply", apply_loco, frame_count);
+    measure("dcc_loco_hears", loco_hears, frame_count);
+    measure("dcc_board_new", new_board, 100);
+    measure("dcc_board_apply", apply_board, frame_count);
+    measure("dcc_board_hears", board_hears, frame_count);
+    measure("dcc_station_new", new_station, 100);
+    measure_behind("dcc_station_command", make_room, command_station, frame_count);
+    new_station();
+    measure_behind("dcc_station_next:first", command_station, next_packet, frame_count);
+    while (dcc_station_waiting(&station) > 0) next_packet();
+    measure("dcc_station_next", next_packet, 1000);
+    measure("dcc_station_waiting", tell_waiting, 100);
+    measure("dcc_station_entries", tell_entries, 100);
+    measure("dcc_service_new", new_service, 100);
+    measure("dcc_service_apply", apply_service, frame_count);
+    measure("dcc_reader_new", new_reader, 1000);
+    measure("dcc_reader_question", ask_reader, 1000);
+    measure("dcc_reader_answer", answer_reader, 1000);
+    return 0;
+}
