@@ -1,0 +1,63 @@
+//! An accessory decoder.
+use crate::calls::{dcc_board_apply, dcc_board_hears, dcc_board_new};
+use crate::frame::Frame;
+
+/// An accessory decoder: a board of eight outputs and four signals.
+#[repr(C)]
+#[derive(Clone, Debug, PartialEq, Eq)]
+pub struct Board {
+    number: u16,
+    outs: u8,
+    positions: [bool; 4],
+    aspects: [u8; 4],
+}
+
+impl Board {
+    /// One with all off, of a number of 0 to 510; there is none above (P3).
+    pub fn new(number: u16) -> Option<Board> {
+        let mut board = Board {
+            number: 0,
+            outs: 0,
+            positions: [false; 4],
+            aspects: [0; 4],
+        };
+        match unsafe { dcc_board_new(&mut board, number) } {
+            0 => Some(board),
+            _ => None,
+        }
+    }
+
+    /// Hears a packet, and does what it says where it is for this decoder.
+    pub fn apply(&mut self, frame: &Frame) {
+        let answer = unsafe { dcc_board_apply(self, frame.as_ptr(), frame.len()) };
+        debug_assert_eq!(answer, 0);
+    }
+
+    /// Whether a packet is for this decoder: its outputs and signals, those of all boards, the reset of all decoders.
+    pub fn hears(&self, frame: &Frame) -> bool {
+        let mut heard = false;
+        let answer = unsafe { dcc_board_hears(self, frame.as_ptr(), frame.len(), &mut heard) };
+        debug_assert_eq!(answer, 0);
+        heard
+    }
+
+    /// Its number.
+    pub fn number(&self) -> u16 {
+        self.number
+    }
+
+    /// Whether the output `n` is on, 0 to 7.
+    pub fn output(&self, n: u8) -> bool {
+        n < 8 && self.outs >> n & 1 == 1
+    }
+
+    /// The sides of its pairs of outputs: true is side 1.
+    pub fn positions(&self) -> [bool; 4] {
+        self.positions
+    }
+
+    /// The aspects of its signals.
+    pub fn aspects(&self) -> [u8; 4] {
+        self.aspects
+    }
+}

@@ -1,0 +1,107 @@
+//! The calls of the library, as `include/dcc.h` has them, and its objects, of which the other files have those that are theirs.
+use crate::board::Board;
+use crate::frame::Frame;
+use crate::framer::Framer;
+use crate::loco::Loco;
+use crate::reader::Reader;
+use crate::sending::{Halves, Timing};
+use crate::service::Service;
+use crate::station::Station;
+use core::mem::size_of;
+
+/// `dcc_outcome`.
+#[repr(C)]
+pub(crate) struct Outcome {
+    pub at: u32,
+    pub refusal: u8,
+    pub frame: Frame,
+}
+
+impl Outcome {
+    /// Room for one that the library writes.
+    pub(crate) const NONE: Outcome = Outcome {
+        at: 0,
+        refusal: 0,
+        frame: Frame::NONE,
+    };
+}
+
+/// `dcc_packet`.
+#[repr(C)]
+#[derive(Default)]
+pub(crate) struct Numbers {
+    pub kind: u8,
+    pub to: u8,
+    pub address: u16,
+    pub forward: bool,
+    pub bits: u8,
+    pub group: u8,
+    pub state: u8,
+    pub on: bool,
+    pub cv: u16,
+    pub value: u8,
+    pub place: u8,
+    pub one: bool,
+    pub output: u8,
+    pub aspect: u8,
+}
+
+extern "C" {
+    pub(crate) fn dcc_framer_new() -> Framer;
+    pub(crate) fn dcc_push(framer: *mut Framer, us: u16, outcome: *mut Outcome) -> u8;
+    pub(crate) fn dcc_push_run(framer: *mut Framer, us: u16, n: u32, outcome: *mut Outcome) -> u8;
+    pub(crate) fn dcc_read(frame: *const u8, len: u64, packet: *mut Numbers) -> u8;
+    pub(crate) fn dcc_line(frame: *const u8, len: u64, line: *mut u8) -> u8;
+    pub(crate) fn dcc_frame_of_line(line: *const u8, len: u64, frame: *mut Frame) -> u8;
+    pub(crate) fn dcc_sender_start(
+        sender: *mut Halves,
+        frame: *const u8,
+        len: u64,
+        timing: *const Timing,
+    ) -> u8;
+    pub(crate) fn dcc_sender_half(sender: *mut Halves) -> u16;
+    pub(crate) fn dcc_loco_new(loco: *mut Loco, cvs: *const u8);
+    pub(crate) fn dcc_loco_apply(loco: *mut Loco, frame: *const u8, len: u64) -> u8;
+    pub(crate) fn dcc_loco_hears(
+        loco: *const Loco,
+        frame: *const u8,
+        len: u64,
+        heard: *mut bool,
+    ) -> u8;
+    pub(crate) fn dcc_board_new(board: *mut Board, number: u16) -> u8;
+    pub(crate) fn dcc_board_apply(board: *mut Board, frame: *const u8, len: u64) -> u8;
+    pub(crate) fn dcc_board_hears(
+        board: *const Board,
+        frame: *const u8,
+        len: u64,
+        heard: *mut bool,
+    ) -> u8;
+    pub(crate) fn dcc_service_new(service: *mut Service, cvs: *const u8);
+    pub(crate) fn dcc_service_apply(
+        service: *mut Service,
+        frame: *const u8,
+        len: u64,
+        acknowledged: *mut bool,
+    ) -> u8;
+    pub(crate) fn dcc_reader_new(reader: *mut Reader, cv: u16) -> u8;
+    pub(crate) fn dcc_reader_question(reader: *const Reader, question: *mut Frame) -> u8;
+    pub(crate) fn dcc_reader_answer(reader: *mut Reader, yes: bool, value: *mut u8) -> u8;
+    pub(crate) fn dcc_station_new(station: *mut Station, queue: u8, slots: u8, repeats: u8) -> u8;
+    pub(crate) fn dcc_station_command(station: *mut Station, frame: *const u8, len: u64) -> u8;
+    pub(crate) fn dcc_station_next(station: *mut Station, frame: *mut Frame);
+    pub(crate) fn dcc_station_waiting(station: *const Station) -> u8;
+    pub(crate) fn dcc_station_entries(station: *const Station) -> u8;
+}
+
+// (as the header says)
+const _: () = assert!(size_of::<Frame>() == 7);
+const _: () = assert!(size_of::<Framer>() == 24);
+const _: () = assert!(size_of::<Outcome>() == 12);
+const _: () = assert!(size_of::<Numbers>() == 18);
+const _: () = assert!(size_of::<Timing>() == 8);
+const _: () = assert!(size_of::<Halves>() == 16);
+const _: () = assert!(size_of::<Loco>() == 1072);
+const _: () = assert!(size_of::<Board>() == 12);
+const _: () = assert!(size_of::<Service>() == 1032);
+const _: () = assert!(size_of::<Reader>() == 4);
+const _: () = assert!(size_of::<Station>() == 1800);

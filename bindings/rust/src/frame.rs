@@ -1,0 +1,137 @@
+//! The bytes of a packet.
+use crate::calls::{dcc_frame_of_line, dcc_line, dcc_read, Numbers};
+use crate::packet::Packet;
+use crate::sending::{Halves, Timing};
+use core::fmt;
+use core::str::FromStr;
+
+/// The bytes of a packet, 3 to 6 of them, the error byte last (NMRA S-9.2).
+///
+/// Its text is the packet line, as `loco s3 speed28 f 4`, of which it is also made.
+#[repr(C)]
+#[derive(Clone, Copy, PartialEq, Eq, Hash)]
+pub struct Frame {
+    len: u8,
+    bytes: [u8; 6],
+}
+
+/// Why bytes are no frame.
+#[derive(Clone, Copy, Debug, PartialEq, Eq)]
+pub enum FrameFault {
+    /// L1: there are not 3 to 6 of them.
+    Length,
+    /// L2: the last one is not the exclusive or of those before it.
+    ErrorByte,
+}
+
+/// The number of the fault for which a line is no packet line, 1 to 14 for P1 to P14.
+#[derive(Clone, Copy, Debug, PartialEq, Eq)]
+pub struct LineFault(pub u8);
+
+impl Frame {
+    /// Room for a frame that the library writes.
+    pub(crate) const NONE: Frame = Frame {
+        len: 0,
+        bytes: [0; 6],
+    };
+
+    /// The frame of these bytes.
+    pub fn new(bytes: &[u8]) -> Result<Frame, FrameFault> {
+        match unsafe { dcc_read(bytes.as_ptr(), bytes.len() as u64, &mut Numbers::default()) } {
+            0 => {
+                let mut frame = Frame {
+                    len: bytes.len() as u8,
+                    ..Frame::NONE
+                };
+                frame.bytes[..bytes.len()].copy_from_slice(bytes);
+                Ok(frame)
+            }
+            1 => Err(FrameFault::Length),
+            _ => Err(FrameFault::ErrorByte),
+        }
+    }
+
+    /// The frame that the library wrote, where it wrote one.
+    pub(crate) fn written(self) -> Option<Frame> {
+        (self.len > 0).then_some(self)
+    }
+
+    /// Its bytes, the error byte last.
+    pub fn bytes(&self) -> &[u8] {
+        &self.bytes[..usize::from(self.len)]
+    }
+
+    pub(crate) fn len(&self) -> u64 {
+        self.len.into()
+    }
+
+    pub(crate) fn as_ptr(&self) -> *const u8 {
+        self.bytes.as_ptr()
+    }
+
+    /// What the packet says.
+    pub fn packet(&self) -> Packet {
+        let mut numbers = Numbers::default();
+        unsafe { dcc_read(self.as_ptr(), self.len(), &mut numbers) };
+        Packet::of(&numbers, self)
+    }
+
+    /// What is sent for it: half-bits in microseconds.
+    pub fn halves(&self, timing: &Timing) -> Halves {
+        Halves::of(self, timing)
+    }
+}
+
+impl FromStr for Frame {
+    type Err = LineFault;
+
+    fn from_str(line: &str) -> Result<Frame, LineFault> {
+        let mut frame = Frame::NONE;
+        match unsafe { dcc_frame_of_line(line.as_ptr(), line.len() as u64, &mut frame) } {
+            0 => Ok(frame),
+            fault => Err(LineFault(fault)),
+        }
+    }
+}
+
+impl fmt::Display for Frame {
+    fn fmt(&self, f: &mut fmt::Formatter<'_>) -> fmt::Result {
+        let mut line = [0; 41];
+        unsafe { dcc_line(self.as_ptr(), self.len(), line.as_mut_ptr()) };
+        let len = line
+            .iter()
+            .position(|byte| *byte == 0)
+            .unwrap_or(line.len());
+        f.pad(core::str::from_utf8(&line[..len]).map_err(|_| fmt::Error)?)
+    }
+}
+
+/// The bytes in hex.
+impl fmt::LowerHex for Frame {
+    fn fmt(&self, f: &mut fmt::Formatter<'_>) -> fmt::Result {
+        self.bytes()
+            .iter()
+            .try_for_each(|byte| write!(f, "{byte:02x}"))
+    }
+}
+
+impl fmt::Debug for Frame {
+    fn fmt(&self, f: &mut fmt::Formatter<'_>) -> fmt::Result {
+        write!(f, "Frame({self:x})")
+    }
+}
+
+impl fmt::Display for FrameFault {
+    fn fmt(&self, f: &mut fmt::Formatter<'_>) -> fmt::Result {
+        f.write_str(match self {
+            FrameFault::Length => "L1",
+            FrameFault::ErrorByte => "L2",
+        })
+    }
+}
+
+impl fmt::Display for LineFault {
+    fn fmt(&self, f: &mut fmt::Formatter<'_>) -> fmt::Result {
+        write!(f, "P{}", self.0)
+    }
+}

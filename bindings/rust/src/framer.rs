@@ -1,0 +1,113 @@
+//! Packets found in half-bits.
+use crate::calls::{dcc_framer_new, dcc_push, dcc_push_run, Outcome};
+use crate::frame::Frame;
+use core::fmt;
+
+/// Finds packets in half-bits (NMRA S-9.1, S-9.2).
+#[repr(C)]
+#[derive(Clone)]
+pub struct Framer([u64; 3]);
+
+/// What ends with a half-bit.
+#[derive(Clone, Copy, Debug, PartialEq, Eq)]
+pub enum Seen {
+    /// A packet.
+    Packet(Frame),
+    /// A body that is none.
+    Refused(Refusal),
+}
+
+/// Why half-bits behind a start bit are no packet.
+#[derive(Clone, Copy, Debug, PartialEq, Eq)]
+pub enum Refusal {
+    /// H1: a half is neither that of a one nor that of a zero.
+    BadHalf,
+    /// H2: the halves of a bit are not of one kind.
+    SplitBit,
+    /// H3: there are fewer than 3 bytes.
+    TooShort,
+    /// H4: there are more than 6 bytes.
+    TooLong,
+    /// H5: the error byte of these bytes is wrong.
+    ErrorByte {
+        /// How many bytes there are.
+        len: u8,
+        /// They, and zeros behind them.
+        bytes: [u8; 6],
+    },
+}
+
+impl Framer {
+    /// One that was given no half-bits.
+    pub fn new() -> Framer {
+        unsafe { dcc_framer_new() }
+    }
+
+    /// Takes a half-bit of so many microseconds, and tells what ends with it.
+    pub fn push(&mut self, us: u16) -> Option<Seen> {
+        let mut outcome = Outcome::NONE;
+        match unsafe { dcc_push(self, us, &mut outcome) } {
+            0 => None,
+            _ => Some(seen(outcome)),
+        }
+    }
+
+    /// Takes `n` half-bits of so many microseconds, all of them, as `n` calls of [`push`](Framer::push) would. At most one of them ends
+    /// something, which is told with its number in the run, from 1.
+    pub fn push_run(&mut self, us: u16, n: u32) -> Option<(u32, Seen)> {
+        let mut outcome = Outcome::NONE;
+        match unsafe { dcc_push_run(self, us, n, &mut outcome) } {
+            0 => None,
+            _ => Some((outcome.at, seen(outcome))),
+        }
+    }
+}
+
+impl Default for Framer {
+    fn default() -> Framer {
+        Framer::new()
+    }
+}
+
+impl fmt::Debug for Framer {
+    fn fmt(&self, f: &mut fmt::Formatter<'_>) -> fmt::Result {
+        f.write_str("Framer")
+    }
+}
+
+fn seen(outcome: Outcome) -> Seen {
+    let bytes = outcome.frame.bytes();
+    Seen::Refused(match outcome.refusal {
+        0 => return Seen::Packet(outcome.frame),
+        1 => Refusal::BadHalf,
+        2 => Refusal::SplitBit,
+        3 => Refusal::TooShort,
+        4 => Refusal::TooLong,
+        _ => {
+            let mut all = [0; 6];
+            all[..bytes.len()].copy_from_slice(bytes);
+            Refusal::ErrorByte {
+                len: bytes.len() as u8,
+                bytes: all,
+            }
+        }
+    })
+}
+
+/// As `dcc show` writes it behind the word `refused`: `H5 036260`.
+impl fmt::Display for Refusal {
+    fn fmt(&self, f: &mut fmt::Formatter<'_>) -> fmt::Result {
+        match self {
+            Refusal::BadHalf => f.write_str("H1"),
+            Refusal::SplitBit => f.write_str("H2"),
+            Refusal::TooShort => f.write_str("H3"),
+            Refusal::TooLong => f.write_str("H4"),
+            Refusal::ErrorByte { len, bytes } => {
+                f.write_str("H5 ")?;
+                bytes[..usize::from(*len)]
+                    .iter()
+                    .try_for_each(|byte| write!(f, "{byte:02x}"))
+            }
+        }
+    }
+}

@@ -1,0 +1,110 @@
+//! What is sent for a frame.
+use crate::calls::{dcc_sender_half, dcc_sender_start};
+use crate::frame::Frame;
+
+/// How a station sends: how long half-bits last, in microseconds, and how many ones stand before a packet (NMRA S-9.1, S-9.2).
+#[repr(C)]
+#[derive(Clone, Copy, Debug, PartialEq, Eq)]
+pub struct Timing {
+    one: u16,
+    zero_first: u16,
+    zero_second: u16,
+    preamble: u8,
+}
+
+/// Why numbers are no timing, the first of these that holds.
+#[derive(Clone, Copy, Debug, PartialEq, Eq)]
+pub enum TimingFault {
+    /// H6: a half of a one is not 55 to 61.
+    One,
+    /// H7: a half of a zero is not 95 to 9900, or both together are above 12000.
+    Zero,
+    /// H8: there are not 14 to 40 ones before a packet.
+    Preamble,
+}
+
+/// The half-bits that are sent for a frame, in microseconds.
+#[repr(C)]
+#[derive(Clone, Debug)]
+pub struct Halves {
+    timing: Timing,
+    frame: Frame,
+    place: u8,
+}
+
+/// An idle packet.
+const IDLE: [u8; 3] = [0xff, 0x00, 0xff];
+
+impl Timing {
+    /// The main track: 58 and 58 microseconds for a one, 100 and 100 for a zero, 14 ones before a packet.
+    pub const MAIN: Timing = Timing {
+        one: 58,
+        zero_first: 100,
+        zero_second: 100,
+        preamble: 14,
+    };
+
+    /// The programming track: the same with 20 ones (NMRA S-9.2.3).
+    pub const PROGRAMMING: Timing = Timing {
+        one: 58,
+        zero_first: 100,
+        zero_second: 100,
+        preamble: 20,
+    };
+
+    /// A timing of one's own.
+    pub fn new(
+        one: u16,
+        zero_first: u16,
+        zero_second: u16,
+        preamble: u8,
+    ) -> Result<Timing, TimingFault> {
+        let timing = Timing {
+            one,
+            zero_first,
+            zero_second,
+            preamble,
+        };
+        match unsafe { dcc_sender_start(&mut Halves::none(), IDLE.as_ptr(), 3, &timing) } {
+            0 => Ok(timing),
+            6 => Err(TimingFault::One),
+            7 => Err(TimingFault::Zero),
+            _ => Err(TimingFault::Preamble),
+        }
+    }
+}
+
+impl Halves {
+    /// None at all.
+    fn none() -> Halves {
+        let timing = Timing {
+            one: 0,
+            zero_first: 0,
+            zero_second: 0,
+            preamble: 0,
+        };
+        Halves {
+            timing,
+            frame: Frame::NONE,
+            place: 0,
+        }
+    }
+
+    /// Those of a frame.
+    pub(crate) fn of(frame: &Frame, timing: &Timing) -> Halves {
+        let mut halves = Halves::none();
+        unsafe { dcc_sender_start(&mut halves, frame.as_ptr(), frame.len(), timing) };
+        halves
+    }
+}
+
+impl Iterator for Halves {
+    type Item = u16;
+
+    fn next(&mut self) -> Option<u16> {
+        match unsafe { dcc_sender_half(self) } {
+            0 => None,
+            us => Some(us),
+        }
+    }
+}
