@@ -1,0 +1,49 @@
+// A locomotive with the short address 3, and board 12. The signal comes to pin 2, through an optocoupler; a motor is at pin 9, a lamp at 13.
+#include <DccDecoder.h>
+
+const uint8_t TRACK = 2, MOTOR = 9, LAMP = 13;
+DccDecoder decoder;
+
+void onEdge() { decoder.edge(micros()); }
+
+void notifyDccSpeed(uint8_t step, uint8_t of, bool forward) {
+    analogWrite(MOTOR, step == 0 ? 0 : 255 * step / of);
+    Serial.print(forward ? "forward, step " : "reverse, step ");
+    Serial.println(step);
+}
+
+void notifyDccFunc(uint8_t function, bool on) {
+    if (function == 0) digitalWrite(LAMP, on ? HIGH : LOW);
+    Serial.print("F");
+    Serial.print(function);
+    Serial.println(on ? " on" : " off");
+}
+
+// Here a decoder of yours writes into memory that lasts.
+void notifyCVChange(uint16_t cv, uint8_t value) {
+    Serial.print("CV");
+    Serial.print(cv);
+    Serial.print(" is ");
+    Serial.println(value);
+}
+
+void notifyDccAccTurnoutBoard(uint16_t board, uint8_t pair, uint8_t direction, uint8_t power) {
+    Serial.print("board ");
+    Serial.print(board);
+    Serial.print(", turnout ");
+    Serial.print(pair);
+    Serial.print(direction ? " to side 1" : " to side 0");
+    Serial.println(power ? ", on" : ", off");
+}
+
+void setup() {
+    static uint8_t cvs[DCC_CVS];
+    cvs[0] = 3;   // CV1: the short address
+    cvs[28] = 2;  // CV29: 28 steps
+    Serial.begin(115200);
+    pinMode(LAMP, OUTPUT);
+    decoder.begin(cvs, micros(), 12);
+    attachInterrupt(digitalPinToInterrupt(TRACK), onEdge, CHANGE);
+}
+
+void loop() { decoder.process(); }

@@ -1,0 +1,66 @@
+#include "DccDecoder.h"
+
+__attribute__((weak)) void notifyDccSpeed(uint8_t, uint8_t, bool) {}
+__attribute__((weak)) void notifyDccFunc(uint8_t, bool) {}
+__attribute__((weak)) void notifyDccState(uint8_t, bool) {}
+__attribute__((weak)) void notifyCVChange(uint16_t, uint8_t) {}
+__attribute__((weak)) void notifyDccReset() {}
+__attribute__((weak)) void notifyDccAccTurnoutBoard(uint16_t, uint8_t, uint8_t, uint8_t) {}
+__attribute__((weak)) void notifyDccSigOutputState(uint16_t, uint8_t) {}
+
+static bool isOne(const uint64_t words[2], uint8_t n) {
+    return words[n / 64] >> (n % 64) & 1;
+}
+
+/* Calls for each bit that is another one than before. */
+static void notifyTurned(const uint64_t before[2], const uint64_t now[2], void (*notify)(uint8_t, bool)) {
+    for (uint8_t n = 0; n < 128; n++) {
+        if (isOne(before, n) != isOne(now, n)) notify(n, isOne(now, n));
+    }
+}
+
+void DccDecoder::begin(const uint8_t cvs[DCC_CVS], uint32_t now, uint16_t boardNumber) {
+    dcc_loco_new(&loco, cvs);
+    hasBoard = dcc_board_new(&board, boardNumber) == 0;
+    track.begin(now);
+}
+
+void DccDecoder::process() {
+    uint32_t half;
+    dcc_outcome seen;
+    dcc_packet packet;
+    while (track.next(&half, &seen)) {
+        if (seen.refusal != 0 || dcc_read(seen.frame.bytes, seen.frame.len, &packet) != 0) continue;
+        hearLoco(seen.frame, packet);
+        if (hasBoard) hearBoard(seen.frame, packet);
+    }
+}
+
+void DccDecoder::hearLoco(const dcc_frame &frame, const dcc_packet &packet) {
+    bool heard = false;
+    if (dcc_loco_hears(&loco, frame.bytes, frame.len, &heard) != 0 || !heard) return;
+    bool isWrite = packet.kind == DCC_CV_WRITE || packet.kind == DCC_CV_BIT_WRITE;
+    uint64_t functions[2] = {loco.functions[0], loco.functions[1]}, states[2] = {loco.states[0], loco.states[1]};
+    uint8_t mode = loco.speed_mode, step = loco.step, value = isWrite ? loco.cvs[packet.cv - 1] : 0;
+    bool forward = loco.forward;
+    if (dcc_loco_apply(&loco, frame.bytes, frame.len) != 0) return;
+    if (packet.kind == DCC_RESET) notifyDccReset();
+    if (mode != loco.speed_mode || step != loco.step || forward != loco.forward) notifyDccSpeed(loco.step, loco.speed_mode, loco.forward);
+    notifyTurned(functions, loco.functions, notifyDccFunc);
+    notifyTurned(states, loco.states, notifyDccState);
+    if (isWrite && value != loco.cvs[packet.cv - 1]) notifyCVChange(packet.cv, loco.cvs[packet.cv - 1]);
+}
+
+void DccDecoder::hearBoard(const dcc_frame &frame, const dcc_packet &packet) {
+    bool heard = false;
+    if (dcc_board_hears(&board, frame.bytes, frame.len, &heard) != 0 || !heard) return;
+    dcc_board before = board;
+    if (dcc_board_apply(&board, frame.bytes, frame.len) != 0) return;
+    for (uint8_t n = 0; n < 8; n++) {
+        bool isOn = board.outs >> n & 1, isNamed = packet.kind == DCC_ACCESSORY && packet.output == n;
+        if (isNamed || isOn != (before.outs >> n & 1)) notifyDccAccTurnoutBoard(board.number, n / 2, n % 2, isOn);
+    }
+    for (uint8_t n = 0; n < 4 && packet.kind == DCC_SIGNAL; n++) {
+        if (packet.address == 2047 || packet.address % 4 == n) notifyDccSigOutputState(board.number * 4 + n, board.aspects[n]);
+    }
+}

@@ -1,0 +1,36 @@
+/* The few calls of Arduino that the sketches use, for tests under qemu: the edges of the track are those of a capture. */
+#ifndef ARDUINO_H
+#define ARDUINO_H
+
+#include <stdint.h>
+
+enum { LOW, HIGH };
+enum { OUTPUT = 1 };
+enum { CHANGE = 1 };
+enum { DEC = 10, HEX = 16 };
+
+uint32_t micros();
+void pinMode(uint8_t pin, uint8_t mode);
+void digitalWrite(uint8_t pin, uint8_t level);
+void analogWrite(uint8_t pin, int value);
+inline uint8_t digitalPinToInterrupt(uint8_t pin) { return pin; }
+void attachInterrupt(uint8_t interrupt, void (*call)(), int mode);
+
+struct Port {
+    void begin(unsigned long) {}
+    void print(const char *text);
+    void print(char c);
+    void print(unsigned long number, int base = DEC);
+    void print(int number, int base = DEC) { print((unsigned long)number, base); }
+    void print(unsigned number, int base = DEC) { print((unsigned long)number, base); }
+    template <typename T> void println(T it) { print(it); println(); }
+    void println() { print("\n"); }
+    int available();
+    int read();
+};
+extern Port Serial;
+
+void setup();
+void loop();
+
+#endif
