@@ -298,13 +298,15 @@ const formOf = (text) => {
   return null;
 };
 
-/** The half-bits of a text in any form, up to its first fault. */
-const readText = (text, key) => {
-  const strange = strangeFile(text);
+/** Enough of a file to tell its form. */
+const FRONT = 1000000;
+
+/** The half-bits of a file in any form, up to its first fault. */
+const readBytes = (bytes, key) => {
+  const front = textOf(bytes.subarray(0, FRONT));
+  const strange = strangeFile(front);
   if (strange) return { form: 'File', halves: new Halves(), refused: refusal(null, `File: ${strange}.`) };
-  const plain = text.startsWith('\ufeff') ? text.slice(1) : text;
-  const form = formOf(plain);
-  if (form) return readRecording(form, plain, key);
-  const cut = cutText(text);
-  return { form: 'Capture', ...readCapture(cut ?? text, cut !== null) };
+  const form = formOf(front.replace(/^\ufeff/, ''));
+  if (form) return readRecording(form, textOf(bytes).replace(/^\ufeff/, ''), key);
+  return { form: 'Capture', ...readCapture(bytes) };
 };

@@ -4,12 +4,15 @@ const MOST_HALVES = 16777216;
 const MOST_BYTES = 67108864;
 const LONGEST = 65535;
 
+/** A memory that grows where it stands. */
+const growing = (most) => new ArrayBuffer(4096, { maxByteLength: most });
+
 /** Half-bits, kept as runs of one duration. Places count from 0. */
 class Halves {
   constructor() {
     this.runs = 0;
-    this.us = new Uint16Array(256);
-    this.ends = new Uint32Array(256);
+    this.us = new Uint16Array(growing(2 * MOST_HALVES));
+    this.ends = new Uint32Array(growing(4 * MOST_HALVES));
   }
 
   get count() {
@@ -24,7 +27,7 @@ class Halves {
       this.ends[this.runs - 1] = end;
       return true;
     }
-    if (this.runs === this.us.length) this.grow();
+    if (this.runs >= this.ends.length) this.grow();
     this.us[this.runs] = us;
     this.ends[this.runs] = end;
     this.runs += 1;
@@ -32,11 +35,7 @@ class Halves {
   }
 
   grow() {
-    const { us, ends } = this;
-    this.us = new Uint16Array(2 * us.length);
-    this.us.set(us);
-    this.ends = new Uint32Array(2 * ends.length);
-    this.ends.set(ends);
+    for (const { buffer } of [this.us, this.ends]) buffer.resize(Math.min(2 * buffer.byteLength, buffer.maxByteLength));
   }
 
   /** The place of the run that the half-bit at this place stands in. */
@@ -71,64 +70,82 @@ const tooLong = () =>
     'The capture is too long: 16,777,216 half-bits and 64 MiB are the most. What stands before that is shown.',
   );
 
-const GAPS = new Set([' ', '\t', '\r', '\n']);
-const isWordEnd = (text, at) => at === text.length || GAPS.has(text[at]) || text[at] === '#';
+const [TAB, FEED, RETURN, BLANK, HASH, STAR, DIGIT] = [9, 10, 13, 32, 35, 42, 48];
+const isGap = (byte) => byte === BLANK || byte === FEED || byte === TAB || byte === RETURN;
 
-/** The number that text[from..to] spells with at most so many digits, or -1. */
-const numberIn = (text, from, to, digits) => {
+/** Where the word of these bytes ends that begins at a place. */
+const endOfWord = (bytes, at) => {
+  let end = at;
+  while (end < bytes.length && !isGap(bytes[end]) && bytes[end] !== HASH) end += 1;
+  return end;
+};
+
+/** The number that bytes[from..to] spells with at most so many digits, or -1. */
+const numberIn = (bytes, from, to, digits) => {
   if (from === to || to - from > digits) return -1;
   let number = 0;
   for (let at = from; at < to; at += 1) {
-    const digit = text.charCodeAt(at) - 48;
+    const digit = bytes[at] - DIGIT;
     if (digit < 0 || digit > 9) return -1;
     number = 10 * number + digit;
   }
   return number;
 };
 
-/** The half-bits that the word text[from..to] spells, `us` or `us*n`; null where it spells none. */
-const runIn = (text, from, to) => {
+/** Adds the half-bits that the word bytes[from..to] spells, `us` or `us*n`. Answers null where it spells none, false where they are too many. */
+const pushWord = (halves, bytes, from, to) => {
   let star = from;
-  while (star < to && text[star] !== '*') star += 1;
-  const us = numberIn(text, from, star, 10);
-  const n = star === to ? 1 : numberIn(text, star + 1, to, 8);
-  return us < 0 || n < 1 || n > MOST_HALVES ? null : { us: Math.min(us, LONGEST), n };
+  while (star < to && bytes[star] !== STAR) star += 1;
+  const us = numberIn(bytes, from, star, 10);
+  const n = star === to ? 1 : numberIn(bytes, star + 1, to, 8);
+  return us < 0 || n < 1 || n > MOST_HALVES ? null : halves.push(Math.min(us, LONGEST), n);
 };
 
-const badWord = (line, word) => {
+/** The capture before the first line of the one word `---`, and that behind it; null where there is no such line. */
+const cutAtDashes = (text) => {
+  const [, before, behind] = text.match(/^([^]*?\n|)[ \t\r]*---[ \t\r]*(?:#[^\n]*)?(?:\n([^]*))?$/) ?? [];
+  return before === undefined ? null : [before, behind ?? ''];
+};
+
+/** Why a word is refused, and whether a second capture stands behind it. */
+const badWord = (bytes, line, from, to) => {
+  const word = textOf(bytes.subarray(from, to));
+  const isTwo = word === '---' && cutAtDashes(textOf(bytes)) !== null;
   const shown = word.length > 40 ? `${word.slice(0, 40)}…` : word;
-  const more = word === '---' ? ' One capture is shown at a time: cut the text at this line.' : '';
-  return refusal(
+  const more = isTwo ? ' Behind this line stands a second capture, as “dcc same” reads it.' : '';
+  const refused = refusal(
     `dcc: U2 line ${line}: bad number`,
     `Line ${line}: “${shown}” is no duration. ` +
       `A word of a capture is a whole number of microseconds, as 58, or a run of them, as 58*28.${more}`,
   );
+  return { refused, isTwo };
 };
 
-/** A capture. Where it was cut at the limit of bytes, its last word has not ended. */
-const readCapture = (text, isCut) => {
-  const halves = new Halves();
+/** A capture. Of one that has too many bytes the first are read; the word that the limit cuts has not ended. */
+const readCapture = (all) => {
+  const [halves, isCut] = [new Halves(), all.length > MOST_BYTES];
+  const bytes = isCut ? all.subarray(0, MOST_BYTES) : all;
   let line = 1;
-  let at = 0;
-  while (at < text.length) {
-    if (text[at] === '#') {
-      const feed = text.indexOf('\n', at);
-      at = feed < 0 ? text.length : feed;
-    } else if (GAPS.has(text[at])) {
-      if (text[at] === '\n') line += 1;
+  for (let at = 0; at < bytes.length; ) {
+    if (bytes[at] === HASH) {
+      const feed = bytes.indexOf(FEED, at);
+      at = feed < 0 ? bytes.length : feed;
+    } else if (isGap(bytes[at])) {
+      if (bytes[at] === FEED) line += 1;
       at += 1;
     } else {
-      let end = at;
-      while (!isWordEnd(text, end)) end += 1;
-      if (isCut && end === text.length) break;
-      const run = runIn(text, at, end);
-      if (!run) return { halves, refused: badWord(line, text.slice(at, end)) };
-      if (!halves.push(run.us, run.n)) return { halves, refused: tooLong() };
+      const end = endOfWord(bytes, at);
+      if (isCut && end === bytes.length) break;
+      const isPushed = pushWord(halves, bytes, at, end);
+      if (isPushed === null) return { halves, ...badWord(bytes, line, at, end) };
+      if (!isPushed) return { halves, refused: tooLong() };
       at = end;
     }
   }
   return { halves, refused: isCut ? tooLong() : null };
 };
+
+const textOf = (bytes) => new TextDecoder('utf-8', { ignoreBOM: true }).decode(bytes);
 
 /** The lines of a text, each with its number from 1. */
 function* linesOf(text) {
@@ -139,10 +156,3 @@ function* linesOf(text) {
     at = end + 1;
   }
 }
-
-/** The first bytes of a text, as many as a capture may have; null where it has no more. */
-const cutText = (text) => {
-  if (3 * text.length <= MOST_BYTES) return null;
-  const bytes = new TextEncoder().encode(text);
-  return bytes.length > MOST_BYTES ? new TextDecoder('utf-8', { ignoreBOM: true }).decode(bytes.subarray(0, MOST_BYTES)) : null;
-};

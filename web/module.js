@@ -2,6 +2,8 @@
 
 const OUTCOME_BYTES = 12;
 const LINE_BYTES = 41;
+const CVS = 1024;
+const DECODER_BYTES = { loco: 1072, board: 12 };
 const PAGE_BYTES = 65536;
 
 /** A module of one 64-bit memory and nothing else. */
@@ -18,6 +20,13 @@ const lackOfBrowser = () => {
   return null;
 };
 
+/** The answer of a call that has nothing to refuse here. */
+const checked = (call, answer) => {
+  if (answer !== 0) throw new Error(`${call} answers ${answer}`);
+};
+
+const hex = (bytes) => bytes.map((it) => it.toString(16).padStart(2, '0')).join('');
+
 class Dcc {
   static async load(bytes) {
     const { instance } = await WebAssembly.instantiate(bytes, {});
@@ -26,11 +35,23 @@ class Dcc {
 
   constructor(calls) {
     this.calls = calls;
-    this.framer = (Number(calls.__heap_base.value) + 15) & ~15;
-    this.outcome = this.framer + 32;
-    this.frame = this.outcome + 16;
-    this.line = this.frame + 16;
-    this.reserve(this.line + LINE_BYTES);
+    // the objects, one behind the other
+    let end = (Number(calls.__heap_base.value) + 15) & ~15;
+    const room = (bytes) => {
+      const at = end;
+      end += (bytes + 15) & ~15;
+      return at;
+    };
+    this.framer = room(24);
+    this.outcome = room(OUTCOME_BYTES);
+    this.frame = room(7);
+    this.line = room(LINE_BYTES);
+    this.packet = room(18);
+    this.decoder = room(DECODER_BYTES.loco);
+    this.cvs = room(CVS);
+    this.heard = room(1);
+    this.reserve(end);
+    this.known = new Map();
   }
 
   /** Grows the memory to so many bytes. Engines differ in how they want to be told the number of pages. */
@@ -48,34 +69,92 @@ class Dcc {
     return new Uint8Array(this.calls.memory.buffer, at, n);
   }
 
-  /** The outcomes of half-bits: the number of the last half, from 1, the refusal, 0 for none, and the bytes. */
+  /** The bytes of a frame as a list: one and the same list for equal frames. */
+  frameAt(at, n) {
+    const bytes = [...this.bytesAt(at, n)];
+    const name = hex(bytes);
+    if (!this.known.has(name)) this.known.set(name, bytes);
+    return this.known.get(name);
+  }
+
+  /** The outcomes of half-bits: the number of the last half, from 1, when it ends in microseconds, the refusal, 0 for none, and the bytes. */
   outcomes(halves) {
     const [framer, outcome] = [BigInt(this.framer), BigInt(this.outcome)];
     const view = new DataView(this.calls.memory.buffer, this.outcome, OUTCOME_BYTES);
     const list = [];
     let before = 0;
+    let time = 0;
     this.calls.dcc_framer_new(framer);
     for (let run = 0; run < halves.runs; run += 1) {
-      if (this.calls.dcc_push_run(framer, halves.us[run], halves.ends[run] - before, outcome)) {
-        const at = before + view.getUint32(0, true);
-        list.push({ at, refusal: view.getUint8(4), bytes: [...this.bytesAt(this.outcome + 6, view.getUint8(5))] });
+      const [us, end] = [halves.us[run], halves.ends[run]];
+      if (this.calls.dcc_push_run(framer, us, end - before, outcome)) {
+        const place = view.getUint32(0, true);
+        const bytes = this.frameAt(this.outcome + 6, view.getUint8(5));
+        list.push({ at: before + place, time: time + place * us, refusal: view.getUint8(4), bytes });
       }
-      before = halves.ends[run];
+      time += (end - before) * us;
+      before = end;
     }
     return list;
   }
 
+  /** Lays the bytes of a frame into the memory: their place and length, as the calls take them. */
+  lay(bytes) {
+    this.bytesAt(this.frame, bytes.length).set(bytes);
+    return [BigInt(this.frame), BigInt(bytes.length)];
+  }
+
   /** The packet line of the bytes of a packet. */
   words(bytes) {
-    this.bytesAt(this.frame, bytes.length).set(bytes);
-    const answer = this.calls.dcc_line(BigInt(this.frame), BigInt(bytes.length), BigInt(this.line));
-    if (answer !== 0) throw new Error(`dcc_line refuses a packet of dcc_push_run: L${answer}`);
+    checked('dcc_line', this.calls.dcc_line(...this.lay(bytes), BigInt(this.line)));
     const line = this.bytesAt(this.line, LINE_BYTES);
     return String.fromCharCode(...line.subarray(0, line.indexOf(0)));
   }
-}
 
-const hex = (bytes) => bytes.map((it) => it.toString(16).padStart(2, '0')).join('');
+  /** The kind of a packet: its number among the kinds of include/dcc.h. */
+  kind(bytes) {
+    checked('dcc_read', this.calls.dcc_read(...this.lay(bytes), BigInt(this.packet)));
+    return this.bytesAt(this.packet, 1)[0];
+  }
+
+  /** A new locomotive decoder with these CVs: its kind and its numbers. */
+  newLoco(cvs) {
+    this.bytesAt(this.cvs, CVS).set(cvs);
+    this.calls.dcc_loco_new(BigInt(this.decoder), BigInt(this.cvs));
+    return { kind: 'loco', numbers: this.bytesAt(this.decoder, DECODER_BYTES.loco).slice() };
+  }
+
+  /** A new accessory decoder. */
+  newBoard(number) {
+    checked('dcc_board_new', this.calls.dcc_board_new(BigInt(this.decoder), number));
+    return { kind: 'board', numbers: this.bytesAt(this.decoder, DECODER_BYTES.board).slice() };
+  }
+
+  /** Tells whether a packet is for a decoder. */
+  hears(decoder, bytes) {
+    const { kind, numbers } = decoder;
+    this.bytesAt(this.decoder, numbers.length).set(numbers);
+    return this.isHeard(kind, bytes);
+  }
+
+  /** The same of the decoder that lies in the memory. */
+  isHeard(kind, bytes) {
+    const call = kind === 'loco' ? this.calls.dcc_loco_hears : this.calls.dcc_board_hears;
+    checked(`dcc_${kind}_hears`, call(BigInt(this.decoder), ...this.lay(bytes), BigInt(this.heard)));
+    return this.bytesAt(this.heard, 1)[0] === 1;
+  }
+
+  /** A decoder once it has heard these packets. Those that are for others leave it as it is. */
+  after(decoder, packets) {
+    const { kind, numbers } = decoder;
+    const call = kind === 'loco' ? this.calls.dcc_loco_apply : this.calls.dcc_board_apply;
+    this.bytesAt(this.decoder, numbers.length).set(numbers);
+    for (const bytes of packets) {
+      if (this.isHeard(kind, bytes)) checked(`dcc_${kind}_apply`, call(BigInt(this.decoder), ...this.lay(bytes)));
+    }
+    return { kind, numbers: this.bytesAt(this.decoder, numbers.length).slice() };
+  }
+}
 
 /** What `dcc show --words` writes behind the number of a half. */
 const told = (dcc, { refusal, bytes }) => (refusal ? `refused H${refusal}${bytes.length ? ` ${hex(bytes)}` : ''}` : dcc.words(bytes));

@@ -1,186 +1,151 @@
 // The page: a text comes in, packets and their drawings stand below it.
 
-const ROWS_OF_PAGE = 50;
-const LARGEST_SHOWN = 400000;
-
-const $ = (id) => document.getElementById(id);
-const make = (name, className, text) => {
-  const it = document.createElement(name);
-  if (className) it.className = className;
-  if (text !== undefined) it.textContent = text;
-  return it;
-};
 const decode = (base64) => Uint8Array.from(atob(base64), (it) => it.charCodeAt(0));
-const tell = (fault, text) => {
-  $('fault').hidden = !text;
-  $('fault-text').textContent = text ?? '';
-  $('fault-code').textContent = fault ?? '';
-};
-
-const REFUSALS = ['', 'bad half', 'split bit', 'too short', 'too long', 'error byte'];
 
 class Page {
   constructor(dcc) {
     this.dcc = dcc;
-    this.file = null;
-    this.first = 0;
-    $('text').addEventListener('input', () => this.wait());
-    $('file').addEventListener('change', () => this.open($('file').files[0]));
-    $('channel').addEventListener('change', () => this.read($('channel').value));
-    $('refused').addEventListener('change', () => this.turn(0));
+    this.table = new Table(dcc);
+    this.source = new Source('', (read) => this.take(read));
+    this.second = new Source('second-', (read) => this.takeSecond(read));
+    $('kind').append(...Object.entries(KINDS).map(([key, { name }]) => new Option(name, key)));
+    for (const id of ['kind', 'own', 'fold']) $(id).addEventListener('change', () => this.list());
+    for (const id of ['who', 'second-who']) $(id).addEventListener('input', () => this.name($(id).value));
+    $('zoom').addEventListener('input', () => this.scale());
     $('listing').addEventListener('toggle', () => this.writeListing());
+    $('timing').addEventListener('toggle', () => this.showTimings());
+    $('comparison').addEventListener('toggle', () => this.compare());
+    $('cut').addEventListener('click', () => this.cut());
     for (const it of document.querySelectorAll('[data-example]')) {
-      it.addEventListener('click', () => this.put($(it.dataset.example).textContent.trimStart()));
+      it.addEventListener('click', () => this.source.put($(it.dataset.example).textContent.trimStart()));
     }
-    const pages = { start: () => 0, back: () => this.first - ROWS_OF_PAGE, on: () => this.first + ROWS_OF_PAGE, end: () => Infinity };
-    for (const [id, to] of Object.entries(pages)) $(id).addEventListener('click', () => this.turn(to()));
-    document.addEventListener('dragover', (event) => event.preventDefault());
-    document.addEventListener('drop', (event) => {
-      event.preventDefault();
-      if (event.dataTransfer.files.length) this.open(event.dataTransfer.files[0]);
-    });
+    document.addEventListener('dragover', (event) => event.dataTransfer.types.includes('Files') && event.preventDefault());
+    document.addEventListener('drop', (event) => this.drop(event));
   }
 
-  /** Waits until the typing stops. */
-  wait() {
-    this.file = null;
-    clearTimeout(this.timer);
-    this.timer = setTimeout(() => this.read(), 150);
-  }
-
-  put(text) {
-    this.file = null;
-    $('text').value = text;
-    this.read();
-  }
-
-  /** Opens a file. A large one is shown below, and not in the field. */
-  async open(file) {
+  /** A file that is dropped on the second capture is that one's, else the first one's. */
+  drop(event) {
+    const [file] = event.dataTransfer.files;
     if (!file) return;
-    try {
-      const text = new TextDecoder('utf-8', { ignoreBOM: true }).decode(await file.arrayBuffer());
-      const isShown = text.length <= LARGEST_SHOWN;
-      $('text').value = isShown ? text : '';
-      this.file = { name: file.name, text };
-      this.read();
-    } catch (error) {
-      tell(null, `${file.name} cannot be read: ${error.message}`);
-    }
-    $('file').value = '';
+    event.preventDefault();
+    const isSecond = event.target instanceof Element && event.target.closest('#comparison');
+    (isSecond ? this.second : this.source).open(file);
   }
 
-  read(channel) {
-    clearTimeout(this.timer);
-    const { form, halves, refused, channels, key } = readText(this.file ? this.file.text : $('text').value, channel);
-    this.halves = halves;
-    this.outcomes = this.dcc.outcomes(halves);
-    this.tail = tailOf(halves, this.outcomes[this.outcomes.length - 1]);
-    tell(refused?.fault, refused?.text);
-    this.offerChannels(channels ?? [], key);
-    this.sumUp(form);
-    this.turn(0);
+  /** A capture with its outcomes. */
+  heard(read) {
+    const outcomes = this.dcc.outcomes(read.halves);
+    return { ...read, outcomes, tail: tailOf(read.halves, outcomes[outcomes.length - 1]) };
+  }
+
+  take(read) {
+    this.capture = this.heard(read);
+    Object.assign(this, { halves: this.capture.halves, outcomes: this.capture.outcomes });
+    $('cut').hidden = !read.isTwo;
+    this.sumUp();
+    this.list();
     this.writeListing();
+    this.showTimings();
+    this.compare();
     // (a test waits for this)
     document.body.dataset.read = Number(document.body.dataset.read ?? 0) + 1;
   }
 
-  offerChannels(channels, key) {
-    $('channels').hidden = channels.length < 2;
-    $('channel').replaceChildren(...channels.map((it) => new Option(it.label, it.key, false, it.key === key)));
+  takeSecond(read) {
+    this.other = this.heard(read);
+    this.compare();
+    document.body.dataset.read = Number(document.body.dataset.read ?? 0) + 1;
   }
 
-  sumUp(form) {
-    const { halves, outcomes } = this;
+  /** Two captures with a line of dashes between them become the first and the second. */
+  async cut() {
+    const [first, second] = cutAtDashes(textOf(await this.source.bytes()));
+    await this.source.open(new File([first], 'before the dashes'));
+    await this.second.open(new File([second], 'behind the dashes'));
+    $('comparison').open = true;
+    $('second-who').focus();
+  }
+
+  sumUp() {
+    const { halves, outcomes, name } = this.capture;
     const refusals = outcomes.filter((it) => it.refusal).length;
-    const packets = outcomes.length - refusals;
-    const from = this.file ? `${this.file.name} (${form})` : form;
-    const told = `${plural(halves.count, 'half-bit')}, ${plural(packets, 'packet')}, ${count(refusals)} refused.`;
+    const told = `${plural(halves.count, 'half-bit')}, ${plural(outcomes.length - refusals, 'packet')}, ${count(refusals)} refused.`;
     const why = ' Nowhere do 20 halves of ones stand directly before a half of a zero whose packet ends.';
-    $('sum').textContent = `${from}: ${told}${halves.count && !outcomes.length ? why : ''}`;
+    $('sum').textContent = `${name}: ${told}${halves.count && !outcomes.length ? why : ''}`;
     $('result').hidden = halves.count === 0;
   }
 
-  /** Shows the rows from one on. */
-  turn(first) {
-    const places = this.outcomes.map((_, i) => i);
-    const rows = $('refused').checked ? places.filter((i) => this.outcomes[i].refusal) : places;
-    const last = Math.max(0, Math.floor((rows.length - 1) / ROWS_OF_PAGE) * ROWS_OF_PAGE);
-    this.first = Math.min(Math.max(0, first), last);
-    const end = Math.min(rows.length, this.first + ROWS_OF_PAGE);
-    $('pager').hidden = rows.length <= ROWS_OF_PAGE;
-    $('place').textContent = `${count(this.first + 1)} to ${count(end)} of ${count(rows.length)}`;
-    for (const id of ['start', 'back']) $(id).disabled = this.first === 0;
-    for (const id of ['on', 'end']) $(id).disabled = this.first === last;
-    const list = rows.slice(this.first, end).map((i) => this.row(i));
-    if (end === rows.length && this.tail && !$('refused').checked) list.push(this.tailRow());
-    $('rows').replaceChildren(...list);
-    for (const it of document.querySelectorAll('.track')) {
-      if (it.scrollWidth <= it.clientWidth) continue;
-      it.tabIndex = 0;
-      it.setAttribute('role', 'group');
-      it.ariaLabel = 'drawing, wider than its place';
-      it.scrollLeft = it.scrollWidth;
-    }
+  /** A decoder is named, in one of the two fields. */
+  name(word) {
+    for (const id of ['who', 'second-who']) if ($(id).value !== word) $(id).value = word;
+    this.list();
+    this.compare();
   }
 
-  row(i) {
-    const outcome = this.outcomes[i];
-    const strip = stripOf(this.halves, outcome, this.outcomes[i - 1]);
-    const text = told(this.dcc, outcome);
-    const row = make('tr', outcome.refusal ? 'refused' : 'packet');
-    row.append(make('th', 'at', outcome.at));
-    row.firstChild.scope = 'row';
-    const what = make('td', 'what');
-    what.append(make('span', 'words', text));
-    if (outcome.refusal) what.append(make('span', 'why', REFUSALS[outcome.refusal]));
-    else what.append(make('span', 'bytes', outcome.bytes.map((it) => hex([it])).join(' ')));
-    row.append(what, this.track(strip, strip.fault ? `${text}: ${strip.fault.text}` : `${text}, bytes ${hex(outcome.bytes)}`));
-    return row;
+  /** The decoder that is named, null for none. */
+  decoder() {
+    const word = $('who').value.trim();
+    const fresh = decoderOf(this.dcc, word);
+    return fresh && { word, fresh };
   }
 
-  tailRow() {
-    const { tail } = this;
-    const row = make('tr', 'open');
-    row.append(make('th', 'at', '…'));
-    const ones = plural(tail.ones, 'half of a one', 'halves of ones');
-    const why = tail.isOpen
-      ? 'The capture ends within a packet.'
-      : `No packet begins here: 20 halves of ones and then a half of a zero would begin one. It ends in ${ones}.`;
-    const what = make('td', 'what');
-    what.append(make('span', 'open-words', `${plural(tail.end - tail.begin, 'half-bit')} behind the last`), make('span', 'open-why', why));
-    row.append(what, this.track(tail, why));
-    return row;
+  /** Lists what is asked for. */
+  list() {
+    const decoder = this.decoder();
+    const kind = $('kind').value;
+    const isWanted = wantedBy(this.dcc, kind, $('own').checked ? decoder?.fresh : null);
+    const rows = rowsOf(this.outcomes, isWanted, $('fold').checked);
+    this.table.show(this.capture, rows, decoder, kind === 'all');
+    this.tellFilter(rows, decoder);
   }
 
-  track(strip, description) {
-    const cell = make('td', 'drawing');
-    const track = make('div', 'track');
-    if (strip.hidden) cell.append(make('span', 'hidden', `${plural(strip.hidden, 'half-bit')} before this are not drawn`));
-    track.append(drawStrip(this.halves, strip, description));
-    cell.append(track);
-    return cell;
+  tellFilter(rows, decoder) {
+    const shown = rows.reduce((sum, it) => sum + it.times, 0);
+    const word = $('who').value.trim();
+    const says = [];
+    if (word && !decoder) says.push(`“${word}” names no decoder: s and 1 to 127, l and 0 to 10239, none, or b and 0 to 510.`);
+    if (shown < this.outcomes.length) says.push(`${count(shown)} of ${count(this.outcomes.length)} are shown.`);
+    $('who-says').textContent = says.join(' ');
+  }
+
+  scale() {
+    $('zoom-is').textContent = `${$('zoom').value} %`;
+    this.table.zoom = Number($('zoom').value) / 100;
+    this.table.turn(this.table.first);
+    this.compare();
   }
 
   /** What `dcc show --words` writes, where it is asked for. */
   writeListing() {
     if ($('listing').open) $('lines').value = this.outcomes.map((it) => `${it.at} ${told(this.dcc, it)}\n`).join('');
   }
+
+  showTimings() {
+    if ($('timing').open && this.halves.count) showTimings(timingsOf(this.halves, this.outcomes));
+  }
+
+  compare() {
+    if ($('comparison').open) showDifference(this.dcc, [this.capture, this.other], this.decoder(), this.table.zoom);
+  }
 }
 
 let page = null;
 const begin = async () => {
   const lack = lackOfBrowser();
-  if (lack) {
+  const end = (text) => {
     $('input').hidden = true;
+    $('fault').hidden = false;
+    $('fault-text').textContent = text;
+  };
+  if (lack) {
     const others = 'Chromium, Chrome and Edge have it from version 133, Firefox from 134.';
-    return tell(null, `${lack} ${others} Without a browser, “dcc show --words” writes the same list.`);
+    return end(`${lack} ${others} Without a browser, “dcc show --words” writes the same list.`);
   }
   try {
-    page = new Page(await Dcc.load(decode(document.getElementById('module').textContent.trim())));
+    page = new Page(await Dcc.load(decode($('module').textContent.trim())));
   } catch (error) {
-    $('input').hidden = true;
-    return tell(null, `The module of this page cannot be started here: ${error.message}`);
+    return end(`The module of this page cannot be started here: ${error.message}`);
   }
-  page.put($('example-capture').textContent.trimStart());
+  return page.source.put($('example-capture').textContent.trimStart());
 };
 begin();

@@ -142,14 +142,12 @@ const tailOf = (halves, previous) => {
 const PIXELS_PER_US = 0.122;
 const LONG = 130;
 const ROWS = { label: 16, wave: 34, bits: 15, note: 17 };
-const LEFT_OF_TEXT = 50;
-const PIXELS_PER_LETTER = 6.9;
 const SVG = 'http://www.w3.org/2000/svg';
 
 /** How wide a half is drawn: to scale as long as it is an ordinary one, else cut short. */
-const widthOf = (us) => {
+const widthOf = (us, zoom) => {
   const wide = us <= LONG ? us : LONG + 40 * Math.log2(us / LONG);
-  return Math.max(2.5, wide * PIXELS_PER_US);
+  return Math.max(2.5, wide * PIXELS_PER_US * zoom);
 };
 
 const node = (name, attributes, text) => {
@@ -163,6 +161,9 @@ const round = (x) => Math.round(10 * x) / 10;
 
 const CLASS_NAMES = { one: 'half of a one', zero: 'half of a zero', bad: 'half of no bit' };
 
+/** What a pulse is: the half-bit at a place. */
+const tellHalf = (place, us) => `half-bit ${place + 1}: ${us} µs, ${CLASS_NAMES[classOf(us)]}`;
+
 /** The pulses: the level turns at each half. */
 const drawPulses = (strip, durations, x) => {
   const group = node('g', {});
@@ -175,7 +176,7 @@ const drawPulses = (strip, durations, x) => {
     const kind = classOf(us);
     const top = isUp ? middle - height : middle;
     const pulse = node('rect', { class: `pulse ${kind}`, x: round(x[i]), y: top, width: round(x[i + 1] - x[i]), height });
-    pulse.append(node('title', {}, `half-bit ${place + 1}: ${us} µs, ${CLASS_NAMES[kind]}`));
+    pulse.append(node('title', {}, tellHalf(place, us)));
     group.append(pulse);
     const y = isUp ? middle - height : middle + height;
     line += `${i ? 'V' : `M${round(x[0])} `}${y}H${round(x[i + 1])}`;
@@ -204,26 +205,19 @@ const drawParts = (strip, xOf) => {
   return group;
 };
 
-/** Where the sentence of a fault ends: below its place, or further right where it has no room there. */
-const endOfText = (fault, end) => Math.max(end + 1, LEFT_OF_TEXT + PIXELS_PER_LETTER * fault.text.length);
-
-const drawFault = (fault, xOf) => {
-  const group = node('g', { class: 'fault' });
-  const [x, end] = [xOf(fault.from), xOf(fault.to)];
-  const bottom = ROWS.label + ROWS.wave + ROWS.bits;
-  group.append(node('rect', { class: 'where', x: round(x - 1), y: 1, width: round(end - x + 2), height: bottom - 1 }));
-  group.append(node('text', { x: round(endOfText(fault, end)), y: bottom + 13 }, fault.text));
-  return group;
+/** A frame around some halves, from one place to before another, with room around it. */
+const drawFrame = (name, [x, end], room) => {
+  const height = ROWS.label + ROWS.wave + ROWS.bits - 1;
+  return node('rect', { class: name, x: round(x - room), y: 1, width: round(end - x + 2 * room), height });
 };
 
-/** The drawing of a strip, for a screen reader its text. */
-const drawStrip = (halves, strip, description) => {
+/** The drawing of a strip, for a screen reader its text. It knows where each of its halves begins. */
+const drawStrip = (halves, strip, description, zoom = 1) => {
   const durations = halves.slice(strip.from, strip.end);
   const x = [3];
-  for (const us of durations) x.push(x[x.length - 1] + widthOf(us));
+  for (const us of durations) x.push(x[x.length - 1] + widthOf(us, zoom));
   const xOf = (place) => x[place - strip.from];
-  const end = strip.fault ? Math.max(endOfText(strip.fault, xOf(strip.fault.to)), x[x.length - 1]) : x[x.length - 1];
-  const [width, bottom] = [Math.ceil(end) + 3, ROWS.label + ROWS.wave + ROWS.bits];
+  const [width, bottom] = [Math.ceil(x[x.length - 1]) + 3, ROWS.label + ROWS.wave + ROWS.bits];
   const height = bottom + ROWS.note;
   const svg = node('svg', { width, height, viewBox: `0 0 ${width} ${height}`, role: 'img', 'aria-label': description });
   svg.append(drawParts(strip, xOf), drawPulses(strip, durations, x));
@@ -231,7 +225,25 @@ const drawStrip = (halves, strip, description) => {
     svg.append(node('text', { class: 'bit', x: round((xOf(at) + xOf(at + 2)) / 2), y: ROWS.label + ROWS.wave + 11 }, bit));
   }
   svg.append(node('text', { class: 'place first', x: 3, y: bottom + 13 }, strip.from + 1));
-  if (strip.fault) svg.append(drawFault(strip.fault, xOf));
-  else svg.append(node('text', { class: 'place last', x: width - 3, y: bottom + 13 }, strip.end));
-  return svg;
+  // of a strip of one half the numbers are one
+  if (width > 90) svg.append(node('text', { class: 'place last', x: width - 3, y: bottom + 13 }, strip.end));
+  if (strip.fault) svg.append(drawFrame('where', [xOf(strip.fault.from), xOf(strip.fault.to)], 1));
+  return Object.assign(svg, { strip, edges: x });
+};
+
+/** The place of the half that is drawn at so many pixels from the left. */
+const placeAt = (svg, pixels) => {
+  const next = svg.edges.findIndex((it) => it > pixels);
+  const i = next < 0 ? svg.edges.length - 2 : Math.max(0, next - 1);
+  return svg.strip.from + i;
+};
+
+/** Marks a half in its drawing, and brings it into sight. */
+const markHalf = (svg, place) => {
+  const at = place - svg.strip.from;
+  const ends = [svg.edges[at], svg.edges[at + 1]];
+  svg.querySelector('.chosen')?.remove();
+  svg.append(drawFrame('chosen', ends, 1.5));
+  const track = svg.parentNode;
+  if (ends[0] < track.scrollLeft + 20 || ends[1] > track.scrollLeft + track.clientWidth - 20) track.scrollLeft = ends[0] - track.clientWidth / 2;
 };

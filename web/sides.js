@@ -1,0 +1,93 @@
+// Two captures side by side, with the first difference for a decoder.
+
+/** How many packets are drawn before and behind the difference. */
+const AROUND = 2;
+
+const around = (list, at) => {
+  const from = Math.max(0, Math.min(at, list.length - 1) - AROUND);
+  return list.slice(from, from + 2 * AROUND + 1);
+};
+
+/** A difference in a sentence. */
+const tellDifference = (dcc, difference, sides) => {
+  const { verdict, block, missing, pair, writes } = difference;
+  const where = block ? `Behind write ${block} to it` : 'Before any write to it';
+  const words = (side, i) => `“${told(dcc, sides[side].outcomes[i])}”`;
+  if (missing) {
+    const has = ['first', 'second'].map((name, side) => missing[side].length && `the ${name} capture alone has ${words(side, missing[side][0])}`);
+    return `${where}, ${has.filter(Boolean).join(', and ')}.`;
+  }
+  if (pair) {
+    const both = pair.map((it) => `“${dcc.words(it)}”`).join(' and ');
+    return `${where}, ${both} take turns in another way, and they set one register to two values.`;
+  }
+  if (writes) {
+    const [one, other] = writes.map((i, side) => (i === null ? 'has no further write' : `writes ${words(side, i)}`));
+    return `${where}, the next writes differ: the first capture ${one}, the second ${other}.`;
+  }
+  return verdict === 'alike' ? 'Both leave each register of it the same.' : '';
+};
+
+/** The places of a side that show a difference: those to draw, and of them those that differ. */
+const shownOf = (difference, side, outcomes, otherTurns) => {
+  const { blocks, missing, pair, writes } = difference;
+  const block = blocks[side];
+  if (missing) {
+    const at = missing[side].length ? block.indexOf(missing[side][0]) : 0;
+    return { list: around(block, at), differs: new Set(missing[side]) };
+  }
+  if (pair) {
+    const turns = turnsOf(block, outcomes, ...pair);
+    return { list: around(turns, otherTurns), differs: new Set(turns.slice(otherTurns, otherTurns + 1)) };
+  }
+  if (writes) {
+    const list = block.slice(-AROUND);
+    return writes[side] === null ? { list, differs: new Set() } : { list: [...list, writes[side]], differs: new Set([writes[side]]) };
+  }
+  return { list: [], differs: new Set() };
+};
+
+/** The first turn that differs. */
+const firstOtherTurn = ({ blocks, pair }, [outcomes, others]) => {
+  if (!pair) return 0;
+  const [one, two] = [turnsOf(blocks[0], outcomes, ...pair), turnsOf(blocks[1], others, ...pair)];
+  const at = one.findIndex((i, n) => n >= two.length || outcomes[i].bytes !== others[two[n]].bytes);
+  return at < 0 ? one.length : at;
+};
+
+/** One side: its packets about the difference, each as in the table. */
+const drawSide = (dcc, capture, name, { list, differs }, zoom) => {
+  const side = make('section', 'side');
+  side.setAttribute('aria-label', name);
+  side.append(make('h3', '', `${name}: ${capture.name}`));
+  const table = make('table');
+  const body = make('tbody');
+  table.setAttribute('role', 'table');
+  table.append(body);
+  for (const i of list) {
+    const row = outcomeRow(dcc, capture, i, zoom);
+    if (differs.has(i)) row.classList.add('differs');
+    body.append(row);
+  }
+  side.append(list.length ? table : make('p', 'soft', 'no packet for it here'));
+  return side;
+};
+
+/** Shows the first difference of two captures for a decoder, or what is lacking for it. */
+const showDifference = (dcc, sides, decoder, zoom) => {
+  $('sides').replaceChildren();
+  if (!decoder || sides.some((it) => !it?.halves.count)) {
+    $('verdict').textContent = decoder ? 'Put a second capture into the field above.' : 'Name a decoder, as s3, l1000 or b12.';
+    return;
+  }
+  const outcomes = sides.map((it) => it.outcomes);
+  const packets = new Packets(dcc, decoder.fresh);
+  const difference = differenceOf(packets, outcomes);
+  const isCut = sides.some((it) => it.refused) ? ' Compared is what stands before the fault.' : '';
+  $('verdict').replaceChildren(make('code', '', difference.verdict), ` ${tellDifference(dcc, difference, sides)}${isCut}`);
+  if (difference.verdict === 'alike') return;
+  const turn = firstOtherTurn(difference, outcomes);
+  const drawn = sides.map((it, i) => drawSide(dcc, it, i ? 'second' : 'first', shownOf(difference, i, it.outcomes, turn), zoom));
+  $('sides').replaceChildren(...drawn);
+  showEnds($('sides'));
+};
