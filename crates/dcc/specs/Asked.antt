@@ -70,6 +70,7 @@ pub record Asks (name : Text) (rows : List Row) (result : Result Request ToolFau
   pub run : name ≡ codes "run" → result ≡ Ok request.Run
   pub same : name ≡ codes "same" → result ≡ comparison (first_of (codes "who") rows)
   pub readcv : name ≡ codes "readcv" → ReadsCvOf rows result
+  pub timing : name ≡ codes "timing" → result ≡ Ok request.Timing
 
 -- a subcommand has to be given
 abbrev pub AsksOf : Option (Text × List Row) → Result Request ToolFault → Type 0

@@ -47,6 +47,9 @@ same_app = with_rule (new_app (codes "same")) who_rule
 abbrev pub readcv_app : App
 readcv_app = with_rule (with_rule (new_app (codes "readcv")) cv_rule) (flag_rule (codes "empty"))
 
+abbrev pub timing_app : App
+timing_app = new_app (codes "timing")
+
 -- the program alone: it has a version, and a subcommand has to be given, of which `help` is none
 abbrev pub top_app : App
 top_app =
@@ -62,5 +65,6 @@ abbrev pub dcc_app : App
 dcc_app =
     with_subcommand
     (with_subcommand
+    (with_subcommand
     (with_subcommand (with_subcommand (with_subcommand top_app show_app.top) encode_app.top) run_app.top)
-    same_app.top) readcv_app.top
+    same_app.top) readcv_app.top) timing_app.top

@@ -3,7 +3,7 @@ ghost use Rattle.std.specs.Prelude.{◌≡◌, IfOk, false, codes};
 ghost use Rattle.clap.specs.Words.{app_of, rule_of};
 ghost use Rattle.clap.specs.declared.builder.command.Command.TheViews.{out-Command as fields_of};
 ghost use Rattle.dcc.specs.CommandLine.{cv_rule, dcc_app, encode_app, encode_flags, flag_rule, readcv_app, run_app};
-ghost use Rattle.dcc.specs.CommandLine.{same_app, show_app, size_rule, top_app, who_rule};
+ghost use Rattle.dcc.specs.CommandLine.{same_app, show_app, size_rule, timing_app, top_app, who_rule};
 
 use crate::help_texts;
 use clap::{Arg, ArgAction, Command, value_parser};
@@ -18,7 +18,8 @@ pub fn command<'a>(alloc: Global) -> Result<Command<'a>, AllocError>
         .subcommand(encode(alloc)?)?
         .subcommand(run(alloc))?
         .subcommand(same(alloc)?)?
-        .subcommand(readcv(alloc)?)
+        .subcommand(readcv(alloc)?)?
+        .subcommand(timing(alloc))
 }
 
 /// The program alone.
@@ -116,6 +117,15 @@ fn readcv<'a>(alloc: Global) -> Result<Command<'a>, AllocError>
         .after_help(help_texts::READCV)
         .arg(cv(alloc))?
         .arg(flag(alloc, "empty", "An empty track; no decoder text is read"))
+}
+
+fn timing<'a>(alloc: Global) -> Command<'a>
+    ensures app { app_of result ≡ timing_app }
+    ensures local { (fields_of result).has_globals ≡ false }
+{
+    Command::new(alloc, "timing")
+        .about("Tells how near the half-bits of a capture are to the limits")
+        .after_help(help_texts::TIMING)
 }
 
 /// A flag of a subcommand.

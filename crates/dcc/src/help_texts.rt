@@ -78,3 +78,21 @@ It reads a decoder text from standard input, and asks its first locomotive; with
 
 A line for each question, in hex, with yes or no, and then the value or `no answer`.
 docs/FORMATS.md has decoder texts.";
+
+/// Of `timing`.
+pub const TIMING: &str = "\
+It reads a capture from standard input, as `dcc show` does, and writes one figure a
+line, times in microseconds:
+
+  dcc timing < capture.txt
+  dcc timing < capture.txt | grep -e most -e station
+
+  halves, time, packets, refused H1 to H5   how many half-bits, how long, what is in them
+  gap          from the end of one packet to the end of the next
+  ones, zeros  half-bits of 52 to 64, of 90 to 10000
+  differences  between the two halves of ones, in packets
+  sums         of the two halves of zeros, in packets
+  below, between, above   half-bits that are neither of a one nor of a zero
+Of each how many, the least, the most and the mean, or none; behind them what NMRA
+S-9.1 asks of a station and of a decoder. A capture with a fault has no figures: it
+ends with U2, U4 or U7, as that of `dcc show`. docs/FORMATS.md has each figure.";

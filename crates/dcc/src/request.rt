@@ -44,6 +44,7 @@ fn request_named(name: &str, found: &ArgMatches) -> Result<Request, ToolFault>
         "run" => Ok(Request::Run),
         "same" => comparison_of(found),
         "readcv" => reading_of(found),
+        "timing" => Ok(Request::Timing),
         _ => Err(ToolFault::Usage(Usage::Words)),
     }
 }

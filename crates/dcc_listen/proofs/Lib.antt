@@ -3,3 +3,5 @@ pub mod GatherLemmas
 pub mod RunLemmas
 pub mod GatherFirstLemmas
 pub mod InStepLemmas
+pub mod TimingLemmas
+pub mod TimingTextLemmas

@@ -6,4 +6,6 @@ pub mod FleetRun
 pub mod GatheredBoth
 pub mod ComparedBoth
 pub mod Taking
+pub mod TimingText
+pub mod Timed
 pub mod Inner

@@ -1,4 +1,4 @@
-//! What is made of captures: their listings, fleets that hear them, and whether two are alike for a decoder.
+//! What is made of captures: their listings, their timings, fleets that hear them, and whether two are alike for a decoder.
 #![tactic(auto)]
 
 mod first_capture;
@@ -9,9 +9,12 @@ mod same_call;
 mod same_input_call;
 mod show_call;
 mod taking;
+mod timing_call;
+mod timing_text;
 mod verdict_line;
 
 pub use run_call::run;
 pub use same_call::same;
 pub use same_input_call::same_input;
 pub use show_call::show;
+pub use timing_call::timing;

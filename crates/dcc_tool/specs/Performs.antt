@@ -25,6 +25,7 @@ use Rattle.dcc_saved.specs.PossibleLines.{is_possible}
 use Rattle.dcc_saved.specs.TextRead.{Answers, UsedWholeLines}
 use Rattle.dcc_saved.specs.TextReadOrNoMemory.{ReadFails}
 use Rattle.dcc_listen.specs.Shown.{Shows}
+use Rattle.dcc_listen.specs.Timed.{Times}
 use Rattle.dcc_listen.specs.FleetRun.{Fleet, Runs}
 use Rattle.dcc_listen.specs.ComparedBoth.{ComparesBoth}
 use Rattle.dcc_send.specs.declared.encoding.Encode.{Encode}
@@ -77,6 +78,11 @@ pub record KeptOr {A : Type 0} (old : Streams) (answer : Result A ToolFault) (ne
 abbrev pub ShowsCapture : Bool → Streams → Result (Unit {0}) ToolFault → Streams → Type 0
 ShowsCapture words old answer new =
     KeptOr old answer new (Shows words old.input old.writer answer new.input new.writer)
+
+-- the figures of the capture are written
+abbrev pub TimesCapture : Streams → Result (Unit {0}) ToolFault → Streams → Type 0
+TimesCapture old answer new =
+    KeptOr old answer new (Times old.input old.writer answer new.input new.writer)
 
 -- the lines of packets are written: of those that the lines say, or that the station hands out
 pub record WritesPackets (how : Encode) (old : Streams) (answer : Result (Unit {0}) ToolFault) (new : Streams) : Type 0
@@ -162,3 +168,4 @@ Performs (request.Same who) old result new =
     Judged result
     (λ answer. ComparesBoth who old.input old.writer answer new.input new.writer)
 Performs (request.ReadCv cv empty) old result new = Valued result (λ answer. ReadsTrack empty cv old answer new)
+Performs request.Timing old result new = Done result (λ answer. TimesCapture old answer new)

@@ -6,7 +6,7 @@ ghost use Rattle.dcc_tool.specs.Performs.{Performs, ReadsTrack, RunsText};
 
 use crate::ending::Ending;
 use dcc_io::{Input, Sink, Source, ToolFault};
-use dcc_listen::{run, same_input, show};
+use dcc_listen::{run, same_input, show, timing};
 use dcc_packet::CvNumber;
 use dcc_regs::{BoardState, Decoder, LocoState, PackedBoard, PackedLoco, Who};
 use dcc_saved::{Saved, read_decoders};
@@ -30,6 +30,9 @@ pub enum Request {
 
     /// A CV is read on a programming track: an empty one, or that of a decoder text.
     ReadCv { cv: CvNumber, empty: bool },
+
+    /// The figures of a capture.
+    Timing,
 }
 
 /// Does what is asked for, with this input and writer.
@@ -60,6 +63,10 @@ pub fn perform<R: Source, W: Sink>(
         Request::ReadCv { cv, empty } => {
             let value = read_on_track(alloc, input, writer, cv, empty)?;
             Ok(Ending::Value(value))
+        }
+        Request::Timing => {
+            timing(input, writer)?;
+            Ok(Ending::Done)
         }
     }
 }

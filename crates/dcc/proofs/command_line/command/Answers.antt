@@ -1,7 +1,7 @@
 use Rattle.std.proofs.Common.{◌≡◌, ◌∙◌, ap, ap₂}
 use Rattle.std.proofs.lemmas.Result.{IfOk-weaker}
 use Rattle.clap.specs.Words.{App, app_of, with_subcommand}
-use Rattle.dcc.specs.CommandLine.{encode_app, run_app, same_app, show_app, top_app}
+use Rattle.dcc.specs.CommandLine.{encode_app, readcv_app, run_app, same_app, show_app, timing_app, top_app}
 use Rattle.dcc.proofs.command_line.command.Goals as goal
 
 -- a subcommand more
@@ -23,6 +23,12 @@ returns c =
     (with_subcommand (with_subcommand (with_subcommand top_app show_app.top) encode_app.top) run_app.top)
     same_app.top =
     c.in_ok-subcommand-4.ensures.shape c.in_ok-same.ensures.local ∙ more third c.in_ok-same.ensures.app in
-    IfOk-weaker c.subcommand-5.result _ _
-    (λ r adds. adds.shape c.in_ok-readcv.ensures.local ∙ more fourth c.in_ok-readcv.ensures.app)
-    c.subcommand-5.ensures
+    let fifth : app_of c.in_ok-subcommand-5.field-0
+    ≡ with_subcommand
+    (with_subcommand
+    (with_subcommand (with_subcommand (with_subcommand top_app show_app.top) encode_app.top) run_app.top)
+    same_app.top) readcv_app.top =
+    c.in_ok-subcommand-5.ensures.shape c.in_ok-readcv.ensures.local ∙ more fourth c.in_ok-readcv.ensures.app in
+    IfOk-weaker c.subcommand-6.result _ _
+    (λ r adds. adds.shape c.timing.ensures.local ∙ more fifth c.timing.ensures.app)
+    c.subcommand-6.ensures

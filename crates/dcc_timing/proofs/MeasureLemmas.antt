@@ -1,0 +1,228 @@
+-- How the figures of a list of half-bits grow.
+use Rattle.std.proofs.Common.{◌≡◌, ◌≢◌, ℕ, ◌+◌, ◌-◌, ◌*◌, ◌<◌, ◌≤◌, List, [], ◌∷◌, ◌++◌, length, take, map, sum, replicate}
+use Rattle.std.proofs.Common.{Option, Some, None, IfSome, refl, sym, ap, ◌∙◌, subst, arith, append_assoc, append-nil, length-append}
+use Rattle.std.specs.List.{filter_map, flat_map}
+use Rattle.std.proofs.lemmas.List.{length-replicate, replicate-append-replicate, take-append-le, take_at, map-append}
+use Rattle.std.proofs.lemmas.Grind.{flat_map-append}
+use Rattle.std.proofs.lemmas.List.Elements.{filter_map-append}
+use Rattle.std.proofs.lemmas.List.Sums.{sum_by-append}
+use Rattle.std.proofs.lemmas.List.Folds.{sum_by-replicate}
+use Rattle.dcc_wire.specs.declared.seen.Seen.{Seen}
+use Rattle.dcc_wire.specs.declared.seen.Seen.TheVariants.{Nothing, Packet, Refused}
+use Rattle.dcc_wire.specs.Half.{class_of}
+use Rattle.dcc_wire.specs.Framing.{seen, rest, report_at, StandsFor}
+use Rattle.dcc_wire.specs.Inner.Steps.{answer_to}
+use Rattle.dcc_wire.proofs.FramingLemmas.{seen-push}
+use Rattle.dcc_wire.proofs.SeenLemmas.{seen-none}
+use Rattle.dcc_timing.specs.declared.timings.Timings.{Timings}
+use Rattle.dcc_timing.specs.Numbers.{keep_last}
+use Rattle.dcc_timing.specs.Classes.{AreClasses}
+use Rattle.dcc_timing.specs.Outcomes.{AreOutcomes}
+use Rattle.dcc_timing.specs.PacketBits.{AreBits, bits_among, bits_in, bits_of, bits_shown, packet_length, packet_of, packets_in, pairs}
+use Rattle.dcc_timing.specs.Gaps.{AreGaps, end_among, ends_in}
+use Rattle.dcc_timing.specs.Measures.{Measures}
+use Rattle.dcc_timing.proofs.RecentLemmas.{keep_last_keep}
+
+-- each outcome stands at a place below
+
+unfoldable Within : ℕ → List (ℕ × Seen) → Type 0
+Within n [] = Unit {0}
+Within n (outcome ∷ outcomes) = (outcome.0 < n) × Within n outcomes
+
+within_more : (m n : ℕ) (outcomes : List (ℕ × Seen)) → m ≤ n → Within m outcomes → Within n outcomes
+unfolding Within
+within_more m n [] longer within = tt
+within_more m n (outcome ∷ outcomes) longer within =
+    (omega (arith, longer, within.0), within_more m n outcomes longer within.1)
+
+within_append : (n : ℕ) (outcomes more : List (ℕ × Seen)) → Within n outcomes → Within n more
+    → Within n (outcomes ++ more)
+unfolding Within
+within_append n [] more within here = here
+within_append n (outcome ∷ outcomes) more within here = (within.0, within_append n outcomes more within.1 here)
+
+within_report : (n place : ℕ) (shown : Seen) → place < n → Within n (report_at place shown)
+unfolding Within report_at
+within_report n place Nothing below = tt
+within_report n place (Packet bytes) below = (below, tt)
+within_report n place (Refused fault) below = (below, tt)
+
+within_seen : (halves more : List ℕ) → Within (length halves) (seen halves)
+    → Within (length (halves ++ more)) (seen (halves ++ more))
+within_seen halves [] within = rw (append-nil halves) within
+within_seen halves (us ∷ more) within =
+    let longer : length (halves ++ us ∷ []) ≡ length halves + 1 = length-append halves (us ∷ []) in
+    let shown : Seen = answer_to (rest halves) (class_of us) in
+    let here : Within (length (halves ++ us ∷ [])) (seen halves ++ report_at (length halves) shown) =
+    within_append (length (halves ++ us ∷ [])) (seen halves) (report_at (length halves) shown)
+    (within_more (length halves) (length (halves ++ us ∷ [])) (seen halves) (omega (arith, longer)) within)
+    (within_report (length (halves ++ us ∷ [])) (length halves) shown (omega (arith, longer))) in
+    subst (λ l. Within (length l) (seen l)) (append_assoc halves (us ∷ []) more)
+    (within_seen (halves ++ us ∷ []) more
+    (subst (λ l. Within (length (halves ++ us ∷ [])) l) (sym (seen-push halves us)) here))
+
+places_within : (halves : List ℕ) → Within (length halves) (seen halves)
+unfolding Within
+places_within halves = within_seen [] halves (rw seen-none tt)
+
+-- what more halves leave of the packets before
+
+bits_same : (halves more : List ℕ) (outcomes : List (ℕ × Seen)) → Within (length halves) outcomes
+    → flat_map (bits_of (halves ++ more)) (filter_map packet_of outcomes)
+    ≡ flat_map (bits_of halves) (filter_map packet_of outcomes)
+unfolding Within bits_of
+bits_same halves more [] within = refl
+bits_same halves more ((place, Nothing) ∷ outcomes) within = bits_same halves more outcomes within.1
+bits_same halves more ((place, Refused fault) ∷ outcomes) within = bits_same halves more outcomes within.1
+bits_same halves more ((place, Packet bytes) ∷ outcomes) within =
+    let same : take (place + 1) (halves ++ more) ≡ take (place + 1) halves =
+    take-append-le (place + 1) halves more (omega (arith, within.0)) in
+    ap (λ l. pairs (keep_last (packet_length (length bytes)) l)
+    ++ flat_map (bits_of (halves ++ more)) (filter_map packet_of outcomes)) same
+    ∙ ap (λ l. pairs (keep_last (packet_length (length bytes)) (take (place + 1) halves)) ++ l)
+    (bits_same halves more outcomes within.1)
+
+ends_same : (halves more : List ℕ) (outcomes : List (ℕ × Seen)) → Within (length halves) outcomes
+    → map (λ packet. sum (take packet.0 (halves ++ more))) (filter_map packet_of outcomes)
+    ≡ map (λ packet. sum (take packet.0 halves)) (filter_map packet_of outcomes)
+unfolding Within
+ends_same halves more [] within = refl
+ends_same halves more ((place, Nothing) ∷ outcomes) within = ends_same halves more outcomes within.1
+ends_same halves more ((place, Refused fault) ∷ outcomes) within = ends_same halves more outcomes within.1
+ends_same halves more ((place, Packet bytes) ∷ outcomes) within =
+    let same : take (place + 1) (halves ++ more) ≡ take (place + 1) halves =
+    take-append-le (place + 1) halves more (omega (arith, within.0)) in
+    ap (λ l. sum l ∷ map (λ packet. sum (take packet.0 (halves ++ more))) (filter_map packet_of outcomes)) same
+    ∙ ap (λ l. sum (take (place + 1) halves) ∷ l) (ends_same halves more outcomes within.1)
+
+-- what these halves show, behind others
+abbrev pub Shows : List ℕ → List ℕ → ℕ → Seen → Type 0
+Shows halves more place shown = seen (halves ++ more) ≡ seen halves ++ report_at place shown
+
+bits_more : (halves more : List ℕ) (place : ℕ) (shown : Seen) → Shows halves more place shown
+    → bits_in (halves ++ more)
+    ≡ bits_in halves ++ flat_map (bits_of (halves ++ more)) (filter_map packet_of (report_at place shown))
+unfolding bits_in packets_in
+bits_more halves more place shown shows =
+    ap (λ l. flat_map (bits_of (halves ++ more)) (filter_map packet_of l)) shows
+    ∙ ap (flat_map (bits_of (halves ++ more))) (filter_map-append packet_of (seen halves) (report_at place shown))
+    ∙ flat_map-append (bits_of (halves ++ more)) (filter_map packet_of (seen halves))
+    (filter_map packet_of (report_at place shown))
+    ∙ ap (λ l. l ++ flat_map (bits_of (halves ++ more)) (filter_map packet_of (report_at place shown)))
+    (bits_same halves more (seen halves) (places_within halves))
+
+ends_more : (halves more : List ℕ) (place : ℕ) (shown : Seen) → Shows halves more place shown
+    → ends_in (halves ++ more)
+    ≡ ends_in halves
+    ++ map (λ packet. sum (take packet.0 (halves ++ more))) (filter_map packet_of (report_at place shown))
+unfolding ends_in packets_in
+ends_more halves more place shown shows =
+    let end : ℕ × List ℕ → ℕ = λ packet. sum (take packet.0 (halves ++ more)) in
+    ap (λ l. map end (filter_map packet_of l)) shows
+    ∙ ap (map end) (filter_map-append packet_of (seen halves) (report_at place shown))
+    ∙ map-append end (filter_map packet_of (seen halves)) (filter_map packet_of (report_at place shown))
+    ∙ ap (λ l. l ++ map end (filter_map packet_of (report_at place shown)))
+    (ends_same halves more (seen halves) (places_within halves))
+
+bits_here : (halves front later : List ℕ) (place : ℕ) (shown : Seen) → halves ≡ front ++ later
+    → length front ≡ place + 1
+    → flat_map (bits_of halves) (filter_map packet_of (report_at place shown)) ≡ bits_among (bits_shown shown) front
+unfolding bits_of report_at
+bits_here halves front later place Nothing whole last = refl
+bits_here halves front later place (Refused fault) whole last = refl
+bits_here halves front later place (Packet bytes) whole last =
+    append-nil (pairs (keep_last (packet_length (length bytes)) (take (place + 1) halves)))
+    ∙ ap (λ l. pairs (keep_last (packet_length (length bytes)) l))
+    (ap (take (place + 1)) whole ∙ take_at front later (place + 1) last)
+
+ends_here : (halves front later : List ℕ) (place : ℕ) (shown : Seen) → halves ≡ front ++ later
+    → length front ≡ place + 1
+    → map (λ packet. sum (take packet.0 halves)) (filter_map packet_of (report_at place shown))
+    ≡ end_among (bits_shown shown) (sum front)
+unfolding report_at
+ends_here halves front later place Nothing whole last = refl
+ends_here halves front later place (Refused fault) whole last = refl
+ends_here halves front later place (Packet bytes) whole last =
+    ap (λ l. sum l ∷ []) (ap (take (place + 1)) whole ∙ take_at front later (place + 1) last)
+
+-- no halves
+
+pub measures_none : (timings : Timings) → timings.halves ≡ 0 → timings.time ≡ 0 → AreClasses timings.classes []
+    → AreOutcomes timings.outcomes [] → AreBits timings.packets.bits [] → AreGaps timings.packets.gaps [] → StandsFor timings.framer []
+    → timings.recent ≡ [] → Measures timings []
+unfolding bits_in packets_in ends_in
+measures_none timings count time classes outcomes bits gaps framer recent = record {
+  count = count;
+  time = time;
+  classes = classes;
+  outcomes = rw seen-none outcomes;
+  bits = rw seen-none bits;
+  gaps = rw seen-none gaps;
+  framer = framer;
+  recent = recent;
+}
+
+-- a run of halves
+
+pub run_on : (halves : List ℕ) (us i n : ℕ) → i ≤ n
+    → (halves ++ replicate i us) ++ replicate (n - i) us ≡ halves ++ replicate n us
+run_on halves us i n within =
+    let all : i + (n - i) ≡ n = omega (arith, within) in
+    append_assoc halves (replicate i us) (replicate (n - i) us)
+    ∙ ap (λ l. halves ++ l) (replicate-append-replicate i (n - i) us ∙ ap (λ k. replicate k us) all)
+
+pub sum_run : (halves : List ℕ) (n us : ℕ) → sum (halves ++ replicate n us) ≡ sum halves + n * us
+sum_run halves n us =
+    sum_by-append (λ x. x) halves (replicate n us) ∙ ap (λ k. sum halves + k) (sum_by-replicate (λ x. x) n us)
+
+pub length_run : (halves : List ℕ) (n us : ℕ) → length (halves ++ replicate n us) ≡ length halves + n
+length_run halves n us =
+    length-append halves (replicate n us) ∙ ap (λ k. length halves + k) (length-replicate n us)
+
+-- of a packet's bits only the last halves count
+few_count : (shown : Option ℕ) (front : List ℕ) → IfSome shown (λ count. count ≤ 130)
+    → bits_among shown (keep_last 130 front) ≡ bits_among shown front
+few_count None front few = refl
+few_count (Some count) front few = ap pairs (keep_last_keep count 130 front few)
+
+module _ (halves : List ℕ) (us n at : ℕ) (shown : Seen) (some : 1 ≤ at) (within : at ≤ n)
+    (shows : Shows halves (replicate n us) (length halves + at - 1) shown) where
+  whole : halves ++ replicate n us ≡ (halves ++ replicate at us) ++ replicate (n - at) us
+  whole = sym (run_on halves us at n within)
+
+  last : length (halves ++ replicate at us) ≡ length halves + at - 1 + 1
+  last = omega (arith, length_run halves at us, some)
+
+  pub bits_run : (recent : List ℕ) → recent ≡ keep_last 130 (halves ++ replicate at us)
+      → IfSome (bits_shown shown) (λ count. count ≤ 130)
+      → bits_in (halves ++ replicate n us) ≡ bits_in halves ++ bits_among (bits_shown shown) recent
+  bits_run recent is few =
+      bits_more halves (replicate n us) (length halves + at - 1) shown shows
+      ∙ ap (λ l. bits_in halves ++ l)
+      (bits_here (halves ++ replicate n us) (halves ++ replicate at us) (replicate (n - at) us) (length halves + at - 1)
+      shown whole last
+      ∙ sym (few_count (bits_shown shown) (halves ++ replicate at us) few)
+      ∙ ap (bits_among (bits_shown shown)) (sym is))
+
+  pub ends_run : (end : ℕ) → end ≡ sum halves + at * us
+      → ends_in (halves ++ replicate n us) ≡ ends_in halves ++ end_among (bits_shown shown) end
+  ends_run end is =
+      ends_more halves (replicate n us) (length halves + at - 1) shown shows
+      ∙ ap (λ l. ends_in halves ++ l)
+      (ends_here (halves ++ replicate n us) (halves ++ replicate at us) (replicate (n - at) us) (length halves + at - 1)
+      shown whole last
+      ∙ ap (end_among (bits_shown shown)) (sum_run halves at us ∙ sym is))
+
+pub time_run : (halves : List ℕ) (n us time count one : ℕ) → time ≡ sum halves → count ≡ n → one ≡ us
+    → time + count * one ≡ sum (halves ++ replicate n us)
+time_run halves n us time count one is all each =
+    ap (λ k. k + count * one) is ∙ ap (λ k. sum halves + k * one) all ∙ ap (λ k. sum halves + n * k) each
+    ∙ sym (sum_run halves n us)
+
+-- what is shown stands at one of the halves of a run
+pub some_half : (n at : ℕ) (shown : Seen) → 0 < n → (shown ≡ Nothing → at ≡ n)
+    → (shown ≢ Nothing → (1 ≤ at) × (at ≤ n)) → (1 ≤ at) × (at ≤ n)
+some_half n at Nothing some nothing something =
+    let all = nothing refl in (omega (arith, all, some), omega (arith, all))
+some_half n at (Packet bytes) some nothing something = something (λ none. cc)
+some_half n at (Refused fault) some nothing something = something (λ none. cc)

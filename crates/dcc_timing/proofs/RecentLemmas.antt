@@ -1,0 +1,62 @@
+-- The last numbers of a list that grows.
+use Rattle.std.proofs.Common.{◌≡◌, ℕ, ◌+◌, ◌-◌, ◌≤◌, min, List, ◌++◌, length, drop, replicate, refl, sym, ap, ◌∙◌, arith}
+use Rattle.std.proofs.Common.{[], ◌∷◌, inl, inr, length-append, length-drop, append_assoc}
+use Rattle.std.proofs.lemmas.List.{drop-append-le, drop-drop, drop-replicate, drop_at, length-replicate, replicate_more}
+use Rattle.std.proofs.lemmas.Bool.{cases_lt}
+use Rattle.dcc_timing.specs.Numbers.{keep_last}
+
+-- what stood before them does not count
+pub keep_last_behind : (k : ℕ) (xs ys : List ℕ) → keep_last k (keep_last k xs ++ ys) ≡ keep_last k (xs ++ ys)
+keep_last_behind k xs ys =
+    let d : ℕ = length xs - k in
+    let within : d ≤ length xs = omega arith in
+    let front : drop d xs ++ ys ≡ drop d (xs ++ ys) = sym (drop-append-le d xs ys within) in
+    let shorter : length (drop d xs ++ ys) ≡ (length xs - d) + length ys =
+    length-append (drop d xs) ys ∙ ap (λ n. n + length ys) (length-drop d xs) in
+    let longer = length-append xs ys in
+    let place : d + (length (drop d xs ++ ys) - k) ≡ length (xs ++ ys) - k = omega (arith, shorter, longer) in
+    ap (λ l. drop (length (drop d xs ++ ys) - k) l) front
+    ∙ drop-drop (length (drop d xs ++ ys) - k) d (xs ++ ys)
+    ∙ ap (λ n. drop n (xs ++ ys)) place
+
+-- one half more of a run
+pub recent_more : (halves before after : List ℕ) (us k m : ℕ) → before ≡ keep_last 130 (halves ++ replicate k us)
+    → after ≡ keep_last 130 (before ++ us ∷ []) → k + 1 ≡ m → after ≡ keep_last 130 (halves ++ replicate m us)
+recent_more halves before after us k m so takes one =
+    takes ∙ ap (λ l. keep_last 130 (l ++ us ∷ [])) so
+    ∙ keep_last_behind 130 (halves ++ replicate k us) (us ∷ [])
+    ∙ ap (λ l. keep_last 130 l) (append_assoc halves (replicate k us) (us ∷ [])
+    ∙ ap (λ l. halves ++ l) (replicate_more k us ∙ ap (λ n. replicate n us) one))
+
+-- a list that ends in so many of one number ends in those alone
+keep_last_run : (k n us : ℕ) (halves : List ℕ) → k ≤ n → keep_last k (halves ++ replicate n us) ≡ replicate k us
+keep_last_run k n us halves enough =
+    let long : length (halves ++ replicate n us) ≡ length halves + n =
+    length-append halves (replicate n us) ∙ ap (λ m. length halves + m) (length-replicate n us) in
+    let place : length (halves ++ replicate n us) - k ≡ length halves + (n - k) = omega (arith, long, enough) in
+    let left : n - (n - k) ≡ k = omega (arith, enough) in
+    ap (λ m. drop m (halves ++ replicate n us)) place
+    ∙ sym (drop-drop (n - k) (length halves) (halves ++ replicate n us))
+    ∙ ap (λ l. drop (n - k) l) (drop_at halves (replicate n us) (length halves) refl)
+    ∙ drop-replicate (n - k) n us
+    ∙ ap (λ m. replicate m us) left
+
+-- of a long run the first halves do not count
+pub recent_all : (halves now : List ℕ) (us n k : ℕ) → now ≡ keep_last 130 (halves ++ replicate k us) → k ≡ min n 130
+    → now ≡ keep_last 130 (halves ++ replicate n us)
+recent_all halves now us n k so few = elim (cases_lt 130 n) [
+  | inl long ↦
+      let same : k ≡ 130 = omega (arith, few, long) in
+      so ∙ keep_last_run 130 k us halves (omega (arith, same))
+      ∙ sym (keep_last_run 130 n us halves (omega (arith, long)))
+  | inr short ↦
+      let same : k ≡ n = omega (arith, few, short) in so ∙ ap (λ m. keep_last 130 (halves ++ replicate m us)) same
+]
+
+-- fewer of the last ones
+pub keep_last_keep : (few many : ℕ) (xs : List ℕ) → few ≤ many → keep_last few (keep_last many xs) ≡ keep_last few xs
+keep_last_keep few many xs less =
+    let d : ℕ = length xs - many in
+    let left : length (drop d xs) ≡ length xs - d = length-drop d xs in
+    let place : d + (length (drop d xs) - few) ≡ length xs - few = omega (arith, left, less) in
+    drop-drop (length (drop d xs) - few) d xs ∙ ap (λ n. drop n xs) place

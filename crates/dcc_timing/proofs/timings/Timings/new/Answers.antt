@@ -1,0 +1,8 @@
+use Rattle.std.proofs.Common.{refl}
+use Rattle.dcc_timing.proofs.MeasureLemmas.{measures_none}
+use Rattle.dcc_timing.proofs.timings.Timings.new.Goals as goal
+
+pub returns : goal.returns
+returns c =
+    measures_none _ refl refl c.new.ensures.classes c.new-2.ensures.outcomes c.new-3.ensures.bits c.new-3.ensures.gaps
+    c.new-4.ensures c.new-5.ensures

@@ -1,0 +1,33 @@
+-- The packets and the refusals in a list of half-bits, by their cause.
+use Rattle.std.specs.Prelude.{◌≡◌, ℕ, ◌+◌, ◌==◌, Bool, true, false, List}
+use Rattle.std.specs.List.{count_by}
+use Rattle.dcc_wire.specs.declared.seen.Seen.{Seen}
+use Rattle.dcc_wire.specs.declared.seen.Seen.TheVariants.{Nothing, Packet, Refused}
+use Rattle.dcc_wire.specs.FaultNumbers.{fault_number}
+use Rattle.dcc_timing.specs.declared.outcomes.Outcomes.{Outcomes}
+
+-- a packet
+abbrev pub is_packet : ℕ × Seen → Bool
+is_packet (place, Packet bytes) = true
+is_packet (place, Refused fault) = false
+is_packet (place, Nothing) = false
+
+-- a refusal of this number, 1 for H1 to 5 for H5
+abbrev pub is_refused : ℕ → ℕ × Seen → Bool
+is_refused number (place, Refused fault) = fault_number fault == number
+is_refused number (place, Packet bytes) = false
+is_refused number (place, Nothing) = false
+
+-- how many of each there are among these outcomes
+pub record AreOutcomes (counts : Outcomes) (outcomes : List (ℕ × Seen)) : Type 0 where
+  pub packets : counts.packets ≡ count_by is_packet outcomes
+  pub bad_halves : counts.bad_halves ≡ count_by (is_refused 1) outcomes
+  pub split_bits : counts.split_bits ≡ count_by (is_refused 2) outcomes
+  pub too_short : counts.too_short ≡ count_by (is_refused 3) outcomes
+  pub too_long : counts.too_long ≡ count_by (is_refused 4) outcomes
+  pub error_bytes : counts.error_bytes ≡ count_by (is_refused 5) outcomes
+
+-- how many outcomes they count
+abbrev pub outcomes_count : Outcomes → ℕ
+outcomes_count counts =
+    counts.packets + counts.bad_halves + counts.split_bits + counts.too_short + counts.too_long + counts.error_bytes

@@ -1,0 +1,21 @@
+-- The figures of a list of numbers.
+use Rattle.std.specs.Prelude.{◌≡◌, ℕ, ◌*◌, ◌/◌, ◌%◌, List, [], ◌∷◌, length, sum, Option, None, Some}
+use Rattle.dcc_timing.specs.declared.tally.Tally.{Tally}
+use Rattle.dcc_timing.specs.declared.tally.Mean.{Mean}
+use Rattle.dcc_timing.specs.Numbers.{least, most}
+
+-- a sum divided by a count, rounded down to hundredths
+abbrev pub quotient : ℕ → ℕ → Mean
+quotient total count = record { whole = total / count; hundredths = 100 * (total % count) / count }
+
+-- the mean of a list of numbers; none of an empty one
+unfoldable pub mean : List ℕ → Option Mean
+mean [] = None
+mean (number ∷ numbers) = Some (quotient (sum (number ∷ numbers)) (length (number ∷ numbers)))
+
+-- the tally of these numbers
+pub record IsTally (tally : Tally) (numbers : List ℕ) : Type 0 where
+  pub count : tally.count ≡ length numbers
+  pub total : tally.sum ≡ sum numbers
+  pub lowest : tally.least ≡ least numbers
+  pub highest : tally.most ≡ most numbers

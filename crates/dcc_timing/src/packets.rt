@@ -1,0 +1,65 @@
+//! The packets in half-bits that come many at a time.
+
+ghost use Rattle.std.specs.Prelude.{◌≡◌, ◌≤◌, IfSome};
+ghost use Rattle.dcc_timing.specs.PacketBits.{bits_shown};
+
+use crate::bits::Bits;
+use crate::gaps::Gaps;
+use crate::recent::Recent;
+use dcc_wire::Seen;
+
+/// The bits of the packets in a list of halves, and the times between them.
+#[derive(Clone, Copy, Debug)]
+pub(crate) struct Packets {
+    pub(crate) bits: Bits,
+    pub(crate) gaps: Gaps,
+}
+
+impl Packets {
+    ghost use Rattle.std.specs.Prelude.{◌≡◌, ◌<◌, ◌≤◌, ◌+◌, ◌^◌, ℕ, List, [], ◌++◌, IfSome};
+    ghost use Rattle.dcc_timing.specs.PacketBits.{AreBits, bits_count, bits_shown, bits_among};
+    ghost use Rattle.dcc_timing.specs.Gaps.{AreGaps, end_among};
+
+    /// Of no halves.
+    pub(crate) fn new() -> Packets
+        ensures bits { AreBits result.bits [] }
+        ensures gaps { AreGaps result.gaps [] }
+        ensures count { bits_count result.bits ≡ 0 }
+    {
+        Packets {
+            bits: Bits::new(),
+            gaps: Gaps::new(),
+        }
+    }
+
+    /// Adds what was shown, at this time, with these halves up to its last one.
+    pub(crate) fn add(&mut self, seen: &Seen, end: u64, recent: &Recent)
+        requires { bits_count self.old.bits + 130 < 2 ^ 40 }
+        ensures bits { (bits : List (ℕ × ℕ)) → AreBits self.old.bits bits
+            → AreBits self.new.bits (bits ++ bits_among (bits_shown seen.now) recent.now) }
+        ensures gaps { (ends : List ℕ) → AreGaps self.old.gaps ends
+            → AreGaps self.new.gaps (ends ++ end_among (bits_shown seen.now) end) }
+        ensures count { bits_count self.new.bits ≤ bits_count self.old.bits + 130 }
+        ensures few { IfSome (bits_shown seen.now) (λ halves. halves ≤ 130) }
+    {
+        match bits_of(seen) {
+            Some(halves) => {
+                self.gaps.add(end);
+                self.bits.add(recent.last(halves));
+            }
+            None => (),
+        }
+    }
+}
+
+/// How many halves the bits of a packet have that was shown; none where none was.
+fn bits_of(seen: &Seen) -> Option<usize>
+    ensures bits { result ≡ bits_shown seen.now }
+    ensures few { IfSome result (λ halves. halves ≤ 130) }
+{
+    match seen {
+        Seen::Packet(frame) => Some(22 + 18 * frame.bytes().len()),
+        Seen::Nothing => None,
+        Seen::Refused(_) => None,
+    }
+}

@@ -1,0 +1,94 @@
+//! The figures of a list of numbers.
+
+ghost use Rattle.std.specs.Prelude.{◌<◌, ◌≤◌, ◌*◌, ◌^◌};
+
+use crate::numbers::{greater, lesser};
+
+/// How many numbers a list has, their sum, the least and the most of them.
+#[derive(Clone, Copy, Debug, PartialEq, Eq)]
+pub struct Tally {
+    count: u64,
+    sum: u64,
+    least: Option<u64>,
+    most: Option<u64>,
+    ghost few: { count < 2 ^ 40 },
+    ghost fits: { sum ≤ 131072 * count },
+}
+
+/// A mean, rounded down to hundredths.
+#[derive(Clone, Copy, Debug, PartialEq, Eq)]
+pub struct Mean {
+    /// The whole number.
+    pub whole: u64,
+    /// The hundredths beside it, below 100.
+    pub hundredths: u64,
+}
+
+impl Tally {
+    ghost use Rattle.std.specs.Prelude.{◌≡◌, ◌<◌, ◌≤◌, ◌+◌, ◌*◌, ◌^◌, ℕ, List, [], ◌++◌, length, replicate, IfSome};
+    ghost use Rattle.dcc_timing.specs.Numbers.{least, most};
+    ghost use Rattle.dcc_timing.specs.Tallies.{IsTally, mean};
+
+    /// Of no numbers.
+    pub(crate) fn new() -> Tally
+        ensures tally { IsTally result [] }
+        ensures count { result.count ≡ 0 }
+    {
+        Tally {
+            count: 0,
+            sum: 0,
+            least: None,
+            most: None,
+        }
+    }
+
+    /// Adds a number n times.
+    #[inline(always)]
+    pub(crate) fn add(&mut self, number: u64, n: u32)
+        requires some { 0 < n }
+        requires room { self.old.count + n < 2 ^ 40 }
+        requires small { number ≤ 131072 }
+        ensures tally { (numbers : List ℕ) → IsTally self.old numbers → IsTally self.new (numbers ++ replicate n number) }
+        ensures count { self.new.count ≡ self.old.count + n }
+    {
+        self.count += u64::from(n);
+        self.sum += u64::from(n) * number;
+        self.least = Some(lesser(self.least, number));
+        self.most = Some(greater(self.most, number));
+    }
+
+    /// How many numbers there are.
+    pub fn count(&self) -> u64
+        ensures { (numbers : List ℕ) → IsTally self.now numbers → result ≡ length numbers }
+    {
+        self.count
+    }
+
+    /// The least number, none of an empty list.
+    pub fn least(&self) -> Option<u64>
+        ensures { (numbers : List ℕ) → IsTally self.now numbers → result ≡ least numbers }
+    {
+        self.least
+    }
+
+    /// The greatest number, none of an empty list.
+    pub fn most(&self) -> Option<u64>
+        ensures { (numbers : List ℕ) → IsTally self.now numbers → result ≡ most numbers }
+    {
+        self.most
+    }
+
+    /// Their mean, none of an empty list.
+    pub fn mean(&self) -> Option<Mean>
+        ensures mean { (numbers : List ℕ) → IsTally self.now numbers → result ≡ mean numbers }
+        ensures below { IfSome result (λ mean. mean.hundredths < 100) }
+    {
+        if self.count == 0 {
+            return None;
+        }
+        Some(Mean {
+            whole: self.sum / self.count,
+            hundredths: 100 * (self.sum % self.count) / self.count,
+        })
+    }
+}
