@@ -1,6 +1,6 @@
 //! Locomotive decoders.
 
-ghost use Rattle.std.specs.Prelude.{◌≡◌, ◌≢◌, true, Option, Some, IfSome};
+ghost use Rattle.std.specs.Prelude.{◌≡◌, ◌≢◌, true, false, Option};
 ghost use Rattle.dcc_packet.specs.declared.address.Address.{Address};
 ghost use Rattle.dcc_packet.specs.declared.packet.Packet.{Packet};
 ghost use Rattle.dcc_packet.specs.Spelling.{spelling};
@@ -14,10 +14,11 @@ ghost use Rattle.dcc_c.specs.Frames.{frame_answer};
 ghost use Rattle.dcc_c.specs.Applied.{HasApplied};
 ghost use Rattle.dcc_c.specs.Locos.{HasAddress, loco_numbers};
 
-use crate::frame::frame_of;
-use crate::loco_numbers::{DccLoco, numbers, own_address, state_of};
+use crate::frame::{DccFrame, frame_of};
+use crate::loco_numbers::{DccLoco, own_address, pending_left, put, registers_of};
 use dcc_packet::{Packet, PacketFault};
-use dcc_regs::{Decoder, LocoState, PackedLoco, Who, hears};
+use dcc_regs::{LocoRegisters, Who, hears};
+use dcc_wire::Frame;
 
 /// Makes a decoder that is powered up with these CVs, that of CV1 first: stopped, forward, all functions and binary states off.
 #[unsafe(no_mangle)]
@@ -25,7 +26,8 @@ pub extern "C" fn dcc_loco_new(loco: &mut DccLoco, cvs: &[u8; 1024])
     ensures { (state : LocoState) × (is_state state ≡ true) × (loco.new ≡ loco_numbers state)
         × (loco_who state ≡ start_who (cv_in cvs.now)) × (loco_map state ≡ start_map (cv_in cvs.now)) }
 {
-    *loco = numbers(&PackedLoco::new(cvs).state());
+    put(loco, &LocoRegisters::new(cvs), DccFrame::of(&[]));
+    loco.cvs.copy_from_slice(cvs);
 }
 
 /// The decoder hears the packet that these bytes spell, and does what it says where it is for it. The answer is 0; 1 or 2 where
@@ -42,13 +44,13 @@ pub extern "C" fn dcc_loco_apply(loco: &mut DccLoco, frame: &[u8]) -> u8
     ensures kept { result ≢ 0 → loco.new ≡ loco.old }
 {
     match frame_of(frame) {
-        Ok(frame) => match after(loco, &Packet::read(&frame)) {
-            Some(state) => {
-                *loco = numbers(&state);
+        Ok(frame) => {
+            if apply(loco, &frame) {
                 0
+            } else {
+                PacketFault::State.number()
             }
-            None => PacketFault::State.number(),
-        },
+        }
         Err(number) => number,
     }
 }
@@ -76,29 +78,23 @@ pub extern "C" fn dcc_loco_hears(loco: &DccLoco, frame: &[u8], heard: &mut bool)
     }
 }
 
-/// The state of a decoder with these numbers after a packet.
-fn after(loco: &DccLoco, packet: &Packet) -> Option<LocoState>
-    ensures decoder { IfSome result
-        (λ _. (before : LocoState) × (is_state before ≡ true) × (loco.now ≡ loco_numbers before)) }
-    ensures applies { (before : LocoState) → is_state before ≡ true → loco.now ≡ loco_numbers before →
-        (after : LocoState) × (result ≡ Some after) × (is_state after ≡ true)
-        × HasApplied packet.now (loco_who before) (loco_map before) (loco_who after) (loco_map after) }
+/// The decoder of these numbers hears the packet of a frame. Answers whether they are of one; where they are not nothing changes.
+fn apply(loco: &mut DccLoco, frame: &Frame) -> bool
+    ensures decoder { result ≡ true → (before : LocoState) × (is_state before ≡ true) × (loco.old ≡ loco_numbers before) }
+    ensures applies { (before : LocoState) → is_state before ≡ true → loco.old ≡ loco_numbers before →
+        (packet : Packet) × (after : LocoState) × (spelling packet ≡ frame.now) × (is_state after ≡ true)
+        × (loco.new ≡ loco_numbers after) × (result ≡ true)
+        × HasApplied packet (loco_who before) (loco_map before) (loco_who after) (loco_map after) }
+    ensures kept { result ≡ false → loco.new ≡ loco.old }
 {
-    heard(&state_of(loco)?, packet)
-}
-
-/// The state of a decoder that was in a state and heard a packet.
-fn heard(before: &LocoState, packet: &Packet) -> Option<LocoState>
-    ensures possible { IfSome result (λ _. is_state before.now ≡ true) }
-    ensures applies { is_state before.now ≡ true →
-        (after : LocoState) × (result ≡ Some after) × (is_state after ≡ true)
-        × HasApplied packet.now (loco_who before.now) (loco_map before.now) (loco_who after) (loco_map after) }
-{
-    match PackedLoco::restore(before) {
-        Ok(mut decoder) => {
-            decoder.apply(packet);
-            Some(decoder.state())
+    let packet = Packet::read(frame);
+    match registers_of(loco) {
+        Some(mut registers) => {
+            if registers.apply(&mut loco.cvs, &packet) {
+                put(loco, &registers, pending_left(&registers.pending, frame));
+            }
+            true
         }
-        Err(_) => None,
+        None => false,
     }
 }

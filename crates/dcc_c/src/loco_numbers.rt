@@ -5,10 +5,12 @@ ghost use Rattle.dcc_packet.specs.declared.address.Address.{Address};
 ghost use Rattle.dcc_packet.specs.declared.address.LongAddress.{LongAddress};
 ghost use Rattle.dcc_packet.specs.declared.address.ShortAddress.{ShortAddress};
 ghost use Rattle.dcc_packet.specs.declared.packet.Packet.{Packet};
+ghost use Rattle.dcc_packet.specs.Spelling.{spelling};
 ghost use Rattle.dcc_regs.specs.declared.loco_state.LocoState.{LocoState};
 ghost use Rattle.dcc_regs.specs.declared.register.Speed.{Speed};
 ghost use Rattle.dcc_regs.specs.Addresses.{is_active};
 ghost use Rattle.dcc_regs.specs.Loco.{is_pending_for};
+ghost use Rattle.dcc_regs.specs.LocoRegisters.{registers_in, with_cvs};
 ghost use Rattle.dcc_regs.specs.LocoState.{is_state};
 ghost use Rattle.dcc_c.specs.Packets.{address_kind};
 ghost use Rattle.dcc_c.specs.Locos.{HasAddress, loco_numbers, own_kind, own_number, pending_numbers, speed_mode, speed_step};
@@ -17,12 +19,12 @@ ghost use Rattle.dcc_c.specs.Locos.{words_of};
 use crate::frame::DccFrame;
 use crate::packet::{address_kind, address_number};
 use dcc_packet::{Address, Packet, PacketFault};
-use dcc_regs::{LocoState, Speed};
+use dcc_regs::{LocoRegisters, Speed};
 use dcc_wire::Frame;
 
 /// What a locomotive decoder holds.
 #[repr(C)]
-#[derive(Clone, Copy, Drop, PartialEq)]
+#[derive(Clone, Copy, Drop)]
 pub struct DccLoco {
     /// The kind of its address: 0 it has none, 1 short, 2 long.
     pub address_kind: u8,
@@ -47,21 +49,19 @@ pub struct DccLoco {
 /// How many numbers 64 bits have.
 const WORD: u128 = 1 << 64;
 
-/// The numbers of a state.
-pub(crate) fn numbers(state: &LocoState) -> DccLoco
-    ensures { result ≡ loco_numbers state.now }
+/// Puts registers away as numbers, with the numbers of what is pending. The CVs stay as they are.
+pub(crate) fn put(loco: &mut DccLoco, registers: &LocoRegisters, pending: DccFrame)
+    requires { pending ≡ pending_numbers registers.now.pending }
+    ensures { loco.new ≡ loco_numbers (with_cvs registers.now loco.old.cvs) }
 {
-    DccLoco {
-        address_kind: own_kind(&state.address),
-        speed_mode: speed_mode(state.speed),
-        step: speed_step(state.speed),
-        forward: state.forward,
-        address: own_number(&state.address),
-        pending: pending_numbers(&state.pending),
-        functions: words_of(state.functions),
-        states: words_of(state.states),
-        cvs: state.cvs,
-    }
+    loco.address_kind = own_kind(&registers.address);
+    loco.address = own_number(&registers.address);
+    loco.speed_mode = speed_mode(registers.speed);
+    loco.step = speed_step(registers.speed);
+    loco.forward = registers.forward;
+    loco.pending = pending;
+    loco.functions = words_of(registers.functions);
+    loco.states = words_of(registers.states);
 }
 
 fn own_kind(own: &Option<Address>) -> u8
@@ -103,12 +103,14 @@ fn speed_step(speed: Speed) -> u8
     }
 }
 
-fn pending_numbers(pending: &Option<Packet>) -> DccFrame
+/// The numbers of what a packet leaves pending: those of its frame, or none.
+pub(crate) fn pending_left(pending: &Option<Packet>, frame: &Frame) -> DccFrame
+    requires { IfSome pending.now (λ packet. spelling packet ≡ frame.now) }
     ensures { result ≡ pending_numbers pending.now }
 {
     match pending {
         None => DccFrame::of(&[]),
-        Some(packet) => DccFrame::of(packet.frame().bytes()),
+        Some(_) => DccFrame::of(frame.bytes()),
     }
 }
 
@@ -118,37 +120,48 @@ fn words_of(bits: u128) -> [u64; 2]
     [(bits % WORD) as u64, (bits / WORD) as u64]
 }
 
-/// The state of these numbers, where they are of one.
-pub(crate) fn state_of(loco: &DccLoco) -> Option<LocoState>
-    ensures found { (state : LocoState) → is_state state ≡ true → loco.now ≡ loco_numbers state → result ≡ Some state }
-    ensures numbers { IfSome result (λ state. loco.now ≡ loco_numbers state) }
+/// The registers of these numbers, where they are of a decoder.
+pub(crate) fn registers_of(loco: &DccLoco) -> Option<LocoRegisters>
+    ensures found { (state : LocoState) → is_state state ≡ true → loco.now ≡ loco_numbers state
+        → result ≡ Some (registers_in state) }
+    ensures possible { IfSome result (λ registers. is_state (with_cvs registers loco.now.cvs) ≡ true) }
+    ensures numbers { IfSome result (λ registers. loco.now ≡ loco_numbers (with_cvs registers loco.now.cvs)) }
 {
-    let state = read(loco)?;
-    if are_same(&numbers(&state), loco) {
-        Some(state)
+    let registers = read(loco)?;
+    if registers.is_possible() && are_numbers_of(loco, &registers) {
+        Some(registers)
     } else {
         None
     }
 }
 
-fn are_same(a: &DccLoco, b: &DccLoco) -> bool
-    ensures { IsTrue result ↔ (a.now ≡ b.now) }
+/// Whether these are the numbers of a decoder with these registers, what is pending being right.
+fn are_numbers_of(loco: &DccLoco, registers: &LocoRegisters) -> bool
+    requires { loco.now.pending ≡ pending_numbers registers.now.pending }
+    ensures { IsTrue result ↔ (loco.now ≡ loco_numbers (with_cvs registers.now loco.now.cvs)) }
 {
-    a == b
+    loco.address_kind == own_kind(&registers.address)
+        && loco.address == own_number(&registers.address)
+        && loco.speed_mode == speed_mode(registers.speed)
+        && loco.step == speed_step(registers.speed)
+        && loco.forward == registers.forward
+        && loco.functions == words_of(registers.functions)
+        && loco.states == words_of(registers.states)
 }
 
-/// The state of these numbers; of others it may be any.
-fn read(loco: &DccLoco) -> Option<LocoState>
-    ensures { (state : LocoState) → is_state state ≡ true → loco.now ≡ loco_numbers state → result ≡ Some state }
+/// The registers of these numbers; of others they may be any.
+fn read(loco: &DccLoco) -> Option<LocoRegisters>
+    ensures found { (state : LocoState) → is_state state ≡ true → loco.now ≡ loco_numbers state
+        → result ≡ Some (registers_in state) }
+    ensures pending { IfSome result (λ registers. loco.now.pending ≡ pending_numbers registers.pending) }
 {
-    Some(LocoState {
+    Some(LocoRegisters {
         address: address_of(loco.address_kind, loco.address)?,
         speed: speed_of(loco.speed_mode, loco.step)?,
         forward: loco.forward,
         functions: bits_of(&loco.functions),
         states: bits_of(&loco.states),
         pending: pending_of(&loco.pending)?,
-        cvs: loco.cvs,
     })
 }
 
@@ -213,13 +226,22 @@ fn bits_of(words: &[u64; 2]) -> u128
     u128::from(words[1]) * WORD + u128::from(words[0])
 }
 
+/// What is pending by these numbers.
 fn pending_of(pending: &DccFrame) -> Option<Option<Packet>>
-    ensures { (own : Option Address) (packet : Option Packet) → is_pending_for own packet ≡ true
+    ensures found { (own : Option Address) (packet : Option Packet) → is_pending_for own packet ≡ true
         → pending.now ≡ pending_numbers packet → result ≡ Some packet }
+    ensures numbers { IfSome result (λ packet. pending.now ≡ pending_numbers packet) }
 {
     if pending.len == 0 {
-        return Some(None);
+        return if pending.bytes == [0; 6] {
+            Some(None)
+        } else {
+            None
+        };
     }
     let frame = Frame::of(pending.as_slice()).ok()?;
+    if *pending != DccFrame::of(frame.bytes()) {
+        return None;
+    }
     Some(Some(Packet::read(&frame)))
 }

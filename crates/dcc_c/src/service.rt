@@ -1,19 +1,20 @@
 //! Decoders on the programming track.
 
-ghost use Rattle.std.specs.Prelude.{◌≡◌, ◌≢◌, ◌↔◌, Option, None, Some, false, IfSome, IsTrue};
+ghost use Rattle.std.specs.Prelude.{◌≡◌, ◌≢◌, Option, None, Some, false, IfSome};
 ghost use Rattle.dcc_service.specs.declared.packet.ServicePacket.{ServicePacket};
 ghost use Rattle.dcc_service.specs.Machine.{ServiceState, Step};
+ghost use Rattle.dcc_service.specs.Progress.{with_cvs};
 ghost use Rattle.dcc_c.specs.Frames.{frame_answer};
 ghost use Rattle.dcc_c.specs.Services.{pending_bytes, service_numbers};
 
 use crate::frame::{DccFrame, frame_of};
 use dcc_packet::PacketFault;
-use dcc_service::{ServiceDecoder, ServicePacket};
+use dcc_service::{ServicePacket, ServiceProgress};
 use dcc_wire::Frame;
 
 /// What a decoder on the programming track holds.
 #[repr(C)]
-#[derive(Clone, Copy, Drop, PartialEq)]
+#[derive(Clone, Copy, Drop)]
 pub struct DccService {
     /// Whether it is in service.
     pub in_service: bool,
@@ -28,7 +29,8 @@ pub struct DccService {
 pub extern "C" fn dcc_service_new(service: &mut DccService, cvs: &[u8; 1024])
     ensures { service.new ≡ service_numbers (record { in_service = false; pending = None; cvs = cvs.now }) }
 {
-    *service = numbers(&ServiceDecoder::new(cvs));
+    put(service, &ServiceProgress::new());
+    service.cvs.copy_from_slice(cvs);
 }
 
 /// The decoder takes the frame of these bytes, and tells whether it acknowledges it. The answer is 0; 1 or 2 where the bytes
@@ -48,10 +50,10 @@ pub extern "C" fn dcc_service_apply(
     ensures untold { result ≢ 0 → acknowledged.new ≡ acknowledged.old }
 {
     match frame_of(frame) {
-        Ok(frame) => match decoder_of(service) {
-            Some(mut decoder) => {
-                *acknowledged = decoder.apply(&frame);
-                *service = numbers(&decoder);
+        Ok(frame) => match progress_of(service) {
+            Some(mut progress) => {
+                *acknowledged = progress.apply(&mut service.cvs, &frame);
+                put(service, &progress);
                 0
             }
             None => PacketFault::State.number(),
@@ -60,15 +62,12 @@ pub extern "C" fn dcc_service_apply(
     }
 }
 
-/// The numbers of a decoder.
-fn numbers(decoder: &ServiceDecoder) -> DccService
-    ensures { result ≡ service_numbers decoder.now }
+/// Puts away how far a decoder is. The CVs stay as they are.
+fn put(service: &mut DccService, progress: &ServiceProgress)
+    ensures { service.new ≡ service_numbers (with_cvs progress.now service.old.cvs) }
 {
-    DccService {
-        in_service: decoder.is_in_service(),
-        pending: pending_bytes(&decoder.pending()),
-        cvs: *decoder.cvs(),
-    }
+    service.in_service = progress.in_service;
+    service.pending = pending_bytes(&progress.pending);
 }
 
 fn pending_bytes(pending: &Option<ServicePacket>) -> DccFrame
@@ -80,31 +79,21 @@ fn pending_bytes(pending: &Option<ServicePacket>) -> DccFrame
     }
 }
 
-/// The decoder of these numbers, where they are of one.
-fn decoder_of(service: &DccService) -> Option<ServiceDecoder>
-    ensures found { (state : ServiceState) → service.now ≡ service_numbers state → result ≡ Some state }
-    ensures numbers { IfSome result (λ state. service.now ≡ service_numbers state) }
+/// How far the decoder of these numbers is, where they are of one.
+fn progress_of(service: &DccService) -> Option<ServiceProgress>
+    ensures found { (state : ServiceState) → service.now ≡ service_numbers state
+        → result ≡ Some (record { in_service = state.in_service; pending = state.pending }) }
+    ensures numbers { IfSome result (λ progress. service.now ≡ service_numbers (with_cvs progress service.now.cvs)) }
 {
-    let decoder = taken_up(service)?;
-    if are_same(&numbers(&decoder), service) {
-        Some(decoder)
+    let pending = pending_of(&service.pending)?;
+    if pending_bytes(&pending) == service.pending {
+        Some(ServiceProgress {
+            in_service: service.in_service,
+            pending,
+        })
     } else {
         None
     }
-}
-
-fn are_same(a: &DccService, b: &DccService) -> bool
-    ensures { IsTrue result ↔ (a.now ≡ b.now) }
-{
-    a == b
-}
-
-/// The decoder of these numbers; of others it may be any.
-fn taken_up(service: &DccService) -> Option<ServiceDecoder>
-    ensures { (state : ServiceState) → service.now ≡ service_numbers state → result ≡ Some state }
-{
-    let pending = pending_of(&service.pending)?;
-    Some(ServiceDecoder::restore(service.in_service, pending, &service.cvs))
 }
 
 fn pending_of(pending: &DccFrame) -> Option<Option<ServicePacket>>

@@ -4,6 +4,7 @@ pub mod WorkedExamples
 pub mod ListWalk
 pub mod NoteLemmas
 pub mod LocoStep
+pub mod PossibleLemmas
 pub mod RegisterStep
 pub mod BoardStep
 pub mod DifferLemmas

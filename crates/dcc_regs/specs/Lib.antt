@@ -10,7 +10,7 @@ pub mod Setting
 pub mod Addresses
 pub mod Loco
 pub mod LocoDecoder
-pub mod PackedLoco
+pub mod LocoRegisters
 pub mod LocoState
 pub mod Board
 pub mod BoardDecoder

@@ -10,36 +10,35 @@ ghost use Rattle.dcc_regs.specs.declared.register.Value.TheVariants.{Flag, Pendi
 
 use crate::register::SpeedMode;
 use crate::writes::is_repeated_write;
-use dcc_packet::{Address, Cvs, Packet, What};
+use dcc_packet::{Address, Packet, What, cv_value, write_cv};
 
 /// The address of a decoder that is powered up with these CVs.
-pub fn active_address(cvs: &Cvs) -> Option<Address>
+pub fn active_address(cvs: &[u8; 1024]) -> Option<Address>
     ensures address { result ≡ address_at (cv_in cvs.now) }
     ensures active { is_active result ≡ true }
 {
-    let bytes = cvs.bytes();
-    let high = bytes[16];
-    if bytes[28] >> 5 & 1 == 1 && (192..=231).contains(&high) {
-        let number = (high as u16 - 192) * 256 + bytes[17] as u16;
+    let high = cvs[16];
+    if cvs[28] >> 5 & 1 == 1 && (192..=231).contains(&high) {
+        let number = (high as u16 - 192) * 256 + cvs[17] as u16;
         Address::long(number).ok()
     } else {
-        Address::short(bytes[0]).ok()
+        Address::short(cvs[0]).ok()
     }
 }
 
 /// A bit of a CV, where there is such a bit.
-pub fn bit(cvs: &Cvs, cv: u16, place: u8) -> Option<bool>
+pub fn bit(cvs: &[u8; 1024], cv: u16, place: u8) -> Option<bool>
     ensures { result ≡ (if is_cv_bit cv place then Some (is_one (cv_in cvs.now cv) place) else None) }
 {
     if (1..=1024).contains(&cv) && place <= 7 {
-        Some(cvs.bytes()[cv as usize - 1] >> place & 1 == 1)
+        Some(cvs[cv as usize - 1] >> place & 1 == 1)
     } else {
         None
     }
 }
 
 /// Does a heard CV write at its second copy, the first one being pending.
-pub fn hear(cvs: &mut Cvs, pending: &Option<Packet>, packet: &Packet)
+pub fn hear(cvs: &mut [u8; 1024], pending: &Option<Packet>, packet: &Packet)
     ensures { (cv place : ℕ) → 1 ≤ cv → place ≤ 7
         → is_one (cv_in cvs.new cv)
         place ≡ (if is_effective (Some (PendingValue pending.now)) packet.now then unwrap_or
@@ -52,7 +51,7 @@ pub fn hear(cvs: &mut Cvs, pending: &Option<Packet>, packet: &Packet)
 }
 
 /// Does a CV write. CV7 and CV8 stay as they are.
-fn write(cvs: &mut Cvs, packet: &Packet)
+fn write(cvs: &mut [u8; 1024], packet: &Packet)
     ensures { (cv place : ℕ) → 1 ≤ cv → place ≤ 7
         → is_one (cv_in cvs.new cv) place ≡ unwrap_or (bit_set packet.now cv place)
         (is_one (cv_in cvs.old cv) place) }
@@ -62,24 +61,24 @@ fn write(cvs: &mut Cvs, packet: &Packet)
             what: What::CvWrite { cv, value },
             ..
         } => {
-            let _ = cvs.write(*cv, *value);
+            let _ = write_cv(cvs, *cv, *value);
         }
         Packet::Loco {
             what: What::CvBitWrite { cv, place, one },
             ..
         } => {
-            let value = place.with_bit(cvs.value(*cv), *one);
-            let _ = cvs.write(*cv, value);
+            let value = place.with_bit(cv_value(cvs, *cv), *one);
+            let _ = write_cv(cvs, *cv, value);
         }
         _ => {}
     }
 }
 
 /// How speed instructions are read.
-pub fn mode(cvs: &Cvs) -> SpeedMode
+pub fn mode(cvs: &[u8; 1024]) -> SpeedMode
     ensures { result ≡ mode_of (Some (Flag (is_one (cv_in cvs.now 29) 1))) }
 {
-    if cvs.bytes()[28] >> 1 & 1 == 1 {
+    if cvs[28] >> 1 & 1 == 1 {
         SpeedMode::Steps28
     } else {
         SpeedMode::Steps14

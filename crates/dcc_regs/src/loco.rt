@@ -16,7 +16,7 @@ use crate::register::{Register, Speed, SpeedMode, Value, Who};
 use crate::speeds::{direction_set, speed_set};
 use crate::states::state_set;
 use crate::writes::leave_pending;
-use dcc_packet::{Address, CvNumber, Cvs, Packet, PacketFault};
+use dcc_packet::{Address, CvNumber, Packet, PacketFault, are_cvs, cv_value};
 
 /// A locomotive decoder: its functions and binary states as truth values, its CVs as bytes.
 #[derive(Drop)]
@@ -26,7 +26,7 @@ pub struct LocoDecoder {
     forward: bool,
     functions: [bool; 69],
     states: [bool; 128],
-    cvs: Cvs,
+    cvs: [u8; 1024],
     pending: Option<Packet>,
     ghost is_active: { is_active address ≡ true },
     ghost is_speed: { is_speed speed ≡ true },
@@ -44,14 +44,14 @@ impl LocoDecoder {
         ensures registers { ⟦<LocoDecoder as Decoder>⟧.registers result ≡ start_map (cv_in cvs.now) }
         ensures bytes { (n : ℕ) → cv_in cvs.now n < 256 }
     {
-        let cvs = Cvs::new(cvs);
+        are_cvs(cvs);
         LocoDecoder {
-            address: cvs::active_address(&cvs),
+            address: cvs::active_address(cvs),
             speed: Speed::Stop,
             forward: true,
             functions: [false; 69],
             states: [false; 128],
-            cvs,
+            cvs: *cvs,
             pending: None,
         }
     }
@@ -70,7 +70,7 @@ impl LocoDecoder {
                 forward: state.forward,
                 functions: functions_of(state.functions),
                 states: states_of(state.states),
-                cvs: Cvs::new(&state.cvs),
+                cvs: state.cvs,
                 pending: state.pending,
             })
         } else {
@@ -91,7 +91,7 @@ impl LocoDecoder {
             functions: packed(&self.functions),
             states: states_in(packed(&self.states)),
             pending: self.pending,
-            cvs: *self.cvs.bytes(),
+            cvs: self.cvs,
         }
     }
 
@@ -102,14 +102,15 @@ impl LocoDecoder {
         ensures registers { ⟦<LocoDecoder as Decoder>⟧.registers self.new ≡ powered_up
             (⟦<LocoDecoder as Decoder>⟧.registers self.old) }
     {
-        *self = LocoDecoder::new(self.cvs.bytes());
+        are_cvs(&self.cvs);
+        *self = LocoDecoder::new(&self.cvs);
     }
 
     /// The value of a CV.
     pub fn cv(&self, cv: CvNumber) -> u8
         ensures { result ≡ cv_held (⟦<LocoDecoder as Decoder>⟧.registers self.now) cv.number }
     {
-        self.cvs.value(cv)
+        cv_value(&self.cvs, cv)
     }
 
     /// Does what a heard packet says, but for CV writes.

@@ -1,13 +1,10 @@
 //! A locomotive decoder's state as plain data.
 
 ghost use Rattle.std.specs.Prelude.{◌≡◌, ℕ, ◌<◌, ◌≤◌, ◌^◌, ◌%◌, length, slice_index_or, false};
-ghost use Rattle.dcc_regs.specs.Addresses.{is_active as is_active_address};
 ghost use Rattle.dcc_packet.specs.Bits.{is_one};
-ghost use Rattle.dcc_regs.specs.Loco.{is_pending_for as is_pending_packet_for, is_speed as is_speed_in_range};
 
-use crate::heard::hears;
-use crate::register::{Speed, Who};
-use crate::writes::is_own_write;
+use crate::loco_registers::LocoRegisters;
+use crate::register::Speed;
 use dcc_packet::{Address, Packet};
 
 /// What a locomotive decoder holds.
@@ -30,43 +27,28 @@ pub struct LocoState {
 }
 
 impl LocoState {
+    ghost use Rattle.dcc_regs.specs.LocoRegisters.{registers_in};
     ghost use Rattle.dcc_regs.specs.LocoState.{is_state};
 
     /// Whether a decoder can be in this state.
     pub fn is_possible(&self) -> bool
         ensures { result ≡ is_state self.now }
     {
-        is_active(&self.address)
-            && is_speed(self.speed)
-            && self.functions >> 69 == 0
-            && self.states % 2 == 0
-            && is_pending_for(&self.address, &self.pending)
+        self.registers().is_possible()
     }
-}
 
-fn is_active(active: &Option<Address>) -> bool
-    ensures { result ≡ is_active_address active.now }
-{
-    !matches!(active, Some(Address::Broadcast))
-}
-
-fn is_speed(speed: Speed) -> bool
-    ensures { result ≡ is_speed_in_range speed }
-{
-    match speed {
-        Speed::Stop | Speed::Emergency => true,
-        Speed::Step14(step) => 1 <= step && step <= 14,
-        Speed::Step28(step) => 1 <= step && step <= 28,
-        Speed::Step126(step) => 1 <= step && step <= 126,
-    }
-}
-
-fn is_pending_for(active: &Option<Address>, pending: &Option<Packet>) -> bool
-    ensures { result ≡ is_pending_packet_for active.now pending.now }
-{
-    match pending {
-        None => true,
-        Some(packet) => is_own_write(packet) && hears(Who::Loco(*active), packet),
+    /// The state without its CVs.
+    pub fn registers(&self) -> LocoRegisters
+        ensures { result ≡ registers_in self.now }
+    {
+        LocoRegisters {
+            address: self.address,
+            speed: self.speed,
+            forward: self.forward,
+            functions: self.functions,
+            states: self.states,
+            pending: self.pending,
+        }
     }
 }
 

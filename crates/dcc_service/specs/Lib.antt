@@ -1,5 +1,6 @@
 pub mod Table
 pub mod Machine
+pub mod Progress
 pub mod Question
 pub mod Bits
 pub mod CvAnswers

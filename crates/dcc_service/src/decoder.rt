@@ -3,8 +3,8 @@
 ghost use Rattle.std.specs.Prelude.{◌≡◌, ◌↔◌, IsTrue};
 ghost use Rattle.dcc_service.specs.Machine.{reset_bytes};
 
-use crate::ServicePacket;
-use dcc_packet::Cvs;
+use crate::progress::ServiceProgress;
+use dcc_packet::are_cvs;
 use dcc_wire::Frame;
 use std::marker::Model;
 
@@ -12,17 +12,17 @@ use std::marker::Model;
 /// packet pending or none, and its CVs.
 #[derive(Drop)]
 pub struct ServiceDecoder {
-    pub(crate) in_service: bool,
-    pub(crate) pending: Option<ServicePacket>,
-    pub(crate) cvs: Cvs,
+    pub(crate) progress: ServiceProgress,
+    pub(crate) cvs: [u8; 1024],
 }
 
 impl Model for ServiceDecoder {
     ghost use Rattle.dcc_service.specs.Machine.{ServiceState};
+    ghost use Rattle.dcc_service.specs.Progress.{with_cvs};
 
     ghost Value = { ServiceState };
 
-    ghost view = { λ d. record { in_service = d.in_service; pending = d.pending; cvs = d.cvs } };
+    ghost view = { λ d. with_cvs d.progress d.cvs };
 }
 
 impl ServiceDecoder {
@@ -35,9 +35,8 @@ impl ServiceDecoder {
         ensures { result ≡ record { in_service = false; pending = None; cvs = cvs.now } }
     {
         ServiceDecoder {
-            in_service: false,
-            pending: None,
-            cvs: Cvs::new(cvs),
+            progress: ServiceProgress::new(),
+            cvs: *cvs,
         }
     }
 
@@ -46,7 +45,8 @@ impl ServiceDecoder {
         ensures value { result.now ≡ self.now.cvs }
         ensures bytes { IsCvs self.now.cvs }
     {
-        self.cvs.bytes()
+        are_cvs(&self.cvs);
+        &self.cvs
     }
 
     /// Takes a frame, and answers whether the decoder acknowledges it.
@@ -57,76 +57,6 @@ impl ServiceDecoder {
     pub fn apply(&mut self, frame: &Frame) -> bool
         ensures { Step self.old frame.now self.new result }
     {
-        if is_reset(frame) {
-            self.begin();
-            return false;
-        }
-        if !self.in_service {
-            return false;
-        }
-        let Some(packet) = ServicePacket::read(frame) else {
-            self.end();
-            return false;
-        };
-        if self.awaits(&packet) {
-            return self.act(&packet);
-        }
-        self.wait(packet);
-        false
+        self.progress.apply(&mut self.cvs, frame)
     }
-
-    fn begin(&mut self)
-        ensures { self.new ≡ record { in_service = true; pending = None; cvs = self.old.cvs } }
-    {
-        self.in_service = true;
-        self.pending = None;
-    }
-
-    fn end(&mut self)
-        ensures { self.new ≡ record { in_service = false; pending = None; cvs = self.old.cvs } }
-    {
-        self.in_service = false;
-        self.pending = None;
-    }
-
-    fn wait(&mut self, packet: ServicePacket)
-        ensures { self.new ≡ record self.old { pending = Some packet } }
-    {
-        self.pending = Some(packet);
-    }
-
-    /// Whether the packet is the pending one.
-    fn awaits(&self, packet: &ServicePacket) -> bool
-        ensures { IsTrue result ↔ (self.now.pending ≡ Some packet.now) }
-    {
-        match &self.pending {
-            Some(pending) => pending.is(packet),
-            None => false,
-        }
-    }
-
-    /// Does what the packet asks, and answers whether that is acknowledged.
-    fn act(&mut self, packet: &ServicePacket) -> bool
-        ensures after { self.new ≡ record self.old { cvs = acted_on packet.now self.old.cvs } }
-        ensures answer { result ≡ is_acknowledged packet.now self.old.cvs }
-    {
-        match packet {
-            ServicePacket::Write { cv, value } => self.cvs.write(*cv, *value),
-            ServicePacket::Verify { cv, value } => self.cvs.value(*cv) == *value,
-            ServicePacket::BitWrite { cv, place, one } => {
-                let value = place.with_bit(self.cvs.value(*cv), *one);
-                self.cvs.write(*cv, value)
-            }
-            ServicePacket::BitVerify { cv, place, one } => {
-                place.is_set(self.cvs.value(*cv)) == *one
-            }
-        }
-    }
-}
-
-/// Whether the frame is the reset to all decoders.
-pub(crate) fn is_reset(frame: &Frame) -> bool
-    ensures { IsTrue result ↔ (frame.now ≡ reset_bytes) }
-{
-    frame.bytes() == [0, 0, 0].as_slice()
 }

@@ -10,7 +10,7 @@ ghost use Rattle.dcc_service.specs.ReadingLaws.{SilenceComesToNoAnswer, NumbersH
 ghost use Rattle.dcc_service.specs.ReadingLaws.{QuestionsHaveTheirFrames};
 
 use crate::ServicePacket;
-use crate::decoder::is_reset;
+use crate::progress::is_reset;
 use dcc_wire::Frame;
 
 /// The frame of a service packet is read as the packet.

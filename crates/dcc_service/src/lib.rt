@@ -7,6 +7,7 @@ mod decoder;
 mod from_frame;
 pub mod laws;
 mod packet;
+mod progress;
 mod question;
 mod reader;
 mod state;
@@ -14,5 +15,6 @@ mod to_frame;
 
 pub use decoder::ServiceDecoder;
 pub use packet::ServicePacket;
+pub use progress::ServiceProgress;
 pub use question::{ask, question_frames};
 pub use reader::{CvReader, Reading};

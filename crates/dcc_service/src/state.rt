@@ -1,7 +1,6 @@
 //! A decoder on the programming track that is put away and taken up again.
 
-use crate::{ServiceDecoder, ServicePacket};
-use dcc_packet::Cvs;
+use crate::{ServiceDecoder, ServicePacket, ServiceProgress};
 
 impl ServiceDecoder {
     ghost use Rattle.std.specs.Prelude.{◌≡◌};
@@ -15,9 +14,11 @@ impl ServiceDecoder {
         ensures { result ≡ record { in_service = in_service; pending = pending; cvs = cvs.now } }
     {
         ServiceDecoder {
-            in_service,
-            pending,
-            cvs: Cvs::new(cvs),
+            progress: ServiceProgress {
+                in_service,
+                pending,
+            },
+            cvs: *cvs,
         }
     }
 
@@ -25,13 +26,13 @@ impl ServiceDecoder {
     pub fn is_in_service(&self) -> bool
         ensures { result ≡ self.now.in_service }
     {
-        self.in_service
+        self.progress.in_service
     }
 
     /// The packet that is acted on where it comes again, if one is pending.
     pub fn pending(&self) -> Option<ServicePacket>
         ensures { result ≡ self.now.pending }
     {
-        self.pending
+        self.progress.pending
     }
 }

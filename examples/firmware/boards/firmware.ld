@@ -8,5 +8,5 @@ SECTIONS {
     /DISCARD/ : { *(.ARM.exidx* .ARM.extab* .eh_frame* .comment .note.GNU-stack) }
     stack_top = ORIGIN(ram) + LENGTH(ram);
 }
-/* A stack that is too small is seen by nothing else. dcc_loco_apply takes the most (docs/C.md). */
-ASSERT(stack_top - bss_end >= 12K, "no room for the stack of dcc_loco_apply")
+/* A stack that is too small is seen by nothing else. A call of the library takes some 1 KB at most (docs/C.md). */
+ASSERT(stack_top - bss_end >= 4K, "no room for the stack")

@@ -7,7 +7,7 @@ use Rattle.dcc_regs.proofs.loco.LocoDecoder.cv.Goals as goal
 pub returns : goal.returns
 returns c =
     let small : cv_in c.args.self.now.cvs c.args.cv.number < 256 =
-    rw (← c.value.ensures) c.value.type_inv in
-    c.value.ensures
+    rw (← c.cv_value.ensures) c.cv_value.type_inv in
+    c.cv_value.ensures
     ∙ sym (cv_of-loco (content c.args.self.now) c.args.cv.number c.args.cv.in_range.0 c.args.cv.in_range.1
     small)

@@ -5,10 +5,10 @@ use Rattle.dcc_regs.proofs.loco.LocoDecoder.power_up.Goals as goal
 
 pub returns-clause-who : goal.returns-clause-who
 returns-clause-who c =
-    who-powered_up _ (content c.args.self.now) c.args.self.now.cvs c.bytes.result.now c.bytes.ensures.bytes
-    c.new.ensures.who c.bytes.ensures.value refl
+    who-powered_up _ (content c.args.self.now) c.args.self.now.cvs c.args.self.now.cvs c.are_cvs.ensures
+    c.new.ensures.who refl refl
 
 pub returns-clause-registers : goal.returns-clause-registers
 returns-clause-registers c =
-    powered_up-loco _ (content c.args.self.now) c.args.self.now.cvs c.bytes.result.now c.new.ensures.registers
-    c.bytes.ensures.value refl
+    powered_up-loco _ (content c.args.self.now) c.args.self.now.cvs c.args.self.now.cvs c.new.ensures.registers
+    refl refl

@@ -1,14 +1,15 @@
 use Rattle.std.proofs.Common.{refl}
-use Rattle.dcc_regs.specs.PackedLoco.{content}
+use Rattle.dcc_regs.specs.LocoRegisters.{with_cvs}
+use Rattle.dcc_regs.specs.LocoState.{content}
 use Rattle.dcc_regs.proofs.CvLemmas.{powered_up-loco, who-powered_up}
 use Rattle.dcc_regs.proofs.packed_loco.PackedLoco.power_up.Goals as goal
 
 pub returns-clause-who : goal.returns-clause-who
 returns-clause-who c =
-    who-powered_up _ (content c.args.self.now) c.args.self.now.cvs c.bytes.result.now c.bytes.ensures.bytes
-    c.new.ensures.who c.bytes.ensures.value refl
+    who-powered_up _ (content (with_cvs c.args.self.now.registers c.args.self.now.cvs)) c.args.self.now.cvs
+    c.args.self.now.cvs c.are_cvs.ensures c.new-self.ensures.who refl refl
 
 pub returns-clause-registers : goal.returns-clause-registers
 returns-clause-registers c =
-    powered_up-loco _ (content c.args.self.now) c.args.self.now.cvs c.bytes.result.now c.new.ensures.registers
-    c.bytes.ensures.value refl
+    powered_up-loco _ (content (with_cvs c.args.self.now.registers c.args.self.now.cvs)) c.args.self.now.cvs
+    c.args.self.now.cvs c.new-self.ensures.registers refl refl

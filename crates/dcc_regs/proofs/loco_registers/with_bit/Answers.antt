@@ -1,7 +1,7 @@
 use Rattle.std.proofs.Common.{arith}
 use Rattle.dcc_packet.proofs.BitLemmas.{bit_put}
 use Rattle.dcc_regs.proofs.Packing.{shifted_one_128, turned_off}
-use Rattle.dcc_regs.proofs.packed_loco.with_bit.Goals as goal
+use Rattle.dcc_regs.proofs.loco_registers.with_bit.Goals as goal
 
 pub returns-then-on : goal.returns-then-on
 returns-then-on c =

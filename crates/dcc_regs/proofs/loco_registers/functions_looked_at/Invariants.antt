@@ -1,7 +1,7 @@
 use Rattle.std.proofs.Common.{◌≡◌, ℕ, ◌<◌, ◌≤◌, unwrap_or}
 use Rattle.dcc_packet.specs.Bits.{is_one}
 use Rattle.dcc_regs.specs.FunctionBits.{function_set}
-use Rattle.dcc_regs.proofs.packed_loco.functions_looked_at.Given as goal
+use Rattle.dcc_regs.proofs.loco_registers.functions_looked_at.Given as goal
 
 abbrev pub invariant-loop-n : goal.invariant-loop-n
 invariant-loop-n l = record {

@@ -1,0 +1,48 @@
+use Rattle.std.proofs.Common.{◌≡◌, refl, sym, ◌∙◌, ap, List, ℕ}
+use Rattle.dcc_regs.specs.declared.loco_state.LocoState.{LocoState}
+use Rattle.dcc_regs.specs.LocoRegisters.{registers_in, with_cvs}
+use Rattle.dcc_regs.specs.LocoState.{is_state, loco_map, loco_who}
+use Rattle.dcc_c.proofs.ApplyLemmas.{applied, same_some, same_state, left_spells}
+use Rattle.dcc_c.proofs.loco.apply.Goals as goal
+
+pub pending_left-requires : goal.pending_left-requires
+pending_left-requires c =
+    left_spells c.read-packet.result c.apply.new.self.pending c.args.frame.now c.read-packet.ensures.spelled
+    (c.apply.ensures.pending c.if-apply.true)
+
+pub returns-then-apply-clause-applies : goal.returns-then-apply-clause-applies
+returns-then-apply-clause-applies c before possible e =
+    let was : with_cvs c.in-Some.registers c.args.loco.now.cvs ≡ before =
+    same_state c.in-Some.registers c.args.loco.now before
+    (same_some c.in-Some.registers (registers_in before) c.registers_of.result c.in-Some.is
+    (c.registers_of.ensures.found before possible e)) e in
+    let a = c.apply.ensures in (
+      c.read-packet.result,
+      with_cvs c.apply.new.self c.apply.new.cvs,
+      c.read-packet.ensures.spelled,
+      a.possible (ap is_state was ∙ possible),
+      c.put.ensures,
+      refl,
+      applied c.read-packet.result _ _ _ _ _ _ _ _ (ap loco_who was) refl (ap loco_map was) refl
+          (record { same_who = a.same_who; step = a.step; unheard = a.unheard; kept = a.kept }),
+    )
+
+pub returns-else-apply-clause-applies : goal.returns-else-apply-clause-applies
+returns-else-apply-clause-applies c before possible e =
+    let was : with_cvs c.in-Some.registers c.args.loco.now.cvs ≡ before =
+    same_state c.in-Some.registers c.args.loco.now before
+    (same_some c.in-Some.registers (registers_in before) c.registers_of.result c.in-Some.is
+    (c.registers_of.ensures.found before possible e)) e in
+    let a = c.apply.ensures in
+    let stays : with_cvs c.apply.new.self c.apply.new.cvs ≡ with_cvs c.in-Some.registers c.args.loco.now.cvs =
+    a.stays c.if-apply.false in (
+      c.read-packet.result,
+      before,
+      c.read-packet.ensures.spelled,
+      possible,
+      ap (λ (s : LocoState). record c.args.loco.now { cvs = s.cvs }) stays ∙ e,
+      refl,
+      applied c.read-packet.result _ _ _ _ _ _ _ _ (ap loco_who was) (ap loco_who (stays ∙ was)) (ap loco_map was)
+          (ap loco_map (stays ∙ was))
+          (record { same_who = a.same_who; step = a.step; unheard = a.unheard; kept = a.kept }),
+    )

@@ -1,0 +1,212 @@
+//! What a locomotive decoder holds besides its CVs, and what a packet does to both.
+
+ghost use Rattle.std.specs.Prelude.{◌≡◌, ◌==◌, ℕ, ◌<◌, ◌≤◌, ◌%◌, ◌^◌, if◌then◌else◌, unwrap_or};
+ghost use Rattle.dcc_packet.specs.Bits.{is_one};
+ghost use Rattle.dcc_regs.specs.Addresses.{is_active as is_active_address};
+ghost use Rattle.dcc_regs.specs.FunctionBits.{function_set as function_set_of};
+ghost use Rattle.dcc_regs.specs.Loco.{is_pending_for as is_pending_packet_for, is_speed as is_speed_in_range};
+ghost use Rattle.dcc_regs.specs.States.{state_set as state_set_of};
+
+use crate::cvs;
+use crate::function_bits::{function_range, function_set};
+use crate::heard::hears;
+use crate::loco_state::{LocoState, functions_in};
+use crate::register::{Speed, SpeedMode, Who};
+use crate::speeds::{direction_set, speed_set};
+use crate::states::turned_states;
+use crate::writes::{is_own_write, leave_pending};
+use dcc_packet::{Address, Packet, What};
+
+/// What a locomotive decoder holds besides its CVs: a `LocoState` without them. The CVs may stand anywhere, and are written where they stand.
+#[derive(Clone, Copy)]
+pub struct LocoRegisters {
+    /// Bit n is function n, 0 to 68.
+    pub functions: u128,
+    /// Bit n is the binary state n, 1 to 127. Bit 0 is none.
+    pub states: u128,
+    /// The CV write to the active address that was heard last, where nothing else was heard since.
+    pub pending: Option<Packet>,
+    /// The active address, if it has one.
+    pub address: Option<Address>,
+    /// The speed.
+    pub speed: Speed,
+    /// Whether the direction is forward.
+    pub forward: bool,
+}
+
+impl LocoRegisters {
+    ghost use Rattle.std.specs.Prelude.{◌≡◌, ℕ, List, None, true, false};
+    ghost use Rattle.dcc_packet.specs.Cvs.{cv_in};
+    ghost use Rattle.dcc_regs.specs.declared.register.Register.{Register};
+    ghost use Rattle.dcc_regs.specs.Heard.{hears};
+    ghost use Rattle.dcc_regs.specs.Loco.{start_map, start_who};
+    ghost use Rattle.dcc_regs.specs.LocoRegisters.{with_cvs};
+    ghost use Rattle.dcc_regs.specs.LocoState.{is_state, loco_map, loco_who};
+    ghost use Rattle.dcc_regs.specs.Result.{left_pending, step};
+    ghost use Rattle.dcc_regs.specs.Setting.{set_from};
+
+    /// Those of a decoder powered up with these CVs.
+    pub fn new(cvs: &[u8; 1024]) -> LocoRegisters
+        ensures possible { is_state (with_cvs result cvs.now) ≡ true }
+        ensures who { loco_who (with_cvs result cvs.now) ≡ start_who (cv_in cvs.now) }
+        ensures registers { loco_map (with_cvs result cvs.now) ≡ start_map (cv_in cvs.now) }
+        ensures pending { result.pending ≡ None }
+    {
+        LocoRegisters {
+            address: cvs::active_address(cvs),
+            speed: Speed::Stop,
+            forward: true,
+            functions: 0,
+            states: 0,
+            pending: None,
+        }
+    }
+
+    /// Whether a decoder can hold these, whatever its CVs.
+    pub fn is_possible(&self) -> bool
+        ensures { (cvs : List ℕ) → result ≡ is_state (with_cvs self.now cvs) }
+    {
+        is_active(&self.address)
+            && is_speed(self.speed)
+            && self.functions >> 69 == 0
+            && self.states % 2 == 0
+            && is_pending_for(&self.address, &self.pending)
+    }
+
+    /// The state of a decoder that holds these and has these CVs.
+    pub fn with_cvs(&self, cvs: &[u8; 1024]) -> LocoState
+        ensures { result ≡ with_cvs self.now cvs.now }
+    {
+        LocoState {
+            address: self.address,
+            speed: self.speed,
+            forward: self.forward,
+            functions: self.functions,
+            states: self.states,
+            pending: self.pending,
+            cvs: *cvs,
+        }
+    }
+
+    /// A decoder that holds these and has these CVs hears one packet, and does what it says where it is for this decoder: at most one
+    /// CV is written. Answers whether it is; where it is not nothing changes.
+    pub fn apply(&mut self, cvs: &mut [u8; 1024], packet: &Packet) -> bool
+        ensures heard { result ≡ hears (loco_who (with_cvs self.old cvs.old)) packet.now }
+        ensures stays { result ≡ false → with_cvs self.new cvs.new ≡ with_cvs self.old cvs.old }
+        ensures pending { result ≡ true → self.new.pending ≡ left_pending packet.now }
+        ensures possible { is_state (with_cvs self.old cvs.old) ≡ true → is_state (with_cvs self.new cvs.new) ≡ true }
+        ensures same_who { loco_who (with_cvs self.new cvs.new) ≡ loco_who (with_cvs self.old cvs.old) }
+        ensures step { loco_map (with_cvs self.new cvs.new)
+            ≡ step (loco_who (with_cvs self.old cvs.old)) (loco_map (with_cvs self.old cvs.old)) packet.now }
+        ensures unheard { hears (loco_who (with_cvs self.old cvs.old)) packet.now ≡ false
+            → loco_map (with_cvs self.new cvs.new) ≡ loco_map (with_cvs self.old cvs.old) }
+        ensures kept { (r : Register) → set_from (loco_map (with_cvs self.old cvs.old)) packet.now r ≡ None
+            → loco_map (with_cvs self.new cvs.new) r ≡ loco_map (with_cvs self.old cvs.old) r }
+    {
+        if !hears(Who::Loco(self.address), packet) {
+            return false;
+        }
+        let mode = cvs::mode(cvs);
+        cvs::hear(cvs, &self.pending, packet);
+        self.speed = speed_set(mode, packet).unwrap_or(self.speed);
+        self.forward = direction_set(packet).unwrap_or(self.forward);
+        self.functions = functions_in(functions_after(self.functions, mode, packet));
+        self.states = states_after(self.states, packet);
+        leave_pending(&mut self.pending, packet);
+        true
+    }
+}
+
+fn is_active(active: &Option<Address>) -> bool
+    ensures { result ≡ is_active_address active.now }
+{
+    !matches!(active, Some(Address::Broadcast))
+}
+
+fn is_speed(speed: Speed) -> bool
+    ensures { result ≡ is_speed_in_range speed }
+{
+    match speed {
+        Speed::Stop | Speed::Emergency => true,
+        Speed::Step14(step) => 1 <= step && step <= 14,
+        Speed::Step28(step) => 1 <= step && step <= 28,
+        Speed::Step126(step) => 1 <= step && step <= 126,
+    }
+}
+
+fn is_pending_for(active: &Option<Address>, pending: &Option<Packet>) -> bool
+    ensures { result ≡ is_pending_packet_for active.now pending.now }
+{
+    match pending {
+        None => true,
+        Some(packet) => is_own_write(packet) && hears(Who::Loco(*active), packet),
+    }
+}
+
+/// The functions after a heard packet. A reset turns all off at once: one by one would take long where many decoders hear many
+/// resets.
+#[inline(never)]
+fn functions_after(functions: u128, mode: SpeedMode, packet: &Packet) -> u128
+    ensures { (n : ℕ) → n ≤ 68 → is_one result n ≡ unwrap_or (function_set_of mode packet.now n) (is_one functions n) }
+{
+    match packet {
+        Packet::Loco {
+            what: What::Reset,
+            ..
+        } => 0,
+        _ => functions_looked_at(functions, mode, packet),
+    }
+}
+
+/// The functions after a heard packet, looked at one by one. Those that the packet is not for stay as they are, unlooked at.
+fn functions_looked_at(functions: u128, mode: SpeedMode, packet: &Packet) -> u128
+    ensures { (n : ℕ) → n ≤ 68 → is_one result n ≡ unwrap_or (function_set_of mode packet.now n) (is_one functions n) }
+{
+    let (first, end) = function_range(mode, packet);
+    let mut after = functions;
+    for n in first..end {
+        after = with_bit_set(after, n, function_set(mode, packet, n));
+    }
+    after
+}
+
+/// The binary states after a heard packet.
+fn states_after(states: u128, packet: &Packet) -> u128
+    ensures { (n : ℕ) → n ≤ 127 → is_one result n ≡ unwrap_or (state_set_of packet.now n) (is_one states n) }
+{
+    match turned_states(packet) {
+        Some((0, on)) => all_turned(states, on),
+        Some((number, on)) if number <= 127 => with_bit(states, number, on),
+        _ => states,
+    }
+}
+
+/// A word with all bits but the lowest turned on, or off.
+fn all_turned(word: u128, on: bool) -> u128
+    ensures { (k : ℕ) → k ≤ 127 → is_one result k ≡ (if k == 0 then is_one word k else on) }
+{
+    if on {
+        u128::MAX - 1 + word % 2
+    } else {
+        word % 2
+    }
+}
+
+/// A word with one bit as it is set, where it is.
+fn with_bit_set(word: u128, n: u8, set: Option<bool>) -> u128
+    requires { n ≤ 127 }
+    ensures { (k : ℕ) → k ≤ 127 → is_one result k ≡ (if k == n then unwrap_or set (is_one word k) else is_one word k) }
+{
+    match set {
+        Some(on) => with_bit(word, n, on),
+        None => word,
+    }
+}
+
+/// A word with one bit changed.
+fn with_bit(word: u128, n: u8, on: bool) -> u128
+    requires { n ≤ 127 }
+    ensures { (k : ℕ) → k ≤ 127 → is_one result k ≡ (if k == n then on else is_one word k) }
+{
+    if on { word | 1 << n } else { word & !(1 << n) }
+}
