@@ -38,8 +38,11 @@ fn main() {
     let here = PathBuf::from(env::var_os("CARGO_MANIFEST_DIR").expect("cargo tells the folder"));
     println!("cargo:rerun-if-env-changed=DCC_LIB");
     let places = places(&here.join("../.."), &target);
-    let Some(folder) = places.iter().find(|it| it.join("libdcc_c.a").is_file()) else {
-        panic!("no libdcc_c.a for {target}: name its folder in DCC_LIB, or make it (docs/C.md)");
+    let folder = match places.iter().find(|it| it.join("libdcc_c.a").is_file()) {
+        Some(folder) => folder,
+        None => {
+            panic!("no libdcc_c.a for {target}: name its folder in DCC_LIB, or make it (docs/C.md)")
+        }
     };
     println!(
         "cargo:rerun-if-changed={}",

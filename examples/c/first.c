@@ -1,7 +1,6 @@
 /* A first program: the packets and refusals in a capture of single half-bits, from standard input, as `dcc show --words` lists them. */
 #include <dcc.h>
 #include <stdio.h>
-
 int main(void) {
     dcc_framer framer = dcc_framer_new();
     dcc_outcome seen;

@@ -107,14 +107,26 @@ fn what_is_seen_is_what_show_lists() {
     assert!(listing.contains("refused H5") && listing.contains("refused H1"));
 }
 
+/// The runs of equal half-bits, each with how many there are.
+fn runs(halves: &[u16]) -> Vec<(u16, u32)> {
+    let mut runs: Vec<(u16, u32)> = Vec::new();
+    for us in halves {
+        match runs.last_mut() {
+            Some((last, n)) if last == us => *n += 1,
+            _ => runs.push((*us, 1)),
+        }
+    }
+    runs
+}
+
 #[test]
 fn a_run_shows_what_its_halves_show() {
     let halves = spoilt(&lines());
     let (mut framer, mut at, mut of_runs) = (Framer::new(), 0, Vec::new());
-    for run in halves.chunk_by(|a, b| a == b) {
-        let found = framer.push_run(run[0], run.len() as u32);
+    for (us, n) in runs(&halves) {
+        let found = framer.push_run(us, n);
         of_runs.extend(found.map(|(place, it)| (at + place as usize, it)));
-        at += run.len();
+        at += n as usize;
     }
     assert!(of_runs == seen(&halves).collect::<Vec<_>>());
 }
