@@ -1,7 +1,7 @@
 //! Worked examples of active addresses, on the plain and the packed type.
 
 use crate::regs_examples::*;
-use dcc_packet::Address;
+use dcc_packet::{Address, Packet};
 use dcc_regs::{Decoder, LocoDecoder, PackedLoco, Register, Speed, Value, Who, same_registers};
 use std::test::Fail;
 
@@ -13,6 +13,8 @@ const AS_10: &str = "frame 0a6268";
 /// A written address waits for the next power-up; after it, it is the active one.
 #[test]
 fn address_at_power_up(rt: HostRuntime) -> Result<(), Fail> {
+    // (a decoder holds one, and the toolchain asks where its type stands)
+    let _pending: Option<Packet> = None;
     let before = [TO_S10, TO_S10, AS_10];
     let mut plain = heard_by_loco(&rt, &cvs(2), &before)?;
     let mut packed = PackedLoco::new(&cvs(2));
@@ -39,6 +41,8 @@ fn address_at_power_up(rt: HostRuntime) -> Result<(), Fail> {
 /// CV29 = 34 asks for a long address, from the next power-up on.
 #[test]
 fn address_kind_at_power_up(rt: HostRuntime) -> Result<(), Fail> {
+    // (a decoder holds one, and the toolchain asks where its type stands)
+    let _pending: Option<Packet> = None;
     let lines = ["frame 03e81cfd0a", "frame 03e81cfd0a"];
     let three = Who::Loco(Some(Address::short(3)?));
     assert!(rt; heard_by_loco(&rt, &cvs(2), &lines)?.who() == three);
@@ -83,6 +87,8 @@ fn active_addresses(rt: HostRuntime) -> Result<(), Fail> {
 
 #[test]
 fn heard_by_address(rt: HostRuntime) -> Result<(), Fail> {
+    // (a decoder holds one, and the toolchain asks where its type stands)
+    let _pending: Option<Packet> = None;
     let long = address_cvs(3, 195, 232, 34);
     let decoder = heard_by_loco(&rt, &long, &["frame c3e83f7f6b"])?;
     holds(

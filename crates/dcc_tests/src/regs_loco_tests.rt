@@ -175,6 +175,8 @@ const MANY_ON: [&str; 4] = [
 /// A reset turns all functions and states off, and a packet to long 3 is none to short 3.
 #[test]
 fn a_reset_leaves_a_new_locomotive(rt: HostRuntime) -> Result<(), Fail> {
+    // (a decoder holds one, and the toolchain asks where its type stands)
+    let _pending: Option<Packet> = None;
     let new = LocoDecoder::new(&cvs(2));
     let mut decoder = heard_by_loco(&rt, &cvs(2), &MANY_ON)?;
     assert!(rt; !same_registers(&new, &decoder));

@@ -35,6 +35,8 @@ fn state_of(row: StateRow) -> Result<LocoState, PacketFault> {
 /// Neither type takes these.
 #[test]
 fn refused_locomotives(rt: HostRuntime) -> Result<(), Fail> {
+    // (a decoder holds one, and the toolchain asks where its type stands)
+    let _pending: Option<Packet> = None;
     let short = Some(Address::short(3)?);
     let stop = Speed::Stop;
     let rows: [StateRow; 13] = [
@@ -68,6 +70,8 @@ fn refused_locomotives(rt: HostRuntime) -> Result<(), Fail> {
 /// Both types take these, and give them again.
 #[test]
 fn restored_locomotives(rt: HostRuntime) -> Result<(), Fail> {
+    // (a decoder holds one, and the toolchain asks where its type stands)
+    let _pending: Option<Packet> = None;
     let short = Some(Address::short(3)?);
     let long = Some(Address::long(1000)?);
     let rows: [StateRow; 7] = [
