@@ -3,8 +3,8 @@
 use crate::regs_examples::*;
 use dcc_packet::{Address, Board, CvNumber, Packet, PacketFault};
 use dcc_regs::{
-    BoardDecoder, BoardState, Decoder, LocoDecoder, LocoState, PackedBoard, PackedLoco, Register,
-    Speed, Value, Who, same_registers,
+    BoardDecoder, BoardState, Decoder, LocoDecoder, LocoRegisters, LocoState, PackedBoard,
+    PackedLoco, Register, Speed, Value, Who, same_registers,
 };
 use std::process::Abort;
 use std::test::Fail;
@@ -70,8 +70,8 @@ fn refused_locomotives(rt: HostRuntime) -> Result<(), Fail> {
 /// Both types take these, and give them again.
 #[test]
 fn restored_locomotives(rt: HostRuntime) -> Result<(), Fail> {
-    // (a decoder holds one, and the toolchain asks where its type stands)
-    let _pending: Option<Packet> = None;
+    // (a decoder holds these, and the toolchain asks where their types stand)
+    let _held: (Option<Packet>, Option<LocoRegisters>) = (None, None);
     let short = Some(Address::short(3)?);
     let long = Some(Address::long(1000)?);
     let rows: [StateRow; 7] = [
