@@ -7,57 +7,40 @@ const LONGEST = 65535;
 /** A memory that grows where it stands. */
 const growing = (most) => new ArrayBuffer(4096, { maxByteLength: most });
 
-/** Half-bits, kept as runs of one duration. Places count from 0. */
+/** Half-bits. Places count from 0. */
 class Halves {
   constructor() {
-    this.runs = 0;
+    this.count = 0;
     this.us = new Uint16Array(growing(2 * MOST_HALVES));
-    this.ends = new Uint32Array(growing(4 * MOST_HALVES));
-  }
-
-  get count() {
-    return this.runs ? this.ends[this.runs - 1] : 0;
   }
 
   /** Adds n half-bits of so many microseconds. Answers false, and adds none, where there would be too many. */
   push(us, n) {
     const end = this.count + n;
     if (end > MOST_HALVES) return false;
-    if (this.runs && this.us[this.runs - 1] === us) {
-      this.ends[this.runs - 1] = end;
-      return true;
-    }
-    if (this.runs >= this.ends.length) this.grow();
-    this.us[this.runs] = us;
-    this.ends[this.runs] = end;
-    this.runs += 1;
+    while (end > this.us.length) this.grow();
+    if (n === 1) this.us[this.count] = us;
+    else this.us.fill(us, this.count, end);
+    this.count = end;
     return true;
   }
 
   grow() {
-    for (const { buffer } of [this.us, this.ends]) buffer.resize(Math.min(2 * buffer.byteLength, buffer.maxByteLength));
+    const { buffer } = this.us;
+    buffer.resize(Math.min(2 * buffer.byteLength, buffer.maxByteLength));
   }
 
-  /** The place of the run that the half-bit at this place stands in. */
-  runAt(place) {
-    let low = 0;
-    let high = this.runs - 1;
-    while (low < high) {
-      const middle = (low + high) >> 1;
-      if (this.ends[middle] > place) high = middle;
-      else low = middle + 1;
-    }
-    return low;
+  /** The place behind those from a place on that last equally long. */
+  endOfRun(place) {
+    const { us, count: all } = this;
+    let end = place + 1;
+    while (end < all && us[end] === us[place]) end += 1;
+    return end;
   }
 
   /** The durations from one place to before another, a list. */
   slice(from, to) {
-    const list = [];
-    if (from >= to) return list;
-    for (let run = this.runAt(from); list.length < to - from; run += 1) {
-      for (let at = from + list.length; at < this.ends[run] && at < to; at += 1) list.push(this.us[run]);
-    }
-    return list;
+    return [...this.us.subarray(from, Math.min(to, this.count))];
   }
 }
 

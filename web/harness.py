@@ -15,7 +15,7 @@ TOP = WEB.parent
 PAGE = WEB / "index.html"
 CHROMIUM = os.environ.get("CHROMIUM") or next((it for it in ("chromium", "chromium-browser", "google-chrome") if shutil.which(it)), None)
 PATIENCE = 120
-KEYS = {"Tab": 9, "Enter": 13, "End": 35, "Home": 36, "ArrowLeft": 37, "ArrowUp": 38, "ArrowRight": 39, "ArrowDown": 40}
+KEYS = {"Tab": 9, "Enter": 13, "PageUp": 33, "PageDown": 34, "End": 35, "Home": 36, "ArrowLeft": 37, "ArrowUp": 38, "ArrowRight": 39, "ArrowDown": 40}
 
 
 class Browser:
@@ -117,8 +117,29 @@ class Browser:
         self.ask("Input.dispatchKeyEvent", type="keyUp", **words)
 
     def listing(self):
+        """The list as text: what its field has, and where that is not all, the file that the page saves."""
         self.js("document.getElementById('listing').open = true; page.writeListing()")
-        return self.js("document.getElementById('lines').value")
+        shown = self.js("document.getElementById('lines').value")
+        if not self.text("#lines-shown"):
+            return shown
+        whole = self.saved()
+        if not whole.startswith(shown):
+            raise RuntimeError("the field of the list has not the first lines of its file")
+        return whole
+
+    def saved(self):
+        """What the page saves of the list."""
+        file = pathlib.Path(self.room) / "packets.txt"
+        file.unlink(missing_ok=True)
+        self.ask("Browser.setDownloadBehavior", behavior="allow", downloadPath=self.room)
+        self.js("document.getElementById('save').click()")
+        end = time.monotonic() + PATIENCE
+        while not file.exists():
+            if time.monotonic() > end:
+                raise RuntimeError(f"no file within {PATIENCE} seconds")
+            self.js("0")
+            time.sleep(0.02)
+        return file.read_text()
 
     def halves(self):
         """The half-bits that the page has read, a line each."""
@@ -150,6 +171,23 @@ class Browser:
     def texts(self, what):
         """The texts of all such elements."""
         return self.js(f"[...document.querySelectorAll({json.dumps(what)})].map((it) => it.textContent)")
+
+    def pulses(self, what):
+        """The pulses of each such drawing from the left: where each begins and ends, and its top."""
+        return self.js("""[...document.querySelectorAll(%s)].map((svg) => [...svg.querySelectorAll('.pulse')]
+            .flatMap((it) => [...it.getAttribute('d').matchAll(/M([\\d.]+) ([\\d.]+)H([\\d.]+)/g)])
+            .map(([, from, top, end]) => [from, end, top].map(Number))
+            .sort((a, b) => a[0] - b[0]))""" % json.dumps(what))
+
+    def hover(self, what, x, y):
+        """Moves the mouse to a place of an element, in pixels from its left and top."""
+        left, top = self.js("(() => { const it = document.querySelector(%s); (it.closest('tr') ?? it).scrollIntoView({ block: 'center' });"
+                            " const { left, top } = it.getBoundingClientRect(); return [left, top]; })()" % json.dumps(what))
+        self.ask("Input.dispatchMouseEvent", type="mouseMoved", x=left + x, y=top + y)
+
+    def touch(self, x, y):
+        self.ask("Input.dispatchTouchEvent", type="touchStart", touchPoints=[{"x": x, "y": y}])
+        self.ask("Input.dispatchTouchEvent", type="touchEnd", touchPoints=[])
 
     def unfold(self, is_open):
         """Opens all that can be opened, or shuts it."""

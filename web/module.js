@@ -51,6 +51,7 @@ class Dcc {
     this.cvs = room(CVS);
     this.heard = room(1);
     this.reserve(end);
+    this.memory = new Uint8Array(calls.memory.buffer);
     this.known = new Map();
   }
 
@@ -66,7 +67,7 @@ class Dcc {
   }
 
   bytesAt(at, n) {
-    return new Uint8Array(this.calls.memory.buffer, at, n);
+    return this.memory.subarray(at, at + n);
   }
 
   /** The bytes of a frame as a list: one and the same list for equal frames. */
@@ -82,25 +83,24 @@ class Dcc {
     const [framer, outcome] = [BigInt(this.framer), BigInt(this.outcome)];
     const view = new DataView(this.calls.memory.buffer, this.outcome, OUTCOME_BYTES);
     const list = [];
-    let before = 0;
     let time = 0;
     this.calls.dcc_framer_new(framer);
-    for (let run = 0; run < halves.runs; run += 1) {
-      const [us, end] = [halves.us[run], halves.ends[run]];
-      if (this.calls.dcc_push_run(framer, us, end - before, outcome)) {
+    for (let from = 0, end = 0; from < halves.count; from = end) {
+      const us = halves.us[from];
+      end = halves.endOfRun(from);
+      if (this.calls.dcc_push_run(framer, us, end - from, outcome)) {
         const place = view.getUint32(0, true);
         const bytes = this.frameAt(this.outcome + 6, view.getUint8(5));
-        list.push({ at: before + place, time: time + place * us, refusal: view.getUint8(4), bytes });
+        list.push({ at: from + place, time: time + place * us, refusal: view.getUint8(4), bytes });
       }
-      time += (end - before) * us;
-      before = end;
+      time += (end - from) * us;
     }
     return list;
   }
 
   /** Lays the bytes of a frame into the memory: their place and length, as the calls take them. */
   lay(bytes) {
-    this.bytesAt(this.frame, bytes.length).set(bytes);
+    this.memory.set(bytes, this.frame);
     return [BigInt(this.frame), BigInt(bytes.length)];
   }
 
@@ -114,7 +114,7 @@ class Dcc {
   /** The kind of a packet: its number among the kinds of include/dcc.h. */
   kind(bytes) {
     checked('dcc_read', this.calls.dcc_read(...this.lay(bytes), BigInt(this.packet)));
-    return this.bytesAt(this.packet, 1)[0];
+    return this.memory[this.packet];
   }
 
   /** A new locomotive decoder with these CVs: its kind and its numbers. */
@@ -133,7 +133,7 @@ class Dcc {
   /** Tells whether a packet is for a decoder. */
   hears(decoder, bytes) {
     const { kind, numbers } = decoder;
-    this.bytesAt(this.decoder, numbers.length).set(numbers);
+    this.memory.set(numbers, this.decoder);
     return this.isHeard(kind, bytes);
   }
 
@@ -141,14 +141,14 @@ class Dcc {
   isHeard(kind, bytes) {
     const call = kind === 'loco' ? this.calls.dcc_loco_hears : this.calls.dcc_board_hears;
     checked(`dcc_${kind}_hears`, call(BigInt(this.decoder), ...this.lay(bytes), BigInt(this.heard)));
-    return this.bytesAt(this.heard, 1)[0] === 1;
+    return this.memory[this.heard] === 1;
   }
 
   /** A decoder once it has heard these packets. Those that are for others leave it as it is. */
   after(decoder, packets) {
     const { kind, numbers } = decoder;
     const call = kind === 'loco' ? this.calls.dcc_loco_apply : this.calls.dcc_board_apply;
-    this.bytesAt(this.decoder, numbers.length).set(numbers);
+    this.memory.set(numbers, this.decoder);
     for (const bytes of packets) {
       if (this.isHeard(kind, bytes)) checked(`dcc_${kind}_apply`, call(BigInt(this.decoder), ...this.lay(bytes)));
     }

@@ -235,6 +235,56 @@ def comparison(browser, program):
         same(f"two long tracks for {who}", verdicts(browser, [[who, *large]]), [same_says(program, who, *large)])
 
 
+def sides_chosen(browser, program):
+    """In the drawings of both sides too a half-bit is chosen by keys and touch."""
+    browser.paste(encoded(program, ["loco s3 speed28 f 4", "idle", "loco s3 speed28 r 9", "loco s3 speed28 f 4"]))
+    browser.js("page.second.put(%s)" % json.dumps(encoded(program, ["loco s3 functions 0 16", "loco s3 speed28 f 4"]).replace("58", "59")))
+    first, second = (f"#sides .side:nth-child({i})" for i in (1, 2))
+    same("each side is one stop of the keyboard", [browser.sees(f"{it} [tabindex='0']") for it in (first, second)], [1, 1])
+    check("each side says how to go through it", all("left and right" in it for it in browser.js("[...document.querySelectorAll('#sides table')].map((it) => it.ariaLabel)")))
+    browser.js(f"document.querySelector({json.dumps(first)} + ' [tabindex=\"0\"]').focus()")
+    words = "document.activeElement.querySelector('.words')?.textContent"
+    seen = []
+    for key in ("Enter", "ArrowDown", "End", "Home", "PageDown", "ArrowUp"):
+        browser.press(key)
+        seen.append(browser.js(words))
+    f, r = "loco s3 speed28 f 4", "loco s3 speed28 r 9"
+    same("up and down choose a packet of a side", seen, [f, r, f, f, f, r])
+    half = f"{first} .half"
+    browser.press("ArrowRight")
+    # 84 of the packet before, 84 of an idle one, and a preamble of 28
+    same("right begins at the start bit", browser.texts(half), ["half-bit 197: 100 µs, half of a zero"])
+    browser.press("ArrowLeft")
+    same("left goes to the half-bit before it", browser.texts(half), ["half-bit 196: 58 µs, half of a one"])
+    same("it is marked", browser.sees("#sides .chosen"), 1)
+    same("a reader is told", browser.js(f"document.querySelector({json.dumps(half)}).getAttribute('role')"), "status")
+    browser.pick("zoom", 200)
+    same("it stays chosen where the drawing is wider", browser.texts(half), ["half-bit 196: 58 µs, half of a one"])
+    browser.pick("zoom", 100)
+    browser.js(f"document.querySelector({json.dumps(first)} + ' [tabindex=\"0\"]').focus()")
+    browser.press("ArrowUp")
+    same("another packet has none yet", browser.sees("#sides .half") + browser.sees("#sides .chosen"), 0)
+    browser.press("Tab")
+    same("the next stop is the other side", browser.js("document.activeElement.closest('.side')?.ariaLabel"), "second")
+    browser.press("ArrowRight")
+    same("a half-bit of the second capture is told as it is there", browser.texts(f"{second} .half"), ["half-bit 29: 100 µs, half of a zero"])
+    browser.press("ArrowLeft")
+    same("to the microsecond", browser.texts(f"{second} .half"), ["half-bit 28: 59 µs, half of a one"])
+    for width in (1280, 390):
+        browser.look(width)
+        browser.ask("Emulation.setTouchEmulationEnabled", enabled=True)
+        place = touch_pulse(browser, f"{second} tr:nth-child(2) svg")
+        browser.wait(f"document.querySelector({json.dumps(second)} + ' tr:nth-child(2) .half') !== null")
+        us = browser.js(f"page.other.halves.us[{84 + place}]")
+        told = browser.texts("#sides .side:nth-child(2) .half")
+        check(f"{width} wide: a touch tells a half-bit of a side", len(told) == 1 and told[0].startswith(f"half-bit {85 + place}: {us} µs, "), [told, place])
+        browser.ask("Emulation.setTouchEmulationEnabled", enabled=False)
+    browser.look()
+    browser.js(f"document.querySelector({json.dumps(first)} + ' .track').scrollLeft = 0")
+    browser.hover(f"{first} tr:nth-child(1) svg", 5, 24)
+    same("a mouse is told it too", browser.texts(f"{first} .lit title"), ["half-bit 1: 58 µs, half of a one"])
+
+
 def two_sides(browser, program):
     browser.paste((TOP / "examples" / "two_tracks.txt").read_text())
     was = browser.js("Number(document.body.dataset.read)")
@@ -257,8 +307,9 @@ def two_sides(browser, program):
         same(f"{verdict}: the verdict", browser.text("#verdict code"), verdict)
         same(f"{verdict}: as dcc same", same_says(program, "s3", encoded(program, first), encoded(program, second)), verdict)
         same(f"{verdict}: what differs is marked", browser.texts("#sides .differs .words"), marked)
-        check(f"{verdict}: it is drawn on both sides", browser.sees("#sides .side") == 2 and browser.sees("#sides .differs svg .pulse") > 50)
+        check(f"{verdict}: it is drawn on both sides", browser.sees("#sides .side") == 2 and browser.sees("#sides .differs svg .pulse") > 0)
         check(f"{verdict}: it is told", says in browser.text("#verdict"), browser.text("#verdict"))
+    sides_chosen(browser, program)
     browser.js("page.second.put('58 x')")
     check("a fault of the second capture is told at its place", "“x” is no duration" in browser.text("#second-fault-text"))
     check("what stands before it is compared", "before the fault" in browser.text("#verdict"))
@@ -334,6 +385,19 @@ def keys(browser):
     same("the next stop is behind the list", browser.js("document.activeElement.tagName"), "SUMMARY")
 
 
+def touch_pulse(browser, what):
+    """Touches a pulse of a drawing, one of those in sight, and tells its place in it."""
+    left, top, scrolled = browser.js("""((svg) => {
+        svg.closest('tr').scrollIntoView({ block: 'center' });
+        const { left, top } = svg.parentNode.getBoundingClientRect();
+        return [left, top, svg.parentNode.scrollLeft];
+    })(document.querySelector(%s))""" % json.dumps(what))
+    [pulses] = browser.pulses(what)
+    place = next(i for i, it in enumerate(pulses) if it[0] > scrolled + 40)
+    browser.touch(left - scrolled + sum(pulses[place][:2]) / 2, top + pulses[place][2] + 5)
+    return place
+
+
 def phone(browser):
     browser.look(390)
     packet = body([3, 0x62, 0x61])
@@ -357,19 +421,10 @@ def phone(browser):
     browser.pick("who", "")
     browser.unfold(False)
     browser.ask("Emulation.setTouchEmulationEnabled", enabled=True)
-    browser.js("document.querySelectorAll('#rows svg')[1].scrollIntoView({ block: 'center' })")
-    x, y, place = browser.js("""(() => {
-        const track = document.querySelectorAll('#rows .track')[1].getBoundingClientRect();
-        const pulses = [...document.querySelectorAll('#rows svg')[1].querySelectorAll('.pulse')];
-        const seen = pulses.findIndex((it) => it.getBoundingClientRect().left > track.left + 40);
-        const { left, width, top, height } = pulses[seen].getBoundingClientRect();
-        return [left + width / 2, top + height / 2, 85 + seen];
-    })()""")
-    browser.ask("Input.dispatchTouchEvent", type="touchStart", touchPoints=[{"x": x, "y": y}])
-    browser.ask("Input.dispatchTouchEvent", type="touchEnd", touchPoints=[])
+    place = touch_pulse(browser, "#rows tr:nth-child(2) svg")
     browser.wait("document.querySelector('#rows .half') !== null")
     told = browser.text("#rows .half")
-    check("a touch tells a half-bit", told.startswith(f"half-bit {place}: "), [told, place])
+    check("a touch tells a half-bit", told.startswith(f"half-bit {85 + place}: "), [told, place])
     browser.ask("Emulation.setTouchEmulationEnabled", enabled=False)
     browser.look()
 
@@ -501,12 +556,35 @@ def largest():
             same("the largest capture is read", browser.js("page.halves.count"), LARGEST)
             check("within 10 seconds of a processor", spent - before < 10)
             check("within 400 MB", most < 400)
-            browser.pick("who", "s3")
-            browser.js("page.table.choose(page.table.rows.length - 1)")
-            check("a state at its end is told", browser.sees("#rows .state") == 1)
+            open_all(browser)
+            most, _ = peak_of(browser)
+            print(f"with all of it opened {most} MB at most")
+            check("within 400 MB with all of it opened", most < 400, most)
             same("no complaint at the largest capture", browser.complaints, [])
         finally:
             browser.close()
+
+
+def open_all(browser):
+    """Opens one after the other what the page has for a capture."""
+    browser.js("document.getElementById('timing').open = true; page.showTimings()")
+    check("its durations are told", browser.sees(".bar") >= 6)
+    browser.pick("who", "s3")
+    browser.js("page.table.choose(page.table.rows.length - 1)")
+    check("a state at its end is told", browser.sees("#rows .state") == 1)
+    browser.js("document.getElementById('fold').click()")
+    browser.pick("kind", "speed")
+    browser.pick("kind", "all")
+    browser.js("document.getElementById('end').click()")
+    for _ in range(12):
+        browser.js("document.getElementById('back').click(); document.body.offsetHeight")
+    check("its list is gone through", browser.js("page.table.first") > 0 and browser.sees("#rows [data-row]") == 50)
+    outcomes = browser.js("page.outcomes.length")
+    check("its list is there as text", outcomes > 100000 and len(browser.listing().splitlines()) == outcomes)
+    browser.js("document.getElementById('comparison').open = true")
+    browser.js("page.second.put(%s)" % json.dumps(" ".join(map(str, body([3, 0x62, 0x61])))))
+    browser.wait("document.querySelector('#sides .side') !== null")
+    same("it is compared with a second capture", browser.text("#verdict code"), "members 0")
 
 
 def run(browser, program):

@@ -2,10 +2,14 @@
 
 const decode = (base64) => Uint8Array.from(atob(base64), (it) => it.charCodeAt(0));
 
+/** How many lines of the list its field takes. A browser needs some 6 KB for each. */
+const LINES_SHOWN = 2000;
+
 class Page {
   constructor(dcc) {
     this.dcc = dcc;
     this.table = new Table(dcc);
+    this.sides = new Sides(dcc);
     this.source = new Source('', (read) => this.take(read));
     this.second = new Source('second-', (read) => this.takeSecond(read));
     $('kind').append(...Object.entries(KINDS).map(([key, { name }]) => new Option(name, key)));
@@ -15,6 +19,7 @@ class Page {
     $('listing').addEventListener('toggle', () => this.writeListing());
     $('timing').addEventListener('toggle', () => this.showTimings());
     $('comparison').addEventListener('toggle', () => this.compare());
+    $('save').addEventListener('click', () => this.saveListing());
     $('cut').addEventListener('click', () => this.cut());
     for (const it of document.querySelectorAll('[data-example]')) {
       it.addEventListener('click', () => this.source.put($(it.dataset.example).textContent.trimStart()));
@@ -115,9 +120,30 @@ class Page {
     this.compare();
   }
 
-  /** What `dcc show --words` writes, where it is asked for. */
+  /** What `dcc show --words` writes, in parts of so many lines as the field takes. */
+  *listing() {
+    const words = once((bytes) => this.dcc.words(bytes));
+    for (let at = 0; at < this.outcomes.length; at += LINES_SHOWN) {
+      const part = this.outcomes.slice(at, at + LINES_SHOWN);
+      yield part.map((it) => `${it.at} ${it.refusal ? told(this.dcc, it) : words(it.bytes)}\n`).join('');
+    }
+  }
+
+  /** Shows the list as text where that is asked for. Of a long one the field has the first lines, and the file all. */
   writeListing() {
-    if ($('listing').open) $('lines').value = this.outcomes.map((it) => `${it.at} ${told(this.dcc, it)}\n`).join('');
+    if (!$('listing').open) return;
+    const all = this.outcomes.length;
+    $('lines').value = this.listing().next().value ?? '';
+    $('lines-shown').textContent = all > LINES_SHOWN ? `The first ${count(LINES_SHOWN)} of ${count(all)} lines. The file has all.` : '';
+  }
+
+  saveListing() {
+    const link = make('a');
+    link.href = URL.createObjectURL(new Blob([...this.listing()], { type: 'text/plain' }));
+    link.download = 'packets.txt';
+    link.click();
+    // a browser may begin to read it only then
+    setTimeout(() => URL.revokeObjectURL(link.href), 60000);
   }
 
   showTimings() {
@@ -125,7 +151,7 @@ class Page {
   }
 
   compare() {
-    if ($('comparison').open) showDifference(this.dcc, [this.capture, this.other], this.decoder(), this.table.zoom);
+    if ($('comparison').open) this.sides.show([this.capture, this.other], this.decoder(), this.table.zoom);
   }
 }
 

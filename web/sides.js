@@ -56,38 +56,67 @@ const firstOtherTurn = ({ blocks, pair }, [outcomes, others]) => {
 };
 
 /** One side: its packets about the difference, each as in the table. */
-const drawSide = (dcc, capture, name, { list, differs }, zoom) => {
-  const side = make('section', 'side');
-  side.setAttribute('aria-label', name);
-  side.append(make('h3', '', `${name}: ${capture.name}`));
-  const table = make('table');
-  const body = make('tbody');
-  table.setAttribute('role', 'table');
-  table.append(body);
-  for (const i of list) {
-    const row = outcomeRow(dcc, capture, i, zoom);
-    if (differs.has(i)) row.classList.add('differs');
-    body.append(row);
+class Side extends Grid {
+  constructor(dcc, name, capture, { list, differs }, zoom) {
+    const body = make('tbody');
+    super(dcc, body);
+    Object.assign(this, { capture, rows: list });
+    body.append(...list.map((i, n) => this.draw(n, i, zoom)));
+    list.forEach((i, n) => this.element(n).classList.toggle('differs', differs.has(i)));
+    if (list.length) this.element(0).tabIndex = 0;
+    this.section = this.frame(`${name}: ${capture.name}`, name);
   }
-  side.append(list.length ? table : make('p', 'soft', 'no packet for it here'));
-  return side;
-};
 
-/** Shows the first difference of two captures for a decoder, or what is lacking for it. */
-const showDifference = (dcc, sides, decoder, zoom) => {
-  $('sides').replaceChildren();
-  if (!decoder || sides.some((it) => !it?.halves.count)) {
-    $('verdict').textContent = decoder ? 'Put a second capture into the field above.' : 'Name a decoder, as s3, l1000 or b12.';
-    return;
+  frame(title, name) {
+    const side = make('section', 'side');
+    side.setAttribute('aria-label', name);
+    const table = make('table');
+    table.setAttribute('role', 'grid');
+    table.setAttribute('aria-label', `The ${name} capture: up and down choose a row, left and right a half-bit in it`);
+    table.append(this.body);
+    side.append(make('h3', '', title), this.rows.length ? table : make('p', 'soft', 'no packet for it here'));
+    return side;
   }
-  const outcomes = sides.map((it) => it.outcomes);
-  const packets = new Packets(dcc, decoder.fresh);
-  const difference = differenceOf(packets, outcomes);
-  const isCut = sides.some((it) => it.refused) ? ' Compared is what stands before the fault.' : '';
-  $('verdict').replaceChildren(make('code', '', difference.verdict), ` ${tellDifference(dcc, difference, sides)}${isCut}`);
-  if (difference.verdict === 'alike') return;
-  const turn = firstOtherTurn(difference, outcomes);
-  const drawn = sides.map((it, i) => drawSide(dcc, it, i ? 'second' : 'first', shownOf(difference, i, it.outcomes, turn), zoom));
-  $('sides').replaceChildren(...drawn);
-  showEnds($('sides'));
-};
+
+  /** Chooses what was chosen in a side that is drawn anew, if it is still there. */
+  chooseAs({ capture, rows, chosen, half }) {
+    const n = capture === this.capture && chosen !== null ? this.rows.indexOf(rows[chosen]) : -1;
+    if (n < 0) return;
+    this.choose(n);
+    if (half !== null) this.chooseHalf(half);
+  }
+}
+
+/** The first difference of two captures for a decoder, and both sides of it. */
+class Sides {
+  constructor(dcc) {
+    this.dcc = dcc;
+    this.drawn = [];
+  }
+
+  /** Shows it, or what is lacking for it. */
+  show(captures, decoder, zoom) {
+    const before = this.drawn;
+    this.drawn = [];
+    if (!decoder || captures.some((it) => !it?.halves.count)) {
+      $('verdict').textContent = decoder ? 'Put a second capture into the field above.' : 'Name a decoder, as s3, l1000 or b12.';
+    } else {
+      this.compare(captures, decoder, zoom);
+    }
+    $('sides').replaceChildren(...this.drawn.map((it) => it.section));
+    showEnds($('sides'));
+    before.forEach((it, i) => this.drawn[i]?.chooseAs(it));
+  }
+
+  compare(captures, decoder, zoom) {
+    const outcomes = captures.map((it) => it.outcomes);
+    const packets = new Packets(this.dcc, decoder.fresh);
+    const difference = differenceOf(packets, outcomes);
+    const isCut = captures.some((it) => it.refused) ? ' Compared is what stands before the fault.' : '';
+    $('verdict').replaceChildren(make('code', '', difference.verdict), ` ${tellDifference(this.dcc, difference, captures)}${isCut}`);
+    if (difference.verdict === 'alike') return;
+    const turn = firstOtherTurn(difference, outcomes);
+    const shown = (it, i) => shownOf(difference, i, it.outcomes, turn);
+    this.drawn = captures.map((it, i) => new Side(this.dcc, ['first', 'second'][i], it, shown(it, i), zoom));
+  }
+}

@@ -49,16 +49,15 @@ const listOfHalf = (us) => {
 /** How often each duration stands there, by the duration. */
 const countDurations = (halves) => {
   const counts = new Uint32Array(LONGEST + 1);
-  for (let run = 0, before = 0; run < halves.runs; before = halves.ends[run], run += 1) counts[halves.us[run]] += halves.ends[run] - before;
+  for (let at = 0; at < halves.count; at += 1) counts[halves.us[at]] += 1;
   return counts;
 };
 
-/** Adds the bits of a packet: its body and the ten ones before it, in pairs of halves. */
-const takeBits = (durations, differences, sums) => {
-  for (let i = 0; i < durations.length; i += 2) {
-    const [first, second] = [durations[i], durations[i + 1]];
-    if (classOf(first) === 'one') differences.take(Math.abs(first - second));
-    else sums.take(first + second);
+/** Adds the bits from one place to before another, each of a pair of halves. */
+const takeBits = ({ us }, from, to, { differences, sums }) => {
+  for (let at = from; at < to; at += 2) {
+    if (classOf(us[at]) === 'one') differences.take(Math.abs(us[at] - us[at + 1]));
+    else sums.take(us[at] + us[at + 1]);
   }
 };
 
@@ -70,7 +69,8 @@ const timingsOf = (halves, outcomes) => {
   counts.forEach((n, us) => n && figures[listOfHalf(us)].take(us, n));
   const packets = outcomes.filter((it) => !it.refusal);
   packets.forEach(({ at, bytes, time }, i) => {
-    takeBits(halves.slice(at - 18 * bytes.length - 2 - PREAMBLE_HALVES, at), figures.differences, figures.sums);
+    // its body and the ten ones before it
+    takeBits(halves, at - 18 * bytes.length - 2 - PREAMBLE_HALVES, at, figures);
     if (i) gaps.take(time - packets[i - 1].time);
   });
   const refused = [1, 2, 3, 4, 5].map((cause) => outcomes.filter((it) => it.refusal === cause).length);

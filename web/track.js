@@ -12,12 +12,10 @@ const onesLeft = (outcome) => (outcome && [0, 3, 5].includes(outcome.refusal) ? 
 
 /** The first start bit from a place on: a half of a zero behind 20 or more halves of ones. The end where there is none. */
 const startFrom = (halves, from, ones, end) => {
-  let at = from;
-  for (let run = from < end ? halves.runAt(from) : 0; at < end; run += 1) {
-    const kind = classOf(halves.us[run]);
+  for (let at = from; at < end; at += 1) {
+    const kind = classOf(halves.us[at]);
     if (kind === 'zero' && ones >= 20) return at;
-    ones = kind === 'one' ? ones + halves.ends[run] - at : 0;
-    at = halves.ends[run];
+    ones = kind === 'one' ? ones + 1 : 0;
   }
   return end;
 };
@@ -25,11 +23,7 @@ const startFrom = (halves, from, ones, end) => {
 /** The place of the first of the halves of ones that stand directly before a place, not before another. */
 const preambleBefore = (halves, at, least) => {
   let from = at;
-  while (from > least) {
-    const run = halves.runAt(from - 1);
-    if (classOf(halves.us[run]) !== 'one') break;
-    from = Math.max(least, run ? halves.ends[run - 1] : 0);
-  }
+  while (from > least && classOf(halves.us[from - 1]) === 'one') from -= 1;
   return from;
 };
 
@@ -164,29 +158,36 @@ const CLASS_NAMES = { one: 'half of a one', zero: 'half of a zero', bad: 'half o
 /** What a pulse is: the half-bit at a place. */
 const tellHalf = (place, us) => `half-bit ${place + 1}: ${us} µs, ${CLASS_NAMES[classOf(us)]}`;
 
-/** The pulses: the level turns at each half. */
+/** Where the pulse of a half stands: the level turns at each. */
+const PULSE = ROWS.wave / 2 - 4;
+const MIDDLE = ROWS.label + ROWS.wave / 2;
+const topOf = (place) => (place % 2 === 0 ? MIDDLE - PULSE : MIDDLE);
+
+/** The pulses, and the wave along them. All of a class are one shape, since a browser takes 2 KB for each. */
 const drawPulses = (strip, durations, x) => {
   const group = node('g', {});
-  const middle = ROWS.label + ROWS.wave / 2;
-  const height = ROWS.wave / 2 - 4;
-  let line = '';
+  const shapes = { one: '', zero: '', bad: '' };
+  let wave = '';
   durations.forEach((us, i) => {
     const place = strip.from + i;
     const isUp = place % 2 === 0;
-    const kind = classOf(us);
-    const top = isUp ? middle - height : middle;
-    const pulse = node('rect', { class: `pulse ${kind}`, x: round(x[i]), y: top, width: round(x[i + 1] - x[i]), height });
-    pulse.append(node('title', {}, tellHalf(place, us)));
-    group.append(pulse);
-    const y = isUp ? middle - height : middle + height;
-    line += `${i ? 'V' : `M${round(x[0])} `}${y}H${round(x[i + 1])}`;
+    const top = topOf(place);
+    shapes[classOf(us)] += `M${round(x[i])} ${top}H${round(x[i + 1])}V${top + PULSE}H${round(x[i])}Z`;
+    wave += `${i ? 'V' : `M${round(x[0])} `}${isUp ? top : top + PULSE}H${round(x[i + 1])}`;
     if (us > LONG) {
       const at = round((x[i] + x[i + 1]) / 2);
-      group.append(node('text', { class: 'us', x: at, y: isUp ? middle + 9 : middle - 3 }, us));
+      group.append(node('text', { class: 'us', x: at, y: isUp ? MIDDLE + 9 : MIDDLE - 3 }, us));
     }
   });
-  group.append(node('path', { class: 'wave', d: line }));
+  for (const [kind, d] of Object.entries(shapes)) if (d) group.prepend(node('path', { class: `pulse ${kind}`, d }));
+  group.append(node('path', { class: 'wave', d: wave }));
   return group;
+};
+
+/** The bits below the pulses, one text with a place for each. */
+const drawBits = (bits, xOf) => {
+  const x = bits.map(({ at }) => round((xOf(at) + xOf(at + 2)) / 2)).join(' ');
+  return node('text', { class: 'bit', x, y: ROWS.label + ROWS.wave + 11 }, bits.map((it) => it.bit).join(''));
 };
 
 const drawParts = (strip, xOf) => {
@@ -221,9 +222,7 @@ const drawStrip = (halves, strip, description, zoom = 1) => {
   const height = bottom + ROWS.note;
   const svg = node('svg', { width, height, viewBox: `0 0 ${width} ${height}`, role: 'img', 'aria-label': description });
   svg.append(drawParts(strip, xOf), drawPulses(strip, durations, x));
-  for (const { at, bit } of strip.bits) {
-    svg.append(node('text', { class: 'bit', x: round((xOf(at) + xOf(at + 2)) / 2), y: ROWS.label + ROWS.wave + 11 }, bit));
-  }
+  if (strip.bits.length) svg.append(drawBits(strip.bits, xOf));
   svg.append(node('text', { class: 'place first', x: 3, y: bottom + 13 }, strip.from + 1));
   // of a strip of one half the numbers are one
   if (width > 90) svg.append(node('text', { class: 'place last', x: width - 3, y: bottom + 13 }, strip.end));
@@ -236,6 +235,16 @@ const placeAt = (svg, pixels) => {
   const next = svg.edges.findIndex((it) => it > pixels);
   const i = next < 0 ? svg.edges.length - 2 : Math.max(0, next - 1);
   return svg.strip.from + i;
+};
+
+/** Lights the pulse of a half, with a title that tells it. */
+const lightHalf = (svg, place, text) => {
+  const at = place - svg.strip.from;
+  const [x, end] = [svg.edges[at], svg.edges[at + 1]];
+  svg.querySelector('.lit')?.remove();
+  const lit = node('rect', { class: 'lit', x: round(x), y: topOf(place), width: round(end - x), height: PULSE });
+  lit.append(node('title', {}, text));
+  svg.append(lit);
 };
 
 /** Marks a half in its drawing, and brings it into sight. */

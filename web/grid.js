@@ -1,0 +1,150 @@
+// A grid of packets and refusals with their drawings: one row is chosen in it, and a half-bit of that row, by a click, a touch or the arrow
+// keys, for which the whole grid is one stop of the keyboard.
+
+const ROWS_OF_PAGE = 50;
+
+const milliseconds = (us) => `${(us / 1000).toLocaleString('en', { minimumFractionDigits: 3, maximumFractionDigits: 3 })} ms`;
+
+const cell = (name, className, text) => {
+  const it = make(name, className, text);
+  it.setAttribute('role', name === 'th' ? 'rowheader' : 'gridcell');
+  return it;
+};
+
+/** The cells of an outcome: its number, its time, and its words with what more there is to say. */
+const cellsOf = (dcc, outcome, strip) => {
+  const what = cell('td', 'what');
+  what.append(make('span', 'words', told(dcc, outcome)));
+  if (strip.fault) what.append(make('span', 'why', strip.fault.text));
+  else what.append(make('span', 'bytes', outcome.bytes.map((it) => hex([it])).join(' ')));
+  const number = cell('th', 'number');
+  number.append(make('span', 'at', outcome.at), make('span', 'time', milliseconds(outcome.time)));
+  return [number, what];
+};
+
+/** The cell of a drawing. */
+const drawingCell = (halves, strip, description, zoom) => {
+  const it = cell('td', 'drawing');
+  const track = make('div', 'track');
+  // one goes through the halves by key, and does not stop at each drawing
+  track.tabIndex = -1;
+  if (strip.hidden) it.append(make('span', 'hidden', `${plural(strip.hidden, 'half-bit')} before this are not drawn`));
+  track.append(drawStrip(halves, strip, description, zoom));
+  it.append(track);
+  return it;
+};
+
+/** Drawings that are wider than their place begin at their end, where the packet is. */
+const showEnds = (element) => {
+  for (const it of element.querySelectorAll('.track')) it.scrollLeft = it.scrollWidth;
+};
+
+class Grid {
+  /** Its rows stand in this element, each with its number in `rows`. They are of `capture`. */
+  constructor(dcc, body) {
+    Object.assign(this, { dcc, body, capture: null, rows: [], chosen: null, half: null });
+    body.addEventListener('keydown', (event) => this.press(event));
+    body.addEventListener('click', (event) => this.click(event));
+    body.addEventListener('mousemove', (event) => this.hover(event));
+  }
+
+  element(n) {
+    return this.body.querySelector(`[data-row="${n}"]`);
+  }
+
+  /** The row with a number, of an outcome of the capture. */
+  draw(n, i, zoom) {
+    const { halves, outcomes } = this.capture;
+    const outcome = outcomes[i];
+    const strip = stripOf(halves, outcome, outcomes[i - 1]);
+    const row = make('tr', outcome.refusal ? 'refused' : 'packet');
+    row.dataset.row = n;
+    row.tabIndex = -1;
+    row.setAttribute('role', 'row');
+    row.setAttribute('aria-selected', 'false');
+    const more = strip.fault ? `: ${strip.fault.text}` : `, bytes ${hex(outcome.bytes)}`;
+    row.append(...cellsOf(this.dcc, outcome, strip), drawingCell(halves, strip, told(this.dcc, outcome) + more, zoom));
+    return row;
+  }
+
+  /** Chooses a row. Another one has no half-bit that is chosen. */
+  choose(n) {
+    if (n !== this.chosen) this.half = null;
+    this.chosen = n;
+    for (const it of this.body.querySelectorAll('[data-row]')) {
+      const isChosen = Number(it.dataset.row) === n;
+      it.tabIndex = isChosen ? 0 : -1;
+      it.setAttribute('aria-selected', isChosen);
+      if (!isChosen) for (const mark of it.querySelectorAll('.half, .chosen')) mark.remove();
+    }
+  }
+
+  /** Chooses a half-bit of the chosen row, and tells it below the drawing. */
+  chooseHalf(place) {
+    const row = this.element(this.chosen);
+    const svg = row.querySelector('svg');
+    const { from, end } = svg.strip;
+    this.half = Math.min(Math.max(place, from), end - 1);
+    markHalf(svg, this.half);
+    let line = row.querySelector('.half');
+    if (!line) {
+      line = make('p', 'half');
+      line.setAttribute('role', 'status');
+      row.querySelector('.drawing').append(line);
+    }
+    line.textContent = this.tell(this.half);
+  }
+
+  tell(place) {
+    return tellHalf(place, this.capture.halves.slice(place, place + 1)[0]);
+  }
+
+  /** A mouse is told the half-bit that it is on. */
+  hover(event) {
+    const svg = event.target.closest('svg');
+    if (!svg) return;
+    const place = placeAt(svg, event.clientX - svg.getBoundingClientRect().left);
+    if (svg === this.lit?.svg && place === this.lit.place) return;
+    this.lit = { svg, place };
+    lightHalf(svg, place, this.tell(place));
+  }
+
+  click(event) {
+    const row = event.target.closest('[data-row]');
+    if (!row) return;
+    this.choose(Number(row.dataset.row));
+    const svg = event.target.closest('svg');
+    if (svg) this.chooseHalf(placeAt(svg, event.clientX - svg.getBoundingClientRect().left));
+  }
+
+  press(event) {
+    const row = event.target.closest('[data-row]');
+    if (!row || event.ctrlKey || event.altKey || event.metaKey) return;
+    const n = Number(row.dataset.row);
+    const end = this.rows.length - 1;
+    const rows = {
+      Enter: n,
+      ' ': n,
+      ArrowDown: this.chosen === null ? n : n + 1,
+      ArrowUp: n - 1,
+      PageDown: n + ROWS_OF_PAGE,
+      PageUp: n - ROWS_OF_PAGE,
+      Home: 0,
+      End: end,
+      ArrowLeft: n,
+      ArrowRight: n,
+    };
+    if (!(event.key in rows)) return;
+    event.preventDefault();
+    this.choose(Math.min(Math.max(rows[event.key], 0), end));
+    if (event.key === 'ArrowLeft') this.step(-1);
+    if (event.key === 'ArrowRight') this.step(1);
+    this.element(this.chosen).focus();
+  }
+
+  /** Goes to the next half-bit of the chosen row, or the one before; at first to where it is refused, or begins. */
+  step(by) {
+    const { fault, start } = this.element(this.chosen).querySelector('svg').strip;
+    this.chooseHalf(this.half === null ? (fault ? fault.from : start) : this.half + by);
+  }
+}
