@@ -3,7 +3,8 @@ use Rattle.std.proofs.Common.{◌≡◌, ℕ, ◌+◌, ◌<◌, ◌≤◌, List,
 use Rattle.std.proofs.Common.{◌-◌, append-nil, subst, drop, get_or}
 use Rattle.std.proofs.lemmas.List.{drop_more}
 use Rattle.dcc_timing.specs.declared.bits.Bits.{Bits}
-use Rattle.dcc_timing.specs.PacketBits.{AreBits, bits_count, pairs}
+use Rattle.dcc_timing.specs.PacketBits.{AreBits, pairs}
+use Rattle.dcc_timing.specs.Inner.Counts.{bits_count}
 
 -- some of the bits were added, and the rest come of these halves
 pub record Adding (start now : Bits) (halves rest : List ℕ) : Type 0 where

@@ -18,8 +18,10 @@ use Rattle.dcc_timing.specs.declared.timings.Timings.{Timings}
 use Rattle.dcc_timing.specs.Numbers.{keep_last}
 use Rattle.dcc_timing.specs.Classes.{AreClasses}
 use Rattle.dcc_timing.specs.Outcomes.{AreOutcomes}
-use Rattle.dcc_timing.specs.PacketBits.{AreBits, bits_among, bits_in, bits_of, bits_shown, packet_length, packet_of, packets_in, pairs}
-use Rattle.dcc_timing.specs.Gaps.{AreGaps, end_among, ends_in}
+use Rattle.dcc_timing.specs.PacketBits.{AreBits, bits_in, bits_of, packet_length, packet_of, packets_in, pairs}
+use Rattle.dcc_timing.specs.Inner.Steps.{bits_among, bits_shown, end_among}
+use Rattle.dcc_timing.specs.Gaps.{ends_in}
+use Rattle.dcc_timing.specs.Inner.Gaps.{AreGaps}
 use Rattle.dcc_timing.specs.Measures.{Measures}
 use Rattle.dcc_timing.proofs.RecentLemmas.{keep_last_keep}
 

@@ -6,7 +6,8 @@ use Rattle.std.proofs.lemmas.List.{length-replicate}
 use Rattle.std.proofs.lemmas.List.Sums.{fold-append, sum_by-append}
 use Rattle.std.proofs.lemmas.List.Folds.{sum_by-replicate}
 use Rattle.dcc_timing.specs.declared.tally.Tally.{Tally}
-use Rattle.dcc_timing.specs.Numbers.{lesser, greater, least, most}
+use Rattle.dcc_timing.specs.Numbers.{least, most}
+use Rattle.dcc_timing.specs.Inner.Steps.{lesser, greater}
 use Rattle.dcc_timing.specs.Tallies.{IsTally, mean, quotient}
 
 -- a number that is there changes neither

@@ -1,5 +1,5 @@
 -- The half-bits of a list by the limits of a decoder (NMRA S-9.1).
-use Rattle.std.specs.Prelude.{ℕ, ◌+◌, nat_le, nat_lt, Bool, ◌&&◌, List}
+use Rattle.std.specs.Prelude.{ℕ, nat_le, nat_lt, Bool, ◌&&◌, List}
 use Rattle.std.specs.List.{filter}
 use Rattle.dcc_timing.specs.declared.classes.Classes.{Classes}
 use Rattle.dcc_timing.specs.Tallies.{IsTally}
@@ -28,8 +28,3 @@ pub record AreClasses (classes : Classes) (halves : List ℕ) : Type 0 where
   pub between : IsTally classes.between (filter is_between halves)
   pub zeros : IsTally classes.zeros (filter is_zero halves)
   pub above : IsTally classes.above (filter is_above halves)
-
--- how many halves they count
-abbrev pub classes_count : Classes → ℕ
-classes_count classes =
-    classes.below.count + classes.ones.count + classes.between.count + classes.zeros.count + classes.above.count

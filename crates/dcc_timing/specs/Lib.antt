@@ -5,3 +5,4 @@ pub mod Outcomes
 pub mod PacketBits
 pub mod Gaps
 pub mod Measures
+pub mod Inner

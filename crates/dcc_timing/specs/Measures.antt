@@ -6,7 +6,8 @@ use Rattle.dcc_timing.specs.Numbers.{keep_last}
 use Rattle.dcc_timing.specs.Classes.{AreClasses}
 use Rattle.dcc_timing.specs.Outcomes.{AreOutcomes}
 use Rattle.dcc_timing.specs.PacketBits.{AreBits, bits_in}
-use Rattle.dcc_timing.specs.Gaps.{AreGaps, ends_in}
+use Rattle.dcc_timing.specs.Gaps.{ends_in}
+use Rattle.dcc_timing.specs.Inner.Gaps.{AreGaps}
 
 -- each figure is that of the whole list
 pub record Measures (timings : Timings) (halves : List ℕ) : Type 0 where

@@ -1,15 +1,6 @@
 -- The least and the greatest of numbers.
 use Rattle.std.specs.Prelude.{ℕ, ◌-◌, min, max, List, [], ◌∷◌, length, drop, fold, Option, None, Some}
 
--- the lesser and the greater of a number and another, if there is one
-abbrev pub lesser : Option ℕ → ℕ → ℕ
-lesser None number = number
-lesser (Some other) number = min other number
-
-abbrev pub greater : Option ℕ → ℕ → ℕ
-greater None number = number
-greater (Some other) number = max other number
-
 -- the least and the greatest number of a list; none of an empty one
 unfoldable pub least : List ℕ → Option ℕ
 least [] = None
@@ -18,10 +9,6 @@ least (number ∷ numbers) = Some (fold min number numbers)
 unfoldable pub most : List ℕ → Option ℕ
 most [] = None
 most (number ∷ numbers) = Some (fold max number numbers)
-
--- the last number of a list, none of an empty one
-unfoldable pub last : List ℕ → Option ℕ
-last numbers = fold (λ (before : Option ℕ) number. Some number) None numbers
 
 -- the last n numbers of a list, all where it has no more
 abbrev pub keep_last : ℕ → List ℕ → List ℕ

@@ -1,5 +1,5 @@
 -- The packets and the refusals in a list of half-bits, by their cause.
-use Rattle.std.specs.Prelude.{◌≡◌, ℕ, ◌+◌, ◌==◌, Bool, true, false, List}
+use Rattle.std.specs.Prelude.{◌≡◌, ℕ, ◌==◌, Bool, true, false, List}
 use Rattle.std.specs.List.{count_by}
 use Rattle.dcc_wire.specs.declared.seen.Seen.{Seen}
 use Rattle.dcc_wire.specs.declared.seen.Seen.TheVariants.{Nothing, Packet, Refused}
@@ -26,8 +26,3 @@ pub record AreOutcomes (counts : Outcomes) (outcomes : List (ℕ × Seen)) : Typ
   pub too_short : counts.too_short ≡ count_by (is_refused 3) outcomes
   pub too_long : counts.too_long ≡ count_by (is_refused 4) outcomes
   pub error_bytes : counts.error_bytes ≡ count_by (is_refused 5) outcomes
-
--- how many outcomes they count
-abbrev pub outcomes_count : Outcomes → ℕ
-outcomes_count counts =
-    counts.packets + counts.bad_halves + counts.split_bits + counts.too_short + counts.too_long + counts.error_bytes

@@ -25,21 +25,10 @@ packets_in halves = filter_map packet_of (seen halves)
 abbrev pub packet_length : ℕ → ℕ
 packet_length bytes = 22 + 18 * bytes
 
--- how many halves the bits of an outcome have, where it is a packet
-abbrev pub bits_shown : Seen → Option ℕ
-bits_shown (Packet bytes) = Some (packet_length (length bytes))
-bits_shown (Refused fault) = None
-bits_shown Nothing = None
-
 -- two halves each, as far as they go
 unfoldable pub pairs : List ℕ → List (ℕ × ℕ)
 pairs (first ∷ second ∷ halves) = (first, second) ∷ pairs halves
 pairs _ = []
-
--- the bits of the packet whose last half is the last of these, where it has so many halves of bits
-abbrev pub bits_among : Option ℕ → List ℕ → List (ℕ × ℕ)
-bits_among None halves = []
-bits_among (Some count) halves = pairs (keep_last count halves)
 
 -- the bits of a packet
 unfoldable pub bits_of : List ℕ → ℕ × List ℕ → List (ℕ × ℕ)
@@ -68,7 +57,3 @@ whole bit = bit.0 + bit.1
 pub record AreBits (tallies : Bits) (bits : List (ℕ × ℕ)) : Type 0 where
   pub differences : IsTally tallies.differences (map difference (filter is_one_bit bits))
   pub sums : IsTally tallies.sums (map whole (filter is_zero_bit bits))
-
--- how many bits they count
-abbrev pub bits_count : Bits → ℕ
-bits_count tallies = tallies.differences.count + tallies.sums.count

@@ -16,7 +16,8 @@ pub struct Bits {
 
 impl Bits {
     ghost use Rattle.std.specs.Prelude.{◌≡◌, ◌<◌, ◌≤◌, ◌+◌, ◌^◌, ℕ, List, [], ◌∷◌, ◌++◌, length};
-    ghost use Rattle.dcc_timing.specs.PacketBits.{AreBits, bits_count, pairs};
+    ghost use Rattle.dcc_timing.specs.PacketBits.{AreBits, pairs};
+    ghost use Rattle.dcc_timing.specs.Inner.Counts.{bits_count};
 
     /// Of no packets.
     pub(crate) fn new() -> Bits

@@ -19,7 +19,8 @@ pub struct Classes {
 
 impl Classes {
     ghost use Rattle.std.specs.Prelude.{◌≡◌, ◌<◌, ◌+◌, ◌^◌, ℕ, List, [], ◌++◌, replicate};
-    ghost use Rattle.dcc_timing.specs.Classes.{AreClasses, classes_count};
+    ghost use Rattle.dcc_timing.specs.Classes.{AreClasses};
+    ghost use Rattle.dcc_timing.specs.Inner.Counts.{classes_count};
 
     /// Of no halves.
     pub(crate) fn new() -> Classes

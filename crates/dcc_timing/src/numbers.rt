@@ -1,7 +1,7 @@
 //! The lesser and the greater of two numbers.
 
 ghost use Rattle.std.specs.Prelude.{◌≡◌};
-ghost use Rattle.dcc_timing.specs.Numbers.{lesser, greater};
+ghost use Rattle.dcc_timing.specs.Inner.Steps.{lesser, greater};
 
 /// The lesser of a number and another, if there is one.
 #[inline(always)]

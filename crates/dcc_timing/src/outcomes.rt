@@ -23,7 +23,8 @@ impl Outcomes {
     ghost use Rattle.std.specs.Prelude.{◌≡◌, ◌<◌, ◌≤◌, ◌+◌, ◌^◌, ℕ, List, [], ◌++◌};
     ghost use Rattle.dcc_wire.specs.declared.seen.Seen.{Seen as SeenOf};
     ghost use Rattle.dcc_wire.specs.Framing.{report_at};
-    ghost use Rattle.dcc_timing.specs.Outcomes.{AreOutcomes, outcomes_count};
+    ghost use Rattle.dcc_timing.specs.Outcomes.{AreOutcomes};
+    ghost use Rattle.dcc_timing.specs.Inner.Counts.{outcomes_count};
 
     /// Of no halves.
     pub(crate) fn new() -> Outcomes

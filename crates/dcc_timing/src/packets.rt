@@ -1,7 +1,7 @@
 //! The packets in half-bits that come many at a time.
 
 ghost use Rattle.std.specs.Prelude.{◌≡◌, ◌≤◌, IfSome};
-ghost use Rattle.dcc_timing.specs.PacketBits.{bits_shown};
+ghost use Rattle.dcc_timing.specs.Inner.Steps.{bits_shown};
 
 use crate::bits::Bits;
 use crate::gaps::Gaps;
@@ -17,8 +17,10 @@ pub(crate) struct Packets {
 
 impl Packets {
     ghost use Rattle.std.specs.Prelude.{◌≡◌, ◌<◌, ◌≤◌, ◌+◌, ◌^◌, ℕ, List, [], ◌++◌, IfSome};
-    ghost use Rattle.dcc_timing.specs.PacketBits.{AreBits, bits_count, bits_shown, bits_among};
-    ghost use Rattle.dcc_timing.specs.Gaps.{AreGaps, end_among};
+    ghost use Rattle.dcc_timing.specs.PacketBits.{AreBits};
+    ghost use Rattle.dcc_timing.specs.Inner.Counts.{bits_count};
+    ghost use Rattle.dcc_timing.specs.Inner.Steps.{bits_shown, bits_among, end_among};
+    ghost use Rattle.dcc_timing.specs.Inner.Gaps.{AreGaps};
 
     /// Of no halves.
     pub(crate) fn new() -> Packets

@@ -1,9 +1,7 @@
 //! The figures of half-bits that come one at a time, or many.
 
 ghost use Rattle.std.specs.Prelude.{◌≤◌, ◌*◌};
-ghost use Rattle.dcc_timing.specs.Classes.{classes_count};
-ghost use Rattle.dcc_timing.specs.Outcomes.{outcomes_count};
-ghost use Rattle.dcc_timing.specs.PacketBits.{bits_count};
+ghost use Rattle.dcc_timing.specs.Inner.Counts.{classes_count, outcomes_count, bits_count};
 
 use crate::bits::Bits;
 use crate::classes::Classes;

@@ -4,7 +4,8 @@ use Rattle.dcc_wire.specs.Framing.{seen}
 use Rattle.dcc_timing.specs.Numbers.{keep_last}
 use Rattle.dcc_timing.specs.Outcomes.{AreOutcomes}
 use Rattle.dcc_timing.specs.PacketBits.{AreBits, bits_in}
-use Rattle.dcc_timing.specs.Gaps.{AreGaps, ends_in}
+use Rattle.dcc_timing.specs.Gaps.{ends_in}
+use Rattle.dcc_timing.specs.Inner.Gaps.{AreGaps}
 use Rattle.dcc_timing.proofs.MeasureLemmas.{bits_run, ends_run, length_run, run_on, some_half, time_run}
 use Rattle.dcc_timing.proofs.timings.Timings.take.Goals as goal
 

@@ -1,0 +1,4 @@
+-- What the contracts of private functions cite, and no public one.
+pub mod Counts
+pub mod Steps
+pub mod Gaps
