@@ -82,11 +82,43 @@ const drawBars = (bars, { scale, isLong, bands, width }) => {
   const bottom = BARS.height - BARS.bottom;
   const log = (n) => Math.log10(n + 0.3) - Math.log10(0.3);
   const yOf = (n) => bottom - ((bottom - BARS.top - 4) * log(n)) / log(most);
-  const label = `how many half-bits are of each duration, from ${scale.from} microseconds on; the table has the figures`;
+  const label = `how many half-bits are of each duration, from ${scale.from} microseconds on: left and right choose a bar; the table has the figures`;
   const svg = node('svg', { class: 'bars', width, height: BARS.height, viewBox: `0 0 ${width} ${BARS.height}`, role: 'img', 'aria-label': label });
   svg.append(...bands.map((it) => drawBand(xOf, it)), drawCounts(most, yOf, width));
   svg.append(...bars.filter((it) => it.count).map((it) => drawBar(it, xOf, yOf(it.count), bottom)), drawTicks(scale.ticks, xOf));
   return svg;
+};
+
+/** A drawing of bars of which one is chosen, by a click, a touch or the arrow keys, and told below it. */
+const withChoice = (svg) => {
+  const figure = make('div', 'chart');
+  const line = make('p', 'half');
+  line.setAttribute('role', 'status');
+  const bars = [...svg.querySelectorAll('.bar')];
+  const last = bars.length - 1;
+  let chosen = -1;
+  const choose = (n) => {
+    bars[chosen]?.classList.remove('told');
+    chosen = Math.min(Math.max(n, 0), last);
+    bars[chosen].classList.add('told');
+    line.textContent = bars[chosen].textContent;
+  };
+  svg.tabIndex = bars.length ? 0 : -1;
+  svg.addEventListener('keydown', (event) => {
+    const places = { ArrowLeft: chosen - 1, ArrowRight: chosen + 1, Home: 0, End: last };
+    if (!bars.length || !(event.key in places) || event.ctrlKey || event.altKey || event.metaKey) return;
+    event.preventDefault();
+    choose(places[event.key]);
+  });
+  svg.addEventListener('click', (event) => {
+    const distances = bars.map((it) => {
+      const { left, right } = it.getBoundingClientRect();
+      return Math.abs((left + right) / 2 - event.clientX);
+    });
+    if (bars.length) choose(distances.indexOf(Math.min(...distances)));
+  });
+  figure.append(svg, line);
+  return figure;
 };
 
 /** Both, in so many pixels. */
@@ -96,5 +128,5 @@ const drawHistogram = (counts, room) => {
   return [
     drawBars(shortBars(counts), { scale: SHORT, isLong: false, bands: [...band('ones'), ...band('zeros')], width }),
     drawBars(longBars(counts), { scale: LONG_BARS, isLong: true, bands: band('zeros'), width }),
-  ];
+  ].map(withChoice);
 };

@@ -501,6 +501,26 @@ def timings(browser, program):
          ["station 55 to 61", "decoder 52 to 64", *2 * ["station 95 to 9900", "decoder 90 to 10000"]])
     same("each duration has its bar", browser.texts(".bar")[:3],
          ["57 µs: 30 half-bits", "58 µs: 140 half-bits", "59 µs: 28 half-bits"])
+    short = "#histogram .chart:nth-child(1)"
+    browser.js(f"document.querySelector('{short} svg').focus()")
+    seen = []
+    for key in ("ArrowRight", "ArrowRight", "ArrowLeft", "End", "ArrowRight", "Home"):
+        browser.press(key)
+        seen.append(browser.text(f"{short} .half"))
+    bars = browser.texts(f"{short} .bar")
+    same("arrow keys choose a bar, and it is told below", seen, [bars[0], bars[1], bars[0], bars[-1], bars[-1], bars[0]])
+    same("it is marked", browser.texts(".bar.told"), bars[:1])
+    browser.look(390)
+    browser.js("page.showTimings()")
+    browser.ask("Emulation.setTouchEmulationEnabled", enabled=True)
+    x, y = browser.js("(() => { const it = document.querySelectorAll('%s .bar')[1]; it.scrollIntoView({ block: 'center' });"
+                      " const r = it.getBoundingClientRect(); return [r.x + r.width / 2, r.y - 10]; })()" % short)
+    browser.touch(x, y)
+    browser.wait(f"document.querySelector('{short} .half').textContent !== ''")
+    same("a touch beside a bar tells it", browser.text(f"{short} .half"), bars[1])
+    browser.ask("Emulation.setTouchEmulationEnabled", enabled=False)
+    browser.look()
+    browser.js("page.showTimings()")
     browser.paste("58*28 66 100*14 58*28 300 58*3 5")
     same("a half-bit beyond the limits stands in its bar", browser.js("document.querySelectorAll('.bar.bad').length"), 2)
     cases = {"none": "58", "noise": some_noise(1500), **{it.name: it.read_text() for it in sorted((TOP / "examples").glob("*.txt"))}}
