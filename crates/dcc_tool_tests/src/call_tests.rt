@@ -83,6 +83,21 @@ const SHOWN: &str = "\
     not even its first half | show | 58*28 100*2 70*5 |  | 31 67108864 |  |  | U7 input too long
     a bad word behind a packet | show | S/58x/ |  |  |  | 84 036261/ | U2 line 2: bad number";
 
+const TIMED: &str = "\
+    at the first read | timing | S_ | 512 0 again |  |  |  | U4 read failed
+    behind all bytes | timing | S_ | 1 62 again |  |  |  | U4 read failed
+    within the last word | timing | S_ | 1 61 again |  |  |  | U4 read failed
+    lines up to a failed read | timing | 58/58/58/ | 3 2 again |  |  |  | U4 read failed | 2
+    lines up to a bad word | timing | S/58x/58/ |  |  |  |  | U2 line 2: bad number | 2
+    a half too many | timing | 58*11 |  | 10 1000 |  |  | U7 input too long
+    a byte too many | timing | 58 58 |  | 9 3 |  |  | U7 input too long
+    a bad word that the limit cuts | timing | 58 58x |  | 9 5 |  |  | U7 input too long
+    a capture without an end | timing | 58_ | 1 1000000 again | 100 4000 |  |  | U7 input too long
+    the first write fails | timing | S | 512 |  | 100 0 |  | U5 write failed
+    no byte is taken | timing | S | 512 |  | 0 100 |  | U5 write failed
+    two writes | timing | S | 512 |  | 4 2 | halves 8 | U5 write failed
+    one write of many bytes | timing | S | 512 |  | 16 1 | halves 84/time 6 | U5 write failed";
+
 const ENCODED: &str = "\
     line feeds for ever | hex | / | 1 5000 again | 0 1000 |  |  | U7 input too long
     the last byte | hex | idle/ |  | 0 5 |  | ff00ff/
@@ -173,7 +188,7 @@ fn play(rt: &impl Abort, alloc: Global, row: &str, each: u32) -> Result<(), Fail
 
 #[test]
 fn calls(rt: HostRuntime) -> Result<(), Fail> {
-    for table in [SHOWN, ENCODED, COMPARED, PLAYED] {
+    for table in [SHOWN, TIMED, ENCODED, COMPARED, PLAYED] {
         for row in table.lines() {
             if column(row, 3).is_empty() {
                 play(&rt, rt.alloc(), row, 1)?;

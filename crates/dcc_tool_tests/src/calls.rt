@@ -4,7 +4,7 @@ use crate::rows::number;
 use dcc_regs::{BoardDecoder, Decoder, LocoDecoder};
 use dcc_tool::{
     Counted, Encode, Input, Limits, Saved, Sink, Source, ToolFault, encode, read_decoders,
-    read_who, run, same, same_input, show,
+    read_who, run, same, same_input, show, timing,
 };
 use std::alloc::{AllocError, Global};
 use std::test::Fail;
@@ -18,6 +18,7 @@ pub const CAPTURE: &str = "58*28 100*14 58*4 100*4 58*4 100*6 58*2 100*6 58*4 10
 #[derive(Clone, Copy)]
 pub enum Call {
     Show { words: bool },
+    Timing,
     Encode(Encode),
     Run,
     /// The input is the second capture, behind `CAPTURE`, for locomotive 3.
@@ -34,11 +35,12 @@ pub fn hex(station: Option<(usize, usize, u8)>) -> Call {
     })
 }
 
-/// The call of a word: `show`, `hex`, `station` of queue and slots 4 and one repeat, `run`, and `both` captures of
+/// The call of a word: `show`, `timing`, `hex`, `station` of queue and slots 4 and one repeat, `run`, and `both` captures of
 /// an input for locomotive 3.
 pub fn call_of(word: &str) -> Call {
     match word {
         "show" => Call::Show { words: false },
+        "timing" => Call::Timing,
         "hex" => hex(None),
         "station" => hex(Some((4, 4, 1))),
         "run" => Call::Run,
@@ -82,6 +84,7 @@ impl Call {
     ) -> Result<Result<(), ToolFault>, Fail> {
         match self {
             Call::Show { words } => Ok(show(input, writer, *words)),
+            Call::Timing => Ok(timing(input, writer)),
             Call::Encode(how) => Ok(encode(alloc, input, writer, *how)),
             Call::Run => play_fleet(alloc, input, writer),
             Call::Same => {

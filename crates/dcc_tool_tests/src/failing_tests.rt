@@ -24,10 +24,21 @@ const CAPTURES: &[u8] = b"58*28 100*14 58*4 100*4 58*4 100*6 58*2 100*6 58*4 100
 /// Two captures, and a comment behind the dashes between them.
 const DASHES: &[u8] = b"58 58\n---  #c\n58 58\n";
 
+/// The figures of `CAPTURE`: two packets, and a refusal whose bits are none.
+const FIGURES: &[u8] =
+    b"halves 252\ntime 18816\npackets 2\nrefused H1 0\nrefused H2 0\nrefused H3 0\nrefused H4 0\nrefused H5 1\ngap most 5796\n\
+    ones count 152\nones least 58\nones most 58\nones mean 58.00\nones station 55 61\nones decoder 52 64\n\
+    differences count 46\ndifferences least 0\ndifferences most 0\ndifferences mean 0.00\ndifferences station 3\ndifferences decoder 6\n\
+    zeros count 100\nzeros least 100\nzeros most 100\nzeros mean 100.00\nzeros station 95 9900\nzeros decoder 90 10000\n\
+    sums count 30\nsums least 200\nsums most 200\nsums mean 200.00\nsums station 12000\n\
+    below count 0\nbelow least none\nbelow most none\nbelow mean none\n\
+    between count 0\nbetween least none\nbetween most none\nbetween mean none\n\
+    above count 0\nabove least none\nabove most none\nabove mean none\n";
+
 /// A call, its input, and what it writes for it.
 type Played = (Call, &'static [u8], &'static [u8]);
 
-fn calls() -> [Played; 8] {
+fn calls() -> [Played; 9] {
     [
         (
             Call::Show { words: false },
@@ -39,6 +50,7 @@ fn calls() -> [Played; 8] {
             CAPTURE.as_bytes(),
             b"84 loco s3 speed28 f 4\n168 idle\n252 refused H5 036260\n",
         ),
+        (Call::Timing, CAPTURE.as_bytes(), FIGURES),
         (hex(None), LINES, b"036261\nff00ff\nc3e8ec1c06dd\n"),
         (
             hex(Some((16, 32, 1))),
@@ -60,7 +72,7 @@ fn calls() -> [Played; 8] {
 fn lists_up_to_a_fault(call: Call) -> bool {
     match call {
         Call::Show { .. } | Call::Encode(_) => true,
-        Call::Run | Call::Same | Call::SameInput => false,
+        Call::Timing | Call::Run | Call::Same | Call::SameInput => false,
     }
 }
 
@@ -129,13 +141,16 @@ fn play_to(
     Ok(false)
 }
 
-/// Each write of so many bytes of a call fails in turn, up to the two hundredth, behind which the call is done.
+/// Each write of so many bytes of a call fails in turn, up to some behind its last byte, behind which the call is done.
 #[test]
 fn each_write_fails_in_turn(rt: HostRuntime) -> Result<(), Fail> {
     for played in calls() {
+        let enough = u32::try_from(played.2.len())
+            .unwrap_or(1000)
+            .saturating_add(10);
         for each in [1, 3, 1000] {
             let mut whole = false;
-            for calls_left in 0..200u32 {
+            for calls_left in 0..enough {
                 let writer = Taking::new(rt.alloc(), each, calls_left);
                 if play_to(&rt, rt.alloc(), played, writer)? {
                     whole = true;
