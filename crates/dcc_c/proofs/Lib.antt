@@ -2,6 +2,7 @@ pub mod HalvesLemmas
 pub mod LocoLemmas
 pub mod ApplyLemmas
 pub mod BoardLemmas
+pub mod FrameLemmas
 pub mod SenderLemmas
 pub mod ReaderLemmas
 mod KeptPacketLemmas

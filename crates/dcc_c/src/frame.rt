@@ -8,7 +8,7 @@ use dcc_wire::Frame;
 
 /// The bytes of a frame, or none.
 #[repr(C)]
-#[derive(Clone, Copy, Drop, PartialEq)]
+#[derive(Clone, Copy, Drop)]
 pub struct DccFrame {
     /// How many bytes there are.
     pub len: u8,
@@ -17,7 +17,7 @@ pub struct DccFrame {
 }
 
 impl DccFrame {
-    ghost use Rattle.std.specs.Prelude.{◌≡◌, ◌≤◌, length};
+    ghost use Rattle.std.specs.Prelude.{◌≡◌, ◌≤◌, ◌↔◌, IsTrue, length};
     ghost use Rattle.dcc_c.specs.Frames.{bytes_of, frame_numbers};
 
     /// These bytes, of which there are at most six.
@@ -31,6 +31,21 @@ impl DccFrame {
             len: bytes.len() as u8,
             bytes: padded,
         }
+    }
+
+    /// Whether these numbers are the same as others.
+    // (byte by byte: arrays are compared by calls for lists of any length, which take three times as long)
+    pub fn is(&self, other: &DccFrame) -> bool
+        ensures { IsTrue result ↔ (self.now ≡ other.now) }
+    {
+        let (a, b) = (&self.bytes, &other.bytes);
+        (self.len == other.len)
+            & (a[0] == b[0])
+            & (a[1] == b[1])
+            & (a[2] == b[2])
+            & (a[3] == b[3])
+            & (a[4] == b[4])
+            & (a[5] == b[5])
     }
 
     /// The bytes.

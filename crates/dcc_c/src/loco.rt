@@ -15,9 +15,9 @@ ghost use Rattle.dcc_c.specs.Applied.{HasApplied};
 ghost use Rattle.dcc_c.specs.Locos.{HasAddress, loco_numbers};
 
 use crate::frame::{DccFrame, frame_of};
-use crate::loco_numbers::{DccLoco, own_address, pending_left, put, registers_of};
+use crate::loco_numbers::{DccLoco, own_address, pending_left, put, take_up};
 use dcc_packet::{Packet, PacketFault};
-use dcc_regs::{LocoRegisters, Who, hears};
+use dcc_regs::{LocoRegisters, Speed, Who, hears};
 use dcc_wire::Frame;
 
 /// Makes a decoder that is powered up with these CVs, that of CV1 first: stopped, forward, all functions and binary states off.
@@ -87,14 +87,20 @@ fn apply(loco: &mut DccLoco, frame: &Frame) -> bool
         × HasApplied packet (loco_who before) (loco_map before) (loco_who after) (loco_map after) }
     ensures kept { result ≡ false → loco.new ≡ loco.old }
 {
-    let packet = Packet::read(frame);
-    match registers_of(loco) {
-        Some(mut registers) => {
-            if registers.apply(&mut loco.cvs, &packet) {
-                put(loco, &registers, pending_left(&registers.pending, frame));
-            }
-            true
-        }
-        None => false,
+    let mut registers = LocoRegisters {
+        address: None,
+        speed: Speed::Stop,
+        forward: true,
+        functions: 0,
+        states: 0,
+        pending: None,
+    };
+    if !take_up(loco, &mut registers) {
+        return false;
     }
+    let packet = Packet::read(frame);
+    if registers.apply(&mut loco.cvs, &packet) {
+        put(loco, &registers, pending_left(&registers.pending, frame));
+    }
+    true
 }

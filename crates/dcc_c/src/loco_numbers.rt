@@ -12,7 +12,7 @@ ghost use Rattle.dcc_regs.specs.Addresses.{is_active};
 ghost use Rattle.dcc_regs.specs.Loco.{is_pending_for};
 ghost use Rattle.dcc_regs.specs.LocoRegisters.{registers_in, with_cvs};
 ghost use Rattle.dcc_regs.specs.LocoState.{is_state};
-ghost use Rattle.dcc_c.specs.Packets.{address_kind};
+ghost use Rattle.dcc_c.specs.Packets.{address_kind, address_number};
 ghost use Rattle.dcc_c.specs.Locos.{HasAddress, loco_numbers, own_kind, own_number, pending_numbers, speed_mode, speed_step};
 ghost use Rattle.dcc_c.specs.Locos.{words_of};
 
@@ -120,49 +120,35 @@ fn words_of(bits: u128) -> [u64; 2]
     [(bits % WORD) as u64, (bits / WORD) as u64]
 }
 
-/// The registers of these numbers, where they are of a decoder.
-pub(crate) fn registers_of(loco: &DccLoco) -> Option<LocoRegisters>
+/// Takes up the registers of these numbers, and answers whether they are of a decoder. Where they are of none the registers may be any.
+// (they are made in one place: each copy would stand on the stack beside it)
+pub(crate) fn take_up(loco: &DccLoco, registers: &mut LocoRegisters) -> bool
     ensures found { (state : LocoState) → is_state state ≡ true → loco.now ≡ loco_numbers state
-        → result ≡ Some (registers_in state) }
-    ensures possible { IfSome result (λ registers. is_state (with_cvs registers loco.now.cvs) ≡ true) }
-    ensures numbers { IfSome result (λ registers. loco.now ≡ loco_numbers (with_cvs registers loco.now.cvs)) }
+        → (result ≡ true) × (registers.new ≡ registers_in state) }
+    ensures possible { result ≡ true → is_state (with_cvs registers.new loco.now.cvs) ≡ true }
+    ensures numbers { result ≡ true → loco.now ≡ loco_numbers (with_cvs registers.new loco.now.cvs) }
 {
-    let registers = read(loco)?;
-    if registers.is_possible() && are_numbers_of(loco, &registers) {
-        Some(registers)
-    } else {
-        None
-    }
+    read(loco, registers) && registers.is_possible()
 }
 
-/// Whether these are the numbers of a decoder with these registers, what is pending being right.
-fn are_numbers_of(loco: &DccLoco, registers: &LocoRegisters) -> bool
-    requires { loco.now.pending ≡ pending_numbers registers.now.pending }
-    ensures { IsTrue result ↔ (loco.now ≡ loco_numbers (with_cvs registers.now loco.now.cvs)) }
-{
-    loco.address_kind == own_kind(&registers.address)
-        && loco.address == own_number(&registers.address)
-        && loco.speed_mode == speed_mode(registers.speed)
-        && loco.step == speed_step(registers.speed)
-        && loco.forward == registers.forward
-        && loco.functions == words_of(registers.functions)
-        && loco.states == words_of(registers.states)
-}
-
-/// The registers of these numbers; of others they may be any.
-fn read(loco: &DccLoco) -> Option<LocoRegisters>
+/// Reads the registers of these numbers, and answers whether they are of registers. Whether a decoder can hold these is not asked.
+fn read(loco: &DccLoco, registers: &mut LocoRegisters) -> bool
     ensures found { (state : LocoState) → is_state state ≡ true → loco.now ≡ loco_numbers state
-        → result ≡ Some (registers_in state) }
-    ensures pending { IfSome result (λ registers. loco.now.pending ≡ pending_numbers registers.pending) }
+        → (result ≡ true) × (registers.new ≡ registers_in state) }
+    ensures numbers { result ≡ true → loco.now ≡ loco_numbers (with_cvs registers.new loco.now.cvs) }
 {
-    Some(LocoRegisters {
-        address: address_of(loco.address_kind, loco.address)?,
-        speed: speed_of(loco.speed_mode, loco.step)?,
-        forward: loco.forward,
-        functions: bits_of(&loco.functions),
-        states: bits_of(&loco.states),
-        pending: pending_of(&loco.pending)?,
-    })
+    let Some(address) = address_of(loco.address_kind, loco.address) else {
+        return false
+    };
+    let Some(speed) = speed_of(loco.speed_mode, loco.step) else {
+        return false
+    };
+    registers.address = address;
+    registers.speed = speed;
+    registers.forward = loco.forward;
+    registers.functions = bits_of(&loco.functions);
+    registers.states = bits_of(&loco.states);
+    read_pending(&loco.pending, &mut registers.pending)
 }
 
 /// The address of these numbers, or none. P13 where no decoder has such an address.
@@ -171,19 +157,17 @@ pub(crate) fn own_address(loco: &DccLoco) -> Result<Option<Address>, PacketFault
     ensures address { IfOk result (HasAddress loco.now) }
     ensures fault { IfErr result (λ fault. fault ≡ PacketFault.State) }
 {
-    match address_of(loco.address_kind, loco.address) {
-        Some(own) if own_number(&own) == loco.address => Ok(own),
-        _ => Err(PacketFault::State),
-    }
+    address_of(loco.address_kind, loco.address).ok_or(PacketFault::State)
 }
 
 fn address_of(kind: u8, number: u16) -> Option<Option<Address>>
-    ensures kind { IfSome result (λ own. (is_active own ≡ true) × (kind ≡ own_kind own)) }
+    ensures active { IfSome result (λ own. is_active own ≡ true) }
+    ensures numbers { IfSome result (λ own. (kind ≡ own_kind own) × (number ≡ own_number own)) }
     ensures found { (own : Option Address) → is_active own ≡ true → kind ≡ own_kind own → number ≡ own_number own
         → result ≡ Some own }
 {
     match kind {
-        0 => Some(None),
+        0 if number == 0 => Some(None),
         1 => Some(Some(short(number)?)),
         2 => Some(Some(long(number)?)),
         _ => None,
@@ -191,7 +175,7 @@ fn address_of(kind: u8, number: u16) -> Option<Option<Address>>
 }
 
 fn short(number: u16) -> Option<Address>
-    ensures kind { IfSome result (λ own. address_kind own ≡ 1) }
+    ensures numbers { IfSome result (λ own. (address_kind own ≡ 1) × (address_number own ≡ number)) }
     ensures found { (own : ShortAddress) → number ≡ own.number → result ≡ Some (Address.Short own) }
 {
     if number > 127 {
@@ -201,18 +185,19 @@ fn short(number: u16) -> Option<Address>
 }
 
 fn long(number: u16) -> Option<Address>
-    ensures kind { IfSome result (λ own. address_kind own ≡ 2) }
+    ensures numbers { IfSome result (λ own. (address_kind own ≡ 2) × (address_number own ≡ number)) }
     ensures found { (own : LongAddress) → number ≡ own.number → result ≡ Some (Address.Long own) }
 {
     Address::long(number).ok()
 }
 
 fn speed_of(mode: u8, step: u8) -> Option<Speed>
-    ensures { (speed : Speed) → mode ≡ speed_mode speed → step ≡ speed_step speed → result ≡ Some speed }
+    ensures found { (speed : Speed) → mode ≡ speed_mode speed → step ≡ speed_step speed → result ≡ Some speed }
+    ensures numbers { IfSome result (λ speed. (mode ≡ speed_mode speed) × (step ≡ speed_step speed)) }
 {
     match mode {
-        0 => Some(Speed::Stop),
-        1 => Some(Speed::Emergency),
+        0 if step == 0 => Some(Speed::Stop),
+        1 if step == 0 => Some(Speed::Emergency),
         14 => Some(Speed::Step14(step)),
         28 => Some(Speed::Step28(step)),
         126 => Some(Speed::Step126(step)),
@@ -221,27 +206,29 @@ fn speed_of(mode: u8, step: u8) -> Option<Speed>
 }
 
 fn bits_of(words: &[u64; 2]) -> u128
-    ensures { (bits : ℕ) → words.now ≡ words_of bits → result ≡ bits }
+    ensures found { (bits : ℕ) → words.now ≡ words_of bits → result ≡ bits }
+    ensures words { words.now ≡ words_of result }
 {
     u128::from(words[1]) * WORD + u128::from(words[0])
 }
 
-/// What is pending by these numbers.
-fn pending_of(pending: &DccFrame) -> Option<Option<Packet>>
+/// What is pending by these numbers; by others it may be anything.
+// (a packet is read for it, which has no place on the stack beside the one that is heard)
+#[inline(never)]
+fn read_pending(numbers: &DccFrame, pending: &mut Option<Packet>) -> bool
     ensures found { (own : Option Address) (packet : Option Packet) → is_pending_for own packet ≡ true
-        → pending.now ≡ pending_numbers packet → result ≡ Some packet }
-    ensures numbers { IfSome result (λ packet. pending.now ≡ pending_numbers packet) }
+        → numbers.now ≡ pending_numbers packet → (result ≡ true) × (pending.new ≡ packet) }
+    ensures numbers { result ≡ true → numbers.now ≡ pending_numbers pending.new }
 {
-    if pending.len == 0 {
-        return if pending.bytes == [0; 6] {
-            Some(None)
-        } else {
-            None
-        };
+    if numbers.len == 0 {
+        *pending = None;
+        return numbers.is(&DccFrame::of(&[]));
     }
-    let frame = Frame::of(pending.as_slice()).ok()?;
-    if *pending != DccFrame::of(frame.bytes()) {
-        return None;
+    match Frame::of(numbers.as_slice()) {
+        Ok(frame) => {
+            *pending = Some(Packet::read(&frame));
+            numbers.is(&DccFrame::of(frame.bytes()))
+        }
+        Err(_) => false,
     }
-    Some(Some(Packet::read(&frame)))
 }

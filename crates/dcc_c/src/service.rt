@@ -86,7 +86,7 @@ fn progress_of(service: &DccService) -> Option<ServiceProgress>
     ensures numbers { IfSome result (λ progress. service.now ≡ service_numbers (with_cvs progress service.now.cvs)) }
 {
     let pending = pending_of(&service.pending)?;
-    if pending_bytes(&pending) == service.pending {
+    if service.pending.is(&pending_bytes(&pending)) {
         Some(ServiceProgress {
             in_service: service.in_service,
             pending,

@@ -1,8 +1,8 @@
-use Rattle.std.proofs.Common.{◌≡◌, refl, sym, ◌∙◌, ap, List, ℕ}
+use Rattle.std.proofs.Common.{◌≡◌, refl, ◌∙◌, ap}
 use Rattle.dcc_regs.specs.declared.loco_state.LocoState.{LocoState}
-use Rattle.dcc_regs.specs.LocoRegisters.{registers_in, with_cvs}
+use Rattle.dcc_regs.specs.LocoRegisters.{with_cvs}
 use Rattle.dcc_regs.specs.LocoState.{is_state, loco_map, loco_who}
-use Rattle.dcc_c.proofs.ApplyLemmas.{applied, same_some, same_state, left_spells}
+use Rattle.dcc_c.proofs.ApplyLemmas.{applied, same_state, left_spells}
 use Rattle.dcc_c.proofs.loco.apply.Goals as goal
 
 pub pending_left-requires : goal.pending_left-requires
@@ -10,12 +10,24 @@ pending_left-requires c =
     left_spells c.read-packet.result c.apply.new.self.pending c.args.frame.now c.read-packet.ensures.spelled
     (c.apply.ensures.pending c.if-apply.true)
 
+pub returns-then-apply-clause-decoder : goal.returns-then-apply-clause-decoder
+returns-then-apply-clause-decoder c heard = (
+  with_cvs c.take_up.new.registers c.args.loco.now.cvs,
+  c.take_up.ensures.possible c.if-not-take_up.false,
+  c.take_up.ensures.numbers c.if-not-take_up.false,
+)
+
+pub returns-else-apply-clause-decoder : goal.returns-else-apply-clause-decoder
+returns-else-apply-clause-decoder c heard = (
+  with_cvs c.take_up.new.registers c.args.loco.now.cvs,
+  c.take_up.ensures.possible c.if-not-take_up.false,
+  c.take_up.ensures.numbers c.if-not-take_up.false,
+)
+
 pub returns-then-apply-clause-applies : goal.returns-then-apply-clause-applies
 returns-then-apply-clause-applies c before possible e =
-    let was : with_cvs c.in-Some.registers c.args.loco.now.cvs ≡ before =
-    same_state c.in-Some.registers c.args.loco.now before
-    (same_some c.in-Some.registers (registers_in before) c.registers_of.result c.in-Some.is
-    (c.registers_of.ensures.found before possible e)) e in
+    let was : with_cvs c.take_up.new.registers c.args.loco.now.cvs ≡ before =
+    same_state c.take_up.new.registers c.args.loco.now before (c.take_up.ensures.found before possible e).1 e in
     let a = c.apply.ensures in (
       c.read-packet.result,
       with_cvs c.apply.new.self c.apply.new.cvs,
@@ -29,12 +41,10 @@ returns-then-apply-clause-applies c before possible e =
 
 pub returns-else-apply-clause-applies : goal.returns-else-apply-clause-applies
 returns-else-apply-clause-applies c before possible e =
-    let was : with_cvs c.in-Some.registers c.args.loco.now.cvs ≡ before =
-    same_state c.in-Some.registers c.args.loco.now before
-    (same_some c.in-Some.registers (registers_in before) c.registers_of.result c.in-Some.is
-    (c.registers_of.ensures.found before possible e)) e in
+    let was : with_cvs c.take_up.new.registers c.args.loco.now.cvs ≡ before =
+    same_state c.take_up.new.registers c.args.loco.now before (c.take_up.ensures.found before possible e).1 e in
     let a = c.apply.ensures in
-    let stays : with_cvs c.apply.new.self c.apply.new.cvs ≡ with_cvs c.in-Some.registers c.args.loco.now.cvs =
+    let stays : with_cvs c.apply.new.self c.apply.new.cvs ≡ with_cvs c.take_up.new.registers c.args.loco.now.cvs =
     a.stays c.if-apply.false in (
       c.read-packet.result,
       before,
