@@ -1,5 +1,7 @@
 pub mod InParts
 pub mod Packing
+pub mod FunctionLemmas
+pub mod SameWrites
 pub mod WorkedExamples
 pub mod ListWalk
 pub mod NoteLemmas

@@ -1,8 +1,7 @@
 //! The functions that a packet turns on and off (RCN-212, NMRA S-9.2.1).
 
-ghost use Rattle.std.specs.Prelude.{◌≡◌, ℕ, ◌<◌, ◌≤◌, ◌⊎◌, None, IfSome};
+ghost use Rattle.std.specs.Prelude.{◌≡◌, ◌≤◌, ◌^◌, ◌-◌, IfSome};
 ghost use Rattle.dcc_regs.specs.FunctionBits as table;
-ghost use Rattle.dcc_regs.specs.declared.register.SpeedMode.{SpeedMode as SpeedModeOf};
 
 use crate::register::SpeedMode;
 use dcc_packet::{Address, Group, GroupBits, Packet, What};
@@ -93,33 +92,12 @@ pub fn function_set(mode: SpeedMode, packet: &Packet, n: u8) -> Option<bool>
     }
 }
 
-/// The functions that a packet may turn on or off: from the first up to the second, without it.
-pub fn function_range(mode: SpeedMode, packet: &Packet) -> (u8, u8)
-    ensures others { (n : ℕ) → n ≤ 68 → (n < result.0) ⊎ (result.1 ≤ n) → table.function_set mode packet.now n ≡ None }
-    ensures end { result.1 ≤ 69 }
-{
-    let Packet::Loco { what, .. } = packet else {
-        return (0, 0)
-    };
-    match (what, mode) {
-        (What::Reset, _) => (0, 69),
-        (What::Speed28 { .. }, SpeedMode::Steps14) => (0, 1),
-        (What::Functions(bits), _) => group_range(bits.group()),
-        _ => (0, 0),
-    }
-}
-
-/// The functions of a group: from the first up to the second, without it.
-fn group_range(group: Group) -> (u8, u8)
-    ensures others { (mode : SpeedModeOf) (n : ℕ) → n ≤ 68 → (n < result.0) ⊎ (result.1 ≤ n)
-        → table.function_place mode group n ≡ None }
-    ensures end { result.1 ≤ 69 }
+/// A one for each bit of a group that is for one of its functions, F0 aside.
+pub fn ones_of(group: Group) -> u8
+    ensures { result ≡ 2 ^ table.count_of group - 1 }
 {
     match group {
-        Group::F0 => (0, 5),
-        _ => {
-            let first = first_function(group);
-            (first, first + count_of(group))
-        }
+        Group::F0 | Group::F5 | Group::F9 => 15,
+        _ => 255,
     }
 }

@@ -3,19 +3,20 @@
 ghost use Rattle.std.specs.Prelude.{◌≡◌, ◌==◌, ℕ, ◌<◌, ◌≤◌, ◌%◌, ◌^◌, if◌then◌else◌, unwrap_or};
 ghost use Rattle.dcc_packet.specs.Bits.{is_one};
 ghost use Rattle.dcc_regs.specs.Addresses.{is_active as is_active_address};
-ghost use Rattle.dcc_regs.specs.FunctionBits.{function_set as function_set_of};
+ghost use Rattle.dcc_regs.specs.FunctionBits.{function_set as function_set_of, group_bit};
 ghost use Rattle.dcc_regs.specs.Loco.{is_pending_for as is_pending_packet_for, is_speed as is_speed_in_range};
 ghost use Rattle.dcc_regs.specs.States.{state_set as state_set_of};
+ghost use Rattle.dcc_regs.specs.declared.register.SpeedMode.{SpeedMode as SpeedModeOf};
 
 use crate::cvs;
-use crate::function_bits::{function_range, function_set};
+use crate::function_bits::{first_function, function_set, ones_of};
 use crate::heard::hears;
 use crate::loco_state::{LocoState, functions_in};
 use crate::register::{Speed, SpeedMode, Who};
 use crate::speeds::{direction_set, speed_set};
 use crate::states::turned_states;
 use crate::writes::{is_own_write, leave_pending};
-use dcc_packet::{Address, Packet, What};
+use dcc_packet::{Address, GroupBits, Packet, What};
 
 /// What a locomotive decoder holds besides its CVs: a `LocoState` without them. The CVs may stand anywhere, and are written where they stand.
 #[derive(Clone, Copy)]
@@ -90,6 +91,8 @@ impl LocoRegisters {
 
     /// A decoder that holds these and has these CVs hears one packet, and does what it says where it is for this decoder: at most one
     /// CV is written. Answers whether it is; where it is not nothing changes.
+    // (what it does with numbers of 128 bits has no place on the stack of each caller)
+    #[inline(never)]
     pub fn apply(&mut self, cvs: &mut [u8; 1024], packet: &Packet) -> bool
         ensures heard { result ≡ hears (loco_who (with_cvs self.old cvs.old)) packet.now }
         ensures stays { result ≡ false → with_cvs self.new cvs.new ≡ with_cvs self.old cvs.old }
@@ -143,31 +146,39 @@ fn is_pending_for(active: &Option<Address>, pending: &Option<Packet>) -> bool
     }
 }
 
-/// The functions after a heard packet. A reset turns all off at once: one by one would take long where many decoders hear many
-/// resets.
-#[inline(never)]
+/// The functions after a heard packet: those of a group are put in at once, since one by one would take long.
 fn functions_after(functions: u128, mode: SpeedMode, packet: &Packet) -> u128
     ensures { (n : ℕ) → n ≤ 68 → is_one result n ≡ unwrap_or (function_set_of mode packet.now n) (is_one functions n) }
 {
-    match packet {
-        Packet::Loco {
-            what: What::Reset,
-            ..
-        } => 0,
-        _ => functions_looked_at(functions, mode, packet),
+    let Packet::Loco { what, .. } = packet else {
+        return functions
+    };
+    match what {
+        What::Reset => 0,
+        What::Speed28 { .. } => with_f0(functions, mode, packet),
+        What::Functions(bits) => with_group(with_f0(functions, mode, packet), *bits),
+        _ => functions,
     }
 }
 
-/// The functions after a heard packet, looked at one by one. Those that the packet is not for stay as they are, unlooked at.
-fn functions_looked_at(functions: u128, mode: SpeedMode, packet: &Packet) -> u128
-    ensures { (n : ℕ) → n ≤ 68 → is_one result n ≡ unwrap_or (function_set_of mode packet.now n) (is_one functions n) }
+/// The functions with F0 as a packet turns it.
+fn with_f0(functions: u128, mode: SpeedMode, packet: &Packet) -> u128
+    ensures f0 { is_one result 0 ≡ unwrap_or (function_set_of mode packet.now 0) (is_one functions 0) }
+    ensures others { (n : ℕ) → 1 ≤ n → n ≤ 127 → is_one result n ≡ is_one functions n }
 {
-    let (first, end) = function_range(mode, packet);
-    let mut after = functions;
-    for n in first..end {
-        after = with_bit_set(after, n, function_set(mode, packet, n));
-    }
-    after
+    with_bit_set(functions, 0, function_set(mode, packet, 0))
+}
+
+/// The functions with those of a group as its bits say, F0 aside: those of them that differ are turned round.
+fn with_group(functions: u128, bits: GroupBits) -> u128
+    ensures f0 { is_one result 0 ≡ is_one functions 0 }
+    ensures others { (mode : SpeedModeOf) (n : ℕ) → 1 ≤ n → n ≤ 68
+        → is_one result n ≡ unwrap_or (group_bit mode bits n) (is_one functions n) }
+{
+    let first = first_function(bits.group());
+    let before = (functions >> first & 255) as u8;
+    let differing = (before ^ bits.bits()) & ones_of(bits.group());
+    functions ^ u128::from(differing) << first
 }
 
 /// The binary states after a heard packet.

@@ -1,6 +1,6 @@
 //! CV writes to a decoder's own address (RCN-214).
 
-ghost use Rattle.std.specs.Prelude.{◌≡◌, nat_le, Some, true};
+ghost use Rattle.std.specs.Prelude.{◌≡◌, ◌↔◌, nat_le, IsTrue, Some, true};
 ghost use Rattle.dcc_regs.specs.Loco.{is_byte_write, writes_byte};
 ghost use Rattle.dcc_regs.specs.Result.{is_effective, left_pending};
 ghost use Rattle.dcc_regs.specs.Writes.{is_cv_write, is_own_write as is_own_write_of};
@@ -64,7 +64,50 @@ pub fn is_repeated_write(pending: &Option<Packet>, packet: &Packet) -> bool
     ensures { result ≡ is_effective (Some (PendingValue pending.now)) packet.now }
 {
     match pending {
-        Some(before) => is_own_write(packet) && before.is(packet),
+        Some(before) => is_own_write(packet) && is_same_write(before, packet),
         None => false,
+    }
+}
+
+/// Whether a packet is the same as one that is an own write.
+// (by what they say: `Packet::is` makes a frame of each)
+fn is_same_write(packet: &Packet, own_write: &Packet) -> bool
+    requires { is_own_write_of own_write.now ≡ true }
+    ensures { IsTrue result ↔ (packet.now ≡ own_write.now) }
+{
+    match (packet, own_write) {
+        (
+            Packet::Loco {
+                to: other,
+                what: told,
+            },
+            Packet::Loco { to, what },
+        ) => { to.is(other) && is_same_write_of(told, what) }
+        _ => false,
+    }
+}
+
+/// Whether an instruction is the same as one that writes a CV or a bit of one.
+fn is_same_write_of(what: &What, write: &What) -> bool
+    requires { is_cv_write write.now ≡ true }
+    ensures { IsTrue result ↔ (what.now ≡ write.now) }
+{
+    match (what, write) {
+        (
+            What::CvWrite {
+                cv: other,
+                value: byte,
+            },
+            What::CvWrite { cv, value },
+        ) => { other.number() == cv.number() && *byte == *value }
+        (
+            What::CvBitWrite {
+                cv: other,
+                place: at,
+                one: bit,
+            },
+            What::CvBitWrite { cv, place, one },
+        ) => { other.number() == cv.number() && at.place() == place.place() && *bit == *one }
+        _ => false,
     }
 }
