@@ -151,6 +151,25 @@ static void take_capture(void) {
     }
 }
 
+/* in place of the capture's frames a programming track: each question of some CVs and a write, five times, three resets before each of them */
+static void add_five(const dcc_frame *it) {
+    static const dcc_frame reset = {3, {0}};
+    for (int i = 0; i < 3; i++) frames[frame_count++] = reset;
+    for (int i = 0; i < 5; i++) frames[frame_count++] = *it;
+}
+static void take_programming_track(void) {
+    frame_count = 0;
+    for (uint16_t cv = 1; cv <= 100; cv++) {
+        for (uint8_t known = 0; known < 9; known++) {
+            reader = (dcc_reader){.cv = cv, .known = known};
+            dcc_reader_question(&reader, &frame);
+            add_five(&frame);
+        }
+        uint8_t place = (uint8_t)(cv - 1), byte = (uint8_t)(cv * 3);
+        add_five(&(dcc_frame){4, {0x7c, place, byte, 0x7c ^ place ^ byte}});
+    }
+}
+
 int main(void) {
     take_capture();
     start_clock();
@@ -183,5 +202,8 @@ int main(void) {
     measure("dcc_reader_new", new_reader, 1000);
     measure("dcc_reader_question", ask_reader, 1000);
     measure("dcc_reader_answer", answer_reader, 1000);
+    take_programming_track();
+    new_service();
+    measure("dcc_service_apply:inside", apply_service, frame_count);
     return 0;
 }
