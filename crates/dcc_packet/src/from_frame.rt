@@ -3,7 +3,7 @@ ghost use Rattle.std.specs.Prelude.{◌≡◌, ◌≢◌, ◌≤◌, ◌<◌, �
 ghost use Rattle.dcc_packet.specs.Rows.{instruction_bytes, address_bytes, loco_bytes, accessory_bytes, signal_bytes};
 ghost use Rattle.dcc_packet.specs.Rows.{IsRow};
 ghost use Rattle.dcc_wire.specs.Frames.{with_error_byte};
-ghost use Rattle.dcc_packet.specs.Spelling.{spelling};
+ghost use Rattle.dcc_packet.specs.Spelling.{spelling, BytesFit};
 ghost use Rattle.dcc_packet.specs.declared.accessory.Board.{Board};
 ghost use Rattle.dcc_packet.specs.declared.accessory.Output.{Output};
 ghost use Rattle.dcc_packet.specs.declared.accessory.SignalAddress.{SignalAddress};
@@ -22,11 +22,15 @@ impl Packet {
     pub fn read(frame: &Frame) -> Packet
         ensures spelled { spelling result ≡ frame.now }
         ensures only { (packet : Packet) → spelling packet ≡ frame.now → packet ≡ result }
+        ensures fits { BytesFit result }
     {
         let bytes = frame.bytes();
         let (body, _error_byte) = bytes.split_at(bytes.len() - 1);
         match row(body) {
-            Some(packet) => packet,
+            Some(packet) => {
+                packet.has_bytes();
+                packet
+            }
             None => Packet::Other(OtherFrame { frame: *frame }),
         }
     }

@@ -1,6 +1,7 @@
 //! Packet lines.
-ghost use Rattle.std.specs.Prelude.{◌≡◌};
+ghost use Rattle.std.specs.Prelude.{◌≡◌, IfOk};
 ghost use Rattle.dcc_packet.specs.Words.{words};
+ghost use Rattle.dcc_packet.specs.Spelling.{BytesFit};
 ghost use Rattle.dcc_packet.specs.Line.{idle, accessory, signal, frame, Says, spelling_or_fault};
 
 use crate::line_word::{board_number, hex_frame, output_number, signal_number, switch};
@@ -36,16 +37,22 @@ impl Packet {
     /// or is missing, P11 a wrong number, P1 to P9 and P14 a number out of the range of its value, P12 hex digits
     /// that are no frame, and last P10 for a word too many.
     pub fn from_line(line: &str) -> Result<Packet, PacketFault>
-        ensures { Says (words line.now) result }
+        ensures says { Says (words line.now) result }
+        ensures fits { IfOk result BytesFit }
     {
-        Words::new(line.as_bytes()).packet()
+        Packet::from_line_bytes(line.as_bytes())
     }
 
     /// The packet of a line of bytes that need be no text, in the same way.
     pub fn from_line_bytes(line: &[u8]) -> Result<Packet, PacketFault>
-        ensures { Says (words line.now) result }
+        ensures says { Says (words line.now) result }
+        ensures fits { IfOk result BytesFit }
     {
-        Words::new(line).packet()
+        let packet = Words::new(line).packet();
+        if let Ok(packet) = &packet {
+            packet.has_bytes();
+        }
+        packet
     }
 }
 

@@ -4,7 +4,7 @@ ghost use Rattle.arrayvec.specs.ArrayVec.{array_vec_len};
 ghost use Rattle.dcc_wire.specs.Frames.{with_error_byte, xor_of};
 ghost use Rattle.dcc_packet.specs.Rows.{bit, address_bytes, instruction_bytes, function_bytes, cv_bytes};
 ghost use Rattle.dcc_packet.specs.Rows.{accessory_bytes, signal_bytes};
-ghost use Rattle.dcc_packet.specs.Spelling.{spelling};
+ghost use Rattle.dcc_packet.specs.Spelling.{spelling, BytesFit};
 
 use crate::bits::bit;
 use crate::{
@@ -21,8 +21,10 @@ impl Packet {
     /// The frame that spells the packet: the bytes of its row and the error byte (NMRA S-9.2.1; RCN-211 to
     /// RCN-214). Reading it gives the packet again.
     pub fn frame(&self) -> Frame
-        ensures { result ≡ spelling self.now }
+        ensures spelled { result ≡ spelling self.now }
+        ensures fits { BytesFit self.now }
     {
+        self.has_bytes();
         match self {
             Packet::Idle => with_error_byte(&[0xFF, 0x00]),
             Packet::Loco { to, what } => {
