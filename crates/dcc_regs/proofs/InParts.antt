@@ -18,6 +18,7 @@ use Rattle.dcc_regs.specs.Sets.{sets}
 use Rattle.dcc_regs.specs.Result.{RegisterMap, last_or, set_in_turn, places, places_from, left_pending, pending_after}
 use Rattle.dcc_regs.specs.Result.{effective_set, cv_bit_after, mode_of, mode_after, plain_after, result_of_heard}
 use Rattle.dcc_regs.specs.Result.{result, HasHeard}
+use Rattle.dcc_regs.specs.Laws.{OneMorePacket}
 
 last_or-append : (start : Value) (vs ws : List Value) → last_or start (vs ++ ws) ≡ last_or (last_or start vs) ws
 last_or-append start [] ws = refl
@@ -141,3 +142,8 @@ heard_more {who} {who'} {who''} {m} {m'} {m''} {l} {k} before now = record {
       now.registers ∙ ap (λ w. result w m' k) before.same_who ∙ ap (λ n. result who n k) before.registers
       ∙ sym (result-append who m l k);
 }
+
+-- one packet more is heard
+pub heard_one_more : OneMorePacket
+heard_one_more l p who who' who'' start now after before same stepped =
+    heard_more before (record { same_who = same; registers = stepped })

@@ -1,5 +1,5 @@
 -- Laws over the definitions.
-use Rattle.std.specs.Prelude.{Some, ◌≡◌, ◌≢◌, ◌⊎◌, true, false, None, List, ◌++◌, if◌then◌else◌}
+use Rattle.std.specs.Prelude.{Some, ◌≡◌, ◌≢◌, ◌⊎◌, true, false, None, List, [], ◌∷◌, ◌++◌, if◌then◌else◌}
 use Rattle.dcc_packet.specs.declared.address.Address.{Address}
 use Rattle.dcc_packet.specs.declared.address.Address.TheVariants.{Broadcast}
 use Rattle.dcc_packet.specs.declared.instruction.What.{What}
@@ -13,7 +13,7 @@ use Rattle.dcc_regs.specs.Heard.{hears}
 use Rattle.dcc_regs.specs.Conflict.{Conflict}
 use Rattle.dcc_regs.specs.Sets.{sets}
 use Rattle.dcc_regs.specs.Writes.{is_own_write, writes_cv29}
-use Rattle.dcc_regs.specs.Result.{RegisterMap, result, step}
+use Rattle.dcc_regs.specs.Result.{RegisterMap, HasHeard, result, step}
 use Rattle.dcc_regs.specs.Notes.{Note, note_of, packet_told}
 use Rattle.dcc_regs.specs.Setting.{mode_in, set_from, value_over}
 
@@ -22,6 +22,16 @@ abbrev pub ResultInParts : Type 0
 ResultInParts =
     (who : Who) (start : RegisterMap) (first second : List Packet)
     → result who start (first ++ second) ≡ result who (result who start first) second
+
+-- a decoder that has heard no packet is as it was
+abbrev pub NoPacketHeard : Type 0
+NoPacketHeard = (who : Who) (start : RegisterMap) → HasHeard [] who start who start
+
+-- a decoder that has heard a list of packets, and then one packet more, has heard the list with that one behind it
+abbrev pub OneMorePacket : Type 0
+OneMorePacket =
+    (l : List Packet) (p : Packet) (who who' who'' : Who) (start now after : RegisterMap) → HasHeard l who start who' now
+    → who'' ≡ who' → after ≡ step who' now p → HasHeard (l ++ p ∷ []) who start who'' after
 
 -- one packet puts the constants that it sets over what stood there, in a decoder that hears it, and leaves all else
 abbrev pub StepSets : Type 0

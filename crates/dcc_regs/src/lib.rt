@@ -2,6 +2,7 @@
 //! memory.
 #![tactic(auto)]
 
+mod applying;
 mod board;
 mod board_state;
 mod boxed;
@@ -27,6 +28,7 @@ mod speeds;
 mod states;
 mod writes;
 
+pub use applying::apply_all;
 pub use board::BoardDecoder;
 pub use board_state::BoardState;
 pub use conflicts::{conflict, sets_nothing};
