@@ -12,7 +12,7 @@ pub loop-us-init : goal.loop-us-init
 loop-us-init c = λ track stands.
     let all : halves_left c.into_iter-us-iterator.result ≡ sent (spelling c.next-packet.result) main_timing =
     ap halves_left c.into_iter-us-iterator.ensures.into_iter_gives ∙ c.new-us-items.ensures.halves
-    ∙ rw (c.frame-frame.ensures, c.main.ensures) refl in
+    ∙ rw (c.frame-frame.ensures.spelled, c.main.ensures) refl in
     sending_none track _ _ _ all stands
 
 pub loop-us-preserved-then-not-is_nothing : goal.loop-us-preserved-then-not-is_nothing
@@ -39,7 +39,7 @@ returns-clause-heard c = λ before heard_all.
     (λ left. Sending (sent_all before) (sent (spelling c.next-packet.result) main_timing) left c.loop-us.rails
     c.loop-us.heard) c.in-None.ensures.steps.0 (c.loop-us.invariant _ heard_all.1) in
     (whole_frame before (sent_as c.next-packet.result) c.loop-us.rails c.loop-us.heard heard_all.0
-    (subst IsFrame c.frame-frame.ensures c.bytes-bytes.ensures.valid) s).0
+    (subst IsFrame c.frame-frame.ensures.spelled c.bytes-bytes.ensures.valid) s).0
 
 pub returns-clause-rails : goal.returns-clause-rails
 returns-clause-rails c = λ before heard_all.
@@ -47,4 +47,4 @@ returns-clause-rails c = λ before heard_all.
     (λ left. Sending (sent_all before) (sent (spelling c.next-packet.result) main_timing) left c.loop-us.rails
     c.loop-us.heard) c.in-None.ensures.steps.0 (c.loop-us.invariant _ heard_all.1) in
     (whole_frame before (sent_as c.next-packet.result) c.loop-us.rails c.loop-us.heard heard_all.0
-    (subst IsFrame c.frame-frame.ensures c.bytes-bytes.ensures.valid) s).1
+    (subst IsFrame c.frame-frame.ensures.spelled c.bytes-bytes.ensures.valid) s).1

@@ -13,7 +13,7 @@ packets-init g c =
 pub packets-preserved : goal.packets-preserved
 packets-preserved g c =
     let took = rw (rw c.in_ok-packet.is at c.branch-packet.ensures, c.in-Some-2.is) at c.in_ok-next_packet.ensures in
-    let held = rw c.frame.ensures at c.in_ok-hold_frame-in-Some-2.ensures in
+    let held = rw c.frame.ensures.spelled at c.in_ok-hold_frame-in-Some-2.ensures in
     let so_far = Encoding-wrote c.args.how c.args.input.now c.packets.input c.packets.held c.next_packet.new.held _ _ _
     c.packets.invariant took.1 took.2 in
     Encoding-packet c.args.how c.args.input.now c.packets.input c.next_packet.new.input c.next_packet.new.held
@@ -24,7 +24,7 @@ returns-in_err-hold_frame-in-Some-2-clause-encodes g c fault =
     let p = err_from_is_err_and c.from_residual-in_err-hold_frame-in-Some-2.result
     c.from_residual-in_err-hold_frame-in-Some-2.ensures.1 in
     let took = rw (rw c.in_ok-packet.is at c.branch-packet.ensures, c.in-Some-2.is) at c.in_ok-next_packet.ensures in
-    let failed = rw c.frame.ensures at c.in_err-hold_frame-in-Some-2.ensures in
+    let failed = rw c.frame.ensures.spelled at c.in_err-hold_frame-in-Some-2.ensures in
     let so_far = Encoding-wrote c.args.how c.args.input.now c.packets.input c.packets.held c.next_packet.new.held _ _ _
     c.packets.invariant took.1 took.2 in
     rw (p.1, p.2)

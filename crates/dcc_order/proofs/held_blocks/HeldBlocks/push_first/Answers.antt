@@ -48,9 +48,9 @@ invariant_of-self-then-number-self c =
     let places = b.places.items in
     let x = c.args.packet.now in
     let held = c.self.invariant.0 in
-    let frame_is : IsFrame (spelling x) = subst IsFrame c.frame.ensures c.frame_number-frame.ensures.valid in
+    let frame_is : IsFrame (spelling x) = subst IsFrame c.frame.ensures.spelled c.frame_number-frame.ensures.valid in
     let key : c.frame_number-frame.result ≡ frame_number (spelling x) =
-    c.frame_number-frame.ensures.number ∙ ap frame_number c.frame.ensures in
+    c.frame_number-frame.ensures.number ∙ ap frame_number c.frame.ensures.spelled in
     let found : c.number_at-number.result ≡ member_number (members_at places b.count) x =
     c.number_at-number.ensures
     ∙ ap (λ k. unwrap_or (get nat_cmp b.index k) b.count) key
@@ -93,9 +93,9 @@ invariant_of-self-else-number-self c =
     let places = b.places.items in
     let x = c.args.packet.now in
     let held = c.self.invariant.0 in
-    let frame_is : IsFrame (spelling x) = subst IsFrame c.frame.ensures c.frame_number-frame.ensures.valid in
+    let frame_is : IsFrame (spelling x) = subst IsFrame c.frame.ensures.spelled c.frame_number-frame.ensures.valid in
     let key : c.frame_number-frame.result ≡ frame_number (spelling x) =
-    c.frame_number-frame.ensures.number ∙ ap frame_number c.frame.ensures in
+    c.frame_number-frame.ensures.number ∙ ap frame_number c.frame.ensures.spelled in
     let found : c.number_at-number.result ≡ member_number (members_at places b.count) x =
     c.number_at-number.ensures
     ∙ ap (λ k. unwrap_or (get nat_cmp b.index k) b.count) key
@@ -133,9 +133,9 @@ returns-then-number-self-clause-ok c =
     let places = b.places.items in
     let x = c.args.packet.now in
     let held = c.self.invariant.0 in
-    let frame_is : IsFrame (spelling x) = subst IsFrame c.frame.ensures c.frame_number-frame.ensures.valid in
+    let frame_is : IsFrame (spelling x) = subst IsFrame c.frame.ensures.spelled c.frame_number-frame.ensures.valid in
     let key : c.frame_number-frame.result ≡ frame_number (spelling x) =
-    c.frame_number-frame.ensures.number ∙ ap frame_number c.frame.ensures in
+    c.frame_number-frame.ensures.number ∙ ap frame_number c.frame.ensures.spelled in
     let found : c.number_at-number.result ≡ member_number (members_at places b.count) x =
     c.number_at-number.ensures
     ∙ ap (λ k. unwrap_or (get nat_cmp b.index k) b.count) key
@@ -162,9 +162,9 @@ returns-else-number-self-clause-ok c =
     let places = b.places.items in
     let x = c.args.packet.now in
     let held = c.self.invariant.0 in
-    let frame_is : IsFrame (spelling x) = subst IsFrame c.frame.ensures c.frame_number-frame.ensures.valid in
+    let frame_is : IsFrame (spelling x) = subst IsFrame c.frame.ensures.spelled c.frame_number-frame.ensures.valid in
     let key : c.frame_number-frame.result ≡ frame_number (spelling x) =
-    c.frame_number-frame.ensures.number ∙ ap frame_number c.frame.ensures in
+    c.frame_number-frame.ensures.number ∙ ap frame_number c.frame.ensures.spelled in
     let found : c.number_at-number.result ≡ member_number (members_at places b.count) x =
     c.number_at-number.ensures
     ∙ ap (λ k. unwrap_or (get nat_cmp b.index k) b.count) key

@@ -1,0 +1,83 @@
+//! The headline for those who have decoders and no fleets.
+
+ghost use Rattle.std.specs.Prelude.{◌≡◌, ◌++◌, ◌∷◌, [], ℕ, List};
+ghost use Rattle.dcc_wire.specs.Framing.{StandsFor};
+ghost use Rattle.dcc_packet.specs.declared.packet.Packet.{Packet};
+ghost use Rattle.dcc_regs.specs.Result.{HasHeard, RegisterMap};
+ghost use Rattle.dcc_regs.specs.declared.register.Who.{Who};
+ghost use Rattle.dcc_order.specs.Hearing.{AreSpelled, HasHeardHalves, frames_of, whole_track};
+ghost use Rattle.dcc_order.specs.HearingLaws.{AlikeHalves};
+
+use dcc_packet::Packet;
+use dcc_regs::Decoder;
+use dcc_wire::{Framer, Seen};
+
+/// Two decoders hear two tracks, each through a new framer and in pieces of any length. Where they were equal, of whatever
+/// types, and the packets of the two tracks are alike for them, they are equal again: [`hear_two_tracks`](crate::hear_two_tracks)
+/// for one of each.
+pub fn hear_two<L: Decoder, R: Decoder>(
+    left: &mut L,
+    right: &mut R,
+    pieces: &[&[u16]],
+    others: &[&[u16]],
+)
+    // Each has heard its track.
+    ensures left { HasHeardHalves (whole_track pieces.now) (L.who left.old) (L.registers left.old)
+        (L.who left.new) (L.registers left.new) }
+    ensures right { HasHeardHalves (whole_track others.now) (R.who right.old) (R.registers right.old)
+        (R.who right.new) (R.registers right.new) }
+
+    // So equal decoders, for whom the tracks are alike, are equal again.
+    ensures alike { L.who left.old ≡ R.who right.old → L.registers left.old ≡ R.registers right.old →
+        AlikeHalves (L.who left.old) (whole_track pieces.now) (whole_track others.now) →
+        L.registers left.new ≡ R.registers right.new }
+{
+    hear_one(left, pieces);
+    hear_one(right, others);
+}
+
+/// A decoder hears a track through a new framer. The track may come in pieces of any length.
+pub fn hear_one<D: Decoder>(decoder: &mut D, pieces: &[&[u16]])
+    ensures { HasHeardHalves (whole_track pieces.now) (D.who decoder.old) (D.registers decoder.old)
+        (D.who decoder.new) (D.registers decoder.new) }
+{
+    let mut framer = Framer::new();
+    for piece in pieces {
+        hear_its_piece(decoder, &mut framer, piece);
+    }
+}
+
+/// A decoder hears a piece of its track, half by half.
+fn hear_its_piece<D: Decoder>(decoder: &mut D, framer: &mut Framer, durations: &[u16])
+    ensures stands { (halves : List ℕ) → StandsFor framer.old halves → StandsFor framer.new (halves ++ durations.now) }
+    ensures since { (halves : List ℕ) → StandsFor framer.old halves → (start : Who) (registers : RegisterMap) →
+        HasHeardHalves halves start registers (D.who decoder.old) (D.registers decoder.old) →
+        HasHeardHalves (halves ++ durations.now) start registers (D.who decoder.new) (D.registers decoder.new) }
+{
+    for us in durations {
+        hear_its_half(decoder, framer, *us);
+    }
+}
+
+/// A decoder hears a half of its track.
+fn hear_its_half<D: Decoder>(decoder: &mut D, framer: &mut Framer, us: u16)
+    ensures stands { (halves : List ℕ) → StandsFor framer.old halves → StandsFor framer.new (halves ++ us ∷ []) }
+    ensures since { (halves : List ℕ) → StandsFor framer.old halves → (start : Who) (registers : RegisterMap) →
+        HasHeardHalves halves start registers (D.who decoder.old) (D.registers decoder.old) →
+        HasHeardHalves (halves ++ us ∷ []) start registers (D.who decoder.new) (D.registers decoder.new) }
+{
+    let seen = framer.push(us);
+    take_seen(decoder, &seen);
+}
+
+/// A decoder hears the packet that was seen, if one was.
+fn take_seen<D: Decoder>(decoder: &mut D, seen: &Seen)
+    ensures { (shown : List Packet) × AreSpelled shown (frames_of seen.now)
+        × HasHeard shown (D.who decoder.old) (D.registers decoder.old) (D.who decoder.new) (D.registers decoder.new) }
+{
+    match seen {
+        Seen::Packet(frame) => decoder.apply(&Packet::read(frame)),
+        Seen::Nothing => (),
+        Seen::Refused(_) => (),
+    }
+}
