@@ -1,6 +1,8 @@
-//! The laws of listings, of decoder texts, and of what is encoded.
+//! The laws of listings, of decoder texts, of what is encoded, and of what calls write.
 
 ghost use Rattle.dcc_tool.specs.EncodedShown.{EncodingsAreCaptures, EncodedFramesAreSeen, EncodingsAreShown};
+ghost use Rattle.dcc_tool.specs.Written.{EncodeWritesTheEncoding, RunWritesTheDecoders, ShowWritesTheListing};
+ghost use Rattle.dcc_tool.specs.Written.{SameInputWritesTheVerdict, SameWritesTheVerdict};
 
 pub use dcc_capture::laws::{outcomes_have_one_listing, without_words_the_listing_is_in_hex};
 pub use dcc_saved::laws::fleets_are_read_back;
@@ -11,4 +13,15 @@ pub fn what_is_encoded_is_shown()
     ensures capture { EncodingsAreCaptures }
     ensures seen { EncodedFramesAreSeen }
     ensures shown { EncodingsAreShown }
+{}
+
+/// What a call has written that answers Ok, of a reader and a writer that tell their bytes: `show` the listing of the
+/// capture, `encode` the encoding of the packets, `run` the text of the decoders, which have heard the capture, and `same` the
+/// line of its verdict. So nobody has to unpack what they promise of other readers and writers.
+pub fn what_calls_write()
+    ensures show { ShowWritesTheListing }
+    ensures encode { EncodeWritesTheEncoding }
+    ensures run { RunWritesTheDecoders }
+    ensures same { SameWritesTheVerdict }
+    ensures same_input { SameInputWritesTheVerdict }
 {}

@@ -1,0 +1,57 @@
+-- What a call has written that answers Ok.
+use Rattle.std.proofs.Common.{◌≡◌, ℕ, ◌+◌, ◌++◌, List, Option, Some, None, IfSome, length, subst, sym, ap, ◌∙◌}
+use Rattle.std.specs.Io.KnownBytes.{Appends}
+use Rattle.dcc_wire.specs.Framing.{seen}
+use Rattle.dcc_packet.specs.declared.packet.Packet.{Packet}
+use Rattle.dcc_io.specs.declared.fault.KeptFault.{KeptFault}
+use Rattle.dcc_io.specs.InputState.{InputState}
+use Rattle.dcc_io.specs.Items.{Grammar, EndsWith, in_text}
+use Rattle.dcc_io.specs.PacketLines.{packet_lines}
+use Rattle.dcc_io.specs.Calls.{ReadsAll}
+use Rattle.dcc_io.specs.WriterState.{WriterState}
+use Rattle.dcc_capture.specs.Capture.{captures}
+use Rattle.dcc_capture.specs.Listing.{listing}
+use Rattle.dcc_capture.proofs.ListingLaws.{lists_in_hex}
+use Rattle.dcc_listen.specs.Shown.{Lists}
+use Rattle.dcc_listen.specs.FleetRun.{HaveHeard}
+use Rattle.dcc_send.specs.Encoded.{Encodes}
+use Rattle.dcc_tool.specs.Written.{Gains, halves_said, ShowWritesTheListing, EncodeWritesTheEncoding, RunWritesTheDecoders}
+use Rattle.dcc_tool.specs.Written.{SameWritesTheVerdict, SameInputWritesTheVerdict}
+
+gains : (before after : WriterState) (bytes : List ℕ) → Appends before.contents after.contents bytes
+    → Gains before after bytes
+gains before after bytes appends had known = go after.contents (subst (λ was. Appends was after.contents bytes) known appends)
+  where
+    go : (now : Option (List ℕ)) → Appends (Some had) now bytes → now ≡ Some (had ++ bytes)
+    go None written = absurd written
+    go (Some ys) written = ap Some written
+
+-- what is so of the items of an input that was read to its end is so of those that its text says
+of_text : {A : Type 0} (grammar : Grammar A) (old new : InputState) (fact : List A → Type 0) (text : List ℕ)
+    → ReadsAll grammar old new fact → old.text ≡ Some text → fact (in_text grammar old text).said
+of_text grammar old new fact text reads known =
+    (subst (λ whole. IfSome whole (λ text. EndsWith None fact (in_text grammar old text))) known reads.items.0).1
+
+pub show_writes_the_listing : ShowWritesTheListing
+show_writes_the_listing old new before after text shows known =
+    let lists = (of_text captures old new _ text shows.0 known).0 in
+    gains before after (listing (seen (halves_said old text)))
+    (subst (Appends before.contents after.contents)
+    ((lists_in_hex (seen (halves_said old text)) lists.0).0 lists.1) lists.2)
+
+pub encode_writes_the_encoding : EncodeWritesTheEncoding
+encode_writes_the_encoding how old new before after text encodes known =
+    gains before after _ (of_text packet_lines old new (Encodes how before after) text encodes.0 known)
+
+pub run_writes_the_decoders : RunWritesTheDecoders
+run_writes_the_decoders starts ends old new before after text runs known = (
+  of_text captures old new (HaveHeard starts ends) text runs.0.0 known,
+  gains before after _ runs.0.1,
+)
+
+pub same_writes_the_verdict : SameWritesTheVerdict
+same_writes_the_verdict who left left' right right' before after verdict compares =
+    gains before after _ compares.0.1
+
+pub same_input_writes_the_verdict : SameInputWritesTheVerdict
+same_input_writes_the_verdict who old new before after verdict compares = gains before after _ compares.0.1
