@@ -2,7 +2,15 @@
 //! that sends. What a user would copy stands in the modules.
 #![tactic(auto)]
 
+mod counted_decoder;
+mod counting_listener;
 mod decoder_loop;
+mod equal_again;
+mod first_call;
+mod own_streams;
+mod played_lists;
+mod refreshed;
+mod sent_and_heard;
 mod station_sends;
 mod two_boosters;
 

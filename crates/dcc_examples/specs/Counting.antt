@@ -1,0 +1,16 @@
+-- How many accesses to CVs a listener was told.
+use Rattle.std.specs.Prelude.{ℕ, ◌+◌, ◌-◌, ◌^◌, nat_lt, if◌then◌else◌}
+use Rattle.dcc_regs.specs.Notes.{Note, IdleCall, ResetCall, SpeedCall, FunctionsCall, StateCall, CvAccessCall}
+use Rattle.dcc_regs.specs.Notes.{TurnoutCall, SignalCall, OtherCall}
+
+-- the count after a call: an access counts, as far as 32 bits do
+abbrev pub counted_after : Note → ℕ → ℕ
+counted_after (CvAccessCall to what) n = if nat_lt n (2 ^ 32 - 1) then n + 1 else n
+counted_after IdleCall n = n
+counted_after (ResetCall to) n = n
+counted_after (SpeedCall to what) n = n
+counted_after (FunctionsCall to bits) n = n
+counted_after (StateCall to state on) n = n
+counted_after (TurnoutCall board output on) n = n
+counted_after (SignalCall address aspect) n = n
+counted_after (OtherCall frame) n = n

@@ -1,0 +1,45 @@
+//! A decoder of one's own, round any other: it counts the packets that it was given. All that is proved of decoders holds of it.
+
+use dcc_order::hear;
+use dcc_packet::Packet;
+use dcc_regs::{Decoder, LocoDecoder, PackedLoco, Register, Value, Who};
+use dcc_wire::{Framer, Seen};
+use std::alloc::{AllocError, Global};
+
+/// A decoder, and how many packets it was given, at most 2^32 - 1.
+#[derive(Drop)]
+pub struct CountedDecoder<D: Decoder> {
+    pub inner: D,
+    pub packets: u32,
+}
+
+impl<D: Decoder> Decoder for CountedDecoder<D> {
+    ghost who = { λ d. D.who d.inner };
+
+    ghost registers = { λ d. D.registers d.inner };
+
+    fn who(&self) -> Who {
+        self.inner.who()
+    }
+
+    fn apply(&mut self, packet: &Packet) {
+        self.packets = self.packets.saturating_add(1);
+        self.inner.apply(packet);
+    }
+
+    fn get(&self, register: Register) -> Option<Value> {
+        self.inner.get(register)
+    }
+}
+
+/// It and a decoder of another type, in boxes, hear a half of this many microseconds.
+pub fn hear_in_boxes(alloc: Global, cvs: &[u8; 1024], us: u16) -> Result<Seen, AllocError> {
+    let counted = CountedDecoder {
+        inner: LocoDecoder::new(cvs),
+        packets: 0,
+    };
+    let mut fleet: Vec<Box<dyn Decoder>> = Vec::new(alloc);
+    fleet.push(Box::new(alloc, counted)?)?;
+    fleet.push(Box::new(alloc, PackedLoco::new(cvs))?)?;
+    Ok(hear(fleet.as_mut_slice(), &mut Framer::new(), us))
+}

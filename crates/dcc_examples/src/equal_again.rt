@@ -1,0 +1,29 @@
+//! Two decoders of different types, powered up with the same CVs, are equal again behind two tracks that are alike for them.
+
+ghost use Rattle.std.specs.Prelude.{◌≡◌};
+ghost use Rattle.dcc_order.specs.Hearing.{whole_track};
+ghost use Rattle.dcc_order.specs.HearingLaws.{AlikeHalves};
+ghost use Rattle.dcc_packet.specs.Cvs.{cv_in};
+ghost use Rattle.dcc_regs.specs.Loco.{start_who};
+
+use crate::counted_decoder::CountedDecoder;
+use dcc_order::hear_two;
+use dcc_regs::{Decoder, LocoDecoder, PackedLoco};
+
+/// Two decoders with these CVs, once each has heard its track.
+pub fn hear_alike(
+    cvs: &[u8; 1024],
+    pieces: &[&[u16]],
+    others: &[&[u16]],
+) -> (CountedDecoder<LocoDecoder>, PackedLoco)
+    requires { AlikeHalves (start_who (cv_in cvs.now)) (whole_track pieces.now) (whole_track others.now) }
+    ensures { ⟦<LocoDecoder as Decoder>⟧.registers result.0.inner ≡ ⟦<PackedLoco as Decoder>⟧.registers result.1 }
+{
+    let mut one = CountedDecoder {
+        inner: LocoDecoder::new(cvs),
+        packets: 0,
+    };
+    let mut other = PackedLoco::new(cvs);
+    hear_two(&mut one, &mut other, pieces, others);
+    (one, other)
+}

@@ -1,0 +1,53 @@
+//! A reader and a writer of one's own, as a test wants them: each fails once so many calls were made.
+
+ghost use Rattle.std.specs.Prelude.{Some};
+ghost use Rattle.dcc_io.specs.WriterState.{WriterState};
+
+use dcc_io::{Failed, Sink, Source};
+
+/// A reader over bytes.
+#[derive(Drop)]
+pub struct FailingReader<'a> {
+    pub bytes: &'a [u8],
+    pub calls_left: u64,
+    pub failures: u64,
+}
+
+impl<'a> Source for FailingReader<'a> {
+    ghost remaining = { λ s. Some s.bytes.now };
+
+    ghost failures = { λ s. s.failures };
+
+    fn read(&mut self, buffer: &mut [u8]) -> Result<usize, Failed> {
+        if self.calls_left == 0 {
+            self.failures = self.failures.saturating_add(1);
+            return Err(Failed);
+        }
+        self.calls_left -= 1;
+        let n = self.bytes.len().min(buffer.len());
+        buffer[..n].copy_from_slice(&self.bytes[..n]);
+        self.bytes = &self.bytes[n..];
+        Ok(n)
+    }
+}
+
+/// A writer over memory. Want of memory is a failure too.
+#[derive(Drop)]
+pub struct FailingWriter {
+    pub bytes: Vec<u8>,
+    pub calls_left: u64,
+    pub failures: u64,
+}
+
+impl Sink for FailingWriter {
+    ghost state = { λ s. record { contents = Some s.bytes.items; failures = s.failures } };
+
+    fn write(&mut self, bytes: &[u8]) -> Result<usize, Failed> {
+        if self.calls_left == 0 || self.bytes.extend_from_slice(bytes).is_err() {
+            self.failures = self.failures.saturating_add(1);
+            return Err(Failed);
+        }
+        self.calls_left -= 1;
+        Ok(bytes.len())
+    }
+}

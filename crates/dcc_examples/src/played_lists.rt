@@ -1,0 +1,29 @@
+//! Two lists of packets are compared first and then played to two equal decoders: where they are alike, the decoders are equal again.
+
+ghost use Rattle.std.specs.Prelude.{◌≡◌, ◌<◌, ◌^◌, length, true, Ok};
+ghost use Rattle.dcc_regs.specs.declared.register.Register.{Register};
+
+use dcc_order::{NoMemory, Verdict, compare};
+use dcc_packet::Packet;
+use dcc_regs::{Decoder, apply_all};
+use std::alloc::Global;
+
+/// Plays two lists to two decoders. Answers whether the lists are alike for them.
+pub fn play_both<L: Decoder, R: Decoder>(
+    alloc: Global,
+    left: &mut L,
+    right: &mut R,
+    packets: &[Packet],
+    others: &[Packet],
+) -> Result<bool, NoMemory>
+    requires left_fits { length packets.now < 2 ^ 32 }
+    requires right_fits { length others.now < 2 ^ 32 }
+    requires same_who { L.who left.old ≡ R.who right.old }
+    requires same_registers { L.registers left.old ≡ R.registers right.old }
+    ensures { result ≡ Ok true → (r : Register) → L.registers left.new r ≡ R.registers right.new r }
+{
+    let verdict = compare(alloc, left.who(), packets, others)?;
+    apply_all(left, packets);
+    apply_all(right, others);
+    Ok(verdict == Verdict::Alike)
+}
