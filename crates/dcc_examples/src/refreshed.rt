@@ -23,7 +23,7 @@ pub fn send_one<D: Decoder>(
         → D.registers decoder.new r ≡ after (D.who decoder.old) (D.registers decoder.old) (intended (command ∷ [])) r }
 {
     decoders::no_packet_heard();
-    decoders::one_more_packet();
+    decoders::one_more_packet_heard();
     laws::refresh_is_transparent_where_nothing_waits();
     let mut station = Station::new(alloc, 16, 32, 2)?;
     if station.command(command).is_err() {

@@ -1,12 +1,13 @@
 //! What is sent is what is heard: a packet goes out in any timing, and a decoder does what the packet says.
 
-ghost use Rattle.std.specs.Prelude.{◌≡◌, OnOk};
+ghost use Rattle.std.specs.Prelude.{◌≡◌, IfOk, OnOk};
+ghost use Rattle.dcc_wire.specs.Sending.{sent};
 ghost use Rattle.dcc_regs.specs.Result.{step};
 
 use dcc_order::{hear_one, laws};
 use dcc_packet::Packet;
 use dcc_regs::Decoder;
-use dcc_wire::{Halves, Timing};
+use dcc_wire::{Frame, Halves, Timing};
 use std::alloc::{AllocError, Global};
 
 /// A packet is sent in this timing, and a decoder hears its half-bits.
@@ -18,9 +19,15 @@ pub fn transmit<D: Decoder>(
 ) -> Result<(), AllocError>
     ensures { OnOk result (D.registers decoder.new ≡ step (D.who decoder.old) (D.registers decoder.old) packet.now) }
 {
-    laws::sent_packets_are_heard();
-    laws::one_list_of_packets();
-    let halves: Vec<u16> = Halves::new(packet.frame(), timing).collect(alloc)?;
+    laws::sent_packet_is_done();
+    let halves = halves_of(alloc, packet.frame(), timing)?;
     hear_one(decoder, &[halves.as_slice()]);
     Ok(())
+}
+
+/// The half-bits of a frame, in memory.
+fn halves_of(alloc: Global, frame: Frame, timing: Timing) -> Result<Vec<u16>, AllocError>
+    ensures { IfOk result (λ halves. halves.items ≡ sent frame timing) }
+{
+    Halves::new(frame, timing).collect(alloc)
 }

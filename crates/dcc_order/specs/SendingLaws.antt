@@ -1,11 +1,13 @@
 -- Laws of packets that are sent and heard.
-use Rattle.std.specs.Prelude.{◌≡◌, List, map}
+use Rattle.std.specs.Prelude.{◌≡◌, ℕ, List, [], ◌++◌, map}
 use Rattle.dcc_wire.specs.declared.timing.Timing.{Timing}
 use Rattle.dcc_wire.specs.Framing.{seen}
-use Rattle.dcc_wire.specs.Sending.{Sent, sent_all, at_last_halves}
+use Rattle.dcc_wire.specs.Sending.{Sent, sent, sent_all, at_last_halves}
 use Rattle.dcc_packet.specs.declared.packet.Packet.{Packet}
 use Rattle.dcc_packet.specs.Spelling.{spelling, BytesFit}
-use Rattle.dcc_order.specs.Hearing.{ArePackets}
+use Rattle.dcc_regs.specs.declared.register.Who.{Who}
+use Rattle.dcc_regs.specs.Result.{RegisterMap, step}
+use Rattle.dcc_order.specs.Hearing.{ArePackets, HasHeardHalves}
 
 -- a packet to send, with its timing; its bytes fit, as those of every packet of a program do
 pub record SentPacket : Type 0 where
@@ -26,3 +28,9 @@ SentPacketsAreHeard =
 abbrev pub NothingElseIsSeen : Type 0
 NothingElseIsSeen =
     (sent : List SentPacket) → seen (sent_all (map spelled_out sent)) ≡ at_last_halves 0 (map spelled_out sent)
+
+-- a decoder that has heard the halves of one packet, sent with any timing as a track of one piece, has done what it says
+abbrev pub SentPacketIsDone : Type 0
+SentPacketIsDone =
+    (p : Packet) (timing : Timing) (halves : List ℕ) (who who' : Who) (start now : RegisterMap) → BytesFit p
+    → halves ≡ sent (spelling p) timing → HasHeardHalves (halves ++ []) who start who' now → now ≡ step who start p

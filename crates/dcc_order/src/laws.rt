@@ -5,7 +5,7 @@ ghost use Rattle.dcc_regs.specs.Result.{RegisterMap};
 ghost use Rattle.dcc_regs.specs.declared.register.Who.{Who};
 ghost use Rattle.dcc_order.specs.Hearing.{HasHeardHalves};
 ghost use Rattle.dcc_order.specs.HearingLaws.{AlikeHalves, AlikeHalvesLeaveTheSame, NoHalvesHeard, OneListOfPackets};
-ghost use Rattle.dcc_order.specs.SendingLaws.{SentPacketsAreHeard, NothingElseIsSeen};
+ghost use Rattle.dcc_order.specs.SendingLaws.{NothingElseIsSeen, SentPacketIsDone, SentPacketsAreHeard};
 ghost use Rattle.dcc_order.specs.OneMore.{FinishedBlocksStay, OneMorePacket};
 ghost use Rattle.dcc_order.specs.Laws.{AlikeIsTheVerdict, AlikeListsAgreeAfterEachBlock, AlikeListsLeaveTheSame};
 
@@ -37,6 +37,12 @@ pub fn no_halves_heard()
 pub fn sent_packets_are_heard()
     ensures packets { SentPacketsAreHeard }
     ensures nothing_else { NothingElseIsSeen }
+{}
+
+/// A decoder that has heard the halves of one packet, sent with any timing, has done what it says: what `hear_one` says of a
+/// track of one piece.
+pub fn sent_packet_is_done()
+    ensures { SentPacketIsDone }
 {}
 
 /// Lists that are alike for a decoder have left the same in each bit of its configuration variables after each block,

@@ -18,7 +18,7 @@ use Rattle.dcc_regs.specs.Sets.{sets}
 use Rattle.dcc_regs.specs.Result.{RegisterMap, last_or, set_in_turn, places, places_from, left_pending, pending_after}
 use Rattle.dcc_regs.specs.Result.{effective_set, cv_bit_after, mode_of, mode_after, plain_after, result_of_heard}
 use Rattle.dcc_regs.specs.Result.{result, HasHeard}
-use Rattle.dcc_regs.specs.Laws.{OneMorePacket}
+use Rattle.dcc_regs.specs.Laws.{OneMorePacketHeard}
 
 last_or-append : (start : Value) (vs ws : List Value) → last_or start (vs ++ ws) ≡ last_or (last_or start vs) ws
 last_or-append start [] ws = refl
@@ -144,6 +144,6 @@ heard_more {who} {who'} {who''} {m} {m'} {m''} {l} {k} before now = record {
 }
 
 -- one packet more is heard
-pub heard_one_more : OneMorePacket
+pub heard_one_more : OneMorePacketHeard
 heard_one_more l p who who' who'' start now after before same stepped =
     heard_more before (record { same_who = same; registers = stepped })

@@ -28,8 +28,8 @@ abbrev pub NoPacketHeard : Type 0
 NoPacketHeard = (who : Who) (start : RegisterMap) → HasHeard [] who start who start
 
 -- a decoder that has heard a list of packets, and then one packet more, has heard the list with that one behind it
-abbrev pub OneMorePacket : Type 0
-OneMorePacket =
+abbrev pub OneMorePacketHeard : Type 0
+OneMorePacketHeard =
     (l : List Packet) (p : Packet) (who who' who'' : Who) (start now after : RegisterMap) → HasHeard l who start who' now
     → who'' ≡ who' → after ≡ step who' now p → HasHeard (l ++ p ∷ []) who start who'' after
 

@@ -1,7 +1,7 @@
 //! Laws of the definitions, for those who build on decoders.
 
 ghost use Rattle.dcc_regs.specs.Laws.{ConflictIsMutual, IdleIsUnheard, ModeStays, NoConflictWithItself};
-ghost use Rattle.dcc_regs.specs.Laws.{NoOtherCallTells, NoPacketHeard, NotesTellPackets, OneAddress, OneMorePacket};
+ghost use Rattle.dcc_regs.specs.Laws.{NoOtherCallTells, NoPacketHeard, NotesTellPackets, OneAddress, OneMorePacketHeard};
 ghost use Rattle.dcc_regs.specs.Laws.{PacketsAreDecided, ResultInParts, StepSets, ValuesAreDecided, WritesSetNoPlain};
 
 /// What a list of packets leaves is what its second part leaves, from what its first part left.
@@ -16,8 +16,8 @@ pub fn no_packet_heard()
 
 /// A decoder that has heard a list of packets, and then one packet more, has heard the list with that one behind it. What
 /// `apply` says of a decoder is what it asks for.
-pub fn one_more_packet()
-    ensures { OneMorePacket }
+pub fn one_more_packet_heard()
+    ensures { OneMorePacketHeard }
 {}
 
 /// One packet puts the constants that it sets over what stood there, in a decoder that hears it,

@@ -6,5 +6,5 @@ loop-preserved g c =
     let kept = c.loop.invariant in (
       kept.0 ++ c.next.result ∷ [],
       c.next.ensures.stands (c.args.command ∷ []) kept.0 kept.1,
-      c.one_more_packet.ensures kept.0 _ _ _ _ _ _ _ kept.2 c.apply.ensures.same_who c.apply.ensures.step,
+      c.one_more_packet_heard.ensures kept.0 _ _ _ _ _ _ _ kept.2 c.apply.ensures.same_who c.apply.ensures.step,
     )

@@ -8,8 +8,10 @@ loop-packet-init g c = heard_nothing _ _
 
 pub loop-packet-preserved : goal.loop-packet-preserved
 loop-packet-preserved g c =
-    rw (take_more c.args.packets.now c.loop-packet.packet-index c.packet-item.result c.loop-packet-test.true,
-    sym c.packet-item.is)
+    rw (
+      take_more c.args.packets.now c.loop-packet.packet-index c.packet-item.result c.loop-packet-test.true,
+      sym c.packet-item.is,
+    )
     (heard_one_more _ c.packet-item.result _ _ _ _ _ _ c.loop-packet.invariant c.apply.ensures.same_who
     c.apply.ensures.step)
 
