@@ -1,10 +1,10 @@
 //! Two decoders of different types, powered up with the same CVs, are equal again behind two tracks that are alike for them.
 
 ghost use Rattle.std.specs.Prelude.{◌≡◌};
-ghost use Rattle.dcc_order.specs.Hearing.{whole_track};
+ghost use Rattle.dcc_order.specs.Hearing.{HasHeardHalves, whole_track};
 ghost use Rattle.dcc_order.specs.HearingLaws.{AlikeHalves};
 ghost use Rattle.dcc_packet.specs.Cvs.{cv_in};
-ghost use Rattle.dcc_regs.specs.Loco.{start_who};
+ghost use Rattle.dcc_regs.specs.Loco.{start_map, start_who};
 
 use crate::counted_decoder::CountedDecoder;
 use dcc_order::hear_two;
@@ -17,7 +17,9 @@ pub fn hear_alike(
     others: &[&[u16]],
 ) -> (CountedDecoder<LocoDecoder>, PackedLoco)
     requires { AlikeHalves (start_who (cv_in cvs.now)) (whole_track pieces.now) (whole_track others.now) }
-    ensures { ⟦<LocoDecoder as Decoder>⟧.registers result.0.inner ≡ ⟦<PackedLoco as Decoder>⟧.registers result.1 }
+    ensures heard { HasHeardHalves (whole_track pieces.now) (start_who (cv_in cvs.now)) (start_map (cv_in cvs.now))
+        (⟦<LocoDecoder as Decoder>⟧.who result.0.inner) (⟦<LocoDecoder as Decoder>⟧.registers result.0.inner) }
+    ensures equal { ⟦<LocoDecoder as Decoder>⟧.registers result.0.inner ≡ ⟦<PackedLoco as Decoder>⟧.registers result.1 }
 {
     let mut one = CountedDecoder {
         inner: LocoDecoder::new(cvs),

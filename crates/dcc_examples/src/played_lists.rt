@@ -1,6 +1,7 @@
 //! Two lists of packets are compared first and then played to two equal decoders: where they are alike, the decoders are equal again.
 
-ghost use Rattle.std.specs.Prelude.{◌≡◌, ◌<◌, ◌^◌, length, true, Ok};
+ghost use Rattle.std.specs.Prelude.{◌≡◌, ◌<◌, ◌^◌, length, true, Ok, OnOk};
+ghost use Rattle.dcc_regs.specs.Result.{HasHeard};
 ghost use Rattle.dcc_regs.specs.declared.register.Register.{Register};
 
 use dcc_order::{NoMemory, Verdict, compare};
@@ -20,7 +21,11 @@ pub fn play_both<L: Decoder, R: Decoder>(
     requires right_fits { length others.now < 2 ^ 32 }
     requires same_who { L.who left.old ≡ R.who right.old }
     requires same_registers { L.registers left.old ≡ R.registers right.old }
-    ensures { result ≡ Ok true → (r : Register) → L.registers left.new r ≡ R.registers right.new r }
+    // Each has heard its list,
+    ensures left { OnOk result (HasHeard packets.now (L.who left.old) (L.registers left.old) (L.who left.new) (L.registers left.new)) }
+    ensures right { OnOk result (HasHeard others.now (R.who right.old) (R.registers right.old) (R.who right.new) (R.registers right.new)) }
+    // and where the lists are alike, they are equal again.
+    ensures alike { result ≡ Ok true → (r : Register) → L.registers left.new r ≡ R.registers right.new r }
 {
     let verdict = compare(alloc, left.who(), packets, others)?;
     apply_all(left, packets);
