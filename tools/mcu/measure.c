@@ -68,6 +68,45 @@ static void make_room(void) {
     if (dcc_station_waiting(&station) == 64) new_station();
 }
 
+/* The most that a first copy may take: 128 entries, which are asked for one after the other, and a command of each kind, to all of them or to the
+ * locomotive of the last. The entries are of one kind, each to a locomotive of its own, or of all kinds that one locomotive can have. */
+static const struct { uint8_t len, bytes[3]; } kinds[] = {
+    {1, {0x60}}, {1, {0x61}}, {1, {0x45}}, {2, {0x3F, 0x80}}, {2, {0x3F, 0x81}}, {2, {0x3F, 0x05}}, /* speeds */
+    {1, {0x80}}, {1, {0x9F}}, {1, {0xB0}}, {1, {0xBF}}, {1, {0xA0}}, {1, {0xAF}}, {2, {0xDE, 0}}, {2, {0xDE, 0xFF}}, {2, {0xDF, 0}},
+    {2, {0xDF, 0xFF}}, {2, {0xD8, 0}}, {2, {0xD8, 0xFF}}, {2, {0xD9, 0}}, {2, {0xDA, 0}}, {2, {0xDB, 0}}, {2, {0xDC, 0}}, {2, {0xDC, 0xFF}}, /* functions */
+    {1, {0}}, {2, {0xDD, 0x81}}, {2, {0xDD, 0}}, {3, {0xEC, 28, 6}}, {3, {0xEC, 0, 3}}, {3, {0xE8, 28, 0xF8}}, /* a reset, states, CVs */
+};
+/* those of one locomotive */
+static const uint8_t one_of_each[] = {0, 3, 6, 8, 10, 12, 14, 16, 18, 19, 20, 21};
+enum { KINDS = sizeof kinds / sizeof *kinds, ENTRY_KINDS = 23, EACH = sizeof one_of_each };
+static dcc_station full;
+
+/* a command to a long address, or to all where there is none */
+static void command_kind(int kind, int address) {
+    uint8_t bytes[6], len = 0, sum = 0;
+    if (address < 0) bytes[len++] = 0;
+    if (address >= 0) bytes[len++] = (uint8_t)(0xC0 + address / 256), bytes[len++] = (uint8_t)address;
+    for (int i = 0; i < kinds[kind].len; i++) bytes[len++] = kinds[kind].bytes[i];
+    for (int i = 0; i < len; i++) sum ^= bytes[i];
+    bytes[len++] = sum;
+    if (dcc_station_command(&station, bytes, len) > 3) exit(3);
+}
+static void make_full(void) {
+    uint32_t kind = at / KINDS / 2;
+    if (at % (KINDS * 2) == 0) {
+        new_station();
+        for (int i = 0; i < 128; i++) {
+            if (kind < ENTRY_KINDS) command_kind((int)kind, 1000 + i);
+            if (kind == ENTRY_KINDS) command_kind(one_of_each[i % EACH], 1000 + i / EACH);
+            next_packet();
+        }
+        full = station;
+        if (dcc_station_entries(&full) != 128) exit(4);
+    }
+    station = full;
+    command_kind((int)(at / 2 % KINDS), at % 2 ? -1 : kind < ENTRY_KINDS ? 1127 : 1009);
+}
+
 static void read_line(void) { dcc_frame_of_line(lines[at], strlen(lines[at]), &frame); }
 
 /* ---- the clock ---- */
@@ -195,6 +234,7 @@ int main(void) {
     measure_behind("dcc_station_next:first", command_station, next_packet, frame_count);
     while (dcc_station_waiting(&station) > 0) next_packet();
     measure("dcc_station_next", next_packet, 1000);
+    measure_behind("dcc_station_next:most", make_full, next_packet, KINDS * 2 * (ENTRY_KINDS + 1));
     measure("dcc_station_waiting", tell_waiting, 100);
     measure("dcc_station_entries", tell_entries, 100);
     measure("dcc_service_new", new_service, 100);

@@ -1,12 +1,14 @@
 //! A packet as the numbers of its frame.
 
-ghost use Rattle.std.specs.Prelude.{◌≡◌, ◌⊎◌, []};
+ghost use Rattle.std.specs.Prelude.{◌≡◌, ◌⊎◌, [], IsTrue, ◌↔◌};
 ghost use Rattle.dcc_wire.specs.Frames.{IsFrame};
 ghost use Rattle.dcc_c.specs.Frames.{bytes_of, frame_numbers};
+ghost use Rattle.dcc_station.specs.Sending.{Displaces};
 ghost use Rattle.dcc_c.specs.KeptPackets.{kept_bytes, KeptBy, KeptBy-prop};
 
 use crate::frame::DccFrame;
-use dcc_packet::Packet;
+use dcc_packet::{Packet, read_loco};
+use dcc_station::{displaces, displaces_loco};
 use dcc_wire::Frame;
 use std::marker::Model;
 
@@ -55,6 +57,28 @@ impl KeptPacket {
             Ok(frame) => Packet::read(&frame),
             Err(_) => unreachable!(),
         }
+    }
+
+    /// Whether a command puts an end to an entry that is kept. Of a packet to locomotives the two instructions are compared, and
+    /// no frame is made.
+    pub fn is_displaced_by(&self, command: &Packet) -> bool
+        ensures { IsTrue result ↔ Displaces command.now self.now }
+    {
+        if let Some((_error_byte, body)) = self.frame.as_slice().split_last() {
+            if let Some((to, what)) = read_loco(body) {
+                return displaces_loco(command, &to, &what);
+            }
+        }
+        self.is_displaced_as_read(command)
+    }
+
+    /// The same of any packet, which is read for it.
+    // (it has no place on the stack where the instructions are compared)
+    #[inline(never)]
+    fn is_displaced_as_read(&self, command: &Packet) -> bool
+        ensures { IsTrue result ↔ Displaces command.now self.now }
+    {
+        displaces(command, &self.packet())
     }
 }
 

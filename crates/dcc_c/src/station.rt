@@ -109,6 +109,15 @@ pub extern "C" fn dcc_station_next(station: &mut DccStation, frame: &mut DccFram
         → StandsFor (sending_of station.new) commands (packets ++ packet ∷ [])) }
 {
     let packet = next(station);
+    put_frame(&packet, frame);
+}
+
+/// Writes the frame of a packet.
+// (what is made for it has no place on the stack while entries are judged)
+#[inline(never)]
+fn put_frame(packet: &Packet, frame: &mut DccFrame)
+    ensures { frame.new ≡ frame_numbers (spelling packet.now) }
+{
     *frame = DccFrame::of(packet.frame().bytes());
 }
 

@@ -43,12 +43,12 @@ impl DccRing {
     }
 
     /// Adds one at the end. There is room.
-    fn add(&mut self, packet: &Packet)
+    fn add(&mut self, packet: KeptPacket)
         requires { length (ring_of self.old).items < (ring_of self.old).capacity }
-        ensures { ring_of self.new ≡ buffer ((ring_of self.old).items ++ packet.now ∷ []) (ring_of self.old).capacity }
+        ensures { ring_of self.new ≡ buffer ((ring_of self.old).items ++ packet ∷ []) (ring_of self.old).capacity }
     {
         let behind = place_behind(self.start, self.len);
-        self.packets[usize::from(behind)] = KeptPacket::of(packet);
+        self.packets[usize::from(behind)] = packet;
         self.len += 1;
     }
 }
@@ -86,7 +86,33 @@ impl PacketRing for DccRing {
         if self.len == self.capacity {
             self.remove_front();
         }
-        self.add(&packet);
+        self.add(KeptPacket::of(&packet));
+    }
+
+    fn rotate(&mut self) {
+        if self.len == 0 {
+            return;
+        }
+        let front = self.packets[usize::from(self.start)];
+        self.remove_front();
+        self.add(front);
+    }
+
+    fn is_displaced(&self, at: usize, command: &Packet) -> bool {
+        let place = place_behind(self.start, at as u8);
+        self.packets[usize::from(place)].is_displaced_by(command)
+    }
+
+    fn move_forward(&mut self, from: usize, to: usize) {
+        let from = place_behind(self.start, from as u8);
+        let to = place_behind(self.start, to as u8);
+        self.packets[usize::from(to)] = self.packets[usize::from(from)];
+    }
+
+    fn truncate(&mut self, len: usize) {
+        if len < usize::from(self.len) {
+            self.len = len as u8;
+        }
     }
 }
 

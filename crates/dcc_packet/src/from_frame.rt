@@ -13,7 +13,9 @@ ghost use Rattle.dcc_packet.specs.declared.instruction.What.{What};
 
 use crate::bits::is_set;
 use crate::instruction_from_frame::instruction;
-use crate::{Address, Board, LongAddress, OtherFrame, Output, Packet, ShortAddress, SignalAddress};
+use crate::{
+    Address, Board, LongAddress, OtherFrame, Output, Packet, ShortAddress, SignalAddress, What,
+};
 use dcc_wire::Frame;
 
 impl Packet {
@@ -50,12 +52,12 @@ fn row(bytes: &[u8]) -> Option<Packet>
 }
 
 /// An instruction to the decoders of an address.
-fn addressed(to: Address, rest: &[u8]) -> Option<Packet>
-    ensures found { IfSome result (λ packet. spelling packet ≡ with_error_byte (address_bytes to ++ rest.now)) }
+fn addressed(to: Address, rest: &[u8]) -> Option<(Address, What)>
+    ensures found { IfSome result (λ told. loco_bytes told.0 told.1 ≡ address_bytes to ++ rest.now) }
     ensures none { IfNone result ((what : What) → instruction_bytes what ≢ rest.now) }
 {
     match instruction(rest) {
-        Some(what) => Some(Packet::Loco { to, what }),
+        Some(what) => Some((to, what)),
         None => None,
     }
 }
@@ -73,6 +75,18 @@ fn long_address(high: u8, low: u8) -> Address
 /// A packet to multifunction decoders.
 fn loco_row(bytes: &[u8]) -> Option<Packet>
     ensures found { IfSome result (λ packet. spelling packet ≡ with_error_byte bytes.now) }
+    ensures none { IfNone result ((to : Address) (what : What) → loco_bytes to what ≢ bytes.now) }
+{
+    match read_loco(bytes) {
+        Some((to, what)) => Some(Packet::Loco { to, what }),
+        None => None,
+    }
+}
+
+/// Whom an instruction to multifunction decoders is for, and the instruction, where these bytes are those of one, without
+/// the error byte (NMRA S-9.2.1; RCN-211, RCN-212, RCN-214).
+pub fn read_loco(bytes: &[u8]) -> Option<(Address, What)>
+    ensures found { IfSome result (λ told. loco_bytes told.0 told.1 ≡ bytes.now) }
     ensures none { IfNone result ((to : Address) (what : What) → loco_bytes to what ≢ bytes.now) }
 {
     match bytes {

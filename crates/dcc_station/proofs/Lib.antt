@@ -6,3 +6,11 @@ pub mod EntriesLeft
 pub mod EntriesInTurn
 pub mod StatePackets
 pub mod RingItems
+pub mod SpeedsAlike
+pub mod EntryDifferences
+pub mod SpeedLeft
+pub mod FunctionsLeft
+pub mod ResetLeft
+pub mod LeftByAll
+pub mod LeftByOne
+pub mod LeftToldRight

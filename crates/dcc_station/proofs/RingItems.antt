@@ -5,8 +5,10 @@ use Rattle.std.proofs.Common.{length-append, length-drop, length-take-le}
 use Rattle.std.proofs.Math.Seq.{take-set-lt, take-set-le, drop-set-lt, drop-set-add, set-append_left}
 use Rattle.std.proofs.Math.Seq.{take-append-le, drop-append-le, drop-drop, take_all}
 use Rattle.std.proofs.lemmas.List.{set-append_right, take_more_set, drop-take, drop_all}
-use Rattle.std.specs.Prelude.{slice_get}
+use Rattle.std.specs.Prelude.{slice_get, Some}
+use Rattle.circular_buffer.specs.Buffer.{keep_last}
 use Rattle.circular_buffer.specs.Places.{Wraps}
+use Rattle.circular_buffer.proofs.Places.{slice_get-append_left, slice_get-append_right, slice_get-drop, slice_get-take}
 use Rattle.dcc_station.specs.Rings.{ring_items}
 
 module _ {X : Type 0} where
@@ -112,3 +114,41 @@ module _ {X : Type 0} where
       let left : 0 < length (drop start places) = simp length-drop (omega arith) in
       front_of_take len (turned start places) some ∙ front_of_both (drop start places) (take start places) left
       ∙ front_of_drop start places
+
+  -- the one so many behind the front one
+  pub ring_get : (start len i at : ℕ) (places : List X) → start < length places → i < len → len ≤ length places
+      → Wraps start i (length places) at → slice_get (ring_items start len places) i ≡ slice_get places at
+  ring_get start len i at places inside some fits wraps =
+      slice_get-take len (turned start places) i some ∙ elim wraps.1 [
+        | inl e ↦ (
+            let before : i < length (drop start places) = simp length-drop (omega arith) in
+            slice_get-append_left (drop start places) (take start places) i before ∙ slice_get-drop start places i at e
+            )
+        | inr e ↦ (
+            let behind : i ≡ length (drop start places) + at = simp length-drop (omega arith) in
+            slice_get-append_right (drop start places) (take start places) i at behind
+            ∙ slice_get-take start places at (omega arith)
+            )
+      ]
+
+  -- one is written over another
+  pub ring_set : (start len i at : ℕ) (places : List X) (x : X) → start < length places → i < len → len ≤ length places
+      → Wraps start i (length places) at
+      → ring_items start len (set places at x) ≡ set (ring_items start len places) i x
+  ring_set start len i at places x inside some fits wraps =
+      ap (take len) (turned_set start i at places x inside (omega arith) wraps)
+      ∙ take-set-lt len (turned start places) i x some
+
+  -- the front one goes to the end, where there is room for all
+  pub turned_front : (capacity : ℕ) (items : List X) (front : X) → length items ≤ capacity
+      → slice_get items 0 ≡ Some front → keep_last capacity (drop 1 items ++ front ∷ []) ≡ drop 1 items ++ take 1 items
+  turned_front capacity [] front fits is = absurd (cc)
+  turned_front capacity (x ∷ rest) front fits is =
+      let same : x ≡ front = cc in
+      let none : length (rest ++ front ∷ []) - capacity ≡ 0 = simp length-append (omega arith) in
+      ap (λ n. drop n (rest ++ front ∷ [])) none ∙ ap (λ y. rest ++ y ∷ []) (sym same)
+
+  -- the front one alone
+  pub front_taken : (l : List X) (x : X) → slice_get l 0 ≡ Some x → x ∷ [] ≡ take 1 l
+  front_taken [] x is = absurd (cc)
+  front_taken (y ∷ l) x is = let same : y ≡ x = cc in ap (λ z. z ∷ []) (sym same)

@@ -65,7 +65,7 @@ none_told (Functions bits) h to = refl
 none_told what h to = absurd (cc)
 
 -- an entry turns no state on or off
-entry_tells_none : (e : Packet) → is_refreshed e ≡ true → turned_states e ≡ None
+pub entry_tells_none : (e : Packet) → is_refreshed e ≡ true → turned_states e ≡ None
 unfolding is_refreshed
 entry_tells_none (Loco (Short to) what) h = none_told what h (Short to)
 entry_tells_none (Loco (Long to) what) h = none_told what h (Long to)

@@ -5,3 +5,4 @@ pub mod Refresh
 pub mod FaultNumbers
 pub mod States
 pub mod Rings
+pub mod Inner

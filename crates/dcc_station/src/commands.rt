@@ -1,6 +1,7 @@
 //! Which packets a station sends, and how.
 
 ghost use Rattle.std.specs.Prelude.{◌≡◌, ◌≤◌};
+ghost use Rattle.dcc_packet.specs.declared.packet.Packet.TheVariants.{Loco as ToLoco};
 ghost use Rattle.dcc_regs.specs.Writes as writes;
 ghost use Rattle.dcc_station.specs.Commands as commands;
 ghost use Rattle.dcc_station.specs.Sending as sending;
@@ -30,16 +31,24 @@ pub fn is_refreshed(command: &Packet) -> bool
     ensures { result ≡ commands.is_refreshed command.now }
 {
     match command {
-        Packet::Loco {
-            to: Address::Short(_) | Address::Long(_),
-            what,
-        } => {
+        Packet::Loco { to, what } => is_refreshed_at(to, what),
+        _ => false,
+    }
+}
+
+/// The same of an instruction to an address.
+#[tactic(auto, unfolding(crate::specs::Commands::is_refreshed))]
+pub fn is_refreshed_at(to: &Address, what: &What) -> bool
+    ensures { result ≡ commands.is_refreshed (ToLoco to.now what.now) }
+{
+    match to {
+        Address::Broadcast => false,
+        Address::Short(_) | Address::Long(_) => {
             matches!(
                 what,
                 What::Speed28 { .. } | What::Speed128 { .. } | What::Functions(_)
             )
         }
-        _ => false,
     }
 }
 

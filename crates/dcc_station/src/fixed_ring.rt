@@ -4,6 +4,7 @@ ghost use Rattle.std.specs.Prelude.{◌≡◌, ◌≤◌, ◌<◌, ◌∷◌, �
 ghost use Rattle.circular_buffer.specs.Buffer.{buffer};
 ghost use Rattle.circular_buffer.specs.Places.{Wraps};
 
+use crate::entries::displaces;
 use crate::ring::PacketRing;
 use dcc_packet::Packet;
 use std::marker::Model;
@@ -119,5 +120,28 @@ impl<const CAP: usize> PacketRing for FixedRing<CAP> {
             let _ = self.take_front();
         }
         self.add(packet);
+    }
+
+    fn rotate(&mut self) {
+        if self.len == 0 {
+            return;
+        }
+        let front = self.take_front();
+        self.add(front);
+    }
+
+    fn is_displaced(&self, at: usize, command: &Packet) -> bool {
+        displaces(command, &self.packets[place_behind(self.start, at, CAP)])
+    }
+
+    fn move_forward(&mut self, from: usize, to: usize) {
+        let from = place_behind(self.start, from, CAP);
+        let to = place_behind(self.start, to, CAP);
+        self.packets[to] = self.packets[from];
+    }
+
+    fn truncate(&mut self, len: usize) {
+        let _packets = &self.packets;
+        self.len = self.len.min(len);
     }
 }

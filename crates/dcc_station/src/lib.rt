@@ -6,10 +6,12 @@ mod entries;
 mod fault;
 mod fixed_ring;
 pub mod laws;
+mod left;
 mod machine;
 mod ring;
 mod station;
 
+pub use entries::{displaces, displaces_loco};
 pub use fault::{Refused, StationFault};
 pub use fixed_ring::FixedRing;
 pub use machine::{hand_out, take_command};

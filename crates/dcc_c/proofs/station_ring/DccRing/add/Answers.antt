@@ -14,7 +14,6 @@ returns c =
     let long = length-ring r.start r.len r.packets (omega arith) (omega arith) in
     let room : r.len < r.capacity = omega arith in
     ap (λ (l : List Packet). buffer l r.capacity)
-    (ap (λ (n : ℕ). ring_items r.start (r.len + 1) (set r.packets n c.of.result)) c.from.ensures
-    ∙ ap (λ (p : Packet). ring_items r.start (r.len + 1) (set r.packets behind.result p)) c.of.ensures
-    ∙ ring_pushed r.start r.len behind.result r.packets c.args.packet.now (omega arith) (omega arith)
+    (ap (λ (n : ℕ). ring_items r.start (r.len + 1) (set r.packets n c.args.packet)) c.from.ensures
+    ∙ ring_pushed r.start r.len behind.result r.packets c.args.packet (omega arith) (omega arith)
     (subst (λ (n : ℕ). Wraps r.start r.len n behind.result) (sym fits.3) behind.ensures))

@@ -6,7 +6,7 @@ use Rattle.dcc_packet.proofs.SameFrames.{Decides-same}
 use Rattle.dcc_station.specs.Sending.{Displaces}
 use Rattle.dcc_regs.specs.Writes.{writes_cv29}
 use Rattle.dcc_station.proofs.Transparent.{not_both}
-use Rattle.dcc_station.proofs.entries.displaces.Goals as goal
+use Rattle.dcc_station.proofs.entries.displaces_by_registers.Goals as goal
 
 displaces_none : (p e : Packet) → e ≢ p → ¬ Conflict p e → writes_cv29 p ≡ false → ¬ Displaces p e
 displaces_none p e other apart stays gone = elim gone [
