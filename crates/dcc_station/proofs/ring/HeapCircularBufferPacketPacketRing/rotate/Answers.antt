@@ -1,6 +1,6 @@
 use Rattle.std.proofs.Common.{◌∙◌, sym, ap}
 use Rattle.circular_buffer.specs.Buffer.{Buffer, buffer, keep_last}
-use Rattle.std.proofs.Common.{drop, ◌++◌, ◌∷◌, [], List, ℕ, ◌≤◌, subst}
+use Rattle.std.proofs.Common.{◌++◌, ◌∷◌, [], List, ℕ, ◌≤◌, subst}
 use Rattle.dcc_packet.specs.declared.packet.Packet.{Packet}
 use Rattle.dcc_station.proofs.RingItems.{turned_front}
 use Rattle.dcc_station.proofs.ring.HeapCircularBufferPacketPacketRing.rotate.Goals as goal
