@@ -1,5 +1,5 @@
 -- A packet that is kept as the numbers of a frame.
-use Rattle.std.specs.Prelude.{◌≡◌, ℕ, ◌≤◌, ◌-◌, ◌++◌, List, [], ◌∷◌, length, replicate, refl}
+use Rattle.std.specs.Prelude.{◌≡◌, ℕ, List, [], ◌∷◌, length, refl}
 use Rattle.std.specs.Coded.{coded_list, coded_ℕ, Coded-set}
 use Rattle.std.proofs.Common.{◌∙◌, sym, ap, subst, arith}
 use Rattle.dcc_packet.specs.declared.packet.Packet.{Packet}

@@ -1,4 +1,4 @@
-use Rattle.std.proofs.Common.{◌≡◌, ◌∙◌, ap, length}
+use Rattle.std.proofs.Common.{◌∙◌, ap, length}
 use Rattle.dcc_c.specs.declared.frame.DccFrame.{DccFrame}
 use Rattle.dcc_c.specs.Frames.{bytes_of}
 use Rattle.dcc_c.proofs.KeptPacketLemmas.{spelled_is_kept}

@@ -1,4 +1,4 @@
-use Rattle.std.proofs.Common.{◌≡◌, ◌<◌, ◌≤◌, ℕ, List, length, sym, ap, subst, arith}
+use Rattle.std.proofs.Common.{◌<◌, ℕ, List, sym, ap, subst, arith}
 use Rattle.circular_buffer.specs.Buffer.{buffer}
 use Rattle.circular_buffer.specs.Places.{Wraps}
 use Rattle.dcc_packet.specs.declared.packet.Packet.{Packet}

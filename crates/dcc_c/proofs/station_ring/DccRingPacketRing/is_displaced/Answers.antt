@@ -1,5 +1,5 @@
-use Rattle.std.proofs.Common.{◌≡◌, ◌<◌, ◌≤◌, ◌∙◌, ℕ, Some, length, get_or, sym, subst, arith}
-use Rattle.std.specs.Prelude.{slice_get, IsTrue, ◌↔◌}
+use Rattle.std.proofs.Common.{◌≡◌, ◌<◌, ◌∙◌, ℕ, Some, length, get_or, sym, subst, arith}
+use Rattle.std.specs.Prelude.{IsTrue, ◌↔◌}
 use Rattle.std.proofs.lemmas.Option.{slice_get-get_or}
 use Rattle.circular_buffer.specs.Places.{Wraps}
 use Rattle.dcc_packet.specs.declared.packet.Packet.{Packet}
