@@ -65,8 +65,8 @@ class Source {
     if (file !== this.file) return null;
     if (isNew) this.part('text').value = bytes.length <= LARGEST_SHOWN ? textOf(bytes) : '';
     const read = readBytes(bytes, channel);
-    // the bytes are given back at once, before the outcomes need room
-    bytes.buffer.transfer(0);
+    // the bytes are given back at once, before the outcomes need room (where the browser can)
+    bytes.buffer.transfer?.(0);
     this.tell(read.refused?.fault, read.refused?.text);
     this.offerChannels(read.channels ?? [], read.key);
     return this.use({ ...read, name: file ? `${file.name} (${read.form})` : read.form });
