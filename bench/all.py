@@ -1,25 +1,33 @@
 #!/usr/bin/env python3
 """Times every command of `dcc` on every form of capture beside `wc -w` on the same file, and prints a table.
 
-    bench/all.py [PROGRAM [OTHER]]
+    bench/all.py [--instructions] [PROGRAM [OTHER]]
 
 PROGRAM is the built program, crates/dcc/out/dcc if it is not given. OTHER is another program with the same commands, to be measured
 beside it. Processor seconds (user and system) on one core, each command in turn with the others, the median of ROUNDS runs. A ratio is
 the median of the ratios in each round, of runs that stand side by side, so that a machine whose speed changes from one second to
 the next changes it little; where OTHER is given, the last column is the first program's ratio to it.
+
+With --instructions it counts them instead (by valgrind's callgrind), of inputs a fortieth as long: they are the same in each run,
+whatever else the machine does.
 """
 import os
+import re
 import resource
 import statistics
 import subprocess
 import sys
 import tempfile
 
-HALVES = int(os.environ.get("HALVES", 16_000_000))
-ROUNDS = int(os.environ.get("ROUNDS", 7))
+COUNTS = "--instructions" in sys.argv[1:]
+HALVES = int(os.environ.get("HALVES", 400_000 if COUNTS else 16_000_000))
+LINES = int(os.environ.get("LINES", 5_000 if COUNTS else 200_000))
+ROUNDS = int(os.environ.get("ROUNDS", 1 if COUNTS else 7))
 PACKETS = ["036261", "ff00ff", "039093", "ff00ff", "8cfd71", "c3e83f7f6b", "03ec1c06f5"]
 # (of the first version, which programs of before read too)
-FLEET = "dcc-decoders 1\nloco s3\nspeed stop f\non\npending none\ncv 1 3\ncv 29 2\nend\n"
+LOCO = "loco s{0}\nspeed stop f\non\npending none\ncv 1 {0}\ncv 29 2\n"
+FLEET = "dcc-decoders 1\n" + LOCO.format(3) + "end\n"
+LARGE_FLEET = "dcc-decoders 1\n" + "".join(LOCO.format(n) for n in range(1, 65)) + "end\n"
 
 
 def halves_of(packet):
@@ -57,9 +65,17 @@ def seconds(words, path):
     return after.ru_utime + after.ru_stime - before.ru_utime - before.ru_stime
 
 
+def instructions(words, path):
+    with open(path, "rb") as file:
+        counted = ["valgrind", "--tool=callgrind", "--callgrind-out-file=/dev/null", *words]
+        ran = subprocess.run(counted, stdin=file, stdout=subprocess.DEVNULL, stderr=subprocess.PIPE, text=True, check=False)
+    return int(re.search(r"Collected *: *(\d+)", ran.stderr)[1]) / 1e6
+
+
 def main():
     top = os.path.join(os.path.dirname(os.path.abspath(__file__)), "..")
-    programs = [os.path.abspath(p) for p in sys.argv[1:]] or [os.path.join(top, "crates/dcc/out/dcc")]
+    given = [it for it in sys.argv[1:] if it != "--instructions"]
+    programs = [os.path.abspath(p) for p in given] or [os.path.join(top, "crates/dcc/out/dcc")]
     with tempfile.TemporaryDirectory() as room:
         def at(name):
             return os.path.join(room, name)
@@ -74,13 +90,15 @@ def main():
         write(at("runs"), lambda halves: " ".join(runs_of(halves)) + "\n")
         write(at("fleet"), spaced, FLEET)
         write(at("fleet_runs"), lambda halves: " ".join(runs_of(halves)) + "\n", FLEET)
-        write(at("one_track"), spaced, halves=HALVES // 2)
-        with open(at("two"), "wb") as file:
+        write(at("large_fleet"), spaced, LARGE_FLEET)
+        for two, line_of in (("two", spaced), ("two_runs", lambda halves: " ".join(runs_of(halves)) + "\n")):
+            write(at("one_track"), line_of, halves=HALVES // 2)
             with open(at("one_track"), "rb") as track:
                 halves = track.read()
-            file.write(halves + b"---\n" + halves)
+            with open(at(two), "wb") as file:
+                file.write(halves + b"---\n" + halves)
         with open(at("lines"), "w", encoding="ascii") as file:
-            file.writelines(["loco s3 speed28 f 4\n", "idle\n", "loco l1000 cv write 29 6\n", "accessory 12 5 on\n"] * 50_000)
+            file.writelines(["loco s3 speed28 f 4\n", "idle\n", "loco l1000 cv write 29 6\n", "accessory 12 5 on\n"] * (LINES // 4))
         rows = [
             ("show", ["show"], "halves"),
             ("show, CR LF at line ends", ["show"], "crlf"),
@@ -90,16 +108,19 @@ def main():
             ("show, in runs", ["show"], "runs"),
             ("run", ["run"], "fleet"),
             ("run, in runs", ["run"], "fleet_runs"),
+            ("run, of 64 locomotives", ["run"], "large_fleet"),
             ("same --who s3, two halves of it", ["same", "--who", "s3"], "two"),
-            ("encode --hex, 200,000 lines", ["encode", "--hex"], "lines"),
-            ("encode, 200,000 lines", ["encode"], "lines"),
+            ("same --who s3, in runs", ["same", "--who", "s3"], "two_runs"),
+            (f"encode --hex, {LINES:,} lines", ["encode", "--hex"], "lines"),
+            (f"encode, {LINES:,} lines", ["encode"], "lines"),
         ]
+        measured, unit = (instructions, "million") if COUNTS else (seconds, "s")
         times = {}
         for _ in range(ROUNDS):
             for name, words, file in rows:
-                times.setdefault((name, "wc -w"), []).append(seconds(["wc", "-w"], at(file)))
+                times.setdefault((name, "wc -w"), []).append(measured(["wc", "-w"], at(file)))
                 for program in programs:
-                    times.setdefault((name, program), []).append(seconds([program, *words], at(file)))
+                    times.setdefault((name, program), []).append(measured([program, *words], at(file)))
         def ratio(name, one, other):
             return statistics.median(x / y for x, y in zip(times[name, one], times[name, other]))
 
@@ -108,12 +129,11 @@ def main():
         print("| | " + " | ".join(heads) + " |")
         print("|---|" + "---|" * len(heads))
         for name, _, _ in rows:
-            cells = [f"{statistics.median(times[name, 'wc -w']):.3f} s"]
+            cells = [f"{statistics.median(times[name, 'wc -w']):.3f} {unit}"]
             for program in programs:
-                cells.append(f"{statistics.median(times[name, program]):.3f} s, {ratio(name, program, 'wc -w'):.2f} times")
+                cells.append(f"{statistics.median(times[name, program]):.3f} {unit}, {ratio(name, program, 'wc -w'):.2f} times")
             cells += [f"{ratio(name, programs[0], other):.2f}" for other in programs[1:]]
             print(f"| {name} | " + " | ".join(cells) + " |")
-
 
 
 main()

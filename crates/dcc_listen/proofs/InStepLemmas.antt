@@ -1,25 +1,29 @@
--- Two captures, read in step.
-use Rattle.std.proofs.Common.{◌≡◌, ◌∙◌, ◌++◌, ◌∷◌, [], refl, sym, ap, subst, Bool, true, false, List, Option, Some}
-use Rattle.std.proofs.Common.{None, Ok, append-nil, append_assoc, length, ℕ, ◌+◌, ◌-◌, ◌<◌, ◌^◌, arith}
-use Rattle.std.specs.Prelude.{slice_get, IfSome, is_none, is_some, not}
-use Rattle.std.proofs.lemmas.List.{length-append}
+-- Two sides, taken in step, and what a verdict on their packets says.
+use Rattle.std.proofs.Common.{◌≡◌, ◌⊎◌, inl, inr, ◌∙◌, ◌++◌, ◌∷◌, [], refl, sym, ap, subst, Bool, true, false, List, Option, Some, None}
+use Rattle.std.proofs.Common.{append-nil}
+use Rattle.std.specs.Prelude.{is_none}
+use Rattle.std.specs.Option.{option_to_list}
 use Rattle.dcc_packet.specs.declared.packet.Packet.{Packet}
 use Rattle.dcc_regs.specs.declared.register.Who.{Who}
+use Rattle.dcc_wire.specs.declared.framer.Framer.{Framer}
+use Rattle.dcc_order.specs.declared.comparer.Comparer.{Comparer}
 use Rattle.dcc_order.specs.declared.verdict.Verdict.{Verdict}
+use Rattle.dcc_order.specs.declared.wants.Wants.TheVariants.{Left, Right}
+use Rattle.dcc_order.specs.Comparisons.{StandsFor}
+use Rattle.dcc_order.specs.GivenLists.{MayFollow, with_item}
 use Rattle.dcc_order.specs.Laws.{AlikeIsTheVerdict, AlikeListsLeaveTheSame}
 use Rattle.dcc_order.specs.Verdicts.{IsVerdict}
+use Rattle.dcc_io.specs.declared.fault.ToolFault.{ToolFault}
+use Rattle.dcc_io.specs.declared.fault.ToolFault.TheVariants.{NoMemory}
 use Rattle.dcc_io.specs.InputState.{InputState}
-use Rattle.dcc_listen.specs.Compared.{Compared}
-use Rattle.dcc_listen.specs.Gathered.{Gathered}
-use Rattle.dcc_listen.specs.Inner.InStep.{SideRead, ReadBeside, ReadInStep}
-use Rattle.dcc_listen.specs.Taking.{Gathering, TakesPacket}
-use Rattle.dcc_wire.specs.declared.framer.Framer.{Framer}
-use Rattle.dcc_order.specs.GivenLists.{MayFollow, Lists, with_item}
-use Rattle.dcc_order.specs.Comparisons.{StandsFor}
-use Rattle.dcc_order.specs.declared.comparer.Comparer.{Comparer}
-use Rattle.dcc_order.specs.declared.wants.Wants.TheVariants.{Left, Right}
+use Rattle.dcc_listen.specs.declared.side.Progress.{Progress}
+use Rattle.dcc_listen.specs.Compared.{Compared, ReadsSome, OneFails}
 use Rattle.dcc_listen.specs.ComparedBoth.{ComparedBoth}
+use Rattle.dcc_listen.specs.Gathered.{Gathered, GatherFails}
 use Rattle.dcc_listen.specs.GatheredBoth.{GatheredBoth}
+use Rattle.dcc_listen.specs.Taking.{ReadsOn}
+use Rattle.dcc_listen.specs.Inner.InStep.{IsGiven, TakenInStep}
+use Rattle.dcc_listen.specs.Inner.Sides.{CaptureTook, HeldTook, OneStops, SideRead, TakesAll, TakesSome}
 
 -- what a verdict on the packets of two captures says
 pub compared : AlikeIsTheVerdict → AlikeListsLeaveTheSame
@@ -36,33 +40,6 @@ compared tells leave who left right left' right' verdict packets others first se
   alike = λ e. leave who packets others ((tells who packets others verdict is).0 e);
 }
 
--- the rest of a capture, behind what was given of it
-pub record Rest (ended : Bool) (start now : InputState) (packets : List Packet) : Type 0 where
-  pub more : List Packet
-  pub may : MayFollow ended more
-  pub all : Gathered start (packets ++ more) now
-
-pub nothing_behind : (ended flag : Bool) (start now : InputState) (framer : Framer) (packets : List Packet)
-    → ended ≡ flag → flag ≡ true → SideRead flag start now framer packets → Rest ended start now packets
-nothing_behind ended flag start now framer packets is all read = record {
-  more = [];
-  may = subst (λ e. MayFollow e []) (sym (is ∙ all)) refl;
-  all = subst (λ l. Gathered start l now) (sym (append-nil packets))
-      (subst (λ e. SideRead e start now framer packets) all read);
-}
-
-pub still_open : (flag : Bool) (start now : InputState) (framer : Framer) (packets : List Packet) → flag ≡ false
-    → SideRead flag start now framer packets → Gathering start now framer packets
-still_open flag start now framer packets going read = subst (λ e. SideRead e start now framer packets) going read
-
-pub rest_behind : (ended flag : Bool) (start now : InputState) (packets : List Packet) → ended ≡ flag → flag ≡ false
-    → ((more : List Packet) × Gathered start (packets ++ more) now) → Rest ended start now packets
-rest_behind ended flag start now packets is going all = record {
-  more = all.0;
-  may = subst (λ e. MayFollow e all.0) (sym (is ∙ going)) tt;
-  all = all.1;
-}
-
 -- what a verdict on the packets of the two captures of an input says
 pub compared_both : AlikeIsTheVerdict → AlikeListsLeaveTheSame
     → (who : Who) (input input' : InputState) (verdict : Verdict) (packets others : List Packet)
@@ -77,138 +54,97 @@ compared_both tells leave who input input' verdict packets others both is = reco
   alike = λ e. leave who packets others ((tells who packets others verdict is).0 e);
 }
 
--- the next of the packets that were not given yet
-next_behind : (l rest : List Packet) (p : Packet) → slice_get (l ++ rest) (length l) ≡ Some p
-    → (later : List Packet) × (rest ≡ p ∷ later)
-next_behind [] [] p e = cc
-next_behind [] (q ∷ rest) p e = (rest, cc)
-next_behind (x ∷ l) rest p e = next_behind l rest p e
+-- a capture that was taken to its end is gathered
+pub gathered : (start now : InputState) (packets : List Packet) → TakesAll (CaptureTook start now) packets
+    → Gathered start packets now
+gathered start now packets (progress, ended, took) =
+    subst (λ e. SideRead e start now progress.framer packets) ended took.read
 
-none_behind : (l rest : List Packet) → slice_get (l ++ rest) (length l) ≡ None → rest ≡ []
-none_behind [] [] e = refl
-none_behind [] (q ∷ rest) e = cc
-none_behind (x ∷ l) rest e = none_behind l rest e
+reads_on : (ended : Bool) (start now : InputState) (framer : Framer) (packets : List Packet) → start.fault ≡ None
+    → SideRead ended start now framer packets → ReadsOn start now
+reads_on false start now framer packets none read =
+    record { none_kept = none; fault = read.gave.items.fault; failures = read.gave.items.failures }
+reads_on true start now framer packets none read =
+    record { none_kept = none; fault = read.fault; failures = read.hold.1 }
 
-module _ (who : Who) (packets : List Packet) (given : ℕ) (left_ended : Bool) (input input' : InputState)
-    (framer : Framer) (ended : Bool) (c new : Comparer)
-    (s : ReadBeside who packets given left_ended input input' framer ended c) (is_left : c.wants ≡ Left)
-    (same_who : new.who ≡ c.who) where
-  found : (found : Option Packet) → slice_get packets given ≡ found
-      → slice_get (s.lists.left ++ s.rest) (length s.lists.left) ≡ found
-  found o e = sym (ap (λ l. slice_get l (length s.lists.left)) s.whole) ∙ sym (ap (slice_get packets) s.given_is) ∙ e
+-- no fault was met of a capture of which some was taken
+pub took_some : (start now : InputState) → TakesSome (CaptureTook start now) → ReadsOn start now
+took_some start now (packets, progress, took) =
+    reads_on progress.ended start now progress.framer packets took.none_kept took.read
 
-  pub beside_given : (p : Packet) → slice_get packets given ≡ Some p → s.lists.left_ended ≡ false
-      → ((lists : Lists) → StandsFor c lists → StandsFor new (with_item c.wants (Some p) lists)) →
-      ReadBeside who packets (given + 1) left_ended input input' framer ended new
-  beside_given p e going stands =
-      let later = next_behind s.lists.left s.rest p (found (Some p) e) in record {
-        lists = with_item Left (Some p) s.lists;
-        stands = subst (λ w. StandsFor new (with_item w (Some p) s.lists)) is_left (stands s.lists s.stands);
-        who_is = same_who ∙ s.who_is;
-        rest = later.0;
-        whole = s.whole ∙ ap (λ l. s.lists.left ++ l) later.1 ∙ sym (append_assoc s.lists.left (p ∷ []) later.0);
-        may = subst (λ e. MayFollow e later.0) (sym going) tt;
-        given_is = ap (λ n. n + 1) s.given_is ∙ sym (length-append s.lists.left (p ∷ []));
-        right_read = s.right_read;
-        left_is = s.left_is;
-        right_is = s.right_is;
-      }
+-- why two captures were not taken to their ends
+pub one_fails : (left right left' right' : InputState) (fault : ToolFault)
+    → OneStops (λ f. GatherFails left f left') (CaptureTook left left') (λ f. GatherFails right f right')
+    (CaptureTook right right') fault → OneFails left right fault left' right'
+one_fails left right left' right' fault (inl (fails, some)) = inl (fails, inr (took_some right right' some))
+one_fails left right left' right' fault (inr (inl (some, fails))) = inr (inr (took_some left left' some), fails)
+one_fails left right left' right' fault (inr (inr (is, some, other))) =
+    let on = took_some left left' some in
+    subst (λ f. OneFails left right f left' right') (sym is)
+    (inl ((on.none_kept, on.fault), inr (took_some right right' other)))
 
-  pub beside_ended : slice_get packets given ≡ None
-      → ((lists : Lists) → StandsFor c lists → StandsFor new (with_item c.wants None lists)) →
-      ReadBeside who packets given true input input' framer ended new
-  beside_ended e stands = record {
-    lists = with_item Left None s.lists;
-    stands = subst (λ w. StandsFor new (with_item w None s.lists)) is_left (stands s.lists s.stands);
-    who_is = same_who ∙ s.who_is;
-    rest = [];
-    whole = s.whole ∙ ap (λ l. s.lists.left ++ l) (none_behind s.lists.left s.rest (found None e));
-    may = refl;
-    given_is = s.given_is;
-    right_read = s.right_read;
-    left_is = refl;
-    right_is = s.right_is;
-  }
+-- one item of the left side was taken and given
+pub left_given : (who : Who) (Took Took' OtherTook : List Packet → Progress → Type 0) (progress next other : Progress)
+    (c new : Comparer) (item : Option Packet) (s : TakenInStep who Took OtherTook progress other c) → c.wants ≡ Left
+    → s.lists.left_ended ≡ false → IsGiven c item new → Took' (s.lists.left ++ option_to_list item) next
+    → next.ended ≡ is_none item → TakenInStep who Took' OtherTook next other new
+left_given who Took Took' OtherTook progress next other c new None s is going given took ended = record {
+  lists = with_item Left None s.lists;
+  stands = subst (λ w. StandsFor new (with_item w None s.lists)) is (given.stands s.lists s.stands);
+  who_is = given.who ∙ s.who_is;
+  left = subst (λ l. Took' l next) (append-nil s.lists.left) took;
+  right = s.right;
+  left_is = sym ended;
+  right_is = s.right_is;
+}
+left_given who Took Took' OtherTook progress next other c new (Some p) s is going given took ended = record {
+  lists = with_item Left (Some p) s.lists;
+  stands = subst (λ w. StandsFor new (with_item w (Some p) s.lists)) is (given.stands s.lists s.stands);
+  who_is = given.who ∙ s.who_is;
+  left = took;
+  right = s.right;
+  left_is = going ∙ sym ended;
+  right_is = s.right_is;
+}
 
--- fewer packets were given than a capture may have halves
-pub one_more_fits : (item : Option Packet) (start now : InputState) (framer : Framer) (packets : List Packet)
-    (given : ℕ) → given ≡ length packets → start.halves < 2 ^ 32 → TakesPacket start packets (Ok item) now framer →
-    IfSome item (λ _. given < 2 ^ 32 - 1)
-one_more_fits None start now framer packets given is few takes = tt
-one_more_fits (Some p) start now framer packets given is few takes =
-    let held = takes.few in
-    let left = takes.gave.left in
-    let more = length-append packets (p ∷ []) in
-    omega (arith, is, few, held, left, more)
+-- the same of the right side
+pub right_given : (who : Who) (Took OtherTook OtherTook' : List Packet → Progress → Type 0)
+    (progress other next : Progress) (c new : Comparer) (item : Option Packet)
+    (s : TakenInStep who Took OtherTook progress other c) → c.wants ≡ Right → s.lists.right_ended ≡ false
+    → IsGiven c item new → OtherTook' (s.lists.right ++ option_to_list item) next → next.ended ≡ is_none item
+    → TakenInStep who Took OtherTook' progress next new
+right_given who Took OtherTook OtherTook' progress other next c new None s is going given took ended = record {
+  lists = with_item Right None s.lists;
+  stands = subst (λ w. StandsFor new (with_item w None s.lists)) is (given.stands s.lists s.stands);
+  who_is = given.who ∙ s.who_is;
+  left = s.left;
+  right = subst (λ l. OtherTook' l next) (append-nil s.lists.right) took;
+  left_is = s.left_is;
+  right_is = sym ended;
+}
+right_given who Took OtherTook OtherTook' progress other next c new (Some p) s is going given took ended = record {
+  lists = with_item Right (Some p) s.lists;
+  stands = subst (λ w. StandsFor new (with_item w (Some p) s.lists)) is (given.stands s.lists s.stands);
+  who_is = given.who ∙ s.who_is;
+  left = s.left;
+  right = took;
+  left_is = s.left_is;
+  right_is = going ∙ sym ended;
+}
 
--- whether an item is an end, as it is asked
-pub end_is : (item : Option Packet) (flag : Bool) → is_some item ≡ not flag → flag ≡ is_none item
-end_is None true e = refl
-end_is None false e = cc
-end_is (Some p) true e = cc
-end_is (Some p) false e = refl
+-- held packets that were all taken
+pub all_held : (start now packets : List Packet) → TakesAll (λ packets progress. HeldTook start now packets progress.ended) packets
+    → packets ≡ start
+all_held start now packets (progress, ended, took) =
+    let none : now ≡ [] = subst (λ e. MayFollow e now) ended took.all in
+    sym (took.whole ∙ ap (λ l. packets ++ l) none ∙ append-nil packets)
 
--- one item of the right side was taken and given
-pub took_right : (who : Who) (left right left' right' right'' : InputState) (left_framer right_framer next : Framer)
-    (left_ended right_ended flag : Bool) (c new : Comparer) (item : Option Packet) →
-    (s : ReadInStep who left right left' right' left_framer right_framer left_ended right_ended c) → c.wants ≡ Right
-    → new.who ≡ c.who → s.lists.right_ended ≡ false → flag ≡ is_none item →
-    ((lists : Lists) → StandsFor c lists → StandsFor new (with_item c.wants item lists))
-    → TakesPacket right s.lists.right (Ok item) right'' next →
-    ReadInStep who left right left' right'' left_framer next left_ended flag new
-took_right who left right left' right' right'' left_framer right_framer next left_ended right_ended flag c new None s
-    is_right same_who going e stands takes = record {
-      lists = with_item Right None s.lists;
-      stands = subst (λ w. StandsFor new (with_item w None s.lists)) is_right (stands s.lists s.stands);
-      who_is = same_who ∙ s.who_is;
-      left_read = s.left_read;
-      right_read = subst (λ f. SideRead f right right'' next s.lists.right) (sym e) takes;
-      left_is = s.left_is;
-      right_is = sym e;
-    }
-took_right who left right left' right' right'' left_framer right_framer next left_ended right_ended flag c new (Some p)
-    s is_right same_who going e stands takes = record {
-      lists = with_item Right (Some p) s.lists;
-      stands = subst (λ w. StandsFor new (with_item w (Some p) s.lists)) is_right (stands s.lists s.stands);
-      who_is = same_who ∙ s.who_is;
-      left_read = s.left_read;
-      right_read = subst (λ f. SideRead f right right'' next (s.lists.right ++ p ∷ [])) (sym e) takes;
-      left_is = s.left_is;
-      right_is = going ∙ sym e;
-    }
-
--- the same beside a list
-pub took_beside : (who : Who) (packets : List Packet) (given : ℕ) (left_ended : Bool)
-    (input input' input'' : InputState) (framer next : Framer) (ended flag : Bool) (c new : Comparer)
-    (item : Option Packet) →
-    (s : ReadBeside who packets given left_ended input input' framer ended c) → c.wants ≡ Right → new.who ≡ c.who
-    → s.lists.right_ended ≡ false → flag ≡ is_none item →
-    ((lists : Lists) → StandsFor c lists → StandsFor new (with_item c.wants item lists))
-    → TakesPacket input s.lists.right (Ok item) input'' next →
-    ReadBeside who packets given left_ended input input'' next flag new
-took_beside who packets given left_ended input input' input'' framer next ended flag c new None s is_right same_who
-    going e stands takes = record {
-      lists = with_item Right None s.lists;
-      stands = subst (λ w. StandsFor new (with_item w None s.lists)) is_right (stands s.lists s.stands);
-      who_is = same_who ∙ s.who_is;
-      rest = s.rest;
-      whole = s.whole;
-      may = s.may;
-      given_is = s.given_is;
-      right_read = subst (λ f. SideRead f input input'' next s.lists.right) (sym e) takes;
-      left_is = s.left_is;
-      right_is = sym e;
-    }
-took_beside who packets given left_ended input input' input'' framer next ended flag c new (Some p) s is_right same_who
-    going e stands takes = record {
-      lists = with_item Right (Some p) s.lists;
-      stands = subst (λ w. StandsFor new (with_item w (Some p) s.lists)) is_right (stands s.lists s.stands);
-      who_is = same_who ∙ s.who_is;
-      rest = s.rest;
-      whole = s.whole;
-      may = s.may;
-      given_is = s.given_is;
-      right_read = subst (λ f. SideRead f input input'' next (s.lists.right ++ p ∷ [])) (sym e) takes;
-      left_is = s.left_is;
-      right_is = going ∙ sym e;
-    }
+-- why a capture was not taken to its end beside held packets, which never fail
+pub beside_fails : (input input' : InputState) (HeldTook : List Packet → Progress → Type 0) (fault : ToolFault)
+    → OneStops (λ f. ⊥) HeldTook (λ f. GatherFails input f input') (CaptureTook input input') fault
+    → GatherFails input fault input'
+beside_fails input input' HeldTook fault (inl (never, some)) = absurd never
+beside_fails input input' HeldTook fault (inr (inl (some, fails))) = fails
+beside_fails input input' HeldTook fault (inr (inr (is, some, other))) =
+    let on = took_some input input' other in
+    subst (λ f. GatherFails input f input') (sym is) (on.none_kept, on.fault)

@@ -24,11 +24,6 @@ TakesPacket start packets (Ok (Some p)) now framer = Gathering start now framer 
 TakesPacket start packets (Ok None) now framer = Gathered start packets now
 TakesPacket start packets (Err fault) now framer = GatherFails start (as_tool_fault fault) now
 
--- the rest of a capture was read, or a fault was met
-abbrev pub PassesRest : InputState → List Packet → Result (Unit {0}) KeptFault → InputState → Type 0
-PassesRest start packets (Ok done) now = (more : List Packet) × Gathered start (packets ++ more) now
-PassesRest start packets (Err fault) now = GatherFails start (as_tool_fault fault) now
-
 -- some of a capture was read, or all of it, and no fault was met
 pub record ReadsOn (old new : InputState) : Type 0 where
   pub none_kept : old.fault ≡ None

@@ -1,139 +1,75 @@
-//! Two captures, read in step.
+//! Two sides, compared while they are taken.
 
 // (want of memory is handed on by `match`: it is the comparison's own fault, whose crate knows none of the program's)
-ghost use Rattle.std.specs.Prelude.{◌≡◌, ◌<◌, ◌^◌, List, IfOk, IfErr, length, slice_get};
+ghost use Rattle.std.specs.Prelude.{◌≡◌, ◌≤◌, ◌+◌, ◌++◌, ◌⊎◌, List, Option, IfOk, IfErr, OnOk, false, length, is_none};
+ghost use Rattle.std.specs.Option.{option_to_list};
 ghost use Rattle.dcc_packet.specs.declared.packet.Packet.{Packet as PacketOf};
 ghost use Rattle.dcc_order.specs.Verdicts.{IsVerdict};
-ghost use Rattle.dcc_listen.specs.Compared.{OneFails};
-ghost use Rattle.dcc_listen.specs.Gathered.{GatherFails, Gathered};
+ghost use Rattle.dcc_listen.specs.Inner.InStep.{IsGiven};
+ghost use Rattle.dcc_listen.specs.Inner.Sides.{OneStops, TakesAll, TakesSome};
 
-use crate::taking::{next_packet, pass_rest};
-use dcc_io::{Input, Source, ToolFault};
+use crate::side::{Progress, Side, pass_rest};
+use dcc_io::ToolFault;
 use dcc_order::{Comparer, Verdict, Wants};
-use dcc_packet::Packet;
 use dcc_regs::Who;
-use dcc_wire::Framer;
 use std::alloc::Global;
 
-/// Reads two captures to their ends, and answers the verdict on their packets. Packets are read of the side that is wanted, and
-/// one block of each is held at most; what comes behind the verdict is read on for its faults.
-pub(crate) fn compare_in_step<L: Source, R: Source>(
+/// Takes two sides to their ends, and answers the verdict on their packets. Packets are taken of the side that is wanted, and
+/// one block of each is held at most; what comes behind the verdict is taken for its faults.
+pub(crate) fn compare_in_step<L: Side, R: Side>(
     alloc: Global,
-    left: &mut Input<L>,
-    right: &mut Input<R>,
+    left: &mut L,
+    right: &mut R,
     who: Who,
 ) -> Result<Verdict, ToolFault>
-    ensures compared { IfOk result
-        (λ verdict. (packets others : List PacketOf) × Gathered left.old packets left.new
-        × Gathered right.old others right.new × IsVerdict who packets others verdict) }
-    ensures fails { IfErr result (λ fault. OneFails left.old right.old fault left.new right.new) }
+    requires left { L.is_open left.old }
+    requires right { R.is_open right.old }
+    ensures compared { IfOk result (λ verdict. (packets others : List PacketOf)
+        × TakesAll (L.took left.old left.new) packets × TakesAll (R.took right.old right.new) others
+        × IsVerdict who packets others verdict) }
+    ensures fails { IfErr result (OneStops (L.fails left.old left.new) (L.took left.old left.new)
+        (R.fails right.old right.new) (R.took right.old right.new)) }
 {
-    if let Some(fault) = left.fault() {
-        return Err(ToolFault::from(fault));
-    }
-    if let Some(fault) = right.fault() {
-        return Err(ToolFault::from(fault));
-    }
-    let most = left.halves_left();
-    let other_most = right.halves_left();
-    let mut left_framer = Framer::new();
-    let mut right_framer = Framer::new();
-    let mut left_ended = false;
-    let mut right_ended = false;
+    let mut left_progress = left.begin();
+    let mut right_progress = right.begin();
     let mut comparer = Comparer::new(alloc, who);
     'packets: loop {
         match comparer.wants() {
-            Wants::Left => {
-                let item = next_packet(left, &mut left_framer)?;
-                left_ended = item.is_none();
-                match comparer.give(item) {
-                    Ok(()) => (),
-                    Err(_) => return Err(ToolFault::NoMemory),
-                }
-            }
-            Wants::Right => {
-                let item = next_packet(right, &mut right_framer)?;
-                right_ended = item.is_none();
-                match comparer.give(item) {
-                    Ok(()) => (),
-                    Err(_) => return Err(ToolFault::NoMemory),
-                }
-            }
+            Wants::Left => give_next(&mut comparer, left, &mut left_progress)?,
+            Wants::Right => give_next(&mut comparer, right, &mut right_progress)?,
             Wants::Done(verdict) => {
-                if !left_ended {
-                    pass_rest(left, &mut left_framer)?;
-                }
-                if !right_ended {
-                    pass_rest(right, &mut right_framer)?;
-                }
+                pass_rest(left, &mut left_progress)?;
+                pass_rest(right, &mut right_progress)?;
                 return Ok(verdict);
             }
         }
     }
 }
 
-/// Reads a capture to its end, and answers the verdict on a list of packets and those of the capture. One block of each is held
-/// at most, beside the list.
-pub(crate) fn compare_beside<R: Source>(
-    alloc: Global,
-    packets: &[Packet],
-    input: &mut Input<R>,
-    who: Who,
-) -> Result<Verdict, ToolFault>
-    requires { length packets.now < 2 ^ 32 }
-    ensures compared { IfOk result
-        (λ verdict. (others : List PacketOf) × Gathered input.old others input.new
-        × IsVerdict who packets.now others verdict) }
-    ensures fails { IfErr result (λ fault. GatherFails input.old fault input.new) }
+/// Gives the next packet of the side that is wanted, or its end.
+fn give_next<S: Side>(
+    comparer: &mut Comparer,
+    side: &mut S,
+    progress: &mut Progress,
+) -> Result<(), ToolFault>
+    requires open { S.is_open side.old }
+    requires going { progress.old.ended ≡ false }
+    requires counted { (start : S) × (packets : List PacketOf) × S.took start side.old packets progress.old
+        × (comparer.old.wants ≡ Wants.Left → comparer.old.left_given ≡ length packets)
+        × (comparer.old.wants ≡ Wants.Right → comparer.old.right_given ≡ length packets) }
+    ensures given { OnOk result ((item : Option PacketOf) × IsGiven comparer.old item comparer.new
+        × ((start : S) (packets : List PacketOf) → S.took start side.old packets progress.old
+        → S.took start side.new (packets ++ option_to_list item) progress.new)
+        × (progress.new.ended ≡ is_none item)
+        × (S.left side.new + length (option_to_list item) ≤ S.left side.old)) }
+    ensures open { OnOk result (S.is_open side.new) }
+    ensures fails { IfErr result (λ fault. (start : S) (packets : List PacketOf)
+        → S.took start side.old packets progress.old
+        → S.fails start side.new fault ⊎ ((fault ≡ ToolFault.NoMemory) × TakesSome (S.took start side.new))) }
 {
-    if let Some(fault) = input.fault() {
-        return Err(ToolFault::from(fault));
+    let item = side.take_next(progress)?;
+    match comparer.give(item) {
+        Ok(()) => Ok(()),
+        Err(_) => Err(ToolFault::NoMemory),
     }
-    // Each packet takes some of these halves, so there are fewer than 2^32.
-    let most = input.halves_left();
-    let mut framer = Framer::new();
-    let mut given = 0usize;
-    let mut left_ended = false;
-    let mut ended = false;
-    let mut comparer = Comparer::new(alloc, who);
-    'packets: loop {
-        match comparer.wants() {
-            Wants::Left => match packet_at(packets, given) {
-                Some(packet) => {
-                    given += 1;
-                    match comparer.give(Some(packet)) {
-                        Ok(()) => (),
-                        Err(_) => return Err(ToolFault::NoMemory),
-                    }
-                }
-                None => {
-                    left_ended = true;
-                    match comparer.give(None) {
-                        Ok(()) => (),
-                        Err(_) => return Err(ToolFault::NoMemory),
-                    }
-                }
-            },
-            Wants::Right => {
-                let item = next_packet(input, &mut framer)?;
-                ended = item.is_none();
-                match comparer.give(item) {
-                    Ok(()) => (),
-                    Err(_) => return Err(ToolFault::NoMemory),
-                }
-            }
-            Wants::Done(verdict) => {
-                if !ended {
-                    pass_rest(input, &mut framer)?;
-                }
-                return Ok(verdict);
-            }
-        }
-    }
-}
-
-fn packet_at(packets: &[Packet], at: usize) -> Option<Packet>
-    ensures { result ≡ slice_get packets.now at }
-{
-    packets.get(at).copied()
 }

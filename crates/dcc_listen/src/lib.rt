@@ -8,6 +8,7 @@ mod run_call;
 mod same_call;
 mod same_input_call;
 mod show_call;
+mod side;
 mod taking;
 mod timing_call;
 mod timing_text;

@@ -8,7 +8,7 @@ ghost use Rattle.dcc_listen.specs.ComparedBoth.{ComparesBoth};
 ghost use Rattle.dcc_listen.specs.GatheredBoth.{BothFail, GatheredBoth};
 
 use crate::first_capture::gather_first;
-use crate::in_step::compare_beside;
+use crate::in_step::compare_in_step;
 use crate::same_call::write_verdict;
 use dcc_io::{Input, Sink, Source, ToolFault};
 use dcc_order::Verdict;
@@ -60,6 +60,6 @@ fn compare_both<R: Source>(
         × IsVerdict who packets others verdict) }
     ensures fails { IfErr result (λ fault. BothFail input.old fault input.new) }
 {
-    let packets = gather_first(alloc, input)?;
-    compare_beside(alloc, packets.as_slice(), input, who)
+    let mut packets = gather_first(alloc, input)?.into_iter();
+    compare_in_step(alloc, &mut packets, input, who)
 }

@@ -4,7 +4,7 @@ ghost use Rattle.std.specs.Option.{option_to_list};
 ghost use Rattle.dcc_packet.specs.declared.packet.Packet.{Packet};
 ghost use Rattle.dcc_order.specs.Hearing.{AreSpelled, frames_of};
 ghost use Rattle.dcc_io.specs.InputState.{InputState};
-ghost use Rattle.dcc_listen.specs.Taking.{Gathering, PassesRest, TakesPacket};
+ghost use Rattle.dcc_listen.specs.Taking.{Gathering, TakesPacket};
 
 use dcc_capture::next_run;
 use dcc_io::{Input, KeptFault, Source};
@@ -44,22 +44,5 @@ fn packet_in(seen: &Seen) -> Option<Packet>
         Seen::Packet(frame) => Some(Packet::read(frame)),
         Seen::Nothing => None,
         Seen::Refused(_) => None,
-    }
-}
-
-/// Reads the rest of a capture.
-pub(crate) fn pass_rest<R: Source>(
-    input: &mut Input<R>,
-    framer: &mut Framer,
-) -> Result<(), KeptFault>
-    requires { input.old.fault ≡ None }
-    ensures { (start : InputState) (packets : List Packet) → start.fault ≡ None
-        → Gathering start input.old framer.old packets → PassesRest start packets result input.new }
-{
-    'packets: loop {
-        match next_packet(input, framer)? {
-            Some(_) => (),
-            None => return Ok(()),
-        }
     }
 }

@@ -1,14 +1,15 @@
-use Rattle.std.proofs.Common.{◌≡◌, ◌+◌, cond, None}
-use Rattle.dcc_listen.specs.Inner.InStep.{ReadInStep}
+use Rattle.std.proofs.Common.{◌≡◌, ◌+◌, cond}
+use Rattle.dcc_listen.specs.Inner.InStep.{TakenInStep}
 use Rattle.dcc_listen.proofs.in_step.compare_in_step.Given as goal
 
 abbrev pub invariant-packets : goal.invariant-packets
 invariant-packets g l = record {
-  left_fault : l.left.fault ≡ None;
-  right_fault : l.right.fault ≡ None;
-  in_step : ReadInStep l.fn.who l.initial.left l.initial.right l.left l.right l.left_framer l.right_framer l.left_ended
-      l.right_ended l.comparer;
+  left_open : g.L.Side.is_open l.left;
+  right_open : g.R.Side.is_open l.right;
+  in_step : TakenInStep l.fn.who (g.L.Side.took l.initial.left l.left) (g.R.Side.took l.initial.right l.right)
+      l.left_progress l.right_progress l.comparer;
 }
 
 abbrev pub decreases-packets : goal.decreases-packets
-decreases-packets g l = l.left.bytes + l.right.bytes + cond l.left_ended 0 1 + cond l.right_ended 0 1
+decreases-packets g l =
+    g.L.Side.left l.left + g.R.Side.left l.right + cond l.left_progress.ended 0 1 + cond l.right_progress.ended 0 1

@@ -1,0 +1,50 @@
+-- The two sides of a comparison: how far they were taken, of a capture and of held packets.
+use Rattle.std.specs.Prelude.{◌≡◌, ◌<◌, ◌^◌, ◌++◌, ◌⊎◌, Bool, true, false, List, [], None, length}
+use Rattle.dcc_packet.specs.declared.packet.Packet.{Packet}
+use Rattle.dcc_wire.specs.declared.framer.Framer.{Framer}
+use Rattle.dcc_order.specs.GivenLists.{MayFollow}
+use Rattle.dcc_io.specs.declared.fault.ToolFault.{ToolFault}
+use Rattle.dcc_io.specs.declared.fault.ToolFault.TheVariants.{NoMemory}
+use Rattle.dcc_io.specs.InputState.{InputState}
+use Rattle.dcc_listen.specs.declared.side.Progress.{Progress}
+use Rattle.dcc_listen.specs.Gathered.{Gathered}
+use Rattle.dcc_listen.specs.Taking.{Gathering}
+
+-- a capture was read so far, or to its end
+abbrev pub SideRead : Bool → InputState → InputState → Framer → List Packet → Type 0
+SideRead false start now framer packets = Gathering start now framer packets
+SideRead true start now framer packets = Gathered start packets now
+
+-- these packets of a capture were taken
+pub record CaptureTook (start now : InputState) (packets : List Packet) (progress : Progress) : Type 0 where
+  pub none_kept : start.fault ≡ None
+  pub few : start.halves < 2 ^ 32
+  pub read : SideRead progress.ended start now progress.framer packets
+
+-- these packets were taken of those that are held
+pub record HeldTook (start now packets : List Packet) (ended : Bool) : Type 0 where
+  pub few : length start < 2 ^ 32
+  pub whole : start ≡ packets ++ now
+  pub all : MayFollow ended now
+
+-- the rest of a side was taken, behind these packets
+pub record TakesRest (Took : List Packet → Progress → Type 0) (packets : List Packet) (ended : Bool) (progress : Progress)
+    : Type 0 where
+  pub more : List Packet
+  pub may : MayFollow ended more
+  pub took : Took (packets ++ more) progress
+  pub all : progress.ended ≡ true
+
+-- some packets of a side were taken, or all of them
+abbrev pub TakesSome : (List Packet → Progress → Type 0) → Type 0
+TakesSome Took = (packets : List Packet) × (progress : Progress) × Took packets progress
+
+abbrev pub TakesAll : (List Packet → Progress → Type 0) → List Packet → Type 0
+TakesAll Took packets = (progress : Progress) × (progress.ended ≡ true) × Took packets progress
+
+-- one side met this fault, or there was no memory
+abbrev pub OneStops : (ToolFault → Type 0) → (List Packet → Progress → Type 0) → (ToolFault → Type 0)
+    → (List Packet → Progress → Type 0) → ToolFault → Type 0
+OneStops Fails Took OtherFails OtherTook fault =
+    (Fails fault × TakesSome OtherTook) ⊎ (TakesSome Took × OtherFails fault)
+    ⊎ ((fault ≡ NoMemory) × TakesSome Took × TakesSome OtherTook)
