@@ -22,4 +22,8 @@ impl Decoder for Box<dyn Decoder> {
     fn get(&self, register: Register) -> Option<Value> {
         (**self).get(register)
     }
+
+    fn cv_byte(&self, cv: u16) -> u8 {
+        (**self).cv_byte(cv)
+    }
 }

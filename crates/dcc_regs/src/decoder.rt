@@ -1,7 +1,8 @@
 //! What every decoder promises.
 
-ghost use Rattle.std.specs.Prelude.{◌≡◌, Option, None, false};
+ghost use Rattle.std.specs.Prelude.{◌≡◌, ◌≤◌, Option, None, false, if◌then◌else◌};
 ghost use Rattle.dcc_regs.specs.Heard.{hears};
+ghost use Rattle.dcc_regs.specs.Loco.{cv_held, holds_one};
 ghost use Rattle.dcc_regs.specs.Possible.{IsPossible};
 ghost use Rattle.dcc_regs.specs.Result.{step};
 ghost use Rattle.dcc_regs.specs.Setting.{set_from};
@@ -36,4 +37,30 @@ pub trait Decoder: Drop {
     /// What a register holds, None where the decoder has no such register.
     fn get(&self, register: Register) -> Option<Value>
         ensures { result ≡ registers self.now register };
+
+    /// The byte of a CV, whose bits are eight registers; a register that the decoder does not have counts as a 0. A decoder that keeps
+    /// bytes answers it at once; else it is asked bit by bit.
+    fn cv_byte(&self, cv: u16) -> u8
+        ensures { result ≡ cv_held (registers self.now) cv }
+    {
+        weight(self.get(Register::CvBit(cv, 0)), 1)
+            + weight(self.get(Register::CvBit(cv, 1)), 2)
+            + weight(self.get(Register::CvBit(cv, 2)), 4)
+            + weight(self.get(Register::CvBit(cv, 3)), 8)
+            + weight(self.get(Register::CvBit(cv, 4)), 16)
+            + weight(self.get(Register::CvBit(cv, 5)), 32)
+            + weight(self.get(Register::CvBit(cv, 6)), 64)
+            + weight(self.get(Register::CvBit(cv, 7)), 128)
+    }
+}
+
+/// The weight of a bit where the value is a one.
+fn weight(value: Option<Value>, weight: u8) -> u8
+    ensures value { result ≡ (if holds_one value then weight else 0) }
+    ensures at_most { result ≤ weight }
+{
+    match value {
+        Some(Value::Flag(true)) => weight,
+        _ => 0,
+    }
 }

@@ -125,4 +125,11 @@ impl Decoder for PackedLoco {
             _ => None,
         }
     }
+
+    fn cv_byte(&self, cv: u16) -> u8 {
+        match CvNumber::new(cv) {
+            Ok(cv) => self.cv(cv),
+            Err(_) => 0,
+        }
+    }
 }

@@ -2,7 +2,7 @@
 ghost use Rattle.std.specs.Prelude.{◌≡◌, ◌+◌, ◌≤◌, ◌++◌, ◌∷◌, codes, if◌then◌else◌};
 ghost use Rattle.arrayvec.specs.ArrayVec.{array_vec_len};
 ghost use Rattle.dcc_packet.specs.Written.{address_word, direction_word};
-ghost use Rattle.dcc_regs.specs.Loco.{holds_one as is_on_value, cv_held};
+ghost use Rattle.dcc_regs.specs.Loco.{holds_one as is_on_value};
 ghost use Rattle.dcc_io.specs.Spaced.{behind_space};
 ghost use Rattle.dcc_saved.specs.FleetText.{speed_held, forward_held, pending_held, number_held, numbers_below};
 ghost use Rattle.dcc_saved.specs.FleetText.{own_address_word, speed_text, pending_text, cv_line, loco_address_line};
@@ -198,32 +198,6 @@ pub(crate) fn loco_front(address: &Option<Address>, decoder: &dyn Decoder) -> Ro
     append_numbers(&mut rows, Numbered::State, decoder);
     append_pending_line(&mut rows, decoder);
     rows
-}
-
-/// The value of a CV, bit by bit.
-pub(crate) fn cv_value(decoder: &dyn Decoder, cv: u16) -> u8
-    ensures { result ≡ cv_held (registers decoder.now) cv }
-{
-    cv_bit(decoder, cv, 0, 1)
-        + cv_bit(decoder, cv, 1, 2)
-        + cv_bit(decoder, cv, 2, 4)
-        + cv_bit(decoder, cv, 3, 8)
-        + cv_bit(decoder, cv, 4, 16)
-        + cv_bit(decoder, cv, 5, 32)
-        + cv_bit(decoder, cv, 6, 64)
-        + cv_bit(decoder, cv, 7, 128)
-}
-
-/// The weight of a bit of a CV, where it is one.
-fn cv_bit(decoder: &dyn Decoder, cv: u16, place: u8, weight: u8) -> u8
-    ensures value { result ≡ (if is_on_value (registers decoder.now (Register.CvBit cv place)) then weight else 0) }
-    ensures at_most { result ≤ weight }
-{
-    if is_on(decoder.get(Register::CvBit(cv, place))) {
-        weight
-    } else {
-        0
-    }
 }
 
 /// The line of a CV.

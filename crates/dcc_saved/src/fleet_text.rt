@@ -4,7 +4,7 @@ ghost use Rattle.dcc_regs.specs.Loco.{cv_held};
 ghost use Rattle.dcc_io.specs.WrittenBytes.{Writes};
 ghost use Rattle.dcc_saved.specs.FleetText.{cvs_text, written_decoder, fleet_text};
 
-use crate::decoder_rows::{board_rows, cv_line, cv_value, loco_front};
+use crate::decoder_rows::{board_rows, cv_line, loco_front};
 use dcc_io::{Failed, Sink, write_all};
 use dcc_regs::{Decoder, Who};
 
@@ -44,7 +44,7 @@ fn write_cvs<W: Sink>(decoder: &dyn Decoder, writer: &mut W) -> Result<(), Faile
         (W.state writer.new) }
 {
     for n in 0..1024u16 {
-        let value = cv_value(decoder, n + 1);
+        let value = decoder.cv_byte(n + 1);
         if value != 0 {
             write_all(writer, cv_line(n + 1, value).as_slice())?;
         }

@@ -268,13 +268,18 @@ const WRITES: [CvRow; 13] = [
 fn writes(rt: HostRuntime) -> Result<(), Fail> {
     for (lines, number, value) in WRITES {
         let decoder = heard_by_loco(&rt, &cvs(2), lines)?;
-        assert!(rt; decoder.cv(CvNumber::new(number)?) == value, "{lines:?}");
+        assert!(rt;
+            decoder.cv(CvNumber::new(number)?) == value && decoder.cv_byte(number) == value,
+            "{lines:?}"
+        );
     }
     let decoder = heard_by_loco(&rt, &cvs(2), &[WRITE])?;
     let pending = Value::Pending(Some(Packet::from_line(WRITE)?));
     holds(&rt, &decoder, Register::Pending, pending);
     let mut packed = PackedLoco::new(&cvs(2));
     hear(&mut packed, &[WRITE, WRITE])?;
-    assert!(rt; packed.cv(CvNumber::new(29)?) == 6);
+    assert!(rt;
+        packed.cv(CvNumber::new(29)?) == 6 && packed.cv_byte(29) == 6 && packed.cv_byte(1025) == 0
+    );
     Ok(())
 }

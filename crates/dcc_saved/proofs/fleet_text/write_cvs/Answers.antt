@@ -21,8 +21,8 @@ returns-in_err-write_all g c =
     let is = goal.Decoder-dyn g c.args.decoder.now in
     let cvs : ℕ → ℕ = cv_held (is.registers c.args.decoder.now.1) in
     let some : eqb (cvs (c.loop-n.n + 1)) 0 ≡ false =
-    ap (λ n. eqb n 0) (sym c.cv_value-value.ensures) ∙ ne_eqb _ _ c.if-value-ne0.true in
-    let line = c.as_slice.ensures.value ∙ c.cv_line.ensures ∙ ap (cv_line (c.loop-n.n + 1)) c.cv_value-value.ensures
+    ap (λ n. eqb n 0) (sym c.cv_byte-value.ensures) ∙ ne_eqb _ _ c.if-value-ne0.true in
+    let line = c.as_slice.ensures.value ∙ c.cv_line.ensures ∙ ap (cv_line (c.loop-n.n + 1)) c.cv_byte-value.ensures
     in
     let wrote = subst
     (λ (bytes : List ℕ). Writes (g.W.Sink.state c.loop-n.writer) bytes
@@ -39,9 +39,9 @@ loop-n-preserved g c =
     elim c.if-value-ne0.branch [
       | then-value-ne0+in_ok-write_all w ↦
           let some : eqb (cvs (c.loop-n.n + 1)) 0 ≡ false =
-          ap (λ n. eqb n 0) (sym c.cv_value-value.ensures) ∙ ne_eqb _ _ w.if-value-ne0.true in
+          ap (λ n. eqb n 0) (sym c.cv_byte-value.ensures) ∙ ne_eqb _ _ w.if-value-ne0.true in
           let line = w.as_slice.ensures.value ∙ w.cv_line.ensures
-          ∙ ap (cv_line (c.loop-n.n + 1)) c.cv_value-value.ensures in
+          ∙ ap (cv_line (c.loop-n.n + 1)) c.cv_byte-value.ensures in
           let wrote = rw line at w.in_ok-write_all.ensures in
           rw (w.writer-is, cvs_some cvs c.loop-n.n some) (
             Appends-append (g.W.Sink.state c.args.writer.now) (g.W.Sink.state c.loop-n.writer)
@@ -51,6 +51,6 @@ loop-n-preserved g c =
           )
       | else-value-ne0 w ↦
           let zero : eqb (cvs (c.loop-n.n + 1)) 0 ≡ true =
-          ap (λ n. eqb n 0) (sym c.cv_value-value.ensures) ∙ eq-eqb _ _ w.if-value-ne0.false in
+          ap (λ n. eqb n 0) (sym c.cv_byte-value.ensures) ∙ eq-eqb _ _ w.if-value-ne0.false in
           rw (w.writer-is, cvs_zero cvs c.loop-n.n zero) c.loop-n.invariant
     ]
