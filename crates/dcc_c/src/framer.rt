@@ -20,21 +20,6 @@ pub extern "C" fn dcc_framer_new() -> KeptFramer
     Framer::new().keep()
 }
 
-/// A half for a framer that is kept, with the promise of `Framer::push`.
-fn push(kept: &mut KeptFramer, us: u16) -> Seen
-    ensures history { (halves : List ℕ) × StandsFor (kept_rest kept.old) halves }
-    ensures stands { (halves : List ℕ) → StandsFor (kept_rest kept.old) halves
-        → StandsFor (kept_rest kept.new) (halves ++ us ∷ []) }
-    ensures sees { (halves : List ℕ) → StandsFor (kept_rest kept.old) halves →
-        seen (halves ++ us ∷ []) ≡ seen halves ++ report_at (length halves) result }
-    ensures hunts { result ≢ Seen.Nothing → kept_rest kept.new ≡ Hunting (ones_left result) }
-{
-    let mut framer = kept.framer();
-    let answer = framer.push(us);
-    *kept = framer.keep();
-    answer
-}
-
 /// Takes a half of this many microseconds, as `Framer::push` does. The answer is 1 where an outcome ends with it, which is
 /// written then, and else 0.
 #[unsafe(no_mangle)]
@@ -50,7 +35,7 @@ pub extern "C" fn dcc_push(framer: &mut KeptFramer, us: u16, outcome: &mut DccOu
     ensures bit { result ≤ 1 }
     ensures kept { result ≡ 0 → outcome.new ≡ outcome.old }
 {
-    let answer = push(framer, us);
+    let answer = framer.push(us);
     if answer.is_nothing() {
         return 0;
     }

@@ -2,6 +2,7 @@ pub mod BitLemmas
 pub mod BitNumbers
 pub mod OutcomeLemmas
 pub mod FramingLemmas
+pub mod KeptLemmas
 pub mod OpenBodies
 pub mod ByteLemmas
 pub mod SendingLemmas

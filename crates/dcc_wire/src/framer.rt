@@ -76,7 +76,7 @@ impl Framer {
 
     #[tactic(auto, unfolding(crate::specs::Inner::Steps::rest_after, crate::specs::Inner::Steps::answer_to, crate::specs::Inner::Steps::left_of, crate::specs::Inner::Steps::answer_of))]
     #[inline(always)]
-    fn take_half(&mut self, half: Half) -> Seen
+    pub(crate) fn take_half(&mut self, half: Half) -> Seen
         ensures history { (durations : List ℕ) × StandsFor self.old durations }
         ensures after { self.new ≡ rest_after self.old half }
         ensures answer { result ≡ answer_to self.old half }
@@ -131,7 +131,7 @@ ghost use Rattle.dcc_wire.specs.Runs.{IsQuiet, ones_after};
 /// Whether a half is the first one of a start bit, behind so many ones.
 #[inline(always)]
 #[tactic(auto, unfolding(crate::specs::Inner::Steps::rest_after))]
-fn begins_body(ones: u8, half: Half) -> bool
+pub(crate) fn begins_body(ones: u8, half: Half) -> bool
     ensures yes { IsTrue result → rest_after (Hunting ones) half ≡ InBody (Half.Zero ∷ []) }
     ensures no { (result ≡ false) → IsQuiet ones half }
 {
@@ -141,7 +141,7 @@ fn begins_body(ones: u8, half: Half) -> bool
 /// Counts a half that begins no body.
 #[inline(always)]
 #[tactic(auto, unfolding(crate::specs::Inner::Steps::rest_after))]
-fn counted(ones: u8, half: Half) -> u8
+pub(crate) fn counted(ones: u8, half: Half) -> u8
     requires { IsQuiet ones half }
     ensures { Hunting result ≡ rest_after (Hunting ones) half }
 {

@@ -3,11 +3,11 @@
 ghost use Rattle.std.specs.Prelude.{◌≡◌};
 ghost use Rattle.dcc_wire.specs.Kept.{kept_rest};
 
-use crate::Framer;
 use crate::bytes::PacketBytes;
-use crate::framer::State;
+use crate::framer::{State, begins_body, counted};
 use crate::open_body::OpenBody;
 use crate::packed_bits::PackedBits;
+use crate::{Framer, Half, Seen};
 use arrayvec::ArrayVec;
 use std::marker::Model;
 
@@ -71,6 +71,110 @@ impl Model for KeptFramer {
 }
 
 impl KeptFramer {
+    ghost use Rattle.std.specs.Prelude.{◌≡◌, ◌≢◌, ℕ, List, ◌++◌, [], ◌∷◌, Some, length, IsTrue, true, false};
+    ghost use Rattle.dcc_wire.specs.Half.{bit_of};
+    ghost use Rattle.dcc_wire.specs.Outcomes.{ones_left};
+    ghost use Rattle.dcc_wire.specs.Framing.{Hunting, InBody, StandsFor, seen, report_at};
+    ghost use Rattle.dcc_wire.specs.Inner.Steps.{rest_after, answer_to};
+    ghost use Rattle.dcc_wire.specs.Inner.KeptSteps.{Grows, HasRoomFor};
+    ghost use Rattle.dcc_wire.specs.declared.half.Half.{Half as HalfOf};
+
+    /// Takes a half of this many microseconds where the framer lies, with the promise of [`Framer::push`].
+    #[tactic(auto, unfolding(crate::specs::Framing::StandsFor), using(crate::proofs::FramerSteps::pushes))]
+    #[inline(always)]
+    pub fn push(&mut self, us: u16) -> Seen
+        ensures history { (durations : List ℕ) × StandsFor (kept_rest self.old) durations }
+        ensures stands { (durations : List ℕ) → StandsFor (kept_rest self.old) durations
+            → StandsFor (kept_rest self.new) (durations ++ us ∷ []) }
+        ensures sees { (durations : List ℕ) → StandsFor (kept_rest self.old) durations →
+            seen (durations ++ us ∷ []) ≡ seen durations ++ report_at (length durations) result }
+        ensures hunts { result ≢ Seen.Nothing → kept_rest self.new ≡ Hunting (ones_left result) }
+    {
+        self.take_half(Half::of(us))
+    }
+
+    #[inline(always)]
+    fn take_half(&mut self, half: Half) -> Seen
+        ensures history { (durations : List ℕ) × StandsFor (kept_rest self.old) durations }
+        ensures after { kept_rest self.new ≡ rest_after (kept_rest self.old) half }
+        ensures answer { result ≡ answer_to (kept_rest self.old) half }
+        ensures hunts { result ≢ Seen.Nothing → kept_rest self.new ≡ Hunting (ones_left result) }
+    {
+        if !self.in_body {
+            self.hunt(half);
+            return Seen::Nothing;
+        }
+        match half.bit() {
+            Some(bit) if self.has_room_for(bit) => {
+                self.add(bit);
+                Seen::Nothing
+            }
+            Some(_) | None => self.take_apart(half),
+        }
+    }
+
+    /// Takes a half between bodies.
+    #[inline(always)]
+    fn hunt(&mut self, half: Half)
+        requires { self.old.in_body ≡ false }
+        ensures { Grows self.old half self.new }
+    {
+        if begins_body(self.ones, half) {
+            self.in_body = true;
+            self.has_first = true;
+            self.first = false;
+            self.xor = 0;
+            self.shift = 0;
+            self.count = 0;
+            self.bytes = PacketBytes::of(&[]);
+        } else {
+            self.ones = counted(self.ones, half);
+        }
+    }
+
+    /// Whether a half of this bit leaves the body and its last byte unfinished.
+    #[inline(always)]
+    fn has_room_for(&self, bit: bool) -> bool
+        requires { self.now.in_body ≡ true }
+        ensures { IsTrue result → HasRoomFor self.now bit }
+    {
+        if !self.has_first {
+            return true;
+        }
+        self.first == bit && self.count < 8 && (self.count > 0 || !bit && self.bytes.has_room())
+    }
+
+    /// Takes a half of this bit, for which there is room.
+    #[inline(always)]
+    fn add(&mut self, bit: bool)
+        requires in_body { self.old.in_body ≡ true }
+        requires room { HasRoomFor self.old bit }
+        ensures { (half : HalfOf) → bit_of half ≡ Some bit → Grows self.old half self.new }
+    {
+        if self.has_first {
+            self.has_first = false;
+            self.shift = 2 * self.shift + u8::from(bit);
+            self.count += 1;
+        } else {
+            self.has_first = true;
+            self.first = bit;
+        }
+    }
+
+    /// Takes a half as the framer that is kept does. (It is kept out of the way of what each half costs.)
+    #[inline(never)]
+    fn take_apart(&mut self, half: Half) -> Seen
+        ensures history { (durations : List ℕ) × StandsFor (kept_rest self.old) durations }
+        ensures after { kept_rest self.new ≡ rest_after (kept_rest self.old) half }
+        ensures answer { result ≡ answer_to (kept_rest self.old) half }
+        ensures hunts { result ≢ Seen.Nothing → kept_rest self.new ≡ Hunting (ones_left result) }
+    {
+        let mut framer = self.framer();
+        let seen = framer.take_half(half);
+        *self = framer.keep();
+        seen
+    }
+
     /// The framer, taken up again: it stands for the halves for which the one that was kept stood.
     pub fn framer(&self) -> Framer
         ensures { result ≡ kept_rest self.now }

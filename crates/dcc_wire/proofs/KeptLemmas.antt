@@ -1,0 +1,152 @@
+-- One half more of a body that is kept as plain numbers, where no byte ends with it.
+use Rattle.std.proofs.Common.{◌≡◌, ℕ, ◌+◌, ◌*◌, ◌<◌, ◌++◌, Bool, true, false, cond, List, [], ◌∷◌, Some, None}
+use Rattle.std.proofs.Common.{inl, inr, length, refl, sym, ap, ◌∙◌, subst, add-one, append-nil, if◌then◌else◌}
+use Rattle.dcc_wire.specs.declared.half.Half.{Half}
+use Rattle.dcc_wire.specs.declared.half.Half.TheVariants.{Zero}
+use Rattle.dcc_wire.specs.declared.seen.Seen.TheVariants.{Nothing}
+use Rattle.dcc_wire.specs.Bodies.{bits_of, first_half, halves_of}
+use Rattle.dcc_wire.specs.Framing.{Hunting, InBody}
+use Rattle.dcc_wire.specs.Half.{bit_of}
+use Rattle.dcc_wire.specs.Inner.KeptSteps.{Grows, HasRoomFor}
+use Rattle.dcc_wire.specs.Inner.Steps.{rest_after, answer_to, answer_of, left_of}
+use Rattle.dcc_wire.specs.Kept.{Kept, IsKept, kept_halves, kept_rest}
+use Rattle.dcc_wire.specs.Outcomes.{bytes_in, outcome_of}
+use Rattle.dcc_wire.specs.Packed.{IsPacked, byte_bits, packed_bits}
+use Rattle.dcc_wire.proofs.HistoryLemmas.{HasHistory, history_more}
+use Rattle.dcc_wire.proofs.OpenBodies.{answer-bit, answer-first, bit_more, first_more, half_of, half_of-bit}
+use Rattle.dcc_wire.proofs.OutcomeLemmas.{answer-open, outcome_of-something}
+use Rattle.dcc_wire.proofs.PackedLemmas.{packed_bits-more, packed_more, packed_none, packed_open}
+
+in_body_rest : (k : Kept) (has_first : Bool) → k.in_body ≡ true → k.has_first ≡ has_first
+    → kept_rest k ≡ InBody (halves_of (packed_bits k.bytes k.count k.shift) ++ first_half
+    (if has_first then Some k.first else None))
+in_body_rest k has_first in_body e =
+    ap (λ b. if b then InBody (kept_halves k) else Hunting k.ones) in_body
+    ∙ ap (λ b. InBody (halves_of (packed_bits k.bytes k.count k.shift) ++ first_half (if b then Some k.first else None))) e
+
+grown : (halves : List Half) (half : Half) (longer : List Half) → halves ++ half ∷ [] ≡ longer
+    → answer_of (outcome_of longer) ≡ Nothing
+    → (rest_after (InBody halves) half ≡ InBody longer) × (answer_to (InBody halves) half ≡ Nothing)
+unfolding rest_after left_of answer_to
+grown halves half longer e nothing = (
+  ap (λ l. left_of l (outcome_of l)) e ∙ ap (left_of longer) (outcome_of-something longer nothing),
+  ap (λ l. answer_of (outcome_of l)) e ∙ nothing,
+)
+
+module _ (k : Kept) (is : IsKept k) (in_body : k.in_body ≡ true) (half : Half) (bit : Bool)
+    (of : bit_of half ≡ Some bit) where
+  grows : (halves longer : List Half) (new : Kept) → kept_rest k ≡ InBody halves → kept_rest new ≡ InBody longer
+      → halves ++ half ∷ [] ≡ longer → answer_of (outcome_of longer) ≡ Nothing
+      → (new.in_body ≡ true → IsPacked new.bytes new.xor new.count new.shift) → Grows k half new
+  grows halves longer new before behind e nothing packed =
+      let more = grown halves half longer e nothing in
+      let after = behind ∙ sym (ap (λ r. rest_after r half) before ∙ more.0) in record {
+        after = after;
+        answer = ap (λ r. answer_to r half) before ∙ more.1;
+        is = record {
+          packed = packed;
+          unfinished = λ in_it. packed_open new.bytes new.xor new.count new.shift (packed in_it);
+          history = subst HasHistory (sym after) (history_more (kept_rest k) half is.history);
+        };
+      }
+
+  -- the first half of a bit
+  pub first_comes : k.has_first ≡ false → Grows k half (record k { has_first = true; first = bit })
+  first_comes not_yet =
+      let bits = packed_bits k.bytes k.count k.shift in
+      let new : Kept = record k { has_first = true; first = bit } in
+      let e = half_of-bit half bit of in
+      grows (halves_of bits ++ first_half None) (halves_of bits ++ first_half (Some bit)) new
+      (in_body_rest k false in_body not_yet) (in_body_rest new true in_body refl)
+      (ap (λ h. (halves_of bits ++ first_half None) ++ h ∷ []) e ∙ sym (first_more bits bit))
+      (ap (λ l. answer_of (outcome_of l)) (first_more bits bit) ∙ answer-first bits (is.unfinished in_body) bit)
+      is.packed
+
+  -- the second half of a bit
+  pub bit_comes : k.has_first ≡ true → k.first ≡ bit → k.count < 8 → (k.count ≡ 0 → bit ≡ false) → length k.bytes < 6
+      → Grows k half (record k { has_first = false; shift = 2 * k.shift + cond bit 1 0; count = k.count + 1 })
+  unfolding first_half
+  bit_comes has same less zero_first room =
+      let bits = packed_bits k.bytes k.count k.shift in
+      let new : Kept = record k { has_first = false; shift = 2 * k.shift + cond bit 1 0; count = k.count + 1 } in
+      let packed = packed_more k.bytes k.xor k.count k.shift bit (is.packed in_body) zero_first room less in
+      let whole : packed_bits k.bytes (k.count + 1) (2 * k.shift + cond bit 1 0) ≡ bits ++ bit ∷ [] =
+      ap (λ n. packed_bits k.bytes n (2 * k.shift + cond bit 1 0)) (add-one k.count)
+      ∙ packed_bits-more k.bytes k.count k.shift bit in
+      let longer = halves_of (bits ++ bit ∷ []) ++ first_half None in
+      let e : (halves_of bits ++ first_half (Some bit)) ++ half ∷ [] ≡ longer =
+      ap (λ h. (halves_of bits ++ first_half (Some bit)) ++ h ∷ []) (half_of-bit half bit of) ∙ sym (bit_more bits bit)
+      ∙ sym (append-nil (halves_of (bits ++ bit ∷ []))) in
+      grows (halves_of bits ++ first_half (Some bit)) longer new
+      (in_body_rest k true in_body has ∙ ap (λ b. InBody (halves_of bits ++ first_half (Some b))) same)
+      (in_body_rest new false in_body refl ∙ ap (λ l. InBody (halves_of l ++ first_half None)) whole) e
+      (ap (λ l. answer_of (outcome_of l)) (append-nil (halves_of (bits ++ bit ∷ [])) ∙ bit_more bits bit)
+      ∙ answer-bit bits bit
+      ∙ answer-open (bits ++ bit ∷ [])
+      (subst (λ l. bytes_in 6 l ≡ None) whole (packed_open k.bytes k.xor (k.count + 1) (2 * k.shift + cond bit 1 0) packed)))
+      (λ in_it. packed)
+
+pub bit_of-half_of : (bit : Bool) → bit_of (half_of bit) ≡ Some bit
+unfolding half_of
+bit_of-half_of true = refl
+bit_of-half_of false = refl
+
+-- a second half that leaves the last byte unfinished
+pub second_added : (k : Kept) (bit : Bool) (number : ℕ) (half : Half) → IsKept k → k.in_body ≡ true → k.has_first ≡ true
+    → HasRoomFor k bit → number ≡ cond bit 1 0 → bit_of half ≡ Some bit
+    → Grows k half (record k { has_first = false; shift = 2 * k.shift + number; count = k.count + 1 })
+second_added k bit number half is in_body has (inl none) e of = cc
+second_added k bit number half is in_body has (inr fits) e of =
+    subst (λ n. Grows k half (record k { has_first = false; shift = 2 * k.shift + n; count = k.count + 1 })) (sym e)
+    (bit_comes k is in_body half bit of has fits.same fits.part fits.zero_first fits.room)
+
+-- a half between bodies
+module _ (k : Kept) (is : IsKept k) (out : k.in_body ≡ false) (half : Half) where
+  between : kept_rest k ≡ Hunting k.ones
+  between = ap (λ b. if b then InBody (kept_halves k) else Hunting k.ones) out
+
+  answers_nothing : answer_to (kept_rest k) half ≡ Nothing
+  unfolding answer_to
+  answers_nothing = ap (λ r. answer_to r half) between
+
+  begun : (bytes : List ℕ) → bytes ≡ []
+      → InBody (halves_of (packed_bits bytes 0 0) ++ first_half (Some false)) ≡ InBody (Zero ∷ [])
+  unfolding halves_of packed_bits byte_bits bits_of first_half
+  begun bytes e = ap (λ l. InBody (halves_of (packed_bits l 0 0) ++ first_half (Some false))) e
+
+  pub body_begins : (bytes : List ℕ) → bytes ≡ [] → rest_after (Hunting k.ones) half ≡ InBody (Zero ∷ [])
+      → Grows k half (record {
+        in_body = true;
+        ones = k.ones;
+        has_first = true;
+        first = false;
+        xor = 0;
+        shift = 0;
+        count = 0;
+        bytes = bytes;
+      })
+  body_begins bytes none begins =
+      let packed = subst (λ l. IsPacked l 0 0 0) (sym none) packed_none in
+      let after = begun bytes none ∙ sym begins ∙ ap (λ r. rest_after r half) (sym between) in record {
+        after = after;
+        answer = answers_nothing;
+        is = record {
+          packed = λ in_it. packed;
+          unfinished = λ in_it. packed_open bytes 0 0 0 packed;
+          history = subst HasHistory (sym after) (history_more (kept_rest k) half is.history);
+        };
+      }
+
+  pub one_counted : (ones : ℕ) → Hunting ones ≡ rest_after (Hunting k.ones) half → Grows k half (record k { ones = ones })
+  one_counted ones counted =
+      let after : kept_rest (record k { ones = ones }) ≡ rest_after (kept_rest k) half =
+      ap (λ b. if b then InBody (kept_halves k) else Hunting ones) out ∙ counted
+      ∙ ap (λ r. rest_after r half) (sym between) in record {
+        after = after;
+        answer = answers_nothing;
+        is = record {
+          packed = is.packed;
+          unfinished = is.unfinished;
+          history = subst HasHistory (sym after) (history_more (kept_rest k) half is.history);
+        };
+      }
