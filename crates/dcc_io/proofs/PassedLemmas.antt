@@ -278,3 +278,17 @@ ends_behind_gaps old mid new line so_far gaps ends = record {
   lines = told_behind gaps.took (λ rest. new.lines ≡ line) (λ text. new.lines ≡ line) (λ text rest uses same. same)
       ends.lines;
 }
+
+-- gaps where no word is open
+pub Opens-gaps : (old now mid new : InputState) (so_far : RunWord) (opens : Opens old so_far now)
+    → is_some_byte opens.word ≡ false → Passed old [] mid → Passed mid [] new → Opens old so_far new
+Opens-gaps old now mid new so_far opens empty first next =
+    let passed = Passed-join old mid new [] [] first next in
+    record {
+      word = [];
+      spelled = subst (λ (word : List ℕ). Spells so_far word) (no_bytes opens.word empty) opens.spelled;
+      took = Took-map passed.took (λ used passes more. passes more ∙ sym (opened-none new.place more));
+      halves = passed.halves;
+      closed = if_some_all (λ rest. rest ≡ [] → no_word ≡ []) new.text (λ rest none. refl);
+      lines = if_some_all (λ rest. is_some_byte no_word ≡ true → new.lines ≡ new.place.line) new.text (λ rest some. cc);
+    }

@@ -8,7 +8,6 @@ ghost use Rattle.dcc_io.specs.PacketLines.{is_comment_line, is_skipped};
 ghost use Rattle.dcc_io.specs.Inner.FrontLine.{IsFrontLine, IsEndedLine};
 
 use arrayvec::ArrayString;
-use std::str;
 
 /// A line with its number, from 1, without the line feed that ends it.
 #[derive(Drop)]
@@ -56,7 +55,7 @@ impl TextLine {
 }
 
 /// The line at the front of these bytes, if it has ended, is good and says something.
-pub fn front_line(bytes: &[u8]) -> Option<&str>
+pub fn front_line(bytes: &[u8]) -> Option<&[u8]>
     ensures { IfSome result (λ line. IsFrontLine bytes.now line.now) }
 {
     let len = ended_line_len(bytes)?;
@@ -64,10 +63,7 @@ pub fn front_line(bytes: &[u8]) -> Option<&str>
     if is_skipped(line) {
         return None;
     }
-    match str::from_utf8(line) {
-        Ok(text) => Some(text),
-        Err(_) => None,
-    }
+    Some(line)
 }
 
 /// How many bytes the line at the front of these bytes has, if it has ended and is good.

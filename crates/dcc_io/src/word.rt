@@ -2,7 +2,7 @@
 ghost use Rattle.std.specs.Prelude.{◌≡◌, ◌↔◌, ◌<◌, ◌≤◌, min, ℕ, List, [], ◌∷◌, ◌++◌, not, true, ◌==◌, ◌&&◌, IfSome};
 ghost use Rattle.std.specs.Prelude.{IsTrue};
 ghost use Rattle.dcc_io.specs.Words.{is_gap, is_mark, is_some_byte, run_of};
-ghost use Rattle.dcc_io.specs.Inner.FrontWords.{HasLineFeedAt, IsFrontWord, IsWholeWord, EndedWord};
+ghost use Rattle.dcc_io.specs.Inner.FrontWords.{EndNoLine, HasLineFeedAt, IsFrontWord, IsWholeWord, EndedWord};
 
 use crate::digits::Digits;
 
@@ -210,6 +210,18 @@ pub fn whole_word(bytes: &[u8]) -> Option<WholeWord>
         word.push(*byte);
     }
     None
+}
+
+/// How many bytes stand before the first line feed.
+pub fn len_of_line(bytes: &[u8]) -> usize
+    ensures { EndNoLine bytes.now result }
+{
+    for (len, byte) in bytes.iter().enumerate() {
+        if *byte == b'\n' {
+            return len;
+        }
+    }
+    bytes.len()
 }
 
 /// Whether these bytes begin with a line feed.
