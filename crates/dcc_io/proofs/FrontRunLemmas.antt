@@ -1,17 +1,14 @@
 -- A run at the front of some bytes.
-use Rattle.std.proofs.Common.{◌≡◌, ℕ, suc, ◌+◌, ◌-◌, ◌<◌, ◌≤◌, List, [], ◌∷◌, ◌++◌, take, drop, get_or, length, Bool}
-use Rattle.std.proofs.Common.{true, false, cond, eqb, nat_lt, nat_le, ◌&&◌, min, Option, None, Some, refl, sym, ap, ◌∙◌}
-use Rattle.std.proofs.Common.{arith, subst, length-drop}
+use Rattle.std.proofs.Common.{◌≡◌, ℕ, suc, ◌+◌, ◌<◌, ◌≤◌, List, [], ◌∷◌, ◌++◌, take, drop, get_or, length, Bool}
+use Rattle.std.proofs.Common.{true, false, cond, eqb, nat_lt, nat_le, ◌&&◌, min, Some, refl, sym, ap, ◌∙◌}
+use Rattle.std.proofs.Common.{arith, length-drop}
 use Rattle.std.proofs.lemmas.List.{take-append-drop, drop_more, get_or-drop, length-take-le}
 use Rattle.std.proofs.lemmas.List.Folds.{list_all-append}
 use Rattle.std.proofs.lemmas.Bool.Decides.{nat_tests}
 use Rattle.std.proofs.Math.Seq.{take-append-add}
 use Rattle.std.specs.List.{list_all}
 use Rattle.std.specs.Char.{is_ascii_digit}
-use Rattle.std.specs.Str.Parse.{digits_value}
-use Rattle.dcc_io.specs.declared.front_run.FrontRun.{FrontRun}
-use Rattle.dcc_io.specs.declared.word.Run.{Run}
-use Rattle.dcc_io.specs.Words.{is_gap, duration_of, count_of, before_star, behind_star, times, run_with, run_of}
+use Rattle.dcc_io.specs.Words.{is_gap, duration_of, count_of, before_star, behind_star, run_of}
 use Rattle.dcc_io.specs.Inner.FrontRuns.{IsFrontRun, SpellsNumber}
 use Rattle.dcc_io.specs.Inner.FrontWords.{is_plain}
 use Rattle.dcc_io.proofs.FrontLemmas.{plain_digits}

@@ -1,7 +1,6 @@
 -- A word that has ended in the bytes at hand.
 use Rattle.std.proofs.Common.{◌≡◌, ◌≢◌, ℕ, List, [], ◌∷◌, ◌++◌, drop, get_or, length, ◌<◌, ◌+◌, Bool, true, false}
-use Rattle.std.proofs.Common.{cond, eqb, refl, sym, ap, ◌∙◌, subst, ◌||◌, add-one, drop-cons}
-use Rattle.std.proofs.lemmas.Bool.{ne_eqb}
+use Rattle.std.proofs.Common.{refl, sym, ap, ◌∙◌, subst, ◌||◌, add-one, drop-cons}
 use Rattle.dcc_io.specs.TextPlace.{TextPlace, line_behind}
 use Rattle.dcc_io.specs.Words.{Word, is_gap, comments, ended_words, is_some_byte}
 use Rattle.dcc_io.proofs.WordsLemmas.{behind, opened, opened-none, opened-word, opened-gap, ended}

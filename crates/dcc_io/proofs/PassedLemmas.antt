@@ -1,6 +1,6 @@
 -- A word that is being read, and what ends it.
 use Rattle.std.proofs.Common.{◌≡◌, ℕ, ◌+◌, ◌<◌, ◌≤◌, List, [], ◌∷◌, ◌++◌, Bool, true, false, not, Err}
-use Rattle.std.proofs.Common.{refl, sym, ap, ◌∙◌, subst, cond, eqb, arith, append_assoc, ◌||◌, IfSome, IsSomeAnd, Option, None, Some, length}
+use Rattle.std.proofs.Common.{refl, sym, ap, ◌∙◌, subst, cond, eqb, arith, append_assoc, ◌||◌, IfSome, IsSomeAnd, Option, None, Some}
 use Rattle.std.proofs.lemmas.List.{append-nil}
 use Rattle.dcc_io.specs.declared.word.RunWord.{RunWord}
 use Rattle.dcc_io.specs.declared.fault.KeptFault.{KeptFault}
@@ -13,7 +13,7 @@ use Rattle.dcc_io.specs.SpelledWords.{Spells}
 use Rattle.dcc_io.specs.Took.{Uses, Took}
 use Rattle.dcc_io.specs.PassedWords.{Passed, IsBeforeWord, EndsWord, AnswersWord}
 use Rattle.dcc_io.proofs.WordsLemmas.{eqb_line_feed, behind, opened, opened-none, opened-word, opened-gap, ended}
-use Rattle.dcc_io.proofs.TookLemmas.{if_some_map, if_some_all, join_whole, Took-map, Took-closed, Took-join}
+use Rattle.dcc_io.proofs.TookLemmas.{if_some_map, if_some_all, Took-map, Took-closed, Took-join}
 use Rattle.dcc_io.proofs.TookLemmas.{told_behind, took_byte, fails_to_read, has_too_many, lines_at_failure}
 use Rattle.dcc_io.proofs.TookLemmas.{lines_at_overflow}
 

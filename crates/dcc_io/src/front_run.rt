@@ -2,7 +2,7 @@
 ghost use Rattle.std.specs.Prelude.{◌≡◌, ◌<◌, ◌≤◌, IfSome, IsTrue, length, take};
 ghost use Rattle.dcc_io.specs.Inner.FrontRuns.{IsFrontRun, SpellsNumber};
 
-use crate::word::{Run, is_gap};
+use crate::word::{Run, is_digit, is_gap};
 
 /// A run at the front of some bytes, and the gap behind it.
 #[derive(Clone, Copy, Debug)]
@@ -45,6 +45,40 @@ pub fn front_run(bytes: &[u8]) -> Option<FrontRun>
 /// takes no further digit behind a number of five.
 #[inline(always)]
 fn front_number(bytes: &[u8]) -> Option<(u32, usize)>
+    ensures { IfSome result (λ front. (front.1 < length bytes.now) × SpellsNumber front.0 (take front.1 bytes.now)) }
+{
+    match short_number(bytes) {
+        Some(number) => Some(number),
+        None => long_number(bytes),
+    }
+}
+
+/// The same, if they are one to three digits, as most are.
+#[inline(always)]
+fn short_number(bytes: &[u8]) -> Option<(u32, usize)>
+    ensures { IfSome result (λ front. (front.1 < length bytes.now) × SpellsNumber front.0 (take front.1 bytes.now)) }
+{
+    if bytes.len() < 4 || !is_digit(bytes[0]) {
+        return None;
+    }
+    let one = u32::from(bytes[0] - b'0');
+    if !is_digit(bytes[1]) {
+        return Some((one, 1));
+    }
+    let two = one * 10 + u32::from(bytes[1] - b'0');
+    if !is_digit(bytes[2]) {
+        return Some((two, 2));
+    }
+    let three = two * 10 + u32::from(bytes[2] - b'0');
+    if is_digit(bytes[3]) {
+        return None;
+    }
+    Some((three, 3))
+}
+
+/// The same, digit by digit.
+#[inline(never)]
+fn long_number(bytes: &[u8]) -> Option<(u32, usize)>
     ensures { IfSome result (λ front. (front.1 < length bytes.now) × SpellsNumber front.0 (take front.1 bytes.now)) }
 {
     let mut number = 0u32;

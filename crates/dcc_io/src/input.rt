@@ -8,7 +8,7 @@ ghost use Rattle.dcc_io.specs.PassedWords.{AnswersWord, EndsWord, Passed};
 ghost use Rattle.dcc_io.specs.KeptAnswers.{AnswersKept};
 ghost use Rattle.dcc_io.specs.NextLine.{AnswersLine, EndsLine};
 ghost use Rattle.dcc_io.specs.PacketRead.{AnswersPacket, ReadsPacket};
-ghost use Rattle.dcc_io.specs.Inner.FrontLine.{IsFrontLine};
+ghost use Rattle.dcc_io.specs.Inner.FrontLine.{BeginsWithLine, IsFrontLine, SkipsLine};
 ghost use Rattle.dcc_io.specs.Counted.{CountsRun, TakesHalf, TakesRun};
 ghost use Rattle.dcc_io.specs.InputState.{InputState, closed_text, closing, AnswersByte, HasCause, fresh};
 
@@ -16,10 +16,10 @@ use crate::buffered::Buffered;
 use crate::fault::KeptFault;
 use crate::front_run::front_run;
 use crate::stream::Source;
-use crate::text_line::{TextLine, front_line};
+use crate::text_line::{TextLine, front_line, skipped_line_len};
 use crate::word::{
-    FrontWord, Run, RunWord, begins_with_line_feed, front_word, is_gap, len_of_line,
-    short_front_word, whole_word,
+    FrontWord, Run, RunWord, begins_with_line_feed, begins_with_run, front_word, is_gap,
+    len_of_line, short_front_word, whole_word,
 };
 use dcc_packet::{Packet, PacketFault};
 use std::marker::Model;
@@ -343,6 +343,7 @@ impl<R: Source> Input<R> {
         }
         match short_front_word(self.source.ahead()) {
             Some(front) => self.take_front(front, false),
+            None if begins_with_run(self.source.ahead()) => None,
             None => self.any_half_at_hand(),
         }
     }
@@ -452,6 +453,9 @@ impl<R: Source> Input<R> {
         ensures { AnswersPacket self.old result self.new }
     {
         'lines: loop {
+            if self.take_skipped_line() {
+                continue;
+            }
             match self.next_line()? {
                 Some(line) => {
                     if !line.is_skipped() {
@@ -502,11 +506,23 @@ impl<R: Source> Input<R> {
         front_line(self.source.ahead())
     }
 
+    /// Takes the next line, if it stands whole in the bytes that were read, is good and says nothing.
+    pub(crate) fn take_skipped_line(&mut self) -> bool
+        requires { self.old.fault ≡ None }
+        ensures taken { IsTrue result → SkipsLine self.old self.new }
+        ensures left { result ≡ false → self.new ≡ self.old }
+    {
+        match skipped_line_len(self.source.ahead()) {
+            Some(len) => self.take_line(len),
+            None => false,
+        }
+    }
+
     /// Takes the line of so many bytes at the front, unless its bytes are too many.
     pub(crate) fn take_line(&mut self, len: usize) -> bool
         requires fault { self.old.fault ≡ None }
-        requires front { (line : List ℕ) × IsFrontLine self.old.ahead line × (length line ≡ len) }
-        ensures taken { IsTrue result → (line : List ℕ) → IsFrontLine self.old.ahead line → length line ≡ len
+        requires begins { (line : List ℕ) × BeginsWithLine self.old.ahead line × (length line ≡ len) }
+        ensures taken { IsTrue result → (line : List ℕ) → BeginsWithLine self.old.ahead line → length line ≡ len
             → EndsLine self.old self.old.place.line line self.new }
         ensures left { result ≡ false → self.new ≡ self.old }
     {

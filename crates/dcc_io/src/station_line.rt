@@ -102,6 +102,9 @@ fn next_asking_line<R: Source>(input: &mut Input<R>) -> Result<Option<StationLin
     ensures { AnswersSaid station_words asked_by input.old result input.new }
 {
     'lines: loop {
+        if input.take_skipped_line() {
+            continue;
+        }
         match input.next_line()? {
             Some(line) => {
                 if !line.is_skipped() {

@@ -1,5 +1,4 @@
-use Rattle.std.proofs.Common.{◌≡◌, ◌||◌, true, false, get_or, sym, ap, ◌∙◌}
-use Rattle.dcc_io.specs.Words.{comments, is_gap}
+use Rattle.std.proofs.Common.{sym, ◌∙◌}
 use Rattle.dcc_io.proofs.HandLemmas.{looks_at_start, word_behind, gap_behind, found_behind}
 use Rattle.dcc_io.proofs.input.has_ended_word.Goals as goal
 use Rattle.dcc_io.proofs.input.has_ended_word.Goals.{then-not-ends_word, else-not-ends_word+else-in_word}

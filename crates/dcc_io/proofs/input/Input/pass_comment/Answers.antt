@@ -1,4 +1,4 @@
-use Rattle.std.proofs.Common.{ℕ, List, ◌<◌, length, ap, sym, subst, ◌∙◌, arith}
+use Rattle.std.proofs.Common.{ℕ, List, ◌<◌, ap, subst, ◌∙◌, arith}
 use Rattle.dcc_io.specs.Inner.FrontWords.{EndNoLine}
 use Rattle.dcc_io.specs.InputState.{InputState}
 use Rattle.dcc_io.proofs.FrontLemmas.{passes_comment_at, open_with}

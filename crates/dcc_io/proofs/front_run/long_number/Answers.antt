@@ -1,5 +1,5 @@
 use Rattle.dcc_io.proofs.FrontLemmas.{SpellsNumber-digit}
-use Rattle.dcc_io.proofs.front_run.front_number.Goals as goal
+use Rattle.dcc_io.proofs.front_run.long_number.Goals as goal
 
 pub loop-len-preserved : goal.loop-len-preserved
 loop-len-preserved c =
