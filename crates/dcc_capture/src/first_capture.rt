@@ -7,7 +7,7 @@ ghost use Rattle.dcc_io.specs.KeptAnswers.{AnswersKept};
 ghost use Rattle.dcc_capture.specs.FirstRead.{AnswersFirst};
 ghost use Rattle.dcc_capture.specs.Inner.FirstSteps.{CountsWord, EndsMark};
 
-use crate::runs::half_at_hand;
+use crate::runs::{half_at_hand, run_at_hand};
 use dcc_io::inputs::{
     count_run, ends_line, line_of_next_byte, next_word, refuse_line, refuse_number,
 };
@@ -40,6 +40,21 @@ fn first_at_hand<R: Source>(
     let line = line_of_next_byte(input);
     match half_at_hand(input) {
         Some(us) => Ok(Some((line, Run { us, n: 1 }))),
+        None => first_run_at_hand(input, before),
+    }
+}
+
+/// The same, where no duration alone stands whole among them.
+fn first_run_at_hand<R: Source>(
+    input: &mut Input<R>,
+    before: u64,
+) -> Result<Option<(u64, Run)>, KeptFault>
+    requires { input.old.fault ≡ None }
+    ensures { AnswersFirst before input.old result input.new }
+{
+    let line = line_of_next_byte(input);
+    match run_at_hand(input) {
+        Some(run) => Ok(Some((line, run))),
         None => run_or_mark(input, before),
     }
 }

@@ -35,9 +35,35 @@ pub fn read_run<R: Source>(input: &mut Input<R>) -> Result<Option<Run>, KeptFaul
     }
 }
 
-/// The same, where no fault is kept.
+/// The run of the next word, where that word has a `*`, stands at the front of the bytes that were read and has ended, and its halves are
+/// not too many.
+#[inline(always)]
+#[tactic(auto, using(crate::proofs::HalfLemmas::counted_run_at_hand, crate::proofs::HalfLemmas::first_run_at_hand))]
+pub fn run_at_hand<R: Source>(input: &mut Input<R>) -> Option<Run>
+    requires { input.old.fault ≡ None }
+    ensures some { IfSome result (λ run. AnswersRun input.old (Ok (Some run)) input.new) }
+    ensures first { IfSome result
+        (λ run. (before : ℕ) → AnswersFirst before input.old (Ok (Some (input.old.place.line, run))) input.new) }
+    ensures none { IfNone result (input.new ≡ input.old) }
+{
+    dcc_io::inputs::run_at_hand(input)
+}
+
+/// The same, where no fault is kept. Most words that are no durations alone stand whole among the bytes at hand.
 #[inline(always)]
 fn run_of_next_word<R: Source>(input: &mut Input<R>) -> Result<Option<Run>, KeptFault>
+    requires { input.old.fault ≡ None }
+    ensures { AnswersRun input.old result input.new }
+{
+    match run_at_hand(input) {
+        Some(run) => Ok(Some(run)),
+        None => run_of_read_word(input),
+    }
+}
+
+/// The run of the next word, read as far as need be.
+#[inline(always)]
+fn run_of_read_word<R: Source>(input: &mut Input<R>) -> Result<Option<Run>, KeptFault>
     requires { input.old.fault ≡ None }
     ensures { AnswersRun input.old result input.new }
 {

@@ -14,7 +14,8 @@ use Rattle.dcc_io.specs.declared.word.FrontWord.{FrontWord}
 use Rattle.dcc_io.specs.TextPlace.{TextPlace, line_behind, lines_with, lines_through}
 use Rattle.dcc_io.specs.Took.{CountsLines}
 use Rattle.dcc_io.specs.Words.{Word, is_gap, comments, ended_words, duration_of, Passes}
-use Rattle.dcc_io.specs.Inner.FrontWords.{BeginsWithWord, HasLineFeedAt, IsFrontWord, is_plain}
+use Rattle.dcc_io.specs.Inner.FrontRuns.{SpellsNumber}
+use Rattle.dcc_io.specs.Inner.FrontWords.{BeginsWithWord, HasLineFeedAt, IsFrontWord, is_plain, EndNoLine, is_within_line}
 use Rattle.dcc_io.specs.declared.fault.KeptFault.{KeptFault}
 use Rattle.dcc_io.specs.ReaderState.{ReaderState}
 use Rattle.dcc_io.specs.InputState.{InputState, closed_text, closing, all_lines}
@@ -23,6 +24,7 @@ use Rattle.dcc_io.specs.Counted.{TakesHalf}
 use Rattle.dcc_io.proofs.WordsLemmas.{eqb_line_feed, behind, opened, opened-none, opened-word, opened-gap, ended}
 use Rattle.dcc_io.proofs.HandLemmas.{outside}
 use Rattle.dcc_io.proofs.PassedLemmas.{PassesIn}
+use Rattle.dcc_io.proofs.TookLemmas.{Took-start}
 use Rattle.dcc_io.proofs.SpellsLemmas.{digit_value-digit, is_ascii_digit-digit, digits_value_after-push}
 
 digit_bounds : (byte : ℕ) → is_ascii_digit byte ≡ true → (48 ≤ byte) × (byte ≤ 57)
@@ -348,6 +350,111 @@ passes_line_feed source later line lines halves bytes room is_feed consumed fail
           counts = λ some next more. refl;
         }
 
+-- the bytes of a comment that end no line were passed
+
+comment_place : ℕ → TextPlace
+comment_place line = record { line = line; in_comment = true }
+
+no_feed : (byte : ℕ) → is_within_line byte ≡ true → eqb byte 10 ≡ false
+no_feed byte within = go (eqb byte 10) within
+  where
+    go : (b : Bool) → not b ≡ true → b ≡ false
+    go true h = cc
+    go false h = refl
+
+passes_in_comment : (line : ℕ) (used more : List ℕ) → list_all is_within_line used ≡ true
+    → ended_words (comment_place line) (used ++ more) ≡ ended_words (comment_place line) more
+unfolding comment_place comments
+passes_in_comment line [] more all = refl
+passes_in_comment line (byte ∷ used) more all =
+    let parts = both (is_within_line byte) (list_all is_within_line used) all in
+    let apart = no_feed byte parts.0 in
+    sym (opened-none (comment_place line) (byte ∷ used ++ more))
+    ∙ opened-gap (comment_place line) [] byte (used ++ more) (rw apart refl)
+    ∙ rw apart (passes_in_comment line used more parts.1)
+
+lines_are : (lines line next : ℕ) (used more : List ℕ) → lines_with lines line (used ++ next ∷ more) ≡ line
+lines_are lines line next [] more = refl
+lines_are lines line next (byte ∷ used) more = refl
+
+same_lines : (line next : ℕ) (used more : List ℕ) → list_all is_within_line used ≡ true
+    → lines_through line line (used ++ next ∷ more) ≡ lines_through line line (next ∷ more)
+same_lines line next [] more all = refl
+same_lines line next (byte ∷ used) more all =
+    let parts = both (is_within_line byte) (list_all is_within_line used) all in
+    ap (λ n. lines_through n (line_behind line byte) (used ++ next ∷ more)) (lines_are line line next used more)
+    ∙ rw (no_feed byte parts.0) (same_lines line next used more parts.1)
+
+lines_of_comment : (lines line next : ℕ) (used more : List ℕ) → 0 < length used
+    → list_all is_within_line used ≡ true
+    → lines_through lines line (used ++ next ∷ more) ≡ lines_through line line (next ∷ more)
+lines_of_comment lines line next [] more some all = absurd (omega arith)
+lines_of_comment lines line next (byte ∷ used) more some all =
+    let parts = both (is_within_line byte) (list_all is_within_line used) all in
+    ap (λ n. lines_through n (line_behind line byte) (used ++ next ∷ more)) (lines_are lines line next used more)
+    ∙ rw (no_feed byte parts.0) (same_lines line next used more parts.1)
+
+passes_comment : (source later : ReaderState) (line lines halves bytes len : ℕ) → len < bytes → 0 < len
+    → EndNoLine source.ahead len
+    → Consumes source.text later.text (take len source.ahead) → later.failures ≡ source.failures
+    → Passed (state_of source line lines true false halves bytes None) []
+    (state_of later line line true false halves (bytes - len) None)
+unfolding comment_place
+passes_comment source later line lines halves bytes len room some ends consumed failures =
+    let within = ends.within in
+    let count : length (take len source.ahead) ≡ len = simp length-take (omega arith) in
+    record {
+      took = record {
+        text = go count source.text later.text consumed;
+        bytes = omega arith;
+        fault = refl;
+        failures = failures;
+      };
+      halves = refl;
+    }
+  where
+    old : InputState
+    old = state_of source line lines true false halves bytes None
+
+    new : InputState
+    new = state_of later line line true false halves (bytes - len) None
+
+    go : length (take len source.ahead) ≡ len → (xs ys : Option (List ℕ)) → Consumes xs ys (take len source.ahead)
+        → IfSome (closed_text false xs)
+        (λ text. IsSomeAnd (closed_text false ys)
+        (λ left. PassesIn old new [] text left))
+    go count None ys taken = tt
+    go count (Some xs) None taken = absurd taken
+    go count (Some xs) (Some ys) taken =
+        let whole : xs ++ 10 ∷ [] ≡ take len source.ahead ++ (ys ++ 10 ∷ []) =
+        ap (λ (zs : List ℕ). zs ++ 10 ∷ []) taken ∙ append_assoc (take len source.ahead) ys (10 ∷ []) in
+        let counts : CountsLines old (take len source.ahead) new =
+        λ next more. sym (lines_of_comment lines line next (take len source.ahead) more (omega (arith, count)) ends.none) in
+        record {
+          used = take len source.ahead;
+          whole = whole;
+          is = λ more. passes_in_comment line (take len source.ahead) more ends.none;
+          bytes = omega (arith, count);
+          room = λ one none. absurd (omega (arith, none));
+          lines = counted_behind old new (take len source.ahead) ys (xs ++ 10 ∷ []) whole counts;
+          counts = λ more. counts;
+        }
+
+pub passes_comment_at : (source later : ReaderState) (line lines halves bytes len : ℕ) (in_comment closed : Bool)
+    (fault : Option KeptFault)
+    → closed ≡ false → in_comment ≡ true → fault ≡ None → len < bytes → 0 < len → EndNoLine source.ahead len
+    → Consumes source.text later.text (take len source.ahead) → later.failures ≡ source.failures
+    → Passed (state_of source line lines in_comment closed halves bytes fault) []
+    (state_of later line line in_comment closed halves (bytes - len) fault)
+passes_comment_at source later line lines halves bytes len in_comment closed fault is_open comment none room some ends
+    consumed failures =
+    rw (is_open, comment, none)
+    (passes_comment source later line lines halves bytes len room some ends consumed failures)
+
+-- where nothing was taken
+pub Passed-none : (input : InputState) → input.fault ≡ None → Passed input [] input
+Passed-none input fault = record { took = Took-start input fault (λ more. refl); halves = refl }
+
 first_of : (bytes : List ℕ) (byte : ℕ) → 0 < length bytes → get_or bytes 0 0 ≡ byte → take 1 bytes ≡ byte ∷ []
 first_of [] byte some is = absurd (omega (arith, some))
 first_of (first ∷ bytes) byte some is = ap (λ (b : ℕ). b ∷ []) is
@@ -364,12 +471,6 @@ passes_line_feed_at source later line lines halves bytes in_comment closed fault
     rw (is_open, no_comment, none)
     (passes_line_feed source later line lines halves bytes fits (first_of source.ahead 10 begins.0 begins.1)
     consumed failures)
-
--- digits that spell this number
-pub record SpellsNumber (number : ℕ) (word : List ℕ) : Type 0 where
-  pub digits : list_all is_ascii_digit word ≡ true
-  pub value : number ≡ digits_value 10 word
-  pub small : number < 100000
 
 pub SpellsNumber-digit : (number : ℕ) (bytes : List ℕ) (len : ℕ) → len < length bytes
     → SpellsNumber number (take len bytes) → number < 10000

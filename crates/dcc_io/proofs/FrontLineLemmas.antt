@@ -14,8 +14,7 @@ use Rattle.dcc_io.specs.TextPlace.{lines_with}
 use Rattle.dcc_io.specs.InputState.{closed_text, closing}
 use Rattle.dcc_io.specs.NumberedLines.{is_good}
 use Rattle.dcc_io.specs.NextLine.{has_line_feed, lines_within, EndsLine}
-use Rattle.dcc_io.specs.PacketLines.{is_skipped}
-use Rattle.dcc_io.specs.Inner.FrontLine.{IsFrontLine, IsEndedLine}
+use Rattle.dcc_io.specs.Inner.FrontLine.{BeginsWithLine, IsEndedLine}
 use Rattle.dcc_io.proofs.FrontLemmas.{state_of}
 
 -- the bytes so far are good and of one line
@@ -37,14 +36,12 @@ ends_line bytes len inside short within ends = record {
     good : is_good (take len bytes) ≡ true
     good = rw (le-leb (length (take len bytes)) 512 fits, within.ascii) refl
 
--- a line that has ended and says something
-pub front_of_ended : (bytes : List ℕ) (len : ℕ) → IsEndedLine bytes len → is_skipped (take len bytes) ≡ false
-    → IsFrontLine bytes (take len bytes)
-front_of_ended bytes len ended says = record {
+-- a line that has ended
+pub begins_with_ended : (bytes : List ℕ) (len : ℕ) → IsEndedLine bytes len → BeginsWithLine bytes (take len bytes)
+begins_with_ended bytes len ended = record {
   behind = drop (len + 1) bytes;
   whole = sym (take-append-drop len bytes) ∙ ap (λ (rest : List ℕ). take len bytes ++ rest) rest;
   is_line = ended.is_line;
-  says = says;
 }
   where
     rest : drop len bytes ≡ 10 ∷ drop (len + 1) bytes
@@ -52,7 +49,7 @@ front_of_ended bytes len ended says = record {
         ∙ ap (λ n. 10 ∷ drop n bytes) (sym (add-one len))
 
 -- a line with its line feed is the front of the bytes
-line_of_front : (bytes line : List ℕ) (n : ℕ) → n ≡ length line + 1 → IsFrontLine bytes line
+line_of_front : (bytes line : List ℕ) (n : ℕ) → n ≡ length line + 1 → BeginsWithLine bytes line
     → take n bytes ≡ line ++ 10 ∷ []
 line_of_front bytes line n is front =
     ap (take n) front.whole ∙ ap (λ k. take k (line ++ 10 ∷ front.behind)) is
@@ -60,7 +57,7 @@ line_of_front bytes line n is front =
 
 pub takes_line_at : (source later : ReaderState) (line lines halves bytes len : ℕ) (in_comment closed : Bool)
     (fault : Option KeptFault) (text : List ℕ)
-    → closed ≡ false → len < bytes → IsFrontLine source.ahead text → length text ≡ len
+    → closed ≡ false → len < bytes → BeginsWithLine source.ahead text → length text ≡ len
     → Consumes source.text later.text (take (len + 1) source.ahead) → later.failures ≡ source.failures → fault ≡ None
     → EndsLine (state_of source line lines in_comment closed halves bytes fault) line text
     (state_of later (line + 1) line in_comment closed halves (bytes - (len + 1)) fault)
@@ -101,7 +98,7 @@ takes_line_at source later line lines halves bytes len in_comment closed fault t
     used (Some xs) (Some (y ∷ ys)) taken = refl
 
 -- where a line is ahead, the reader has not answered its end
-pub front_opens : (closed : Bool) (ahead line : List ℕ) → (closed ≡ true → ahead ≡ []) → IsFrontLine ahead line
+pub front_opens : (closed : Bool) (ahead line : List ℕ) → (closed ≡ true → ahead ≡ []) → BeginsWithLine ahead line
     → closed ≡ false
 front_opens true ahead line at_end front =
     let clash : line ++ 10 ∷ front.behind ≡ [] = sym front.whole ∙ at_end refl in absurd (not_empty line clash)

@@ -8,6 +8,8 @@ pub mod WrittenLemmas
 pub mod HeldLemmas
 pub mod HandLemmas
 pub mod FrontLemmas
+pub mod FrontRunLemmas
+pub mod LineFeedLemmas
 pub mod FrontLineLemmas
 pub mod LineLemmas
 pub mod ItemsLemmas

@@ -8,6 +8,7 @@ use Rattle.dcc_io.specs.declared.fault.KeptFault.{KeptFault}
 use Rattle.dcc_io.specs.declared.fault.KeptFault.TheVariants.{Number, Line, Read, TooMuch}
 use Rattle.dcc_io.specs.InputState.{InputState}
 use Rattle.dcc_io.specs.NextLine.{EndsLine, EndsText, AnswersLine}
+use Rattle.dcc_io.specs.Inner.FrontLine.{SkipsLine}
 use Rattle.dcc_io.specs.Items.{Gave, StopsAt}
 use Rattle.dcc_io.specs.Took.{LinesAt}
 use Rattle.dcc_io.specs.PacketLines.{Saying, lines_by, is_skipped}
@@ -38,6 +39,13 @@ module _ {A B C : Type 0} (saying : Saying A B) (as_said : C → B) where
   Gave-passed old now new line gave ends skipped =
       Gave-append (lines_by saying) old now new [] [] gave
       (Gave-skipped saying now new line.number line.text.bytes ends skipped)
+
+  -- the same of one that stood whole at hand
+  pub Gave-skipped_line : (old now new : InputState) → Gave (lines_by saying) old [] now → SkipsLine now new
+      → Gave (lines_by saying) old [] new
+  Gave-skipped_line old now new gave skips =
+      Gave-append (lines_by saying) old now new [] [] gave
+      (Gave-skipped saying now new now.place.line skips.line skips.ends skips.skipped)
 
   -- a line with words was read
   pub answers_said : (old now mid new : InputState) (line : TextLine) (result : Result (Option C) KeptFault)

@@ -1,6 +1,6 @@
 -- A word that is being read, and what ends it.
 use Rattle.std.proofs.Common.{◌≡◌, ℕ, ◌+◌, ◌<◌, ◌≤◌, List, [], ◌∷◌, ◌++◌, Bool, true, false, not, Err}
-use Rattle.std.proofs.Common.{refl, sym, ap, ◌∙◌, subst, cond, eqb, arith, append_assoc, ◌||◌, IfSome, IsSomeAnd, Option, None, Some, length}
+use Rattle.std.proofs.Common.{refl, sym, ap, ◌∙◌, subst, cond, eqb, arith, append_assoc, ◌||◌, IfSome, IsSomeAnd, Option, None, Some}
 use Rattle.std.proofs.lemmas.List.{append-nil}
 use Rattle.dcc_io.specs.declared.word.RunWord.{RunWord}
 use Rattle.dcc_io.specs.declared.fault.KeptFault.{KeptFault}
@@ -13,7 +13,7 @@ use Rattle.dcc_io.specs.SpelledWords.{Spells}
 use Rattle.dcc_io.specs.Took.{Uses, Took}
 use Rattle.dcc_io.specs.PassedWords.{Passed, IsBeforeWord, EndsWord, AnswersWord}
 use Rattle.dcc_io.proofs.WordsLemmas.{eqb_line_feed, behind, opened, opened-none, opened-word, opened-gap, ended}
-use Rattle.dcc_io.proofs.TookLemmas.{if_some_map, if_some_all, join_whole, Took-map, Took-closed, Took-join}
+use Rattle.dcc_io.proofs.TookLemmas.{if_some_map, if_some_all, Took-map, Took-closed, Took-join}
 use Rattle.dcc_io.proofs.TookLemmas.{told_behind, took_byte, fails_to_read, has_too_many, lines_at_failure}
 use Rattle.dcc_io.proofs.TookLemmas.{lines_at_overflow}
 
@@ -278,3 +278,17 @@ ends_behind_gaps old mid new line so_far gaps ends = record {
   lines = told_behind gaps.took (λ rest. new.lines ≡ line) (λ text. new.lines ≡ line) (λ text rest uses same. same)
       ends.lines;
 }
+
+-- gaps where no word is open
+pub Opens-gaps : (old now mid new : InputState) (so_far : RunWord) (opens : Opens old so_far now)
+    → is_some_byte opens.word ≡ false → Passed old [] mid → Passed mid [] new → Opens old so_far new
+Opens-gaps old now mid new so_far opens empty first next =
+    let passed = Passed-join old mid new [] [] first next in
+    record {
+      word = [];
+      spelled = subst (λ (word : List ℕ). Spells so_far word) (no_bytes opens.word empty) opens.spelled;
+      took = Took-map passed.took (λ used passes more. passes more ∙ sym (opened-none new.place more));
+      halves = passed.halves;
+      closed = if_some_all (λ rest. rest ≡ [] → no_word ≡ []) new.text (λ rest none. refl);
+      lines = if_some_all (λ rest. is_some_byte no_word ≡ true → new.lines ≡ new.place.line) new.text (λ rest some. cc);
+    }

@@ -4,7 +4,7 @@ use Rattle.dcc_io.specs.declared.fault.KeptFault.{KeptFault}
 use Rattle.dcc_io.specs.declared.fault.KeptFault.TheVariants.{TooMuch}
 use Rattle.dcc_io.specs.declared.word.Run.{Run}
 use Rattle.dcc_io.specs.InputState.{InputState}
-use Rattle.dcc_io.specs.Words.{duration_of}
+use Rattle.dcc_io.specs.Words.{duration_of, run_of}
 use Rattle.dcc_io.specs.PassedWords.{Passed}
 
 -- the halves of a run count, unless fewer may be taken
@@ -23,4 +23,14 @@ pub record TakesHalf (old : InputState) (us : ℕ) (new : InputState) : Type 0 w
   pub passed : Passed old (record { line = old.place.line; bytes = word } ∷ []) mid
   pub some : 0 < mid.halves
   pub counted : new ≡ record mid { halves = mid.halves - 1 }
+  pub fewer : new.bytes < old.bytes
+
+-- a word on the line of the input was passed, which spells this run, and its halves count
+pub record TakesRun (old : InputState) (run : Run) (new : InputState) : Type 0 where
+  pub word : List ℕ
+  pub spells : run_of word ≡ Some run
+  pub mid : InputState
+  pub passed : Passed old (record { line = old.place.line; bytes = word } ∷ []) mid
+  pub enough : run.n ≤ mid.halves
+  pub counted : new ≡ record mid { halves = mid.halves - run.n }
   pub fewer : new.bytes < old.bytes

@@ -8,17 +8,18 @@ ghost use Rattle.dcc_io.specs.PassedWords.{AnswersWord, EndsWord, Passed};
 ghost use Rattle.dcc_io.specs.KeptAnswers.{AnswersKept};
 ghost use Rattle.dcc_io.specs.NextLine.{AnswersLine, EndsLine};
 ghost use Rattle.dcc_io.specs.PacketRead.{AnswersPacket, ReadsPacket};
-ghost use Rattle.dcc_io.specs.Inner.FrontLine.{IsFrontLine};
-ghost use Rattle.dcc_io.specs.Counted.{CountsRun, TakesHalf};
+ghost use Rattle.dcc_io.specs.Inner.FrontLine.{BeginsWithLine, IsFrontLine, SkipsLine};
+ghost use Rattle.dcc_io.specs.Counted.{CountsRun, TakesHalf, TakesRun};
 ghost use Rattle.dcc_io.specs.InputState.{InputState, closed_text, closing, AnswersByte, HasCause, fresh};
 
 use crate::buffered::Buffered;
 use crate::fault::KeptFault;
+use crate::front_run::front_run;
 use crate::stream::Source;
-use crate::text_line::{TextLine, front_line};
+use crate::text_line::{TextLine, front_line, skipped_line_len};
 use crate::word::{
-    FrontWord, Run, RunWord, begins_with_line_feed, front_word, is_gap, short_front_word,
-    whole_word,
+    FrontWord, Run, RunWord, begins_with_line_feed, begins_with_run, front_word, is_gap,
+    len_of_line, short_front_word, whole_word,
 };
 use dcc_packet::{Packet, PacketFault};
 use std::marker::Model;
@@ -163,7 +164,7 @@ impl<R: Source> Input<R> {
         ensures front { IsFront self.now.ahead self.now.text }
     {
         let ahead = self.source.ahead();
-        !self.in_comment && has_ended_word(ahead)
+        has_ended_word(self.in_comment, ahead)
     }
 
     /// The line of the next byte, from 1.
@@ -285,6 +286,24 @@ impl<R: Source> Input<R> {
         self.source.skip(1);
     }
 
+    /// Passes those bytes of a comment that are at hand, but for the line feed that ends it.
+    fn pass_comment(&mut self)
+        requires { self.old.fault ≡ None }
+        ensures { Passed self.old [] self.new }
+    {
+        if !self.in_comment {
+            return;
+        }
+        let len = len_of_line(self.source.ahead());
+        if len == 0 || self.bytes_left as usize <= len {
+            return;
+        }
+        self.source.skip(len);
+        self.bytes_left -= len as u32;
+        let at = self.line;
+        self.lines = at as u32;
+    }
+
     /// The next word and its line, taken byte by byte up to where it stands whole among the bytes at hand.
     fn read_word(&mut self) -> Result<Option<(u64, RunWord)>, KeptFault>
         requires { self.old.fault ≡ None }
@@ -299,8 +318,11 @@ impl<R: Source> Input<R> {
                         word.push(byte);
                     } else if !word.is_empty() {
                         return Ok(Some((line, word)));
-                    } else if let Some(found) = self.word_at_hand(true) {
-                        return Ok(Some(found));
+                    } else {
+                        self.pass_comment();
+                        if let Some(found) = self.word_at_hand(true) {
+                            return Ok(Some(found));
+                        }
                     }
                 }
                 None => return Ok(None),
@@ -321,6 +343,7 @@ impl<R: Source> Input<R> {
         }
         match short_front_word(self.source.ahead()) {
             Some(front) => self.take_front(front, false),
+            None if begins_with_run(self.source.ahead()) => None,
             None => self.any_half_at_hand(),
         }
     }
@@ -355,6 +378,26 @@ impl<R: Source> Input<R> {
         self.pass_word_and_gap(front.len, front.ends_line, with_line_feed);
         self.halves_left -= 1;
         Some(front.us)
+    }
+
+    /// The run of the next word, where that word has a `*`, stands at the front of the bytes that were read and has ended, and its halves
+    /// are not too many.
+    pub(crate) fn run_at_hand(&mut self) -> Option<Run>
+        requires { self.old.fault ≡ None }
+        ensures some { IfSome result (λ run. TakesRun self.old run self.new) }
+        ensures none { IfNone result (self.new ≡ self.old) }
+    {
+        if self.in_comment {
+            return None;
+        }
+        let front = front_run(self.source.ahead())?;
+        // (the word, its gap, and a line feed behind that)
+        if self.bytes_left as usize <= front.len + 2 || self.halves_left < front.run.n {
+            return None;
+        }
+        self.pass_word_and_gap(front.len, front.ends_line, true);
+        self.halves_left -= front.run.n;
+        Some(front.run)
     }
 
     /// Takes the halves of a run, unless they are too many: then none of them counts.
@@ -410,6 +453,9 @@ impl<R: Source> Input<R> {
         ensures { AnswersPacket self.old result self.new }
     {
         'lines: loop {
+            if self.take_skipped_line() {
+                continue;
+            }
             match self.next_line()? {
                 Some(line) => {
                     if !line.is_skipped() {
@@ -447,24 +493,36 @@ impl<R: Source> Input<R> {
         }
         let line = self.whole_line()?;
         let len = line.len();
-        match Packet::from_line(line) {
+        match Packet::from_line_bytes(line) {
             Ok(packet) if self.take_line(len) => Some(packet),
             Ok(_) | Err(_) => None,
         }
     }
 
     /// The next line, if it stands whole in the bytes that were read, is good and says something.
-    pub(crate) fn whole_line(&self) -> Option<&str>
+    pub(crate) fn whole_line(&self) -> Option<&[u8]>
         ensures { IfSome result (λ line. IsFrontLine self.now.ahead line.now) }
     {
         front_line(self.source.ahead())
     }
 
+    /// Takes the next line, if it stands whole in the bytes that were read, is good and says nothing.
+    pub(crate) fn take_skipped_line(&mut self) -> bool
+        requires { self.old.fault ≡ None }
+        ensures taken { IsTrue result → SkipsLine self.old self.new }
+        ensures left { result ≡ false → self.new ≡ self.old }
+    {
+        match skipped_line_len(self.source.ahead()) {
+            Some(len) => self.take_line(len),
+            None => false,
+        }
+    }
+
     /// Takes the line of so many bytes at the front, unless its bytes are too many.
     pub(crate) fn take_line(&mut self, len: usize) -> bool
         requires fault { self.old.fault ≡ None }
-        requires front { (line : List ℕ) × IsFrontLine self.old.ahead line × (length line ≡ len) }
-        ensures taken { IsTrue result → (line : List ℕ) → IsFrontLine self.old.ahead line → length line ≡ len
+        requires begins { (line : List ℕ) × BeginsWithLine self.old.ahead line × (length line ≡ len) }
+        ensures taken { IsTrue result → (line : List ℕ) → BeginsWithLine self.old.ahead line → length line ≡ len
             → EndsLine self.old self.old.place.line line self.new }
         ensures left { result ≡ false → self.new ≡ self.old }
     {
@@ -490,29 +548,31 @@ impl<R: Source> Input<R> {
     }
 }
 
-/// Whether a word has ended in these bytes, the first of which stand in no comment. It looks no
-/// further than the first comment.
-fn has_ended_word(bytes: &[u8]) -> bool
-    ensures { (line : ℕ) → IsTrue result → ended_words (record { line = line; in_comment = false }) bytes.now ≢ [] }
+/// Whether a word has ended in these bytes, the first of which stand in a comment or not.
+fn has_ended_word(in_comment: bool, bytes: &[u8]) -> bool
+    ensures { (line : ℕ) → IsTrue result
+        → ended_words (record { line = line; in_comment = in_comment }) bytes.now ≢ [] }
 {
+    let mut in_comment = in_comment;
     let mut in_word = false;
     for byte in bytes {
-        if !ends_word(*byte) {
+        let comment = is_comment(in_comment, *byte);
+        in_comment = comment;
+        if !ends_word(comment, *byte) {
             in_word = true;
         } else if in_word {
             return true;
-        } else if *byte == b'#' {
-            return false;
         }
     }
     false
 }
 
-/// Whether a byte outside of comments ends the word before it.
-fn ends_word(byte: u8) -> bool
-    ensures { result ≡ (comments false byte || is_gap byte) }
+/// Whether a byte ends the word before it, which stands in a comment or not.
+#[inline(always)]
+fn ends_word(comment: bool, byte: u8) -> bool
+    ensures { result ≡ (comment || is_gap byte) }
 {
-    is_comment(false, byte) || is_gap(byte)
+    comment || is_gap(byte)
 }
 
 #[tactic(auto, unfolding(crate::specs::Words::comments))]

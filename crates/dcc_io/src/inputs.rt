@@ -1,7 +1,7 @@
 //! What the crates above take of an input, item by item: words and their halves, lines, packets, lines for a station. Who calls the
 //! program's calls has no need of it, and `dcc_tool` does not give it out.
 ghost use Rattle.std.specs.Prelude.{◌≡◌, ◌≢◌, None, Ok, Some, IfSome, IfNone};
-ghost use Rattle.dcc_io.specs.Counted.{CountsRun, TakesHalf};
+ghost use Rattle.dcc_io.specs.Counted.{CountsRun, TakesHalf, TakesRun};
 ghost use Rattle.dcc_io.specs.KeptAnswers.{AnswersKept, KeepsFault};
 ghost use Rattle.dcc_io.specs.LineEnd.{EndsLine};
 ghost use Rattle.dcc_io.specs.NextLine.{AnswersLine};
@@ -38,6 +38,16 @@ pub fn half_at_hand<R: Source>(input: &mut Input<R>) -> Option<u16>
     ensures none { IfNone result (input.new ≡ input.old) }
 {
     input.half_at_hand()
+}
+
+/// The run of the next word, where that word has a `*`, stands at the front of the bytes that were read and has ended, and its halves are
+/// not too many. They count.
+pub fn run_at_hand<R: Source>(input: &mut Input<R>) -> Option<Run>
+    requires { input.old.fault ≡ None }
+    ensures some { IfSome result (λ run. TakesRun input.old run input.new) }
+    ensures none { IfNone result (input.new ≡ input.old) }
+{
+    input.run_at_hand()
 }
 
 /// Takes the halves of a run, unless they are too many: then none of them counts, and the input keeps U7.

@@ -5,6 +5,7 @@
 mod buffered;
 mod digits;
 mod fault;
+mod front_run;
 mod held_lines;
 mod input;
 pub mod inputs;

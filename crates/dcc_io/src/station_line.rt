@@ -27,10 +27,10 @@ impl StationLine {
     /// `send N` with N from 1 to 1000, or a packet line. The first fault of the words from left to right decides: P11
     /// for a wrong N, P10 for a word too many.
     #[tactic(auto, unfolding(crate::specs::StationLines::station_requests))]
-    fn from_line(line: &str) -> Result<StationLine, PacketFault>
+    fn from_line(line: &[u8]) -> Result<StationLine, PacketFault>
         ensures { asked_or_fault result ≡ station_requests (words line.now) }
     {
-        let mut words = Words::new(line.as_bytes());
+        let mut words = Words::new(line);
         match words.next() {
             Some(word) => {
                 if word == b"send".as_slice() {
@@ -39,7 +39,7 @@ impl StationLine {
             }
             None => (),
         }
-        Ok(StationLine::Command(Packet::from_line(line)?))
+        Ok(StationLine::Command(Packet::from_line_bytes(line)?))
     }
 }
 
@@ -102,6 +102,9 @@ fn next_asking_line<R: Source>(input: &mut Input<R>) -> Result<Option<StationLin
     ensures { AnswersSaid station_words asked_by input.old result input.new }
 {
     'lines: loop {
+        if input.take_skipped_line() {
+            continue;
+        }
         match input.next_line()? {
             Some(line) => {
                 if !line.is_skipped() {
@@ -120,7 +123,7 @@ fn read_station_line<R: Source>(
 ) -> Result<Option<StationLine>, KeptFault>
     ensures { ReadsSaid station_words asked_by input.old line.now result input.new }
 {
-    match StationLine::from_line(line.text.as_str()) {
+    match StationLine::from_line(line.text.as_bytes()) {
         Ok(asks) => Ok(Some(asks)),
         Err(fault) => Err(input.refuse(KeptFault::Line {
             line: line.number,

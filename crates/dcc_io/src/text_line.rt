@@ -5,10 +5,10 @@ ghost use Rattle.std.specs.List.{list_all};
 ghost use Rattle.dcc_packet.specs.Words.{is_separator};
 ghost use Rattle.arrayvec.specs.ArrayString.{array_string_len};
 ghost use Rattle.dcc_io.specs.PacketLines.{is_comment_line, is_skipped};
-ghost use Rattle.dcc_io.specs.Inner.FrontLine.{IsFrontLine, IsEndedLine};
+ghost use Rattle.dcc_io.specs.Inner.FrontLine.{IsFrontLine, IsEndedLine, IsSkippedLine};
 
 use arrayvec::ArrayString;
-use std::str;
+use memchr::memchr;
 
 /// A line with its number, from 1, without the line feed that ends it.
 #[derive(Drop)]
@@ -56,7 +56,7 @@ impl TextLine {
 }
 
 /// The line at the front of these bytes, if it has ended, is good and says something.
-pub fn front_line(bytes: &[u8]) -> Option<&str>
+pub fn front_line(bytes: &[u8]) -> Option<&[u8]>
     ensures { IfSome result (λ line. IsFrontLine bytes.now line.now) }
 {
     let len = ended_line_len(bytes)?;
@@ -64,9 +64,18 @@ pub fn front_line(bytes: &[u8]) -> Option<&str>
     if is_skipped(line) {
         return None;
     }
-    match str::from_utf8(line) {
-        Ok(text) => Some(text),
-        Err(_) => None,
+    Some(line)
+}
+
+/// How many bytes the line at the front of these bytes has, if it has ended, is good and says nothing.
+pub fn skipped_line_len(bytes: &[u8]) -> Option<usize>
+    ensures { IfSome result (λ len. IsSkippedLine bytes.now len) }
+{
+    let len = ended_line_len(bytes)?;
+    if is_skipped(&bytes[..len]) {
+        Some(len)
+    } else {
+        None
     }
 }
 
@@ -74,15 +83,12 @@ pub fn front_line(bytes: &[u8]) -> Option<&str>
 fn ended_line_len(bytes: &[u8]) -> Option<usize>
     ensures { IfSome result (λ len. IsEndedLine bytes.now len) }
 {
-    for (len, byte) in bytes.iter().enumerate() {
-        if *byte == b'\n' {
-            return if len <= 512 { Some(len) } else { None };
-        }
-        if *byte >= 128 {
-            return None;
-        }
+    let len = memchr(b'\n', bytes)?;
+    if len <= 512 && bytes[..len].is_ascii() {
+        Some(len)
+    } else {
+        None
     }
-    None
 }
 
 fn is_skipped(bytes: &[u8]) -> bool

@@ -1,10 +1,11 @@
 //! A word of a capture, taken byte by byte.
 ghost use Rattle.std.specs.Prelude.{◌≡◌, ◌↔◌, ◌<◌, ◌≤◌, min, ℕ, List, [], ◌∷◌, ◌++◌, not, true, ◌==◌, ◌&&◌, IfSome};
-ghost use Rattle.std.specs.Prelude.{IsTrue};
+ghost use Rattle.std.specs.Prelude.{IsTrue, ◌||◌, length, nat_lt, slice_index};
 ghost use Rattle.dcc_io.specs.Words.{is_gap, is_mark, is_some_byte, run_of};
-ghost use Rattle.dcc_io.specs.Inner.FrontWords.{HasLineFeedAt, IsFrontWord, IsWholeWord, EndedWord};
+ghost use Rattle.dcc_io.specs.Inner.FrontWords.{EndNoLine, HasLineFeedAt, IsFrontWord, IsWholeWord, EndedWord};
 
 use crate::digits::Digits;
+use memchr::memchr;
 
 /// Halves of one duration, as a word of a capture spells them.
 #[derive(Clone, Copy, Debug, PartialEq, Eq)]
@@ -130,8 +131,9 @@ pub fn short_front_word(bytes: &[u8]) -> Option<FrontWord>
     None
 }
 
+/// Whether a byte is a decimal digit.
 #[inline(always)]
-fn is_digit(byte: u8) -> bool
+pub fn is_digit(byte: u8) -> bool
     ensures { IsTrue result ↔ ((48 ≤ byte) × (byte ≤ 57)) }
 {
     b'0' <= byte && byte <= b'9'
@@ -210,6 +212,25 @@ pub fn whole_word(bytes: &[u8]) -> Option<WholeWord>
         word.push(*byte);
     }
     None
+}
+
+/// How many bytes stand before the first line feed.
+pub fn len_of_line(bytes: &[u8]) -> usize
+    ensures { EndNoLine bytes.now result }
+{
+    match memchr(b'\n', bytes) {
+        Some(len) => len,
+        None => bytes.len(),
+    }
+}
+
+/// Whether a `*` stands behind two or three bytes, as in most words that spell a run.
+#[inline(always)]
+pub fn begins_with_run(bytes: &[u8]) -> bool
+    ensures { result ≡ (nat_lt 3 (length bytes.now)
+        && (slice_index bytes.now 2 == 42 || slice_index bytes.now 3 == 42)) }
+{
+    bytes.len() > 3 && (bytes[2] == b'*' || bytes[3] == b'*')
 }
 
 /// Whether these bytes begin with a line feed.

@@ -9,7 +9,7 @@ ghost use Rattle.dcc_io.specs.Words.{ended_words};
 ghost use Rattle.dcc_capture.specs.Listing.{IsLine};
 ghost use Rattle.dcc_listen.specs.Shown.{Shows};
 
-use dcc_capture::{half_at_hand, outcome_line, read_run};
+use dcc_capture::{half_at_hand, outcome_line, read_run, run_at_hand};
 use dcc_io::{Failed, HeldLines, Input, KeptFault, Run, Sink, Source, ToolFault};
 use dcc_wire::{Framer, Seen};
 
@@ -73,6 +73,9 @@ fn next_run<R: Source, W: Sink>(
     ensures { TakesRun input.old (W.state writer.old) held.old result input.new held.new
         (W.state writer.new) }
 {
+    if let Some(run) = run_at_hand(input) {
+        return Ok(Ok(Some(run)));
+    }
     write_before_read(held, input, writer)?;
     Ok(read_run(input))
 }

@@ -108,3 +108,24 @@ bits_apart true true e = cc
 bits_apart false false e = cc
 bits_apart true false e = λ q. cc
 bits_apart false true e = λ q. cc
+
+-- both halves of a bit, where no first half is kept
+module _ (bits : List Bool) (halves : List Half) (kept : Option Bool) (half : Half) (bit : Bool)
+    (view : halves_of bits ++ first_half kept ≡ halves) (none : kept ≡ None) (is : bit_of half ≡ Some bit) where
+  pub one_half_more : halves ++ half ∷ [] ≡ halves_of bits ++ first_half (Some bit)
+  one_half_more = with_half bits kept None halves half bit view none is ∙ sym (first_more bits bit)
+
+  pub two_halves_more : (halves ++ half ∷ []) ++ half ∷ [] ≡ halves_of (bits ++ bit ∷ [])
+  two_halves_more =
+      ap (λ l. l ++ half ∷ []) one_half_more
+      ∙ ap (λ h. (halves_of bits ++ first_half (Some bit)) ++ h ∷ []) (half_of-bit half bit is)
+      ∙ sym (bit_more bits bit)
+
+  pub first_shows_nothing : bytes_in 6 bits ≡ None → answer_of (outcome_of (halves ++ half ∷ [])) ≡ Nothing
+  first_shows_nothing unfinished =
+      ap (λ l. answer_of (outcome_of l)) (with_half bits kept None halves half bit view none is)
+      ∙ answer-first bits unfinished bit
+
+  pub second_shows : answer_of (outcome_of ((halves ++ half ∷ []) ++ half ∷ [])) ≡ answer_of
+      (option_map by_bits (bytes_in 6 (bits ++ bit ∷ [])))
+  second_shows = ap (λ l. answer_of (outcome_of l)) two_halves_more ∙ ap answer_of (outcome_of-bits (bits ++ bit ∷ []))

@@ -1,6 +1,6 @@
 -- Many halves of one duration.
 use Rattle.std.proofs.Common.{◌≡◌, ℕ, suc, zero, ◌+◌, ◌-◌, ◌<◌, ◌≤◌, min, false, leb, List, [], ◌∷◌, ◌++◌, length}
-use Rattle.std.proofs.Common.{replicate, refl, sym, ap, ◌∙◌, arith, add-one, subst, append_assoc, length-append}
+use Rattle.std.proofs.Common.{replicate, refl, sym, ap, ◌∙◌, arith, subst, append_assoc, length-append}
 use Rattle.std.proofs.lemmas.List.{append-nil}
 use Rattle.std.proofs.lemmas.Bool.Decides.{nat_tests}
 use Rattle.std.proofs.Math.ListN.{length-replicate, replicate-append-replicate}
@@ -101,49 +101,60 @@ pub record RunsTo (old new : Rest) (us i : ℕ) : Type 0 where
   pub stands : (durations : List ℕ) → StandsFor old durations → StandsFor new (durations ++ replicate i us)
   pub quiet : (durations : List ℕ) → StandsFor old durations → seen (durations ++ replicate i us) ≡ seen durations
 
-replicate_end : (n us : ℕ) → replicate (suc n) us ≡ replicate n us ++ us ∷ []
-replicate_end zero us = refl
-replicate_end (suc n) us = ap (λ l. us ∷ l) (replicate_end n us)
-
-one_longer : (durations : List ℕ) (us i : ℕ)
-    → durations ++ replicate (i + 1) us ≡ (durations ++ replicate i us) ++ us ∷ []
-one_longer durations us i =
-    ap (λ k. durations ++ replicate k us) (add-one i) ∙ ap (λ l. durations ++ l) (replicate_end i us)
-    ∙ sym (append_assoc durations (replicate i us) (us ∷ []))
+run_of_both : (durations : List ℕ) (us i k : ℕ)
+    → durations ++ replicate (i + k) us ≡ (durations ++ replicate i us) ++ replicate k us
+run_of_both durations us i k =
+    ap (λ l. durations ++ l) (sym (replicate-append-replicate i k us))
+    ∙ sym (append_assoc durations (replicate i us) (replicate k us))
 
 length-run : (durations : List ℕ) (us i : ℕ) → length (durations ++ replicate i us) ≡ length durations + i
 length-run durations us i =
     length-append durations (replicate i us) ∙ ap (λ k. length durations + k) (length-replicate i us)
 
--- what a push says
-abbrev pub Stands : Rest → Rest → ℕ → Type 0
-Stands mid new us = (durations : List ℕ) → StandsFor mid durations → StandsFor new (durations ++ us ∷ [])
+-- what a piece of a run says
+abbrev pub Stands : Rest → Rest → ℕ → ℕ → Type 0
+Stands mid new us k = (durations : List ℕ) → StandsFor mid durations → StandsFor new (durations ++ replicate k us)
 
-abbrev pub Sees : Rest → ℕ → Seen → Type 0
-Sees mid us shown =
+abbrev pub Sees : Rest → ℕ → ℕ → Seen → Type 0
+Sees mid us k shown =
     (durations : List ℕ) → StandsFor mid durations
-    → seen (durations ++ us ∷ []) ≡ seen durations ++ report_at (length durations) shown
+    → seen (durations ++ replicate k us) ≡ seen durations ++ report_at (length durations + k - 1) shown
 
-module _ (old mid new : Rest) (us i : ℕ) (shown : Seen) (run : RunsTo old mid us i) (stands : Stands mid new us)
-    (sees : Sees mid us shown) where
-  pub run_stands : (durations : List ℕ) → StandsFor old durations → StandsFor new (durations ++ replicate (i + 1) us)
+abbrev pub SeesNothing : Rest → ℕ → ℕ → Type 0
+SeesNothing mid us k =
+    (durations : List ℕ) → StandsFor mid durations → seen (durations ++ replicate k us) ≡ seen durations
+
+module _ (old mid new : Rest) (us i k : ℕ) (shown : Seen) (run : RunsTo old mid us i) (some : 1 ≤ k)
+    (stands : Stands mid new us k) (sees : Sees mid us k shown) where
+  pub run_stands : (durations : List ℕ) → StandsFor old durations → StandsFor new (durations ++ replicate (i + k) us)
   run_stands durations h =
-      subst (λ l. StandsFor new l) (sym (one_longer durations us i))
+      subst (λ l. StandsFor new l) (sym (run_of_both durations us i k))
       (stands (durations ++ replicate i us) (run.stands durations h))
 
   pub run_sees : (durations : List ℕ) → StandsFor old durations
-      → seen (durations ++ replicate (i + 1) us) ≡ seen durations ++ report_at (length durations + i) shown
+      → seen (durations ++ replicate (i + k) us) ≡ seen durations ++ report_at (length durations + (i + k) - 1) shown
   run_sees durations h =
-      ap seen (one_longer durations us i) ∙ sees (durations ++ replicate i us) (run.stands durations h)
-      ∙ rw (run.quiet durations h, length-run durations us i) refl
+      let place : (length durations + i) + k - 1 ≡ length durations + (i + k) - 1 = omega (arith, some) in
+      ap seen (run_of_both durations us i k) ∙ sees (durations ++ replicate i us) (run.stands durations h)
+      ∙ rw (run.quiet durations h, length-run durations us i, place) refl
 
-  pub run_more : shown ≡ Nothing → RunsTo old new us (i + 1)
+  pub run_more : shown ≡ Nothing → RunsTo old new us (i + k)
   unfolding report_at
   run_more nothing = record {
     stands = run_stands;
-    quiet = λ durations h. run_sees durations h ∙ ap (λ o. seen durations ++ report_at (length durations + i) o) nothing
+    quiet = λ durations h. run_sees durations h
+        ∙ ap (λ o. seen durations ++ report_at (length durations + (i + k) - 1) o) nothing
         ∙ append-nil (seen durations);
   }
+
+-- the halves of a piece before its last one show nothing
+pub run_before : (old mid : Rest) (us i k : ℕ) (run : RunsTo old mid us i) → 1 ≤ k → SeesNothing mid us (k - 1)
+    → (durations : List ℕ) → StandsFor old durations → seen (durations ++ replicate (i + k - 1) us) ≡ seen durations
+run_before old mid us i k run some before durations h =
+    let all : i + k - 1 ≡ i + (k - 1) = omega (arith, some) in
+    ap (λ n. seen (durations ++ replicate n us)) all
+    ∙ ap seen (run_of_both durations us i (k - 1)) ∙ before (durations ++ replicate i us) (run.stands durations h)
+    ∙ run.quiet durations h
 
 -- the rest of a run is skipped
 
@@ -210,3 +221,45 @@ pub nothing_seen : (durations longer : List ℕ) (place : ℕ) → seen longer �
     → seen longer ≡ seen durations ++ report_at place Nothing
 unfolding report_at
 nothing_seen durations longer place e = e ∙ sym (append-nil (seen durations))
+
+-- two halves of one duration, of which the first shows nothing
+
+module _ (old new : Rest) (us : ℕ) (half : Half) (shown : Seen) (class : half ≡ class_of us)
+    (first : answer_to old half ≡ Nothing) (after : new ≡ rest_after (rest_after old half) half)
+    (answer : shown ≡ answer_to (rest_after old half) half) where
+  pub two_before : (durations : List ℕ) → StandsFor old durations → seen (durations ++ us ∷ []) ≡ seen durations
+  unfolding StandsFor report_at
+  two_before durations h =
+      seen-push durations us
+      ∙ ap (λ r. seen durations ++ report_at (length durations) (answer_to r (class_of us))) (sym h)
+      ∙ ap (λ k. seen durations ++ report_at (length durations) (answer_to old k)) (sym class)
+      ∙ ap (λ s. seen durations ++ report_at (length durations) s) first
+      ∙ append-nil (seen durations)
+
+  two_mid : (durations : List ℕ) → StandsFor old durations → rest (durations ++ us ∷ []) ≡ rest_after old half
+  unfolding StandsFor
+  two_mid durations h =
+      rest-push durations us ∙ ap (λ r. rest_after r (class_of us)) (sym h) ∙ ap (rest_after old) (sym class)
+
+  two_longer : (durations : List ℕ) → durations ++ us ∷ us ∷ [] ≡ (durations ++ us ∷ []) ++ us ∷ []
+  two_longer durations = sym (append_assoc durations (us ∷ []) (us ∷ []))
+
+  pub two_stands : (durations : List ℕ) → StandsFor old durations → StandsFor new (durations ++ us ∷ us ∷ [])
+  unfolding StandsFor
+  two_stands durations h =
+      after ∙ ap (rest_after (rest_after old half)) class
+      ∙ sym (ap rest (two_longer durations) ∙ rest-push (durations ++ us ∷ []) us
+      ∙ ap (λ r. rest_after r (class_of us)) (two_mid durations h))
+
+  pub two_sees : (durations : List ℕ) → StandsFor old durations
+      → seen (durations ++ us ∷ us ∷ []) ≡ seen durations ++ report_at (length durations + 2 - 1) shown
+  two_sees durations h =
+      let place : length (durations ++ us ∷ []) ≡ length durations + 2 - 1 =
+      omega (arith, length-append durations (us ∷ [])) in
+      ap seen (two_longer durations) ∙ seen-push (durations ++ us ∷ []) us
+      ∙ ap (λ l. l ++ report_at (length (durations ++ us ∷ [])) (answer_to (rest (durations ++ us ∷ [])) (class_of us)))
+      (two_before durations h)
+      ∙ ap (λ k. seen durations ++ report_at k (answer_to (rest (durations ++ us ∷ [])) (class_of us))) place
+      ∙ ap (λ r. seen durations ++ report_at (length durations + 2 - 1) (answer_to r (class_of us))) (two_mid durations h)
+      ∙ ap (λ k. seen durations ++ report_at (length durations + 2 - 1) (answer_to (rest_after old half) k)) (sym class)
+      ∙ ap (λ s. seen durations ++ report_at (length durations + 2 - 1) s) (sym answer)

@@ -36,7 +36,7 @@ impl Model for Framer {
 }
 
 impl Framer {
-    ghost use Rattle.std.specs.Prelude.{◌≡◌, ◌≢◌, ◌↔◌, ℕ, List, ◌++◌, [], ◌∷◌, length, IsTrue};
+    ghost use Rattle.std.specs.Prelude.{◌≡◌, ◌≢◌, ◌↔◌, ℕ, List, ◌++◌, [], ◌∷◌, length, IsTrue, IfSome, IfNone};
     ghost use Rattle.dcc_wire.specs.Outcomes.{ones_left};
     ghost use Rattle.dcc_wire.specs.Framing.{Hunting, StandsFor, seen, report_at};
     ghost use Rattle.dcc_wire.specs.Inner.Steps.{rest_after, answer_to};
@@ -98,6 +98,32 @@ impl Framer {
                 }
                 seen
             }
+        }
+    }
+
+    /// Takes both halves of a bit of a body at once, where none of that bit has come yet and they are not bad. The first of them
+    /// shows nothing, and the answer is that of the second.
+    #[inline(always)]
+    pub(crate) fn take_bit(&mut self, half: Half) -> Option<Seen>
+        ensures none { IfNone result (self.new ≡ self.old) }
+        ensures first { IfSome result (λ seen. answer_to self.old half ≡ Seen.Nothing) }
+        ensures after { IfSome result (λ seen. self.new ≡ rest_after (rest_after self.old half) half) }
+        ensures answer { IfSome result (λ seen. seen ≡ answer_to (rest_after self.old half) half) }
+        ensures hunts { IfSome result (λ seen. seen ≢ Seen.Nothing → self.new ≡ Hunting (ones_left seen)) }
+    {
+        match &mut self.state {
+            State::Hunting(_) => None,
+            State::InBody(body) => match body.push_twice(half) {
+                None => None,
+                Some(seen) => {
+                    if seen.is_nothing() {
+                        return Some(seen);
+                    }
+                    let ones = seen.ones_left();
+                    self.state = State::Hunting(ones);
+                    Some(seen)
+                }
+            },
         }
     }
 

@@ -43,3 +43,12 @@ pub record BeginsWithWord (bytes : List ℕ) (len : ℕ) (ends_line : Bool) : Ty
 pub record IsWholeWord (bytes : List ℕ) (front : WholeWord) : Type 0 where
   pub begins : BeginsWithWord bytes front.len front.ends_line
   pub spelled : Spells front.word (take front.len bytes)
+
+-- a byte that ends no line
+abbrev pub is_within_line : ℕ → Bool
+is_within_line byte = not (byte == 10)
+
+-- so many bytes stand before the end of a line
+pub record EndNoLine (bytes : List ℕ) (len : ℕ) : Type 0 where
+  pub within : len ≤ length bytes
+  pub none : list_all is_within_line (take len bytes) ≡ true

@@ -1,9 +1,9 @@
 use Rattle.std.proofs.Common.{sym, ◌∙◌}
-use Rattle.dcc_io.proofs.FrontLineLemmas.{front_of_ended}
+use Rattle.dcc_io.proofs.FrontLineLemmas.{begins_with_ended}
 use Rattle.dcc_io.proofs.text_line.front_line.Goals as goal
 
-pub returns-in-Ok : goal.returns-in-Ok
-returns-in-Ok c =
-    rw c.in-Ok.ensures.cases.0
-    (front_of_ended c.args.bytes.now c.in_ok-len.len c.in_ok-len.ensures
-    (sym c.is_skipped.ensures ∙ c.if-is_skipped.false))
+pub returns : goal.returns
+returns c = record {
+  begins = begins_with_ended c.args.bytes.now c.in_ok-len.len c.in_ok-len.ensures;
+  says = sym c.is_skipped.ensures ∙ c.if-is_skipped.false;
+}

@@ -1,5 +1,5 @@
 use Rattle.std.proofs.Common.{take}
-use Rattle.dcc_io.proofs.FrontLemmas.{SpellsNumber}
+use Rattle.dcc_io.specs.Inner.FrontRuns.{SpellsNumber}
 use Rattle.dcc_io.proofs.word.front_word.Given as goal
 
 abbrev pub invariant-loop-len : goal.invariant-loop-len

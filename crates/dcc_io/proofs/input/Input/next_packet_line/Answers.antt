@@ -1,26 +1,38 @@
-use Rattle.std.proofs.Common.{sym, ◌∙◌}
+use Rattle.std.proofs.Common.{[], sym, subst, ◌∙◌}
 use Rattle.std.proofs.lemmas.Result.{err_from_is_err_and}
 use Rattle.dcc_packet.specs.Spelling.{spelling}
-use Rattle.dcc_io.specs.PacketLines.{packet_words}
-use Rattle.dcc_io.proofs.PacketReadLemmas.{Gave-passed, answers_said, answers_fault}
+use Rattle.dcc_io.specs.Items.{Gave}
+use Rattle.dcc_io.specs.PacketLines.{packet_lines, packet_words}
+use Rattle.dcc_io.proofs.PacketReadLemmas.{Gave-passed, Gave-skipped_line, answers_said, answers_fault}
 use Rattle.dcc_io.proofs.input.Input.next_packet_line.Goals as goal
+
+pub lines-preserved-then-take_skipped_line : goal.lines-preserved-then-take_skipped_line
+lines-preserved-then-take_skipped_line g c =
+    Gave-skipped_line packet_words spelling c.args.self.now c.lines.self c.take_skipped_line.new.self
+    c.lines.invariant (c.take_skipped_line.ensures.taken c.if-take_skipped_line.true)
 
 pub returns-then-not-is_skipped : goal.returns-then-not-is_skipped
 returns-then-not-is_skipped g c =
+    let gave = subst (Gave packet_lines c.args.self.now [])
+    (sym (c.take_skipped_line.ensures.left c.if-take_skipped_line.false)) c.lines.invariant in
     let ends = rw c.in-Some.is at c.in_ok-line.ensures in
-    answers_said packet_words spelling c.args.self.now c.lines.self c.next_line.new.self c.read_packet.new.self
-    c.in-Some.line c.read_packet.result c.lines.invariant ends
+    answers_said packet_words spelling c.args.self.now c.take_skipped_line.new.self c.next_line.new.self
+    c.read_packet.new.self c.in-Some.line c.read_packet.result gave ends
     (sym c.is_skipped.ensures ∙ c.if-not-is_skipped.true) c.read_packet.ensures
 
 pub lines-preserved : goal.lines-preserved
 lines-preserved g c =
+    let gave = subst (Gave packet_lines c.args.self.now [])
+    (sym (c.take_skipped_line.ensures.left c.if-take_skipped_line.false)) c.lines.invariant in
     let ends = rw c.in-Some.is at c.in_ok-line.ensures in
-    Gave-passed packet_words spelling c.args.self.now c.lines.self c.next_line.new.self c.in-Some.line
-    c.lines.invariant ends (sym c.is_skipped.ensures ∙ c.if-not-is_skipped.false)
+    Gave-passed packet_words spelling c.args.self.now c.take_skipped_line.new.self c.next_line.new.self c.in-Some.line
+    gave ends (sym c.is_skipped.ensures ∙ c.if-not-is_skipped.false)
 
 pub returns-in_err-line : goal.returns-in_err-line
 returns-in_err-line g c =
+    let gave = subst (Gave packet_lines c.args.self.now [])
+    (sym (c.take_skipped_line.ensures.left c.if-take_skipped_line.false)) c.lines.invariant in
     let p = err_from_is_err_and c.from_residual.result c.from_residual.ensures.1 in
     rw (p.1, p.2)
-    (answers_fault packet_words spelling c.args.self.now c.lines.self c.next_line.new.self _
-    c.lines.invariant c.in_err-line.ensures)
+    (answers_fault packet_words spelling c.args.self.now c.take_skipped_line.new.self c.next_line.new.self _
+    gave c.in_err-line.ensures)

@@ -1,6 +1,6 @@
-use Rattle.std.proofs.Common.{sym, ◌∙◌}
+use Rattle.std.proofs.Common.{[], sym, ◌∙◌}
 use Rattle.std.proofs.lemmas.Result.{err_from_is_err_and}
-use Rattle.dcc_io.proofs.PassedLemmas.{Opens-word, Opens-gap, Passed-gap, ends_behind_gaps, EndsWord-gap, Passed-end}
+use Rattle.dcc_io.proofs.PassedLemmas.{Opens-word, Opens-gaps, Passed-join, Passed-gap, ends_behind_gaps, EndsWord-gap, Passed-end}
 use Rattle.dcc_io.proofs.PassedLemmas.{answers_err, takes_noted, from_not_true, from_not_false}
 use Rattle.dcc_io.proofs.input.Input.read_word.Goals as goal
 
@@ -45,9 +45,11 @@ bytes-preserved g c =
     let gap = rw takes.in_comment at (sym c.passes_gap.ensures.gap ∙ c.if-not-passes_gap.false) in
     let none = from_not_true _ _ (c.is_empty.ensures c.bytes.invariant.word c.bytes.invariant.spelled)
     c.if-not-is_empty.false in
+    let gaps = Passed-gap c.args.self.now c.bytes.self c.passes_gap.new.self c.bytes.word c.in-Some.byte
+    c.bytes.invariant noted gap none in
     rw c.in_default.ensures.none
-    (Opens-gap c.args.self.now c.bytes.self c.passes_gap.new.self c.bytes.word c.in-Some.byte c.bytes.invariant
-    noted gap none)
+    (Opens-gaps c.args.self.now c.bytes.self c.passes_gap.new.self c.pass_comment.new.self c.bytes.word
+    c.bytes.invariant none gaps c.pass_comment.ensures)
 
 pub returns-in-Some-word_at_hand : goal.returns-in-Some-word_at_hand
 returns-in-Some-word_at_hand g c =
@@ -60,5 +62,6 @@ returns-in-Some-word_at_hand g c =
     let gaps = Passed-gap c.args.self.now c.bytes.self c.passes_gap.new.self c.bytes.word c.in-Some.byte
     c.bytes.invariant noted gap none in
     let found = c.in-Some-word_at_hand in
-    ends_behind_gaps c.args.self.now c.passes_gap.new.self c.word_at_hand.new.self found.found.0 found.found.1
-    gaps found.ensures.some
+    ends_behind_gaps c.args.self.now c.pass_comment.new.self c.word_at_hand.new.self found.found.0 found.found.1
+    (Passed-join c.args.self.now c.passes_gap.new.self c.pass_comment.new.self [] [] gaps c.pass_comment.ensures)
+    found.ensures.some

@@ -7,4 +7,4 @@ pub returns-in-Ok-clause-some : goal.returns-in-Ok-clause-some
 returns-in-Ok-clause-some g c =
     let front = c.in_ok-line.ensures in
     answers_line station_words asked_by c.args.self.now c.take_line.new.self c.in_ok-line.line.now c.in-Ok.asks
-    (c.take_line.ensures.taken c.if-take_line.true c.in_ok-line.line.now front refl) front.says (sym c.in-Ok.ensures)
+    (c.take_line.ensures.taken c.if-take_line.true c.in_ok-line.line.now front.begins refl) front.says (sym c.in-Ok.ensures)

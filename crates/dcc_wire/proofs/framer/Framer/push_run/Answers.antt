@@ -1,96 +1,14 @@
-use Rattle.std.proofs.Common.{◌≡◌, ◌≢◌, ℕ, ◌+◌, ◌-◌, ◌++◌, List, length, replicate, ap, subst, ◌∙◌, rules, arith}
-use Rattle.dcc_wire.specs.declared.seen.Seen.TheVariants.{Nothing}
+use Rattle.std.proofs.Common.{◌≡◌, ◌-◌, sym, ap, ◌∙◌, arith}
+use Rattle.dcc_wire.specs.Framing.{Hunting}
 use Rattle.dcc_wire.specs.Half.{class_of}
-use Rattle.dcc_wire.specs.Framing.{StandsFor, seen, report_at}
-use Rattle.dcc_wire.specs.Runs.{IsQuietFor, rest_after_run}
-use Rattle.dcc_wire.proofs.RunLemmas.{run_stands, run_sees, run_more, skip_stands, skip_sees, quiet_after}
-use Rattle.dcc_wire.proofs.RunLemmas.{quiet_before, nothing_seen}
+use Rattle.dcc_wire.specs.Outcomes.{ones_left}
+use Rattle.dcc_wire.specs.Runs.{rest_after_run}
+use Rattle.dcc_wire.proofs.RunLemmas.{ones_after_none}
 use Rattle.dcc_wire.proofs.framer.Framer.push_run.Goals as goal
-use Rattle.dcc_wire.proofs.framer.Framer.push_run.Goals.{After-skip, After-skip-2}
 
-pub returns-then-at-n-clause-sees : goal.returns-then-at-n-clause-sees
-returns-then-at-n-clause-sees c = λ durations h.
-    nothing_seen durations (durations ++ replicate c.args.n c.args.us) _
-    (subst (λ k. seen (durations ++ replicate k c.args.us) ≡ seen durations) (omega arith)
-    (c.loop-half.invariant.0.quiet durations h))
-
-pub returns-then-at-n-clause-before : goal.returns-then-at-n-clause-before
-returns-then-at-n-clause-before c = λ durations h.
-    quiet_before durations c.args.us (c.loop-half.at - 1) c.loop-half.at (omega arith)
-    (c.loop-half.invariant.0.quiet durations h)
-
-pub skip-requires : goal.skip-requires
-skip-requires c =
-    let something : c.push-seen.result ≢ Nothing = search rules in
-    quiet_after c.push-seen.new.self c.push-seen.result c.of-half.result (c.push-seen.ensures.hunts something)
-
--- behind the outcome the framer is quiet, and the rest is skipped
-
-quiet_then : (c : After-skip) → IsQuietFor c.push-seen.new.self (class_of c.args.us)
-quiet_then c =
-    let something : c.push-seen.result ≢ Nothing = search rules in
-    quiet_after c.push-seen.new.self c.push-seen.result (class_of c.args.us) (c.push-seen.ensures.hunts something)
-
-skipped_then : (c : After-skip)
-    → c.skip.new.self ≡ rest_after_run c.push-seen.new.self (class_of c.args.us) (c.args.n - (c.loop-half.at + 1))
-skipped_then c =
-    c.skip.ensures
-    ∙ ap (λ half. rest_after_run c.push-seen.new.self half (c.args.n - (c.loop-half.at + 1))) c.of-half.ensures
-
-stands_then : (c : After-skip) (durations : List ℕ) → StandsFor c.args.self.now durations
-    → StandsFor c.push-seen.new.self (durations ++ replicate (c.loop-half.at + 1) c.args.us)
-stands_then c =
-    run_stands c.args.self.now c.loop-half.self c.push-seen.new.self c.args.us c.loop-half.at c.push-seen.result
-    c.loop-half.invariant.0 c.push-seen.ensures.stands c.push-seen.ensures.sees
-
-pub returns-then-not-is_nothing-clause-stands : goal.returns-then-not-is_nothing-clause-stands
-returns-then-not-is_nothing-clause-stands c =
-    skip_stands c.args.self.now c.push-seen.new.self c.skip.new.self c.args.us (c.loop-half.at + 1) c.args.n
-    (omega arith) (quiet_then c) (skipped_then c) (stands_then c)
-
-pub returns-then-not-is_nothing-clause-sees : goal.returns-then-not-is_nothing-clause-sees
-returns-then-not-is_nothing-clause-sees c = λ durations h.
-    let place : length durations + c.loop-half.at ≡ length durations + (c.loop-half.at + 1) - 1 = omega arith in
-    skip_sees c.args.self.now c.push-seen.new.self c.skip.new.self c.args.us (c.loop-half.at + 1) c.args.n (omega arith)
-    (quiet_then c) (skipped_then c) (stands_then c) durations h
-    ∙ run_sees c.args.self.now c.loop-half.self c.push-seen.new.self c.args.us c.loop-half.at c.push-seen.result
-    c.loop-half.invariant.0 c.push-seen.ensures.stands c.push-seen.ensures.sees durations h
-    ∙ ap (λ k. seen durations ++ report_at k c.push-seen.result) place
-
-pub loop-half-preserved : goal.loop-half-preserved
-loop-half-preserved c =
-    let nothing : c.push-seen.result ≡ Nothing = c.is_nothing.ensures.0 (search rules) in (
-      run_more c.args.self.now c.loop-half.self c.push-seen.new.self c.args.us c.loop-half.at c.push-seen.result
-          c.loop-half.invariant.0 c.push-seen.ensures.stands c.push-seen.ensures.sees nothing,
-      omega arith,
-    )
-
--- from a quiet framer on, all is skipped
-
-quiet_from : (c : After-skip-2) → IsQuietFor c.loop-half.self (class_of c.args.us)
-quiet_from c = subst (λ half. IsQuietFor c.loop-half.self half) c.of-half.ensures (c.is_quiet.ensures.0 (search rules))
-
-skipped_from : (c : After-skip-2)
-    → c.skip-2.new.self ≡ rest_after_run c.loop-half.self (class_of c.args.us) (c.args.n - c.loop-half.at)
-skipped_from c =
-    c.skip-2.ensures ∙ ap (λ half. rest_after_run c.loop-half.self half (c.args.n - c.loop-half.at)) c.of-half.ensures
-
-seen_from : (c : After-skip-2) (durations : List ℕ) → StandsFor c.args.self.now durations
-    → seen (durations ++ replicate c.args.n c.args.us) ≡ seen durations
-seen_from c durations h =
-    skip_sees c.args.self.now c.loop-half.self c.skip-2.new.self c.args.us c.loop-half.at c.args.n
-    c.loop-half.invariant.1 (quiet_from c) (skipped_from c) c.loop-half.invariant.0.stands durations h
-    ∙ c.loop-half.invariant.0.quiet durations h
-
-pub returns-clause-stands : goal.returns-clause-stands
-returns-clause-stands c =
-    skip_stands c.args.self.now c.loop-half.self c.skip-2.new.self c.args.us c.loop-half.at c.args.n
-    c.loop-half.invariant.1 (quiet_from c) (skipped_from c) c.loop-half.invariant.0.stands
-
-pub returns-clause-sees : goal.returns-clause-sees
-returns-clause-sees c =
-    λ durations h. nothing_seen durations (durations ++ replicate c.args.n c.args.us) _ (seen_from c durations h)
-
-pub returns-clause-before : goal.returns-clause-before
-returns-clause-before c =
-    λ durations h. quiet_before durations c.args.us (c.args.n - 1) c.args.n (omega arith) (seen_from c durations h)
+pub returns-then-n-eq1-clause-hunts : goal.returns-then-n-eq1-clause-hunts
+unfolding rest_after_run
+returns-then-n-eq1-clause-hunts c something =
+    let none : c.args.n - 1 ≡ 0 = omega arith in
+    c.push-seen.ensures.hunts something
+    ∙ rw none (sym (ap Hunting (ones_after_none (ones_left c.push-seen.result) (class_of c.args.us))))

@@ -1,7 +1,7 @@
 use Rattle.std.proofs.Common.{sym}
 use Rattle.std.proofs.lemmas.Result.{err_from_is_err_and}
 use Rattle.dcc_capture.proofs.CaptureLemmas.{counts_answer, stops_at_word, stops_before_word}
-use Rattle.dcc_capture.proofs.runs.run_of_next_word.Goals as goal
+use Rattle.dcc_capture.proofs.runs.run_of_read_word.Goals as goal
 
 pub returns-in-Some-run : goal.returns-in-Some-run
 returns-in-Some-run g c =

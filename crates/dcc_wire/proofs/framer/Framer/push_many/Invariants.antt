@@ -1,6 +1,6 @@
 use Rattle.std.proofs.Common.{◌-◌, ◌≤◌}
 use Rattle.dcc_wire.proofs.RunLemmas.{RunsTo}
-use Rattle.dcc_wire.proofs.framer.Framer.push_run.Given as goal
+use Rattle.dcc_wire.proofs.framer.Framer.push_many.Given as goal
 
 -- nothing was seen so far
 abbrev pub invariant-loop-half : goal.invariant-loop-half

@@ -1,0 +1,19 @@
+-- A run at the front of some bytes.
+use Rattle.std.specs.Prelude.{◌≡◌, ℕ, ◌<◌, List, true, Some, take}
+use Rattle.std.specs.List.{list_all}
+use Rattle.std.specs.Char.{is_ascii_digit}
+use Rattle.std.specs.Str.Parse.{digits_value}
+use Rattle.dcc_io.specs.declared.front_run.FrontRun.{FrontRun}
+use Rattle.dcc_io.specs.Words.{run_of}
+use Rattle.dcc_io.specs.Inner.FrontWords.{BeginsWithWord}
+
+-- digits that spell this number
+pub record SpellsNumber (number : ℕ) (word : List ℕ) : Type 0 where
+  pub digits : list_all is_ascii_digit word ≡ true
+  pub value : number ≡ digits_value 10 word
+  pub small : number < 100000
+
+-- these bytes begin with a word that spells the run, and a gap
+pub record IsFrontRun (bytes : List ℕ) (front : FrontRun) : Type 0 where
+  pub begins : BeginsWithWord bytes front.len front.ends_line
+  pub spells : run_of (take front.len bytes) ≡ Some front.run
