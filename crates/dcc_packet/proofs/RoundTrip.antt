@@ -1,6 +1,5 @@
 -- A written line is read again.
 use Rattle.std.proofs.Common.{◌≡◌, ℕ, ◌<◌, Bool, List, [], ◌∷◌, Result, Ok, Err, ap, sym, ◌∙◌, refl}
-use Rattle.std.specs.Fmt.{decimal}
 use Rattle.hex.specs.Hex.{encode_lower, IsBytes}
 use Rattle.dcc_wire.specs.Frames.{IsFrame}
 use Rattle.dcc_packet.specs.declared.fault.PacketFault.{PacketFault}
@@ -20,7 +19,7 @@ use Rattle.dcc_packet.specs.declared.accessory.SignalAddress.{SignalAddress}
 use Rattle.dcc_packet.specs.declared.packet.Packet.{Packet}
 use Rattle.dcc_packet.specs.declared.packet.Packet.TheVariants.{Idle, Loco, Accessory, Signal, Other}
 use Rattle.dcc_packet.specs.declared.speed.SpeedBits28.{SpeedBits28}
-use Rattle.dcc_packet.specs.Written.{written_line, written_words, address_word, switch_word, instruction_words}
+use Rattle.dcc_packet.specs.Written.{written_line, written_words, address_word, instruction_words}
 use Rattle.dcc_packet.specs.Spelling.{BytesFit, ValueFits}
 use Rattle.dcc_packet.specs.Line.{idle, accessory, signal, frame, reset, speed28, speed128, functions, binary_state}
 use Rattle.dcc_packet.specs.Line.{cv_value, cv_bit, cv_access, cv_write, cv_verify, cv_bit_write, cv_bit_verify}
@@ -30,7 +29,10 @@ use Rattle.dcc_packet.proofs.OneSpelling.{one_packet}
 use Rattle.dcc_packet.proofs.WrittenWords.{written_are_words}
 use Rattle.dcc_packet.proofs.WordsBack.{address_back, direction_back, speed28_bits_back, speed128_bits_back}
 use Rattle.dcc_packet.proofs.WordsBack.{group_back, group_bits_back, state_number_back, cv_back, place_back}
-use Rattle.dcc_packet.proofs.WordsBack.{state_back, switch_back, board_back, output_back, signal_back, hex_back}
+use Rattle.dcc_packet.proofs.WordsBack.{state_back, switch_back, hex_back}
+use Rattle.dcc_packet.specs.LineFields.{accessory_fields, signal_fields}
+use Rattle.dcc_packet.proofs.FieldsBack.{whole_back}
+use Rattle.dcc_packet.proofs.LineFieldsBack.{accessory_is_back, signal_line_is_back}
 use Rattle.dcc_packet.proofs.WordsBack.{small_number-decimal}
 
 reset_back : instruction (instruction_words Reset) ≡ Ok Reset
@@ -94,13 +96,13 @@ unfolding loco
 loco_back to what h = rw (address_back to, what_back what h) refl
 
 accessory_back : (b : Board) (o : Output) (on : Bool)
-    → accessory (decimal b.number ∷ decimal o.number ∷ switch_word on ∷ []) ≡ Ok (Accessory b o on)
+    → accessory (accessory_fields.written (b, (o, record { on = on }))) ≡ Ok (Accessory b o on)
 unfolding accessory
-accessory_back b o on = rw (board_back b, output_back o, switch_back on) refl
+accessory_back b o on = rw (whole_back accessory_fields accessory_is_back (b, (o, record { on = on })) (tt, (tt, tt))) refl
 
-signal_line_back : (s : SignalAddress) (a : ℕ) → a < 256 → signal (decimal s.number ∷ decimal a ∷ []) ≡ Ok (Signal s a)
+signal_line_back : (s : SignalAddress) (a : ℕ) → a < 256 → signal (signal_fields.written (s, a)) ≡ Ok (Signal s a)
 unfolding signal
-signal_line_back s a h = rw (signal_back s, small_number-decimal a h) refl
+signal_line_back s a h = rw (whole_back signal_fields signal_line_is_back (s, a) (tt, h)) refl
 
 frame_back : (f : List ℕ) → IsBytes f → IsFrame f → frame (encode_lower f ∷ []) ≡ Ok f
 unfolding frame

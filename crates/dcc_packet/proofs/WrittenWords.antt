@@ -32,11 +32,7 @@ use Rattle.dcc_packet.specs.declared.packet.OtherFrame.{OtherFrame}
 use Rattle.hex.proofs.HexLemmas.{length-encode_with}
 use Rattle.dcc_packet.specs.Spelling.{BytesFit, ValueFits}
 use Rattle.dcc_packet.proofs.FirstWord.{is_some_word, filter_some}
-
--- some bytes, none of them a separator
-pub record IsWord (word : List ℕ) : Type 0 where
-  pub some : 0 < length word
-  pub plain : All (λ b. is_separator b ≡ false) word
+pub use Rattle.dcc_packet.specs.Fields.{IsWord}
 
 -- the words of a written line are the words that were written
 pub words_spaced : (word : List ℕ) (rest : List (List ℕ)) → IsWord word → AllByRecursion IsWord rest

@@ -9,9 +9,10 @@ ghost use Rattle.dcc_packet.specs.Line.{Says};
 ghost use Rattle.dcc_packet.specs.Spelling.{BytesFit, ValueFits};
 ghost use Rattle.dcc_packet.specs.Written.{state_word, instruction_words, spaced_words, written_line};
 
+use crate::field::{Field, Line};
+use crate::fields::Switch;
 use crate::to_line_word::{
-    Line, direction_word, group_word, put_address, put_hex, put_number, put_word, state_word,
-    switch_word,
+    direction_word, group_word, put_address, put_hex, put_number, put_word, state_word, switch_word,
 };
 use crate::{BitPlace, CvNumber, Packet, What};
 use arrayvec::ArrayString;
@@ -46,14 +47,11 @@ impl Packet {
             }
             Packet::Accessory { board, output, on } => {
                 line.push_str("accessory");
-                put_number(&mut line, board.number);
-                put_number(&mut line, u16::from(output.number));
-                put_word(&mut line, switch_word(*on));
+                (*board, (*output, Switch { on: *on })).put(&mut line);
             }
             Packet::Signal { address, aspect } => {
                 line.push_str("signal");
-                put_number(&mut line, address.number);
-                put_number(&mut line, u16::from(*aspect));
+                (*address, *aspect).put(&mut line);
             }
             Packet::Other(other) => {
                 line.push_str("frame ");

@@ -15,7 +15,7 @@ use Rattle.dcc_saved.specs.FleetText.{cv_line, cvs_text}
 use Rattle.dcc_saved.specs.TextReader.{line_by}
 use Rattle.dcc_saved.proofs.LinesBack.{at, few_back}
 use Rattle.dcc_saved.proofs.RulesBack.{cv_line_back}
-use Rattle.dcc_saved.proofs.TokensBack.{keyword_token, decimal_token}
+use Rattle.dcc_packet.proofs.Tokens.{keyword_token, decimal_token}
 
 -- the lines of so many CVs behind this one
 abbrev line_or_none : (ℕ → ℕ) → ℕ → List ℕ

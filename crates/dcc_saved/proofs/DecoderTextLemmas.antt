@@ -21,26 +21,27 @@ use Rattle.dcc_io.specs.InputState.{InputState}
 use Rattle.dcc_io.specs.Took.{Uses}
 use Rattle.dcc_saved.specs.DecoderLines.{version_line, head_line, speed_line, numbers_line, pending_line, loco_line}
 use Rattle.dcc_saved.specs.declared.decoder_line.Numbered.TheVariants as kinds
-use Rattle.dcc_saved.specs.DecoderLines.{positions_line, aspects_line}
+use Rattle.dcc_packet.specs.declared.fields.Side.{Side}
+use Rattle.dcc_saved.specs.DecoderLines.{Four, positions_line, aspects_line}
 use Rattle.dcc_saved.specs.TextReader.{Text, Reader, ◌>>=◌, done, stop_at, line_by}
 use Rattle.dcc_saved.specs.TextReader.Stop.{too_many}
 use Rattle.dcc_saved.specs.TextRead.{at, GoesOn, Leads, Refuses, Answers, UsedWholeLines}
 use Rattle.dcc_regs.specs.declared.register.Who.{Who}
 use Rattle.dcc_saved.specs.declared.decoder_line.Version.{Version}
 use Rattle.dcc_saved.specs.DecoderText.{states_by, decoder_lines, behind_loco_line, cvs_from, cvs_lines, loco_lines}
-use Rattle.dcc_saved.specs.DecoderText.{board_lines, decoders_from, decoder_text}
+use Rattle.dcc_saved.specs.DecoderText.{board_read, board_lines, decoders_from, decoder_text}
 use Rattle.dcc_io.proofs.TookLemmas.{map_text}
 use Rattle.dcc_saved.proofs.ReadLemmas.{Leads-start, Leads-then, Answers-fault, Refuses-too_many}
 
 -- what follows each line of an accessory decoder
-abbrev pub behind_board_head : Board → ℕ → List Bool → List ℕ → Head → Reader (Saved × Head)
+abbrev pub behind_board_head : Board → ℕ → Four Side → Four ℕ → Head → Reader (Saved × Head)
 behind_board_head board outs positions aspects head =
-    done (saved.Board (record { board = board; outs = outs; positions = positions; aspects = aspects }), head)
+    done (saved.Board (board_read board outs positions aspects), head)
 
-abbrev pub behind_aspects : Board → ℕ → List Bool → List ℕ → Reader (Saved × Head)
+abbrev pub behind_aspects : Board → ℕ → Four Side → Four ℕ → Reader (Saved × Head)
 behind_aspects board outs positions aspects = line_by head_line >>= behind_board_head board outs positions aspects
 
-abbrev pub behind_positions : Board → ℕ → List Bool → Reader (Saved × Head)
+abbrev pub behind_positions : Board → ℕ → Four Side → Reader (Saved × Head)
 behind_positions board outs positions = line_by aspects_line >>= behind_aspects board outs positions
 
 abbrev pub behind_outs : Board → ℕ → Reader (Saved × Head)

@@ -39,7 +39,8 @@ use Rattle.dcc_saved.proofs.MapsBack.{speed_is, pending_is, no_state_0, loco_sta
 use Rattle.dcc_saved.proofs.RowsBack.{fed, numbers_read, speed_read, pending_read}
 use Rattle.dcc_saved.proofs.RowsBack.{aspects_read, positions_read}
 use Rattle.dcc_saved.proofs.RulesBack.{loco_back, board_head_back, end_back, loco_behind, board_behind, end_behind}
-use Rattle.dcc_saved.proofs.TokensBack.{keyword_token, decimal_token, address_token}
+use Rattle.dcc_packet.proofs.Tokens.{keyword_token, decimal_token}
+use Rattle.dcc_saved.proofs.TokensBack.{address_token}
 
 -- a text whose first line says what follows the decoder before it
 pub record BeginsWith (bytes : List ℕ) (head : Head) (rest : List ℕ) : Type 0 where

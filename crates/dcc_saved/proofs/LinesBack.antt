@@ -11,12 +11,9 @@ use Rattle.dcc_packet.specs.Words.{Word, words}
 use Rattle.dcc_packet.specs.Written.{spaced_words}
 use Rattle.dcc_packet.proofs.WrittenWords.{IsWord, not_true, words_spaced}
 use Rattle.dcc_io.specs.NumberedLines.{is_good}
+pub use Rattle.dcc_packet.specs.Fields.{is_plain, IsToken}
 use Rattle.dcc_saved.specs.TextReader.{Text, first_line, behind_line, ended_line, line_by}
 use Rattle.dcc_saved.specs.TextReader.Stop.{refused}
-
--- a byte that may stand in a line
-abbrev pub is_plain : ℕ → Bool
-is_plain b = is_ascii b && not (eqb b 10)
 
 plain_is_ascii : (line : List ℕ) → list_all is_plain line ≡ true → list_all is_ascii line ≡ true
 plain_is_ascii [] h = refl
@@ -38,12 +35,6 @@ behind_line_is (b ∷ bs) rest h =
     let parts = and_parts (is_plain b) (list_all is_plain bs) h in
     let byte = and_parts (is_ascii b) (not (eqb b 10)) parts.0 in
     rw (not_true (eqb b 10) byte.1) (behind_line_is bs rest parts.1)
-
--- a word of a written line
-pub record IsToken (word : Word) : Type 0 where
-  pub word_is : IsWord word
-  pub plain : list_all is_plain word ≡ true
-  pub short : length word ≤ 12
 
 both : (a b : Bool) → a ≡ true → b ≡ true → (a && b) ≡ true
 both a b e f = rw (e, f) refl

@@ -24,7 +24,7 @@ use Rattle.dcc_saved.proofs.DecodersBack.{loco_given, board_given}
 use Rattle.dcc_saved.proofs.LinesKept.{read_lines}
 use Rattle.dcc_saved.proofs.LinesBack.{at, few_back}
 use Rattle.dcc_saved.proofs.RulesBack.{version_back}
-use Rattle.dcc_saved.proofs.TokensBack.{keyword_token}
+use Rattle.dcc_packet.proofs.Tokens.{keyword_token}
 
 abbrev FleetDecoder : Type 0
 FleetDecoder = Who × RegisterMap

@@ -20,14 +20,19 @@ use Rattle.dcc_saved.specs.declared.decoder_line.Numbered.{Numbered}
 use Rattle.dcc_saved.specs.declared.decoder_line.Numbered.TheVariants as kinds
 use Rattle.dcc_saved.specs.Numbered.{name_of, end_of}
 use Rattle.dcc_saved.specs.DecoderLines.{numbers_line, speed_line, pending_line}
-use Rattle.dcc_saved.specs.DecoderLines.{positions_line, aspects_line}
-use Rattle.dcc_saved.specs.FleetText.{numbers_below, speed_text, pending_text, four_numbers}
+use Rattle.dcc_saved.specs.DecoderLines.{keyword, keyed, Four, four, positions_line, aspects_line}
+use Rattle.dcc_packet.specs.declared.fields.Side.{Side}
+use Rattle.dcc_packet.specs.Fields.{FieldOf, IsReadBack}
+use Rattle.dcc_packet.specs.LineFields.{side_field, small_field}
+use Rattle.dcc_packet.proofs.LineFieldsBack.{side_is_back, small_is_back}
+use Rattle.dcc_saved.specs.FleetText.{line_text, numbers_below, speed_text, pending_text, first_four}
 use Rattle.dcc_saved.specs.TextReader.{line_by}
 use Rattle.dcc_saved.proofs.LinesBack.{IsToken, at, line_back, few_back}
 use Rattle.dcc_saved.proofs.NumbersBack.{on_words, value_of, numbers_are, row_short, IsSoundRow, ons_are, value_bits}
 use Rattle.dcc_saved.proofs.PendingBack.{pending_back}
-use Rattle.dcc_saved.proofs.RulesBack.{speed_words, speed_back, positions_back, aspects_back}
-use Rattle.dcc_saved.proofs.TokensBack.{keyword_token, decimal_token, direction_token, state_token, on_tokens}
+use Rattle.dcc_saved.proofs.RulesBack.{speed_words, speed_back, keyed_back, four_back}
+use Rattle.dcc_packet.proofs.Tokens.{keyword_token, decimal_token}
+use Rattle.dcc_saved.proofs.TokensBack.{direction_token, on_tokens}
 use Rattle.dcc_saved.proofs.TokensBack.{pending_token}
 
 -- the line feed behind a line, and the text behind that
@@ -159,35 +164,23 @@ pending_read active pending n text h =
     (omega arith)
     (pending_back active pending h)
 
--- four numbers
-four_are : (word : Word) (a b c d text : List ℕ)
-    → (word ++ ((32 ∷ a) ++ ((32 ∷ b) ++ ((32 ∷ c) ++ ((32 ∷ d) ++ codes "\n")))))
-    ++ text ≡ (word ++ spaced_words (a ∷ b ∷ c ∷ d ∷ [])) ++ 10 ∷ text
-four_are word a b c d text = simp (append_assoc, append-nil) refl
+-- a line of a keyword and a few fields
+pub fields_read : {A : Type 0} (name : Word) (field : FieldOf A) → keyword name name ≡ Ok tt → IsReadBack field → (x : A)
+    → field.Fits x → IsToken name → length (field.written x) ≤ 38 → (n : ℕ) (text : List ℕ)
+    → line_by (keyed name field) (at n (line_text name field x ++ text)) ≡ Ok (x, at (n + 1) text)
+fields_read name field is back x fits token few n text =
+    let line : List ℕ = name ++ spaced_words (field.written x) in
+    ap (λ (bytes : List ℕ). line_by (keyed name field) (at n bytes)) (fed line text)
+    ∙ few_back (keyed name field) x n line name (field.written x) text refl token (back.tokens x fits) few
+    (keyed_back name field is back x fits)
 
 pub aspects_read : (numbers : ℕ → ℕ) (n : ℕ) (text : List ℕ) → ((k : ℕ) → k ≤ 3 → numbers k < 256)
-    → line_by aspects_line (at n ((codes "aspect" ++ four_numbers numbers) ++ text)) ≡ Ok
-    (numbers 0 ∷ numbers 1 ∷ numbers 2 ∷ numbers 3 ∷ [], at (n + 1) text)
+    → line_by aspects_line (at n (line_text (codes "aspect") (four small_field) (first_four numbers) ++ text)) ≡ Ok
+    (first_four numbers, at (n + 1) text)
 aspects_read numbers n text small =
-    let a = small 0 (omega arith) in
-    let b = small 1 (omega arith) in
-    let c = small 2 (omega arith) in
-    let d = small 3 (omega arith) in
-    let ws : List Word = decimal (numbers 0) ∷ decimal (numbers 1) ∷ decimal (numbers 2) ∷ decimal (numbers 3) ∷ [] in
-    ap (λ (bytes : List ℕ). line_by aspects_line (at n bytes))
-    (four_are (codes "aspect") (decimal (numbers 0)) (decimal (numbers 1)) (decimal (numbers 2))
-    (decimal (numbers 3)) text)
-    ∙ few_back aspects_line (numbers 0 ∷ numbers 1 ∷ numbers 2 ∷ numbers 3 ∷ []) n (codes "aspect" ++ spaced_words ws)
-    (codes "aspect") ws text refl
-    (keyword_token (codes "aspect") (omega arith) refl refl (omega arith)) (
-      decimal_token (numbers 0) (omega (arith, a)),
-      (
-        decimal_token (numbers 1) (omega (arith, b)),
-        (decimal_token (numbers 2) (omega (arith, c)), (decimal_token (numbers 3) (omega (arith, d)), tt)),
-      ),
-    )
-    (omega arith)
-    (aspects_back (numbers 0) (numbers 1) (numbers 2) (numbers 3) a b c d)
+    fields_read (codes "aspect") (four small_field) refl (four_back small_field small_is_back) (first_four numbers)
+    (small 0 (omega arith), (small 1 (omega arith), (small 2 (omega arith), small 3 (omega arith))))
+    (keyword_token (codes "aspect") (omega arith) refl refl (omega arith)) (omega arith) n text
 
 -- a side in decimal
 abbrev pub side_number : Bool → ℕ
@@ -197,29 +190,17 @@ side_word : (one : Bool) → decimal (side_number one) ≡ state_word one
 side_word true = decimal_digit 1 (omega arith)
 side_word false = decimal_digit 0 (omega arith)
 
-same_line : (a b c d e f g h : Word) (text : List ℕ) → a ≡ e → b ≡ f → c ≡ g → d ≡ h
-    → (codes "position" ++ spaced_words (a ∷ b ∷ c ∷ d ∷ []))
-    ++ 10 ∷ text ≡ (codes "position" ++ spaced_words (e ∷ f ∷ g ∷ h ∷ []))
-    ++ 10 ∷ text
-same_line a b c d e f g h text one two three four = rw (one, two, three, four) refl
+abbrev pub first_sides : (ℕ → Bool) → Four Side
+first_sides sides =
+    (record { one = sides 0 }, (record { one = sides 1 }, (record { one = sides 2 }, record { one = sides 3 })))
 
 pub positions_read : (numbers : ℕ → ℕ) (sides : ℕ → Bool) (n : ℕ) (text : List ℕ)
     → ((k : ℕ) → k ≤ 3 → numbers k ≡ side_number (sides k))
-    → line_by positions_line (at n ((codes "position" ++ four_numbers numbers) ++ text)) ≡ Ok
-    (sides 0 ∷ sides 1 ∷ sides 2 ∷ sides 3 ∷ [], at (n + 1) text)
+    → line_by positions_line (at n (line_text (codes "position") (four small_field) (first_four numbers) ++ text)) ≡ Ok
+    (first_sides sides, at (n + 1) text)
 positions_read numbers sides n text are =
     let word : (k : ℕ) → k ≤ 3 → decimal (numbers k) ≡ state_word (sides k) =
     λ k few. ap decimal (are k few) ∙ side_word (sides k) in
-    let ws : List Word =
-    state_word (sides 0) ∷ state_word (sides 1) ∷ state_word (sides 2) ∷ state_word (sides 3) ∷ [] in
-    ap (λ (bytes : List ℕ). line_by positions_line (at n bytes))
-    (four_are (codes "position") (decimal (numbers 0)) (decimal (numbers 1)) (decimal (numbers 2)) (decimal (numbers 3))
-    text
-    ∙ same_line (decimal (numbers 0)) (decimal (numbers 1)) (decimal (numbers 2)) (decimal (numbers 3))
-    (state_word (sides 0)) (state_word (sides 1)) (state_word (sides 2)) (state_word (sides 3)) text
-    (word 0 (omega arith)) (word 1 (omega arith)) (word 2 (omega arith)) (word 3 (omega arith)))
-    ∙ few_back positions_line (sides 0 ∷ sides 1 ∷ sides 2 ∷ sides 3 ∷ []) n (codes "position" ++ spaced_words ws)
-    (codes "position") ws text refl
-    (keyword_token (codes "position") (omega arith) refl refl (omega arith))
-    (state_token (sides 0), (state_token (sides 1), (state_token (sides 2), (state_token (sides 3), tt)))) (omega arith)
-    (positions_back (sides 0) (sides 1) (sides 2) (sides 3))
+    rw (word 0 (omega arith), word 1 (omega arith), word 2 (omega arith), word 3 (omega arith))
+    (fields_read (codes "position") (four side_field) refl (four_back side_field side_is_back) (first_sides sides)
+    (tt, (tt, (tt, tt))) (keyword_token (codes "position") (omega arith) refl refl (omega arith)) (omega arith) n text)

@@ -9,8 +9,8 @@ use Rattle.dcc_packet.specs.declared.cv.CvNumber.{CvNumber}
 use Rattle.dcc_packet.specs.declared.address.Address.{Address}
 use Rattle.dcc_packet.specs.declared.address.Address.TheVariants.{Broadcast, Short, Long}
 use Rattle.dcc_packet.specs.Words.{Word}
-use Rattle.dcc_packet.specs.Written.{direction_word, state_word}
-use Rattle.dcc_packet.proofs.WordsBack.{small_number-decimal, address_back, direction_back, cv_back, state_back}
+use Rattle.dcc_packet.specs.Written.{direction_word}
+use Rattle.dcc_packet.proofs.WordsBack.{small_number-decimal, address_back, direction_back, cv_back}
 use Rattle.dcc_packet.proofs.WordsBack.{board_back}
 use Rattle.dcc_regs.specs.declared.register.Who.TheVariants as who
 use Rattle.dcc_regs.specs.declared.register.Speed.{Speed}
@@ -21,7 +21,9 @@ use Rattle.dcc_saved.specs.declared.decoder_line.Head.TheVariants as heads
 use Rattle.dcc_saved.specs.declared.decoder_line.LocoLine.TheVariants as behind
 use Rattle.dcc_saved.specs.declared.decoder_line.Version.TheVariants as versions
 use Rattle.dcc_saved.specs.DecoderLines.{version_line, own_address, own_board, head_line, step_up_to, speed_line}
-use Rattle.dcc_saved.specs.DecoderLines.{positions_line, aspects_line, loco_line}
+use Rattle.dcc_saved.specs.DecoderLines.{keyword, keyed, four, loco_line}
+use Rattle.dcc_packet.specs.Fields.{FieldOf, both, IsReadBack}
+use Rattle.dcc_packet.proofs.FieldsBack.{both_back, whole_back}
 use Rattle.dcc_saved.specs.FleetText.{own_address_word}
 
 pub version_back : version_line (codes "dcc-decoders" ∷ codes "2" ∷ []) ≡ Ok versions.Two
@@ -103,14 +105,12 @@ speed_back (Step14 n) forward h = rw (step_back 14 n h (omega arith), direction_
 speed_back (Step28 n) forward h = rw (step_back 28 n h (omega arith), direction_back forward) refl
 speed_back (Step126 n) forward h = rw (step_back 126 n h (omega arith), direction_back forward) refl
 
-pub positions_back : (a b c d : Bool)
-    → positions_line (codes "position" ∷ state_word a ∷ state_word b ∷ state_word c ∷ state_word d ∷ []) ≡ Ok
-    (a ∷ b ∷ c ∷ d ∷ [])
-unfolding positions_line
-positions_back a b c d = rw (state_back a, state_back b, state_back c, state_back d) refl
+-- a line of a keyword and fields
+pub keyed_back : {A : Type 0} (name : Word) (field : FieldOf A) → keyword name name ≡ Ok tt → IsReadBack field → (x : A)
+    → field.Fits x → keyed name field (name ∷ field.written x) ≡ Ok x
+keyed_back name field is back x fits = rw (is, whole_back field back x fits) refl
 
-pub aspects_back : (a b c d : ℕ) → a < 256 → b < 256 → c < 256 → d < 256
-    → aspects_line (codes "aspect" ∷ decimal a ∷ decimal b ∷ decimal c ∷ decimal d ∷ []) ≡ Ok (a ∷ b ∷ c ∷ d ∷ [])
-unfolding aspects_line
-aspects_back a b c d ha hb hc hd =
-    rw (small_number-decimal a ha, small_number-decimal b hb, small_number-decimal c hc, small_number-decimal d hd) refl
+pub four_back : {A : Type 0} (field : FieldOf A) → IsReadBack field → IsReadBack (four field)
+four_back field back =
+    both_back field (both field (both field field)) back
+    (both_back field (both field field) back (both_back field field back back))

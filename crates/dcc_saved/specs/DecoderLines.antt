@@ -8,9 +8,11 @@ use Rattle.dcc_packet.specs.declared.packet.Packet.{Packet}
 use Rattle.dcc_packet.specs.declared.fault.PacketFault.{PacketFault}
 use Rattle.dcc_packet.specs.declared.fault.PacketFault.TheVariants as faults
 use Rattle.dcc_packet.specs.Words.{Word, is_word}
-use Rattle.dcc_packet.specs.LineWords.{◌>>=◌, small_number, address, direction, cv_number, bit_state, board_number}
+use Rattle.dcc_packet.specs.LineWords.{◌>>=◌, small_number, address, direction, cv_number, board_number}
 use Rattle.dcc_packet.specs.LineWords.{output_number, hex_frame}
-use Rattle.dcc_packet.specs.Line.{word_and_rest, no_more_words}
+use Rattle.dcc_packet.specs.declared.fields.Side.{Side}
+use Rattle.dcc_packet.specs.Fields.{FieldOf, both, whole, word_and_rest, no_more_words}
+use Rattle.dcc_packet.specs.LineFields.{side_field, small_field}
 use Rattle.dcc_regs.specs.declared.register.Who.TheVariants as who
 use Rattle.dcc_regs.specs.declared.register.Speed.{Speed}
 use Rattle.dcc_regs.specs.declared.register.Speed.TheVariants as speeds
@@ -206,24 +208,26 @@ unfoldable pub loco_line : ℕ → List Word → Result LocoLine PacketFault
 loco_line least [] = Err faults.Word
 loco_line least (word ∷ rest) = loco_line_after least word rest
 
+-- a line of this keyword and these fields, with which it ends
+abbrev pub keyed : {A : Type 0} → List ℕ → FieldOf A → List Word → Result A PacketFault
+keyed name field line = do
+  key ← word_and_rest (keyword name) line
+  whole field key.1
+
+-- four fields of a kind
+abbrev pub Four : Type 0 → Type 0
+Four A = A × (A × (A × A))
+
+abbrev pub four : {A : Type 0} → FieldOf A → FieldOf (Four A)
+four field = both field (both field (both field field))
+
+abbrev pub listed : {A : Type 0} → Four A → List A
+listed x = x.0 ∷ x.1.0 ∷ x.1.1.0 ∷ x.1.1.1 ∷ []
+
 -- position SIDE SIDE SIDE SIDE
-unfoldable pub positions_line : List Word → Result (List Bool) PacketFault
-positions_line line = do
-  key ← word_and_rest (keyword (codes "position")) line
-  first ← word_and_rest bit_state key.1
-  second ← word_and_rest bit_state first.1
-  third ← word_and_rest bit_state second.1
-  fourth ← word_and_rest bit_state third.1
-  end ← no_more_words fourth.1
-  Ok (first.0 ∷ second.0 ∷ third.0 ∷ fourth.0 ∷ [])
+abbrev pub positions_line : List Word → Result (Four Side) PacketFault
+positions_line line = keyed (codes "position") (four side_field) line
 
 -- aspect ASPECT ASPECT ASPECT ASPECT
-unfoldable pub aspects_line : List Word → Result (List ℕ) PacketFault
-aspects_line line = do
-  key ← word_and_rest (keyword (codes "aspect")) line
-  first ← word_and_rest small_number key.1
-  second ← word_and_rest small_number first.1
-  third ← word_and_rest small_number second.1
-  fourth ← word_and_rest small_number third.1
-  end ← no_more_words fourth.1
-  Ok (first.0 ∷ second.0 ∷ third.0 ∷ fourth.0 ∷ [])
+abbrev pub aspects_line : List Word → Result (Four ℕ) PacketFault
+aspects_line line = keyed (codes "aspect") (four small_field) line

@@ -8,7 +8,9 @@ use Rattle.dcc_packet.specs.declared.accessory.Board.{Board}
 use Rattle.dcc_packet.specs.declared.packet.Packet.{Packet}
 use Rattle.dcc_packet.specs.Spelling.{spelling}
 use Rattle.dcc_packet.specs.Words.{Word}
-use Rattle.dcc_packet.specs.Written.{address_word, direction_word}
+use Rattle.dcc_packet.specs.Written.{address_word, direction_word, spaced_words}
+use Rattle.dcc_packet.specs.Fields.{FieldOf}
+use Rattle.dcc_packet.specs.LineFields.{small_field}
 use Rattle.dcc_regs.specs.declared.register.Who.{Who}
 use Rattle.dcc_regs.specs.declared.register.Who.TheVariants as who
 use Rattle.dcc_regs.specs.declared.register.Speed.{Speed}
@@ -22,6 +24,11 @@ use Rattle.dcc_io.specs.Spaced.{behind_space}
 use Rattle.dcc_saved.specs.declared.decoder_line.Numbered.{Numbered}
 use Rattle.dcc_saved.specs.declared.decoder_line.Numbered.TheVariants as kinds
 use Rattle.dcc_saved.specs.Numbered.{name_of, end_of, register_of}
+use Rattle.dcc_saved.specs.DecoderLines.{Four, four}
+
+-- a line of this keyword and these fields
+abbrev pub line_text : {A : Type 0} → List ℕ → FieldOf A → A → List ℕ
+line_text name field x = (name ++ spaced_words (field.written x)) ++ codes "\n"
 
 -- what a register of a decoder holds, and where it has no such register what a new decoder holds
 abbrev pub speed_held : Option Value → Speed
@@ -94,16 +101,16 @@ loco_front address m =
 abbrev pub board_line : Board → List ℕ
 board_line board = (codes "board" ++ behind_space board.number) ++ codes "\n"
 
-abbrev pub four_numbers : (ℕ → ℕ) → List ℕ
-four_numbers numbers =
-    behind_space (numbers 0)
-    ++ (behind_space (numbers 1) ++ (behind_space (numbers 2) ++ (behind_space (numbers 3) ++ codes "\n")))
+abbrev pub first_four : (ℕ → ℕ) → Four ℕ
+first_four numbers = (numbers 0, (numbers 1, (numbers 2, numbers 3)))
 
 abbrev pub written_positions : RegisterMap → List ℕ
-written_positions m = codes "position" ++ four_numbers (λ n. number_held (m (registers.Position n)))
+written_positions m =
+    line_text (codes "position") (four small_field) (first_four (λ n. number_held (m (registers.Position n))))
 
 abbrev pub written_aspects : RegisterMap → List ℕ
-written_aspects m = codes "aspect" ++ four_numbers (λ n. number_held (m (registers.Aspect n)))
+written_aspects m =
+    line_text (codes "aspect") (four small_field) (first_four (λ n. number_held (m (registers.Aspect n))))
 
 abbrev pub board_text : Board → RegisterMap → List ℕ
 board_text board m = board_line board ++ (written_numbers kinds.Out m ++ (written_positions m ++ written_aspects m))

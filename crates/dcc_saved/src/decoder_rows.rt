@@ -1,5 +1,5 @@
 //! The lines that are written for a decoder.
-ghost use Rattle.std.specs.Prelude.{◌≡◌, ◌+◌, ◌≤◌, ◌++◌, ◌∷◌, codes, if◌then◌else◌};
+ghost use Rattle.std.specs.Prelude.{◌≡◌, ◌+◌, ◌≤◌, ◌++◌, ◌∷◌, codes, length, if◌then◌else◌};
 ghost use Rattle.arrayvec.specs.ArrayVec.{array_vec_len};
 ghost use Rattle.dcc_packet.specs.Written.{address_word, direction_word};
 ghost use Rattle.dcc_regs.specs.Loco.{holds_one as is_on_value, cv_held};
@@ -8,13 +8,14 @@ ghost use Rattle.dcc_saved.specs.FleetText.{speed_held, forward_held, pending_he
 ghost use Rattle.dcc_saved.specs.FleetText.{own_address_word, speed_text, pending_text, cv_line, loco_address_line};
 ghost use Rattle.dcc_saved.specs.FleetText.{written_speed, written_numbers, written_pending};
 ghost use Rattle.dcc_saved.specs.FleetText.{loco_front};
-ghost use Rattle.dcc_saved.specs.FleetText.{board_line, four_numbers, written_positions};
+ghost use Rattle.dcc_saved.specs.FleetText.{board_line, line_text, written_positions};
 ghost use Rattle.dcc_saved.specs.FleetText.{written_aspects};
 ghost use Rattle.dcc_saved.specs.FleetText.{board_text};
 
 use crate::decoder_line::Numbered;
 use arrayvec::ArrayVec;
 use dcc_io::{append, append_decimal, append_hex};
+use dcc_packet::field::{Field, Line};
 use dcc_packet::{Address, Board, Packet};
 use dcc_regs::{Decoder, Register, Speed, Value};
 
@@ -238,42 +239,63 @@ pub(crate) fn cv_line(cv: u16, value: u8) -> Rows
     rows
 }
 
-fn append_position_line(rows: &mut Rows, decoder: &dyn Decoder)
-    requires { array_vec_len rows.old + 60 ≤ 4096 }
-    ensures items { rows.new.items ≡ rows.old.items ++ written_positions (registers decoder.now) }
-    ensures len { array_vec_len rows.new ≤ array_vec_len rows.old + 60 }
+/// Adds the line that begins with this word and has these fields.
+fn append_line<F: Field>(rows: &mut Rows, name: &str, fields: &F)
+    requires rows { array_vec_len rows.old + 41 ≤ 4096 }
+    requires line { length name.now + F.most ≤ 40 }
+    ensures items { rows.new.items ≡ rows.old.items ++ line_text name.now F.field fields.now }
+    ensures len { array_vec_len rows.new ≤ array_vec_len rows.old + 41 }
 {
-    append(rows, b"position");
-    append_number(
-        rows,
-        u32::from(number_in(decoder.get(Register::Position(0)))),
-    );
-    append_number(
-        rows,
-        u32::from(number_in(decoder.get(Register::Position(1)))),
-    );
-    append_number(
-        rows,
-        u32::from(number_in(decoder.get(Register::Position(2)))),
-    );
-    append_number(
-        rows,
-        u32::from(number_in(decoder.get(Register::Position(3)))),
-    );
+    let mut line = Line::new();
+    line.push_str(name);
+    fields.put(&mut line);
+    append(rows, line.as_bytes());
     append(rows, b"\n");
 }
 
-fn append_aspect_line(rows: &mut Rows, decoder: &dyn Decoder)
-    requires { array_vec_len rows.old + 60 ≤ 4096 }
-    ensures items { rows.new.items ≡ rows.old.items ++ written_aspects (registers decoder.now) }
-    ensures len { array_vec_len rows.new ≤ array_vec_len rows.old + 60 }
+fn position(decoder: &dyn Decoder, n: u8) -> u8
+    ensures { result ≡ number_held (registers decoder.now (Register.Position n)) }
 {
-    append(rows, b"aspect");
-    append_number(rows, u32::from(number_in(decoder.get(Register::Aspect(0)))));
-    append_number(rows, u32::from(number_in(decoder.get(Register::Aspect(1)))));
-    append_number(rows, u32::from(number_in(decoder.get(Register::Aspect(2)))));
-    append_number(rows, u32::from(number_in(decoder.get(Register::Aspect(3)))));
-    append(rows, b"\n");
+    number_in(decoder.get(Register::Position(n)))
+}
+
+fn aspect(decoder: &dyn Decoder, n: u8) -> u8
+    ensures { result ≡ number_held (registers decoder.now (Register.Aspect n)) }
+{
+    number_in(decoder.get(Register::Aspect(n)))
+}
+
+fn append_position_line(rows: &mut Rows, decoder: &dyn Decoder)
+    requires { array_vec_len rows.old + 41 ≤ 4096 }
+    ensures items { rows.new.items ≡ rows.old.items ++ written_positions (registers decoder.now) }
+    ensures len { array_vec_len rows.new ≤ array_vec_len rows.old + 41 }
+{
+    append_line(
+        rows,
+        "position",
+        &(
+            position(decoder, 0),
+            (
+                position(decoder, 1),
+                (position(decoder, 2), position(decoder, 3)),
+            ),
+        ),
+    );
+}
+
+fn append_aspect_line(rows: &mut Rows, decoder: &dyn Decoder)
+    requires { array_vec_len rows.old + 41 ≤ 4096 }
+    ensures items { rows.new.items ≡ rows.old.items ++ written_aspects (registers decoder.now) }
+    ensures len { array_vec_len rows.new ≤ array_vec_len rows.old + 41 }
+{
+    append_line(
+        rows,
+        "aspect",
+        &(
+            aspect(decoder, 0),
+            (aspect(decoder, 1), (aspect(decoder, 2), aspect(decoder, 3))),
+        ),
+    );
 }
 
 /// The lines of an accessory decoder.

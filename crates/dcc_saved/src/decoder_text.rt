@@ -8,20 +8,20 @@ ghost use Rattle.dcc_saved.specs.Inner.RequiredLine.{TakesLine, Judges};
 ghost use Rattle.dcc_saved.specs.TextReader.{line_by};
 ghost use Rattle.dcc_saved.specs.TextRead.{Answers};
 ghost use Rattle.dcc_saved.specs.DecoderLines.{version_line, head_line, speed_line, numbers_line};
-ghost use Rattle.dcc_saved.specs.DecoderLines.{pending_line, loco_line, positions_line, aspects_line};
+ghost use Rattle.dcc_saved.specs.DecoderLines.{pending_line, loco_line, keyed};
 ghost use Rattle.dcc_saved.specs.Numbered.{end_of};
 ghost use Rattle.dcc_saved.specs.DecoderText.{board_lines, cvs_lines, decoder_lines, loco_lines, states_by};
 ghost use Rattle.dcc_saved.specs.PossibleLines.{IsPossibleHead, IsSoundLine, is_possible};
 
-use crate::decoder_line::{Head, LocoLine, Numbered, Version};
+use crate::decoder_line::{Four, Head, LocoLine, Numbered, Version};
 use crate::decoder_words::{
-    aspects_line, head_line, loco_line, numbers_line, pending_line, positions_line, speed_line,
-    version_line,
+    head_line, keyed, loco_line, numbers_line, pending_line, speed_line, version_line,
 };
 use crate::saved::Saved;
 use dcc_io::inputs::{line_of_next_byte, next_line, refuse_line};
 use dcc_io::{Input, KeptFault, Source, TextLine};
-use dcc_packet::{Address, Board, Packet, PacketFault};
+use dcc_packet::field::Field;
+use dcc_packet::{Address, Board, Packet, PacketFault, Side};
 use dcc_regs::{BoardState, LocoState, Speed, Who};
 
 /// The next line. Where there is none, the line behind the last is out of place.
@@ -136,22 +136,14 @@ fn read_loco_line<R: Source>(input: &mut Input<R>, least: u16) -> Result<LocoLin
     judge(input, line.number, loco_line(line.text.as_bytes(), least))
 }
 
-/// The line of the positions.
-fn read_positions<R: Source>(input: &mut Input<R>) -> Result<[bool; 4], KeptFault>
+/// The fields of the line that begins with this word.
+fn read_keyed<R: Source, F: Field + Copy>(input: &mut Input<R>, name: &[u8]) -> Result<F, KeptFault>
     requires { input.old.fault ≡ None }
-    ensures { Answers (line_by positions_line) input.old result input.new }
+    ensures reads { Answers (line_by (keyed name.now F.field)) input.old result input.new }
+    ensures fits { IfOk result F.field.Fits }
 {
     let line = line_in_place(input)?;
-    judge(input, line.number, positions_line(line.text.as_bytes()))
-}
-
-/// The line of the aspects.
-fn read_aspects<R: Source>(input: &mut Input<R>) -> Result<[u8; 4], KeptFault>
-    requires { input.old.fault ≡ None }
-    ensures { Answers (line_by aspects_line) input.old result input.new }
-{
-    let line = line_in_place(input)?;
-    judge(input, line.number, aspects_line(line.text.as_bytes()))
+    judge(input, line.number, keyed(name, line.text.as_bytes()))
 }
 
 /// The CVs and the line behind them.
@@ -209,14 +201,19 @@ fn read_board<R: Source>(input: &mut Input<R>, board: Board) -> Result<(Saved, H
     ensures possible { IfOk result (λ read. (is_possible read.0 ≡ true) × IsPossibleHead read.1) }
 {
     let outs = read_numbers(input, Numbered::Out)?;
-    let positions = read_positions(input)?;
-    let aspects = read_aspects(input)?;
+    let positions: Four<Side> = read_keyed(input, b"position")?;
+    let aspects: Four<u8> = read_keyed(input, b"aspect")?;
     let head = read_head(input)?;
     let state = BoardState {
         board,
         outs: outs as u8,
-        positions,
-        aspects,
+        positions: [
+            positions.0.one,
+            positions.1.0.one,
+            positions.1.1.0.one,
+            positions.1.1.1.one,
+        ],
+        aspects: [aspects.0, aspects.1.0, aspects.1.1.0, aspects.1.1.1],
     };
     Ok((Saved::Board(state), head))
 }

@@ -12,16 +12,16 @@ ghost use Rattle.dcc_saved.specs.DecoderLines.{speed_of, speed_after, speed_line
 ghost use Rattle.dcc_saved.specs.DecoderLines.{number_of, numbers_from, numbers_line, pending_word};
 ghost use Rattle.dcc_saved.specs.DecoderLines.{pending_line, cv_words, loco_line_after, loco_line};
 ghost use Rattle.dcc_saved.specs.Numbered.{end_of};
-ghost use Rattle.dcc_saved.specs.DecoderLines.{positions_line, aspects_line};
+ghost use Rattle.dcc_saved.specs.DecoderLines.{keyed};
 ghost use Rattle.dcc_saved.specs.Inner.DecoderWords.{Gives, TakesKeyword, TakesSpeed};
 ghost use Rattle.dcc_packet.specs.Line.{word_and_rest};
-ghost use Rattle.dcc_packet.specs.LineWords.{bit_state, small_number};
 ghost use Rattle.dcc_saved.specs.PendingWrite.{pending_write};
 ghost use Rattle.dcc_saved.specs.PossibleLines.{IsPossibleHead, IsSoundLine};
 
 use crate::decoder_line::{Head, LocoLine, Numbered, Version};
+use dcc_packet::field::Field;
 use dcc_packet::line_word::{
-    address, bit_state, board_number, cv_number, direction, hex_frame, output_number,
+    address, board_number, cv_number, direction, hex_frame, output_number,
 };
 use dcc_packet::numeral::small_number;
 use dcc_packet::words::Words;
@@ -363,32 +363,12 @@ pub fn loco_line(line: &[u8], least: u16) -> Result<LocoLine, PacketFault>
     loco_line_after(word, &mut words, least)
 }
 
-/// `position SIDE SIDE SIDE SIDE`
-#[tactic(auto, unfolding(crate::specs::DecoderLines::positions_line))]
-pub fn positions_line(line: &[u8]) -> Result<[bool; 4], PacketFault>
-    ensures { result ≡ positions_line (words line.now) }
+/// The fields of a line that begins with this word.
+pub fn keyed<F: Field>(name: &[u8], line: &[u8]) -> Result<F, PacketFault>
+    ensures is { result ≡ keyed name.now F.field (words line.now) }
+    ensures fits { IfOk result F.field.Fits }
 {
     let mut words = Words::new(line);
-    take_keyword(&mut words, b"position")?;
-    let first = words.word().and_then(bit_state)?;
-    let second = words.word().and_then(bit_state)?;
-    let third = words.word().and_then(bit_state)?;
-    let fourth = words.word().and_then(bit_state)?;
-    words.end()?;
-    Ok([first, second, third, fourth])
-}
-
-/// `aspect ASPECT ASPECT ASPECT ASPECT`
-#[tactic(auto, unfolding(crate::specs::DecoderLines::aspects_line))]
-pub fn aspects_line(line: &[u8]) -> Result<[u8; 4], PacketFault>
-    ensures { result ≡ aspects_line (words line.now) }
-{
-    let mut words = Words::new(line);
-    take_keyword(&mut words, b"aspect")?;
-    let first = words.word().and_then(small_number)?;
-    let second = words.word().and_then(small_number)?;
-    let third = words.word().and_then(small_number)?;
-    let fourth = words.word().and_then(small_number)?;
-    words.end()?;
-    Ok([first, second, third, fourth])
+    take_keyword(&mut words, name)?;
+    words.fields()
 }
