@@ -1,13 +1,13 @@
 -- The fields of packet lines are read back.
 use Rattle.std.proofs.Common.{refl, arith}
 use Rattle.std.specs.Fmt.{decimal}
-use Rattle.dcc_packet.specs.LineWords.{board_number, output_number, signal_number, state_word, switch_word}
+use Rattle.dcc_packet.specs.LineWords.{board_number, output_number, signal_number, direction_word, state_word, switch_word}
 use Rattle.dcc_packet.specs.Fields.{both, IsReadBack}
-use Rattle.dcc_packet.specs.LineFields.{board_field, output_field, signal_field, switch_field, switch_of, side_field, side_of, small_field}
+use Rattle.dcc_packet.specs.LineFields.{board_field, output_field, signal_field, switch_field, switch_of, direction_field, direction_of, side_field, side_of, small_field}
 use Rattle.dcc_packet.specs.LineFields.{accessory_fields, signal_fields}
 use Rattle.dcc_packet.proofs.FieldsBack.{one_word_back, both_back}
-use Rattle.dcc_packet.proofs.Tokens.{decimal_token, state_token, switch_token}
-use Rattle.dcc_packet.proofs.WordsBack.{small_number-decimal, state_back, switch_back, board_back, output_back, signal_back}
+use Rattle.dcc_packet.proofs.Tokens.{decimal_token, direction_token, state_token, switch_token}
+use Rattle.dcc_packet.proofs.WordsBack.{small_number-decimal, direction_back, state_back, switch_back, board_back, output_back, signal_back}
 
 pub board_is_back : IsReadBack board_field
 board_is_back =
@@ -27,6 +27,11 @@ pub switch_is_back : IsReadBack switch_field
 switch_is_back =
     one_word_back switch_of (λ switch. switch_word switch.on) (λ switch. rw (switch_back switch.on) refl)
     (λ switch. switch_token switch.on)
+
+pub direction_is_back : IsReadBack direction_field
+direction_is_back =
+    one_word_back direction_of (λ direction. direction_word direction.forward)
+    (λ direction. rw (direction_back direction.forward) refl) (λ direction. direction_token direction.forward)
 
 pub side_is_back : IsReadBack side_field
 side_is_back =

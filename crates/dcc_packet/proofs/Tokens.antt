@@ -7,7 +7,7 @@ use Rattle.std.proofs.lemmas.Bool.{and_parts}
 use Rattle.std.proofs.lemmas.Bool.Decides.{nat_tests}
 use Rattle.std.proofs.lemmas.Fmt.{decimal_is_IsNumeral}
 use Rattle.dcc_packet.specs.Words.{Word, is_separator}
-use Rattle.dcc_packet.specs.LineWords.{state_word, switch_word}
+use Rattle.dcc_packet.specs.LineWords.{direction_word, state_word, switch_word}
 use Rattle.dcc_packet.specs.Fields.{is_plain, IsToken}
 use Rattle.dcc_packet.proofs.Decimal.{short}
 use Rattle.dcc_packet.proofs.WrittenWords.{literal, test_from_digits, IsWord-decimal}
@@ -31,6 +31,10 @@ decimal_plain n h =
 
 pub decimal_token : (n : ℕ) → n < 65536 → IsToken (decimal n)
 decimal_token n h = record { word_is = IsWord-decimal n h; plain = decimal_plain n h; short = omega (arith, short n h) }
+
+pub direction_token : (forward : Bool) → IsToken (direction_word forward)
+direction_token true = keyword_token (codes "f") (omega arith) refl refl (omega arith)
+direction_token false = keyword_token (codes "r") (omega arith) refl refl (omega arith)
 
 pub state_token : (one : Bool) → IsToken (state_word one)
 state_token true = keyword_token (codes "1") (omega arith) refl refl (omega arith)

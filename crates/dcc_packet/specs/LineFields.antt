@@ -5,10 +5,11 @@ use Rattle.dcc_packet.specs.declared.accessory.Board.{Board}
 use Rattle.dcc_packet.specs.declared.accessory.Output.{Output}
 use Rattle.dcc_packet.specs.declared.accessory.SignalAddress.{SignalAddress}
 use Rattle.dcc_packet.specs.declared.fault.PacketFault.{PacketFault}
+use Rattle.dcc_packet.specs.declared.fields.Direction.{Direction}
 use Rattle.dcc_packet.specs.declared.fields.Side.{Side}
 use Rattle.dcc_packet.specs.declared.fields.Switch.{Switch}
 use Rattle.dcc_packet.specs.LineWords.{◌>>=◌, small_number, board_number, output_number, switch, signal_number}
-use Rattle.dcc_packet.specs.LineWords.{bit_state, state_word, switch_word}
+use Rattle.dcc_packet.specs.LineWords.{direction, bit_state, direction_word, state_word, switch_word}
 use Rattle.dcc_packet.specs.Words.{Word}
 use Rattle.dcc_packet.specs.Fields.{FieldOf, one_word, both, word_and_rest}
 
@@ -32,6 +33,15 @@ switch_of word = do
 -- on or off
 abbrev pub switch_field : FieldOf Switch
 switch_field = one_word switch_of (λ switch. switch_word switch.on)
+
+abbrev pub direction_of : Word → Result Direction PacketFault
+direction_of word = do
+  forward ← direction word
+  Ok (record { forward = forward })
+
+-- f for forward, r for reverse
+abbrev pub direction_field : FieldOf Direction
+direction_field = one_word direction_of (λ direction. direction_word direction.forward)
 
 abbrev pub side_of : Word → Result Side PacketFault
 side_of word = do

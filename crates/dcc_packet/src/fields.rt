@@ -1,11 +1,11 @@
 //! The fields of packet lines.
 ghost use Rattle.dcc_packet.specs.LineFields.{board_field, output_field, signal_field, switch_field, side_field};
-ghost use Rattle.dcc_packet.specs.LineFields.{small_field};
+ghost use Rattle.dcc_packet.specs.LineFields.{direction_field, small_field};
 
 use crate::field::{Field, Line};
-use crate::line_word::{bit_state, board_number, output_number, signal_number, switch};
+use crate::line_word::{bit_state, board_number, direction, output_number, signal_number, switch};
 use crate::numeral::small_number;
-use crate::to_line_word::{put_number, put_word, state_word, switch_word};
+use crate::to_line_word::{direction_word, put_number, put_word, state_word, switch_word};
 use crate::words::Words;
 use crate::{Board, Output, PacketFault, SignalAddress};
 
@@ -14,6 +14,13 @@ use crate::{Board, Output, PacketFault, SignalAddress};
 pub struct Switch {
     /// Whether it is `on`.
     pub on: bool,
+}
+
+/// The direction in which a locomotive runs, `f` or `r`.
+#[derive(Clone, Copy)]
+pub struct Direction {
+    /// Whether it is forward.
+    pub forward: bool,
 }
 
 /// The side of a pair of outputs, `1` or `0`.
@@ -89,6 +96,24 @@ impl Field for Switch {
     }
 
     #[tactic(auto, using(crate::proofs::LineFieldsBack::switch_is_back))]
+    fn is_read_back() {}
+}
+
+impl Field for Direction {
+    ghost field = { direction_field };
+
+    ghost most = { 2 };
+
+    fn take(words: &mut Words) -> Result<Direction, PacketFault> {
+        let forward = words.word().and_then(direction)?;
+        Ok(Direction { forward })
+    }
+
+    fn put(&self, line: &mut Line) {
+        put_word(line, direction_word(self.forward));
+    }
+
+    #[tactic(auto, using(crate::proofs::LineFieldsBack::direction_is_back))]
     fn is_read_back() {}
 }
 

@@ -7,7 +7,7 @@ use Rattle.dcc_packet.specs.declared.accessory.Board.{Board}
 use Rattle.dcc_packet.specs.declared.address.Address.{Address}
 use Rattle.dcc_packet.specs.declared.cv.CvNumber.{CvNumber}
 use Rattle.dcc_packet.specs.declared.packet.Packet.{Packet}
-use Rattle.dcc_regs.specs.declared.register.Speed.{Speed}
+use Rattle.dcc_saved.specs.declared.decoder_fields.SavedSpeed.{SavedSpeed}
 use Rattle.dcc_io.specs.declared.fault.KeptFault.{KeptFault}
 use Rattle.dcc_io.specs.declared.fault.KeptFault.TheVariants.{Number, Line, Read, TooMuch}
 use Rattle.dcc_io.specs.Faults.{as_tool_fault}
@@ -21,6 +21,7 @@ use Rattle.dcc_io.specs.InputState.{InputState}
 use Rattle.dcc_io.specs.Took.{Uses}
 use Rattle.dcc_saved.specs.DecoderLines.{version_line, head_line, speed_line, numbers_line, pending_line, loco_line}
 use Rattle.dcc_saved.specs.declared.decoder_line.Numbered.TheVariants as kinds
+use Rattle.dcc_packet.specs.declared.fields.Direction.{Direction}
 use Rattle.dcc_packet.specs.declared.fields.Side.{Side}
 use Rattle.dcc_saved.specs.DecoderLines.{Four, positions_line, aspects_line}
 use Rattle.dcc_saved.specs.TextReader.{Text, Reader, ◌>>=◌, done, stop_at, line_by}
@@ -53,14 +54,14 @@ unfolding board_lines
 Leads-board board old fault = Leads-start (board_lines board) old fault
 
 -- what follows each line of a locomotive decoder
-abbrev pub behind_cvs : Option Address → Speed × Bool → ℕ → ℕ → Option Packet → List ℕ × Head → Reader (Saved × Head)
+abbrev pub behind_cvs : Option Address → SavedSpeed × Direction → ℕ → ℕ → Option Packet → List ℕ × Head → Reader (Saved × Head)
 behind_cvs address speed functions states pending cvs =
     done (
       saved.Loco
           (record {
             address = address;
-            speed = speed.0;
-            forward = speed.1;
+            speed = speed.0.speed;
+            forward = speed.1.forward;
             functions = functions;
             states = states;
             pending = pending;
@@ -69,17 +70,17 @@ behind_cvs address speed functions states pending cvs =
       cvs.1,
     )
 
-abbrev pub behind_pending : Option Address → Speed × Bool → ℕ → ℕ → Option Packet → Reader (Saved × Head)
+abbrev pub behind_pending : Option Address → SavedSpeed × Direction → ℕ → ℕ → Option Packet → Reader (Saved × Head)
 behind_pending address speed functions states pending = cvs_lines >>= behind_cvs address speed functions states pending
 
-abbrev pub behind_states : Option Address → Speed × Bool → ℕ → ℕ → Reader (Saved × Head)
+abbrev pub behind_states : Option Address → SavedSpeed × Direction → ℕ → ℕ → Reader (Saved × Head)
 behind_states address speed functions states =
     line_by (pending_line address) >>= behind_pending address speed functions states
 
-abbrev pub behind_functions : Version → Option Address → Speed × Bool → ℕ → Reader (Saved × Head)
+abbrev pub behind_functions : Version → Option Address → SavedSpeed × Direction → ℕ → Reader (Saved × Head)
 behind_functions version address speed functions = states_by version >>= behind_states address speed functions
 
-abbrev pub behind_speed : Version → Option Address → Speed × Bool → Reader (Saved × Head)
+abbrev pub behind_speed : Version → Option Address → SavedSpeed × Direction → Reader (Saved × Head)
 behind_speed version address speed = line_by (numbers_line kinds.Function) >>= behind_functions version address speed
 
 pub Leads-loco : (version : Version) (address : Option Address) (old : InputState) → old.fault ≡ None

@@ -20,19 +20,20 @@ use Rattle.dcc_saved.specs.declared.decoder_line.Numbered.{Numbered}
 use Rattle.dcc_saved.specs.declared.decoder_line.Numbered.TheVariants as kinds
 use Rattle.dcc_saved.specs.Numbered.{name_of, end_of}
 use Rattle.dcc_saved.specs.DecoderLines.{numbers_line, speed_line, pending_line}
-use Rattle.dcc_saved.specs.DecoderLines.{keyword, keyed, Four, four, positions_line, aspects_line}
+use Rattle.dcc_saved.specs.DecoderLines.{keyword, keyed, Four, four, speed_words, speed_field, positions_line, aspects_line}
 use Rattle.dcc_packet.specs.declared.fields.Side.{Side}
-use Rattle.dcc_packet.specs.Fields.{FieldOf, IsReadBack}
-use Rattle.dcc_packet.specs.LineFields.{side_field, small_field}
-use Rattle.dcc_packet.proofs.LineFieldsBack.{side_is_back, small_is_back}
-use Rattle.dcc_saved.specs.FleetText.{line_text, numbers_below, speed_text, pending_text, first_four}
+use Rattle.dcc_packet.specs.Fields.{FieldOf, both, IsReadBack}
+use Rattle.dcc_packet.specs.LineFields.{direction_field, side_field, small_field}
+use Rattle.dcc_packet.proofs.LineFieldsBack.{direction_is_back, side_is_back, small_is_back}
+use Rattle.dcc_saved.specs.FleetText.{line_text, numbers_below, pending_text, first_four}
 use Rattle.dcc_saved.specs.TextReader.{line_by}
 use Rattle.dcc_saved.proofs.LinesBack.{IsToken, at, line_back, few_back}
 use Rattle.dcc_saved.proofs.NumbersBack.{on_words, value_of, numbers_are, row_short, IsSoundRow, ons_are, value_bits}
 use Rattle.dcc_saved.proofs.PendingBack.{pending_back}
-use Rattle.dcc_saved.proofs.RulesBack.{speed_words, speed_back, keyed_back, four_back}
+use Rattle.dcc_saved.proofs.RulesBack.{speed_is_back, keyed_back, four_back}
+use Rattle.dcc_packet.proofs.FieldsBack.{both_back}
 use Rattle.dcc_packet.proofs.Tokens.{keyword_token, decimal_token}
-use Rattle.dcc_saved.proofs.TokensBack.{direction_token, on_tokens}
+use Rattle.dcc_saved.proofs.TokensBack.{on_tokens}
 use Rattle.dcc_saved.proofs.TokensBack.{pending_token}
 
 -- the line feed behind a line, and the text behind that
@@ -92,42 +93,17 @@ numbers_read kind on n text sound =
       bits = row_bits on (end_of kind);
     }
 
--- the speed
-speed_line_is : (speed : Speed) (word : Word)
-    → (codes "speed " ++ speed_text speed) ++ (32 ∷ word) ≡ codes "speed"
-    ++ spaced_words (speed_words speed (word ∷ []))
-speed_line_is Stop word = ap (λ (xs : List ℕ). codes "speed stop " ++ xs) (sym (append-nil word))
-speed_line_is Emergency word = ap (λ (xs : List ℕ). codes "speed emergency " ++ xs) (sym (append-nil word))
-speed_line_is (Step14 n) word =
-    ap (λ (xs : List ℕ). codes "speed 14 " ++ (decimal n ++ 32 ∷ xs)) (sym (append-nil word))
-speed_line_is (Step28 n) word =
-    ap (λ (xs : List ℕ). codes "speed 28 " ++ (decimal n ++ 32 ∷ xs)) (sym (append-nil word))
-speed_line_is (Step126 n) word =
-    ap (λ (xs : List ℕ). codes "speed 126 " ++ (decimal n ++ 32 ∷ xs)) (sym (append-nil word))
+-- a line of a keyword and a few fields
+pub fields_read : {A : Type 0} (name : Word) (field : FieldOf A) → keyword name name ≡ Ok tt → IsReadBack field → (x : A)
+    → field.Fits x → IsToken name → length (field.written x) ≤ 38 → (n : ℕ) (text : List ℕ)
+    → line_by (keyed name field) (at n (line_text name field x ++ text)) ≡ Ok (x, at (n + 1) text)
+fields_read name field is back x fits token few n text =
+    let line : List ℕ = name ++ spaced_words (field.written x) in
+    ap (λ (bytes : List ℕ). line_by (keyed name field) (at n bytes)) (fed line text)
+    ∙ few_back (keyed name field) x n line name (field.written x) text refl token (back.tokens x fits) few
+    (keyed_back name field is back x fits)
 
-step_small : (n last : ℕ) → last ≤ 126 → (nat_le 1 n && nat_le n last) ≡ true → n < 65536
-step_small n last few h =
-    let most = leb-true n last (and_parts (nat_le 1 n) (nat_le n last) h).1 in omega (arith, most, few)
-
-speed_tokens : (speed : Speed) (word : Word) → is_speed speed ≡ true → IsToken word
-    → AllByRecursion IsToken (speed_words speed (word ∷ []))
-speed_tokens Stop word h token = (keyword_token (codes "stop") (omega arith) refl refl (omega arith), (token, tt))
-speed_tokens Emergency word h token =
-    (keyword_token (codes "emergency") (omega arith) refl refl (omega arith), (token, tt))
-speed_tokens (Step14 n) word h token = (
-  keyword_token (codes "14") (omega arith) refl refl (omega arith),
-  (decimal_token n (step_small n 14 (omega arith) h), (token, tt)),
-)
-speed_tokens (Step28 n) word h token = (
-  keyword_token (codes "28") (omega arith) refl refl (omega arith),
-  (decimal_token n (step_small n 28 (omega arith) h), (token, tt)),
-)
-speed_tokens (Step126 n) word h token = (
-  keyword_token (codes "126") (omega arith) refl refl (omega arith),
-  (decimal_token n (step_small n 126 (omega arith) h), (token, tt)),
-)
-
-few_words : (speed : Speed) (word : Word) → length (speed_words speed (word ∷ [])) ≤ 38
+few_words : (speed : Speed) (word : Word) → length (speed_words speed ++ word ∷ []) ≤ 38
 few_words Stop word = omega arith
 few_words Emergency word = omega arith
 few_words (Step14 n) word = omega arith
@@ -136,19 +112,12 @@ few_words (Step126 n) word = omega arith
 
 pub speed_read : (speed : Speed) (forward : Bool) (n : ℕ) (text : List ℕ) → is_speed speed ≡ true
     → line_by speed_line
-    (at n (((codes "speed " ++ speed_text speed) ++ (32 ∷ direction_word forward ++ codes "\n")) ++ text)) ≡ Ok
-    ((speed, forward), at (n + 1) text)
+    (at n (line_text (codes "speed") (both speed_field direction_field) (record { speed = speed }, record { forward = forward }) ++ text)) ≡ Ok
+    ((record { speed = speed }, record { forward = forward }), at (n + 1) text)
 speed_read speed forward n text h =
-    let front : List ℕ = codes "speed " ++ speed_text speed in
-    ap (λ (bytes : List ℕ). line_by speed_line (at n bytes))
-    (ap (λ (bytes : List ℕ). bytes ++ text) (sym (append_assoc front (32 ∷ direction_word forward) (codes "\n")))
-    ∙ fed (front ++ (32 ∷ direction_word forward)) text)
-    ∙ few_back speed_line (speed, forward) n (front ++ (32 ∷ direction_word forward)) (codes "speed")
-    (speed_words speed (direction_word forward ∷ [])) text
-    (speed_line_is speed (direction_word forward)) (keyword_token (codes "speed") (omega arith) refl refl (omega arith))
-    (speed_tokens speed (direction_word forward) h (direction_token forward))
-    (few_words speed (direction_word forward))
-    (speed_back speed forward h)
+    fields_read (codes "speed") (both speed_field direction_field) refl
+    (both_back speed_field direction_field speed_is_back direction_is_back) (record { speed = speed }, record { forward = forward }) (h, tt)
+    (keyword_token (codes "speed") (omega arith) refl refl (omega arith)) (few_words speed (direction_word forward)) n text
 
 pub pending_read : (active : Option Address) (pending : Option Packet) (n : ℕ) (text : List ℕ)
     → is_pending_for active pending ≡ true
@@ -163,16 +132,6 @@ pending_read active pending n text h =
     (keyword_token (codes "pending") (omega arith) refl refl (omega arith)) (pending_token active pending h, tt)
     (omega arith)
     (pending_back active pending h)
-
--- a line of a keyword and a few fields
-pub fields_read : {A : Type 0} (name : Word) (field : FieldOf A) → keyword name name ≡ Ok tt → IsReadBack field → (x : A)
-    → field.Fits x → IsToken name → length (field.written x) ≤ 38 → (n : ℕ) (text : List ℕ)
-    → line_by (keyed name field) (at n (line_text name field x ++ text)) ≡ Ok (x, at (n + 1) text)
-fields_read name field is back x fits token few n text =
-    let line : List ℕ = name ++ spaced_words (field.written x) in
-    ap (λ (bytes : List ℕ). line_by (keyed name field) (at n bytes)) (fed line text)
-    ∙ few_back (keyed name field) x n line name (field.written x) text refl token (back.tokens x fits) few
-    (keyed_back name field is back x fits)
 
 pub aspects_read : (numbers : ℕ → ℕ) (n : ℕ) (text : List ℕ) → ((k : ℕ) → k ≤ 3 → numbers k < 256)
     → line_by aspects_line (at n (line_text (codes "aspect") (four small_field) (first_four numbers) ++ text)) ≡ Ok

@@ -1,5 +1,5 @@
 -- The words that are written for a decoder are read again.
-use Rattle.std.proofs.Common.{◌≡◌, ℕ, ◌<◌, ◌≤◌, Bool, true, false, ◌&&◌, eqb, nat_le, nat_lt, List, [], ◌∷◌, codes}
+use Rattle.std.proofs.Common.{◌≡◌, ℕ, ◌<◌, ◌≤◌, true, false, ◌&&◌, eqb, nat_le, nat_lt, List, [], ◌∷◌, ◌++◌, codes}
 use Rattle.std.proofs.Common.{Option, None, Some, Ok, refl, arith}
 use Rattle.std.specs.Fmt.{decimal}
 use Rattle.std.proofs.lemmas.Bool.{and_parts, le-ltb, leb-true}
@@ -19,16 +19,27 @@ use Rattle.dcc_regs.specs.Addresses.{is_active}
 use Rattle.dcc_regs.specs.Loco.{is_speed}
 use Rattle.dcc_saved.specs.declared.decoder_line.Head.TheVariants as heads
 use Rattle.dcc_saved.specs.declared.decoder_line.LocoLine.TheVariants as behind
+use Rattle.dcc_saved.specs.declared.decoder_line.Version.{Version}
 use Rattle.dcc_saved.specs.declared.decoder_line.Version.TheVariants as versions
-use Rattle.dcc_saved.specs.DecoderLines.{version_line, own_address, own_board, head_line, step_up_to, speed_line}
+use Rattle.dcc_saved.specs.DecoderLines.{version_number, version_word, version_field, own_address, own_board}
+use Rattle.dcc_saved.specs.DecoderLines.{head_line, step_up_to, speed_of, speed_words, speed_field}
 use Rattle.dcc_saved.specs.DecoderLines.{keyword, keyed, four, loco_line}
-use Rattle.dcc_packet.specs.Fields.{FieldOf, both, IsReadBack}
-use Rattle.dcc_packet.proofs.FieldsBack.{both_back, whole_back}
+use Rattle.dcc_packet.specs.Fields.{FieldOf, both, IsToken, IsReadBack}
+use Rattle.dcc_packet.proofs.FieldsBack.{one_word_back, both_back, whole_back}
+use Rattle.dcc_packet.proofs.Tokens.{keyword_token, decimal_token}
+use Rattle.std.specs.List.{AllByRecursion}
 use Rattle.dcc_saved.specs.FleetText.{own_address_word}
 
-pub version_back : version_line (codes "dcc-decoders" ∷ codes "2" ∷ []) ≡ Ok versions.Two
-unfolding version_line
-version_back = refl
+version_back : (version : Version) → version_number (version_word version) ≡ Ok version
+version_back versions.One = refl
+version_back versions.Two = refl
+
+version_token : (version : Version) → IsToken (version_word version)
+version_token versions.One = keyword_token (codes "1") (omega arith) refl refl (omega arith)
+version_token versions.Two = keyword_token (codes "2") (omega arith) refl refl (omega arith)
+
+pub version_is_back : IsReadBack version_field
+version_is_back = one_word_back version_number version_word version_back version_token
 
 own_address_back : (a : Option Address) → is_active a ≡ true → own_address (own_address_word a) ≡ Ok a
 own_address_back None h = refl
@@ -88,22 +99,35 @@ step_back last n h small =
     let high : nat_lt last n ≡ false = le-ltb last n most in
     rw (small_number-decimal n (omega arith), low, high) refl
 
--- the words of a speed
-abbrev pub speed_words : Speed → List Word → List Word
-speed_words Stop rest = codes "stop" ∷ rest
-speed_words Emergency rest = codes "emergency" ∷ rest
-speed_words (Step14 n) rest = codes "14" ∷ decimal n ∷ rest
-speed_words (Step28 n) rest = codes "28" ∷ decimal n ∷ rest
-speed_words (Step126 n) rest = codes "126" ∷ decimal n ∷ rest
+speed_words_back : (speed : Speed) (rest : List Word) → is_speed speed ≡ true
+    → speed_of (speed_words speed ++ rest) ≡ Ok (speed, rest)
+speed_words_back Stop rest h = refl
+speed_words_back Emergency rest h = refl
+speed_words_back (Step14 n) rest h = rw (step_back 14 n h (omega arith)) refl
+speed_words_back (Step28 n) rest h = rw (step_back 28 n h (omega arith)) refl
+speed_words_back (Step126 n) rest h = rw (step_back 126 n h (omega arith)) refl
 
-pub speed_back : (speed : Speed) (forward : Bool) → is_speed speed ≡ true
-    → speed_line (codes "speed" ∷ speed_words speed (direction_word forward ∷ [])) ≡ Ok (speed, forward)
-unfolding speed_line
-speed_back Stop forward h = rw (direction_back forward) refl
-speed_back Emergency forward h = rw (direction_back forward) refl
-speed_back (Step14 n) forward h = rw (step_back 14 n h (omega arith), direction_back forward) refl
-speed_back (Step28 n) forward h = rw (step_back 28 n h (omega arith), direction_back forward) refl
-speed_back (Step126 n) forward h = rw (step_back 126 n h (omega arith), direction_back forward) refl
+step_token : (n last : ℕ) → last ≤ 126 → (nat_le 1 n && nat_le n last) ≡ true → IsToken (decimal n)
+step_token n last few h =
+    let most = leb-true n last (and_parts (nat_le 1 n) (nat_le n last) h).1 in
+    decimal_token n (omega (arith, most, few))
+
+speed_tokens : (speed : Speed) → is_speed speed ≡ true → AllByRecursion IsToken (speed_words speed)
+speed_tokens Stop h = (keyword_token (codes "stop") (omega arith) refl refl (omega arith), tt)
+speed_tokens Emergency h = (keyword_token (codes "emergency") (omega arith) refl refl (omega arith), tt)
+speed_tokens (Step14 n) h =
+    (keyword_token (codes "14") (omega arith) refl refl (omega arith), (step_token n 14 (omega arith) h, tt))
+speed_tokens (Step28 n) h =
+    (keyword_token (codes "28") (omega arith) refl refl (omega arith), (step_token n 28 (omega arith) h, tt))
+speed_tokens (Step126 n) h =
+    (keyword_token (codes "126") (omega arith) refl refl (omega arith), (step_token n 126 (omega arith) h, tt))
+
+pub speed_is_back : IsReadBack speed_field
+speed_is_back =
+    record {
+      back = λ saved rest h. rw (speed_words_back saved.speed rest h) refl;
+      tokens = λ saved h. speed_tokens saved.speed h;
+    }
 
 -- a line of a keyword and fields
 pub keyed_back : {A : Type 0} (name : Word) (field : FieldOf A) → keyword name name ≡ Ok tt → IsReadBack field → (x : A)

@@ -38,10 +38,6 @@ address_token (Some (Long l)) =
       short = omega (arith, short l.number (omega arith));
     }
 
-pub direction_token : (forward : Bool) → IsToken (direction_word forward)
-direction_token true = record { word_is = IsWord-direction true; plain = refl; short = omega arith }
-direction_token false = record { word_is = IsWord-direction false; plain = refl; short = omega arith }
-
 pub on_tokens : (on : ℕ → Bool) (k c : ℕ) → k + c ≤ 1000 → AllByRecursion IsToken (on_words on k c)
 on_tokens on k zero h = tt
 on_tokens on k (suc c) h = go (on_tokens on (suc k) c (omega (arith, h))) (on k) refl

@@ -1,21 +1,24 @@
 -- The lines of a decoder text: what the words of each say, or the first fault from left to right. Of one
 -- word first the number decides, then its range, then its order.
-use Rattle.std.specs.Prelude.{ℕ, ◌+◌, ◌^◌, ◌==◌, nat_lt, Bool, List, [], ◌∷◌, codes, Option, None, Some, Result, Ok}
+use Rattle.std.specs.Prelude.{◌≡◌, ℕ, ◌+◌, ◌^◌, ◌==◌, nat_lt, true, List, [], ◌∷◌, codes, Option, None, Some, Result, Ok}
 use Rattle.std.specs.Prelude.{Err, if◌then◌else◌}
+use Rattle.std.specs.Fmt.{decimal}
 use Rattle.dcc_packet.specs.declared.accessory.Board.{Board}
 use Rattle.dcc_packet.specs.declared.address.Address.{Address}
 use Rattle.dcc_packet.specs.declared.packet.Packet.{Packet}
 use Rattle.dcc_packet.specs.declared.fault.PacketFault.{PacketFault}
 use Rattle.dcc_packet.specs.declared.fault.PacketFault.TheVariants as faults
 use Rattle.dcc_packet.specs.Words.{Word, is_word}
-use Rattle.dcc_packet.specs.LineWords.{◌>>=◌, small_number, address, direction, cv_number, board_number}
+use Rattle.dcc_packet.specs.LineWords.{◌>>=◌, small_number, address, cv_number, board_number}
 use Rattle.dcc_packet.specs.LineWords.{output_number, hex_frame}
+use Rattle.dcc_packet.specs.declared.fields.Direction.{Direction}
 use Rattle.dcc_packet.specs.declared.fields.Side.{Side}
-use Rattle.dcc_packet.specs.Fields.{FieldOf, both, whole, word_and_rest, no_more_words}
-use Rattle.dcc_packet.specs.LineFields.{side_field, small_field}
+use Rattle.dcc_packet.specs.Fields.{FieldOf, one_word, both, whole, word_and_rest, no_more_words}
+use Rattle.dcc_packet.specs.LineFields.{direction_field, side_field, small_field}
 use Rattle.dcc_regs.specs.declared.register.Who.TheVariants as who
 use Rattle.dcc_regs.specs.declared.register.Speed.{Speed}
 use Rattle.dcc_regs.specs.declared.register.Speed.TheVariants as speeds
+use Rattle.dcc_regs.specs.Loco.{is_speed}
 use Rattle.dcc_saved.specs.declared.decoder_line.Head.{Head}
 use Rattle.dcc_saved.specs.declared.decoder_line.Head.TheVariants as heads
 use Rattle.dcc_saved.specs.declared.decoder_line.Version.{Version}
@@ -26,10 +29,17 @@ use Rattle.dcc_saved.specs.declared.decoder_line.Numbered.{Numbered}
 use Rattle.dcc_saved.specs.declared.decoder_line.Numbered.TheVariants as kinds
 use Rattle.dcc_saved.specs.Numbered.{name_of}
 use Rattle.dcc_saved.specs.PendingWrite.{pending_write}
+use Rattle.dcc_saved.specs.declared.decoder_fields.SavedSpeed.{SavedSpeed}
 
 -- the word that begins a line of this kind
 abbrev pub keyword : List ℕ → Word → Result (Unit {0}) PacketFault
 keyword name word = if is_word word name then Ok tt else Err faults.Word
+
+-- a line of this keyword and these fields, with which it ends
+abbrev pub keyed : {A : Type 0} → List ℕ → FieldOf A → List Word → Result A PacketFault
+keyed name field line = do
+  key ← word_and_rest (keyword name) line
+  whole field key.1
 
 -- numbers ascend: each is at least the one after the number before it
 abbrev pub in_order : ℕ → ℕ → Result (Unit {0}) PacketFault
@@ -42,13 +52,16 @@ version_number word =
     else if is_word word (codes "2") then Ok versions.Two
     else Err faults.Word
 
+abbrev pub version_word : Version → Word
+version_word versions.One = codes "1"
+version_word versions.Two = codes "2"
+
 -- dcc-decoders VERSION
-unfoldable pub version_line : List Word → Result Version PacketFault
-version_line line = do
-  key ← word_and_rest (keyword (codes "dcc-decoders")) line
-  version ← word_and_rest version_number key.1
-  end ← no_more_words version.1
-  Ok version.0
+abbrev pub version_field : FieldOf Version
+version_field = one_word version_number version_word
+
+abbrev pub version_line : List Word → Result Version PacketFault
+version_line line = keyed (codes "dcc-decoders") version_field line
 
 abbrev pub some_address : Word → Result (Option Address) PacketFault
 some_address word = do
@@ -122,14 +135,30 @@ abbrev pub speed_of : List Word → Result (Speed × List Word) PacketFault
 speed_of [] = Err faults.Word
 speed_of (word ∷ rest) = speed_after word rest
 
+abbrev pub speed_words : Speed → List Word
+speed_words speeds.Stop = codes "stop" ∷ []
+speed_words speeds.Emergency = codes "emergency" ∷ []
+speed_words (speeds.Step14 n) = codes "14" ∷ decimal n ∷ []
+speed_words (speeds.Step28 n) = codes "28" ∷ decimal n ∷ []
+speed_words (speeds.Step126 n) = codes "126" ∷ decimal n ∷ []
+
+abbrev pub saved_speed : List Word → Result (SavedSpeed × List Word) PacketFault
+saved_speed words = do
+  speed ← speed_of words
+  Ok (record { speed = speed.0 }, speed.1)
+
+-- SPEED
+abbrev pub speed_field : FieldOf SavedSpeed
+speed_field =
+    record {
+      Fits = λ saved. is_speed saved.speed ≡ true;
+      read = λ words. saved_speed words;
+      written = λ saved. speed_words saved.speed;
+    }
+
 -- speed SPEED f|r
-unfoldable pub speed_line : List Word → Result (Speed × Bool) PacketFault
-speed_line line = do
-  key ← word_and_rest (keyword (codes "speed")) line
-  speed ← speed_of key.1
-  forward ← word_and_rest direction speed.1
-  end ← no_more_words forward.1
-  Ok (speed.0, forward.0)
+abbrev pub speed_line : List Word → Result (SavedSpeed × Direction) PacketFault
+speed_line line = keyed (codes "speed") (both speed_field direction_field) line
 
 -- a function of a locomotive decoder, 0 to 68
 abbrev pub function_number : Word → Result ℕ PacketFault
@@ -207,12 +236,6 @@ loco_line_after least word rest = if is_word word (codes "cv") then cv_words lea
 unfoldable pub loco_line : ℕ → List Word → Result LocoLine PacketFault
 loco_line least [] = Err faults.Word
 loco_line least (word ∷ rest) = loco_line_after least word rest
-
--- a line of this keyword and these fields, with which it ends
-abbrev pub keyed : {A : Type 0} → List ℕ → FieldOf A → List Word → Result A PacketFault
-keyed name field line = do
-  key ← word_and_rest (keyword name) line
-  whole field key.1
 
 -- four fields of a kind
 abbrev pub Four : Type 0 → Type 0

@@ -52,8 +52,8 @@ loco_lines version address = do
     saved.Loco
         (record {
           address = address;
-          speed = speed.0;
-          forward = speed.1;
+          speed = speed.0.speed;
+          forward = speed.1.forward;
           functions = functions;
           states = states;
           pending = pending;

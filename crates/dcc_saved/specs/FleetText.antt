@@ -8,13 +8,13 @@ use Rattle.dcc_packet.specs.declared.accessory.Board.{Board}
 use Rattle.dcc_packet.specs.declared.packet.Packet.{Packet}
 use Rattle.dcc_packet.specs.Spelling.{spelling}
 use Rattle.dcc_packet.specs.Words.{Word}
-use Rattle.dcc_packet.specs.Written.{address_word, direction_word, spaced_words}
-use Rattle.dcc_packet.specs.Fields.{FieldOf}
-use Rattle.dcc_packet.specs.LineFields.{small_field}
+use Rattle.dcc_packet.specs.Written.{address_word, spaced_words}
+use Rattle.dcc_packet.specs.Fields.{FieldOf, both}
+use Rattle.dcc_packet.specs.LineFields.{direction_field, small_field}
 use Rattle.dcc_regs.specs.declared.register.Who.{Who}
 use Rattle.dcc_regs.specs.declared.register.Who.TheVariants as who
 use Rattle.dcc_regs.specs.declared.register.Speed.{Speed}
-use Rattle.dcc_regs.specs.declared.register.Speed.TheVariants.{Stop, Emergency, Step14, Step28, Step126}
+use Rattle.dcc_regs.specs.declared.register.Speed.TheVariants.{Stop}
 use Rattle.dcc_regs.specs.declared.register.Register.TheVariants as registers
 use Rattle.dcc_regs.specs.declared.register.Value.{Value}
 use Rattle.dcc_regs.specs.declared.register.Value.TheVariants as values
@@ -24,7 +24,7 @@ use Rattle.dcc_io.specs.Spaced.{behind_space}
 use Rattle.dcc_saved.specs.declared.decoder_line.Numbered.{Numbered}
 use Rattle.dcc_saved.specs.declared.decoder_line.Numbered.TheVariants as kinds
 use Rattle.dcc_saved.specs.Numbered.{name_of, end_of, register_of}
-use Rattle.dcc_saved.specs.DecoderLines.{Four, four}
+use Rattle.dcc_saved.specs.DecoderLines.{Four, four, speed_field}
 
 -- a line of this keyword and these fields
 abbrev pub line_text : {A : Type 0} → List ℕ → FieldOf A → A → List ℕ
@@ -57,13 +57,6 @@ abbrev pub own_address_word : Option Address → Word
 own_address_word None = codes "none"
 own_address_word (Some address) = address_word address
 
-abbrev pub speed_text : Speed → List ℕ
-speed_text Stop = codes "stop"
-speed_text Emergency = codes "emergency"
-speed_text (Step14 n) = codes "14" ++ behind_space n
-speed_text (Step28 n) = codes "28" ++ behind_space n
-speed_text (Step126 n) = codes "126" ++ behind_space n
-
 abbrev pub pending_text : Option Packet → List ℕ
 pending_text None = codes "none"
 pending_text (Some packet) = encode_lower (spelling packet)
@@ -82,8 +75,8 @@ loco_address_line address = (codes "loco " ++ own_address_word address) ++ codes
 
 abbrev pub written_speed : RegisterMap → List ℕ
 written_speed m =
-    (codes "speed " ++ speed_text (speed_held (m registers.Speed)))
-    ++ (32 ∷ direction_word (forward_held (m registers.Direction)) ++ codes "\n")
+    line_text (codes "speed") (both speed_field direction_field)
+    (record { speed = speed_held (m registers.Speed) }, record { forward = forward_held (m registers.Direction) })
 
 abbrev pub written_numbers : Numbered → RegisterMap → List ℕ
 written_numbers kind m =

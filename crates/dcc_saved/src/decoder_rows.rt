@@ -1,22 +1,23 @@
 //! The lines that are written for a decoder.
 ghost use Rattle.std.specs.Prelude.{◌≡◌, ◌+◌, ◌≤◌, ◌++◌, ◌∷◌, codes, length, if◌then◌else◌};
 ghost use Rattle.arrayvec.specs.ArrayVec.{array_vec_len};
-ghost use Rattle.dcc_packet.specs.Written.{address_word, direction_word};
+ghost use Rattle.dcc_packet.specs.Written.{address_word};
 ghost use Rattle.dcc_regs.specs.Loco.{holds_one as is_on_value, cv_held};
 ghost use Rattle.dcc_io.specs.Spaced.{behind_space};
 ghost use Rattle.dcc_saved.specs.FleetText.{speed_held, forward_held, pending_held, number_held, numbers_below};
-ghost use Rattle.dcc_saved.specs.FleetText.{own_address_word, speed_text, pending_text, cv_line, loco_address_line};
+ghost use Rattle.dcc_saved.specs.FleetText.{own_address_word, pending_text, cv_line, loco_address_line};
 ghost use Rattle.dcc_saved.specs.FleetText.{written_speed, written_numbers, written_pending};
 ghost use Rattle.dcc_saved.specs.FleetText.{loco_front};
 ghost use Rattle.dcc_saved.specs.FleetText.{board_line, line_text, written_positions};
 ghost use Rattle.dcc_saved.specs.FleetText.{written_aspects};
 ghost use Rattle.dcc_saved.specs.FleetText.{board_text};
 
+use crate::decoder_fields::SavedSpeed;
 use crate::decoder_line::Numbered;
 use arrayvec::ArrayVec;
 use dcc_io::{append, append_decimal, append_hex};
 use dcc_packet::field::{Field, Line};
-use dcc_packet::{Address, Board, Packet};
+use dcc_packet::{Address, Board, Direction, Packet};
 use dcc_regs::{Decoder, Register, Speed, Value};
 
 /// Some lines of a decoder, at most all of them before its CVs.
@@ -54,29 +55,6 @@ fn append_own_address(rows: &mut Rows, address: &Option<Address>)
     }
 }
 
-fn append_speed(rows: &mut Rows, speed: Speed)
-    requires { array_vec_len rows.old + 14 ≤ 4096 }
-    ensures items { rows.new.items ≡ rows.old.items ++ speed_text speed }
-    ensures len { array_vec_len rows.new ≤ array_vec_len rows.old + 14 }
-{
-    match speed {
-        Speed::Stop => append(rows, b"stop"),
-        Speed::Emergency => append(rows, b"emergency"),
-        Speed::Step14(step) => {
-            append(rows, b"14");
-            append_number(rows, u32::from(step));
-        }
-        Speed::Step28(step) => {
-            append(rows, b"28");
-            append_number(rows, u32::from(step));
-        }
-        Speed::Step126(step) => {
-            append(rows, b"126");
-            append_number(rows, u32::from(step));
-        }
-    }
-}
-
 fn append_pending(rows: &mut Rows, pending: &Option<Packet>)
     requires { array_vec_len rows.old + 12 ≤ 4096 }
     ensures items { rows.new.items ≡ rows.old.items ++ pending_text pending.now }
@@ -86,12 +64,6 @@ fn append_pending(rows: &mut Rows, pending: &Option<Packet>)
         None => append(rows, b"none"),
         Some(packet) => append_hex(rows, packet.frame().bytes()),
     }
-}
-
-fn direction_word(forward: bool) -> &'static [u8]
-    ensures { result.now ≡ direction_word forward }
-{
-    if forward { b"f" } else { b"r" }
 }
 
 fn speed_in(value: Option<Value>) -> Speed
@@ -140,18 +112,17 @@ fn is_on(value: Option<Value>) -> bool
 }
 
 fn append_speed_line(rows: &mut Rows, decoder: &dyn Decoder)
-    requires { array_vec_len rows.old + 24 ≤ 4096 }
+    requires { array_vec_len rows.old + 41 ≤ 4096 }
     ensures items { rows.new.items ≡ rows.old.items ++ written_speed (registers decoder.now) }
-    ensures len { array_vec_len rows.new ≤ array_vec_len rows.old + 24 }
+    ensures len { array_vec_len rows.new ≤ array_vec_len rows.old + 41 }
 {
-    append(rows, b"speed ");
-    append_speed(rows, speed_in(decoder.get(Register::Speed)));
-    append(rows, b" ");
-    append(
+    let speed = speed_in(decoder.get(Register::Speed));
+    let forward = forward_in(decoder.get(Register::Direction));
+    append_line(
         rows,
-        direction_word(forward_in(decoder.get(Register::Direction))),
+        "speed",
+        &(SavedSpeed { speed }, Direction { forward }),
     );
-    append(rows, b"\n");
 }
 
 fn append_numbers(rows: &mut Rows, numbered: Numbered, decoder: &dyn Decoder)

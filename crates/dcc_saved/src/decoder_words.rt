@@ -6,9 +6,9 @@ ghost use Rattle.dcc_regs.specs.Addresses.{is_active};
 ghost use Rattle.dcc_regs.specs.Heard.{hears as hears_packet};
 ghost use Rattle.dcc_regs.specs.Loco.{is_speed, is_byte_write, is_pending_for};
 ghost use Rattle.dcc_regs.specs.Writes.{is_own_write};
-ghost use Rattle.dcc_saved.specs.DecoderLines.{in_order, version_number, version_line, own_address, own_board};
+ghost use Rattle.dcc_saved.specs.DecoderLines.{in_order, version_number, own_address, own_board};
 ghost use Rattle.dcc_saved.specs.DecoderLines.{loco_head, board_head, end_head, head_after, head_line, step_up_to};
-ghost use Rattle.dcc_saved.specs.DecoderLines.{speed_of, speed_after, speed_line, function_number, binary_state};
+ghost use Rattle.dcc_saved.specs.DecoderLines.{speed_of, speed_after, function_number, binary_state};
 ghost use Rattle.dcc_saved.specs.DecoderLines.{number_of, numbers_from, numbers_line, pending_word};
 ghost use Rattle.dcc_saved.specs.DecoderLines.{pending_line, cv_words, loco_line_after, loco_line};
 ghost use Rattle.dcc_saved.specs.Numbered.{end_of};
@@ -20,9 +20,7 @@ ghost use Rattle.dcc_saved.specs.PossibleLines.{IsPossibleHead, IsSoundLine};
 
 use crate::decoder_line::{Head, LocoLine, Numbered, Version};
 use dcc_packet::field::Field;
-use dcc_packet::line_word::{
-    address, board_number, cv_number, direction, hex_frame, output_number,
-};
+use dcc_packet::line_word::{address, board_number, cv_number, hex_frame, output_number};
 use dcc_packet::numeral::small_number;
 use dcc_packet::words::Words;
 use dcc_packet::{Address, Board, Packet, PacketFault};
@@ -54,7 +52,7 @@ fn in_order(least: u16, n: u16) -> Result<(), PacketFault>
 }
 
 /// `1` or `2`
-fn version_number(word: &[u8]) -> Result<Version, PacketFault>
+pub(crate) fn version_number(word: &[u8]) -> Result<Version, PacketFault>
     ensures { result ≡ version_number word.now }
 {
     match word {
@@ -62,18 +60,6 @@ fn version_number(word: &[u8]) -> Result<Version, PacketFault>
         b"2" => Ok(Version::Two),
         _ => Err(PacketFault::Word),
     }
-}
-
-/// `dcc-decoders VERSION`
-#[tactic(auto, unfolding(crate::specs::DecoderLines::version_line))]
-pub fn version_line(line: &[u8]) -> Result<Version, PacketFault>
-    ensures { result ≡ version_line (words line.now) }
-{
-    let mut words = Words::new(line);
-    take_keyword(&mut words, b"dcc-decoders")?;
-    let version = words.word().and_then(version_number)?;
-    words.end()?;
-    Ok(version)
 }
 
 /// The active address of a locomotive decoder, or `none`.
@@ -195,26 +181,13 @@ fn speed_after(word: &[u8], rest: &mut Words) -> Result<Speed, PacketFault>
     }
 }
 
-fn take_speed(words: &mut Words) -> Result<Speed, PacketFault>
+/// Takes a speed.
+pub(crate) fn take_speed(words: &mut Words) -> Result<Speed, PacketFault>
     ensures is { TakesSpeed (speed_of words.old) result words.new }
     ensures possible { IfOk result (λ speed. is_speed speed ≡ true) }
 {
     let word = words.word()?;
     speed_after(word, words)
-}
-
-/// `speed SPEED f|r`
-#[tactic(auto, unfolding(crate::specs::DecoderLines::speed_line))]
-pub fn speed_line(line: &[u8]) -> Result<(Speed, bool), PacketFault>
-    ensures is { result ≡ speed_line (words line.now) }
-    ensures possible { IfOk result (λ read. is_speed read.0 ≡ true) }
-{
-    let mut words = Words::new(line);
-    take_keyword(&mut words, b"speed")?;
-    let speed = take_speed(&mut words)?;
-    let forward = words.word().and_then(direction)?;
-    words.end()?;
-    Ok((speed, forward))
 }
 
 /// A function of a locomotive decoder, 0 to 68.
