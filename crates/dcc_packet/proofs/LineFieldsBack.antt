@@ -8,6 +8,13 @@ use Rattle.dcc_packet.specs.LineFields.{accessory_fields, signal_fields}
 use Rattle.dcc_packet.proofs.FieldsBack.{one_word_back, both_back}
 use Rattle.dcc_packet.proofs.Tokens.{decimal_token, direction_token, state_token, switch_token}
 use Rattle.dcc_packet.proofs.WordsBack.{small_number-decimal, direction_back, state_back, switch_back, board_back, output_back, signal_back}
+use Rattle.dcc_packet.specs.LineWords.{address, address_word}
+use Rattle.dcc_packet.specs.LineFields.{address_field, number_field}
+use Rattle.dcc_packet.proofs.Tokens.{address_word_token}
+use Rattle.dcc_packet.proofs.WordsBack.{number-decimal, address_back}
+
+pub address_is_back : IsReadBack address_field
+address_is_back = one_word_back address address_word address_back address_word_token
 
 pub board_is_back : IsReadBack board_field
 board_is_back =
@@ -44,6 +51,10 @@ small_is_back =
       back = λ n rest h. rw (small_number-decimal n h) refl;
       tokens = λ n h. (decimal_token n (omega (arith, h)), tt);
     }
+
+pub number_is_back : IsReadBack number_field
+number_is_back =
+    record { back = λ n rest h. rw (number-decimal n h) refl; tokens = λ n h. (decimal_token n h, tt) }
 
 pub accessory_is_back : IsReadBack accessory_fields
 accessory_is_back =

@@ -10,7 +10,10 @@ use Rattle.dcc_packet.specs.Words.{Word, is_separator}
 use Rattle.dcc_packet.specs.LineWords.{direction_word, state_word, switch_word}
 use Rattle.dcc_packet.specs.Fields.{is_plain, IsToken}
 use Rattle.dcc_packet.proofs.Decimal.{short}
-use Rattle.dcc_packet.proofs.WrittenWords.{literal, test_from_digits, IsWord-decimal}
+use Rattle.dcc_packet.proofs.WrittenWords.{literal, test_from_digits, IsWord-decimal, IsWord-address}
+use Rattle.dcc_packet.specs.declared.address.Address.{Address}
+use Rattle.dcc_packet.specs.declared.address.Address.TheVariants.{Broadcast, Short, Long}
+use Rattle.dcc_packet.specs.LineWords.{address_word}
 
 pub keyword_token : (word : Word) → 0 < length word → list_all (λ b. not (is_separator b)) word ≡ true
     → list_all is_plain word ≡ true → length word ≤ 12 → IsToken word
@@ -43,3 +46,18 @@ state_token false = keyword_token (codes "0") (omega arith) refl refl (omega ari
 pub switch_token : (on : Bool) → IsToken (switch_word on)
 switch_token true = keyword_token (codes "on") (omega arith) refl refl (omega arith)
 switch_token false = keyword_token (codes "off") (omega arith) refl refl (omega arith)
+
+pub address_word_token : (to : Address) → IsToken (address_word to)
+address_word_token Broadcast = keyword_token (codes "all") (omega arith) refl refl (omega arith)
+address_word_token (Short s) =
+    let range = s.in_range in record {
+      word_is = IsWord-address (Short s);
+      plain = decimal_plain s.number (omega arith);
+      short = omega (arith, short s.number (omega arith));
+    }
+address_word_token (Long l) =
+    let range = l.in_range in record {
+      word_is = IsWord-address (Long l);
+      plain = decimal_plain l.number (omega arith);
+      short = omega (arith, short l.number (omega arith));
+    }

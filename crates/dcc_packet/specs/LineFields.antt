@@ -12,6 +12,12 @@ use Rattle.dcc_packet.specs.LineWords.{◌>>=◌, small_number, board_number, ou
 use Rattle.dcc_packet.specs.LineWords.{direction, bit_state, direction_word, state_word, switch_word}
 use Rattle.dcc_packet.specs.Words.{Word}
 use Rattle.dcc_packet.specs.Fields.{FieldOf, one_word, both, word_and_rest}
+use Rattle.dcc_packet.specs.declared.address.Address.{Address}
+use Rattle.dcc_packet.specs.LineWords.{number, address, address_word}
+
+-- TO
+abbrev pub address_field : FieldOf Address
+address_field = one_word address address_word
 
 -- BOARD
 abbrev pub board_field : FieldOf Board
@@ -58,6 +64,15 @@ small_field =
     record {
       Fits = λ n. n < 256;
       read = λ words. word_and_rest small_number words;
+      written = λ n. decimal n ∷ [];
+    }
+
+-- a number up to 65535
+abbrev pub number_field : FieldOf ℕ
+number_field =
+    record {
+      Fits = λ n. n < 65536;
+      read = λ words. word_and_rest number words;
       written = λ n. decimal n ∷ [];
     }
 

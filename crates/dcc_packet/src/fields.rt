@@ -1,13 +1,17 @@
 //! The fields of packet lines.
 ghost use Rattle.dcc_packet.specs.LineFields.{board_field, output_field, signal_field, switch_field, side_field};
-ghost use Rattle.dcc_packet.specs.LineFields.{direction_field, small_field};
+ghost use Rattle.dcc_packet.specs.LineFields.{direction_field, small_field, number_field, address_field};
 
 use crate::field::{Field, Line};
-use crate::line_word::{bit_state, board_number, direction, output_number, signal_number, switch};
-use crate::numeral::small_number;
-use crate::to_line_word::{direction_word, put_number, put_word, state_word, switch_word};
+use crate::line_word::{
+    address, bit_state, board_number, direction, output_number, signal_number, switch,
+};
+use crate::numeral::{number, small_number};
+use crate::to_line_word::{
+    direction_word, put_address, put_number, put_word, state_word, switch_word,
+};
 use crate::words::Words;
-use crate::{Board, Output, PacketFault, SignalAddress};
+use crate::{Address, Board, Output, PacketFault, SignalAddress};
 
 /// `on` or `off`.
 #[derive(Clone, Copy)]
@@ -28,6 +32,23 @@ pub struct Direction {
 pub struct Side {
     /// Whether it is side 1.
     pub one: bool,
+}
+
+impl Field for Address {
+    ghost field = { address_field };
+
+    ghost most = { 7 };
+
+    fn take(words: &mut Words) -> Result<Address, PacketFault> {
+        words.word().and_then(address)
+    }
+
+    fn put(&self, line: &mut Line) {
+        put_address(line, self);
+    }
+
+    #[tactic(auto, using(crate::proofs::LineFieldsBack::address_is_back))]
+    fn is_read_back() {}
 }
 
 impl Field for Board {
@@ -149,5 +170,22 @@ impl Field for u8 {
     }
 
     #[tactic(auto, using(crate::proofs::LineFieldsBack::small_is_back))]
+    fn is_read_back() {}
+}
+
+impl Field for u16 {
+    ghost field = { number_field };
+
+    ghost most = { 6 };
+
+    fn take(words: &mut Words) -> Result<u16, PacketFault> {
+        words.word().and_then(number)
+    }
+
+    fn put(&self, line: &mut Line) {
+        put_number(line, *self);
+    }
+
+    #[tactic(auto, using(crate::proofs::LineFieldsBack::number_is_back))]
     fn is_read_back() {}
 }

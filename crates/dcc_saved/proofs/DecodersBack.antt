@@ -23,7 +23,8 @@ use Rattle.dcc_saved.specs.declared.decoder_line.Version.TheVariants as versions
 use Rattle.dcc_saved.specs.DecoderLines.{head_line, loco_line}
 use Rattle.dcc_saved.specs.declared.decoder_line.Numbered.TheVariants as kinds
 use Rattle.dcc_saved.specs.DecoderText.{decoder_lines, cvs_lines, loco_lines, board_lines}
-use Rattle.dcc_saved.specs.FleetText.{own_address_word, cvs_text, speed_held, forward_held, pending_held}
+use Rattle.dcc_saved.specs.DecoderLines.{own_address_word}
+use Rattle.dcc_saved.specs.FleetText.{cvs_text, speed_held, forward_held, pending_held}
 use Rattle.dcc_saved.specs.FleetText.{loco_address_line, board_line}
 use Rattle.dcc_saved.specs.FleetText.{written_speed as speed_bytes, written_numbers}
 use Rattle.dcc_saved.specs.FleetText.{written_pending as pending_bytes}
@@ -34,13 +35,14 @@ use Rattle.dcc_saved.specs.TextReader.{line_by}
 use Rattle.dcc_saved.proofs.BoardMapsBack.{sides_of, positions_of, aspects_of, board_state, sides_are}
 use Rattle.dcc_saved.proofs.BoardMapsBack.{aspects_small, same_board}
 use Rattle.dcc_saved.proofs.CvsBack.{IsHeadLine, all_cvs}
-use Rattle.dcc_saved.proofs.LinesBack.{at, few_back}
+use Rattle.dcc_saved.proofs.LinesBack.{at, line_read}
 use Rattle.dcc_saved.proofs.MapsBack.{speed_is, pending_is, no_state_0, loco_state, same_loco}
-use Rattle.dcc_saved.proofs.RowsBack.{fed, numbers_read, speed_read, pending_read}
+use Rattle.dcc_saved.proofs.RowsBack.{numbers_read, speed_read, pending_read}
 use Rattle.dcc_saved.proofs.RowsBack.{aspects_read, positions_read}
 use Rattle.dcc_saved.proofs.RulesBack.{loco_back, board_head_back, end_back, loco_behind, board_behind, end_behind}
 use Rattle.dcc_packet.proofs.Tokens.{keyword_token, decimal_token}
 use Rattle.dcc_saved.proofs.TokensBack.{address_token}
+use Rattle.dcc_packet.specs.Words.{Word}
 
 -- a text whose first line says what follows the decoder before it
 pub record BeginsWith (bytes : List ℕ) (head : Head) (rest : List ℕ) : Type 0 where
@@ -50,48 +52,37 @@ pub record BeginsWith (bytes : List ℕ) (head : Head) (rest : List ℕ) : Type 
 pub loco_begins : (address : Option Address) (text : List ℕ) (m : RegisterMap) → IsPossible (who.Loco address) m
     → BeginsWith (loco_address_line address ++ text) (heads.Decoder (who.Loco address)) text
 loco_begins address text m possible =
-    let line : List ℕ = codes "loco " ++ own_address_word address in
-    let is : line ≡ codes "loco" ++ spaced_words (own_address_word address ∷ []) =
-    ap (λ (xs : List ℕ). codes "loco " ++ xs) (sym (append-nil (own_address_word address))) in
     let token = keyword_token (codes "loco") (omega arith) refl refl (omega arith) in
+    let words : List Word = own_address_word address ∷ [] in
+    let own = address_token address in
     record {
-      first = λ n. ap (λ (bytes : List ℕ). line_by head_line (at n bytes)) (fed line text)
-          ∙ few_back head_line (heads.Decoder (who.Loco address)) n line (codes "loco") (own_address_word address ∷ [])
-          text is token (address_token address, tt) (omega arith) (loco_back address possible.decoder);
-      behind_cv = λ least n. ap (λ (bytes : List ℕ). line_by (loco_line least) (at n bytes)) (fed line text)
-          ∙ few_back (loco_line least) (behind.Head (heads.Decoder (who.Loco address))) n line (codes "loco")
-          (own_address_word address ∷ []) text is token (address_token address, tt) (omega arith)
-          (loco_behind least address possible.decoder);
+      first = λ n. line_read head_line (heads.Decoder (who.Loco address)) n (codes "loco") words text token (own, tt)
+          (omega arith) (loco_back address possible.decoder);
+      behind_cv = λ least n. line_read (loco_line least) (behind.Head (heads.Decoder (who.Loco address))) n (codes "loco")
+          words text token (own, tt) (omega arith) (loco_behind least address possible.decoder);
     }
 
 pub board_begins : (board : Board) (text : List ℕ) (m : RegisterMap) → IsPossible (who.Board board) m
     → BeginsWith (board_line board ++ text) (heads.Decoder (who.Board board)) text
 board_begins board text m possible =
     let range = board.in_range in
-    let line : List ℕ = codes "board " ++ decimal board.number in
-    let is : line ≡ codes "board" ++ spaced_words (decimal board.number ∷ []) =
-    ap (λ (xs : List ℕ). codes "board " ++ xs) (sym (append-nil (decimal board.number))) in
     let token = keyword_token (codes "board") (omega arith) refl refl (omega arith) in
+    let words : List Word = decimal board.number ∷ [] in
     let number = decimal_token board.number (omega (arith, range)) in
     record {
-      first = λ n. ap (λ (bytes : List ℕ). line_by head_line (at n bytes)) (fed line text)
-          ∙ few_back head_line (heads.Decoder (who.Board board)) n line (codes "board") (decimal board.number ∷ []) text
-          is token (number, tt) (omega arith) (board_head_back board possible.decoder);
-      behind_cv = λ least n. ap (λ (bytes : List ℕ). line_by (loco_line least) (at n bytes)) (fed line text)
-          ∙ few_back (loco_line least) (behind.Head (heads.Decoder (who.Board board))) n line (codes "board")
-          (decimal board.number ∷ []) text is token (number, tt) (omega arith)
-          (board_behind least board possible.decoder);
+      first = λ n. line_read head_line (heads.Decoder (who.Board board)) n (codes "board") words text token (number, tt)
+          (omega arith) (board_head_back board possible.decoder);
+      behind_cv = λ least n. line_read (loco_line least) (behind.Head (heads.Decoder (who.Board board))) n (codes "board")
+          words text token (number, tt) (omega arith) (board_behind least board possible.decoder);
     }
 
 pub end_begins : (text : List ℕ) → BeginsWith (codes "end\n" ++ text) heads.End text
 end_begins text =
     let token = keyword_token (codes "end") (omega arith) refl refl (omega arith) in
     record {
-      first = λ n. few_back head_line heads.End n (codes "end") (codes "end") [] text refl token tt (omega arith)
-          end_back;
-      behind_cv =
-          λ least n. few_back (loco_line least) (behind.Head heads.End) n (codes "end") (codes "end") [] text refl token
-          tt (omega arith) (end_behind least);
+      first = λ n. line_read head_line heads.End n (codes "end") [] text token tt (omega arith) end_back;
+      behind_cv = λ least n. line_read (loco_line least) (behind.Head heads.End) n (codes "end") [] text token tt
+          (omega arith) (end_behind least);
     }
 
 -- a decoder that its lines save, and the first line behind them

@@ -27,7 +27,7 @@ use Rattle.dcc_packet.specs.LineFields.{direction_field, side_field, small_field
 use Rattle.dcc_packet.proofs.LineFieldsBack.{direction_is_back, side_is_back, small_is_back}
 use Rattle.dcc_saved.specs.FleetText.{line_text, numbers_below, pending_text, first_four}
 use Rattle.dcc_saved.specs.TextReader.{line_by}
-use Rattle.dcc_saved.proofs.LinesBack.{IsToken, at, line_back, few_back}
+use Rattle.dcc_saved.proofs.LinesBack.{IsToken, at, line_back, few_back, fed, line_read}
 use Rattle.dcc_saved.proofs.NumbersBack.{on_words, value_of, numbers_are, row_short, IsSoundRow, ons_are, value_bits}
 use Rattle.dcc_saved.proofs.PendingBack.{pending_back}
 use Rattle.dcc_saved.proofs.RulesBack.{speed_is_back, keyed_back, four_back}
@@ -35,10 +35,6 @@ use Rattle.dcc_packet.proofs.FieldsBack.{both_back}
 use Rattle.dcc_packet.proofs.Tokens.{keyword_token, decimal_token}
 use Rattle.dcc_saved.proofs.TokensBack.{on_tokens}
 use Rattle.dcc_saved.proofs.TokensBack.{pending_token}
-
--- the line feed behind a line, and the text behind that
-pub fed : (line text : List ℕ) → (line ++ codes "\n") ++ text ≡ line ++ 10 ∷ text
-fed line text = append_assoc line (codes "\n") text
 
 -- a line of numbers that are on
 pub record GivesBits (rule : List Word → Result ℕ PacketFault) (on : ℕ → Bool) (c n : ℕ) (bytes text : List ℕ) : Type 0
@@ -98,9 +94,7 @@ pub fields_read : {A : Type 0} (name : Word) (field : FieldOf A) → keyword nam
     → field.Fits x → IsToken name → length (field.written x) ≤ 38 → (n : ℕ) (text : List ℕ)
     → line_by (keyed name field) (at n (line_text name field x ++ text)) ≡ Ok (x, at (n + 1) text)
 fields_read name field is back x fits token few n text =
-    let line : List ℕ = name ++ spaced_words (field.written x) in
-    ap (λ (bytes : List ℕ). line_by (keyed name field) (at n bytes)) (fed line text)
-    ∙ few_back (keyed name field) x n line name (field.written x) text refl token (back.tokens x fits) few
+    line_read (keyed name field) x n name (field.written x) text token (back.tokens x fits) few
     (keyed_back name field is back x fits)
 
 few_words : (speed : Speed) (word : Word) → length (speed_words speed ++ word ∷ []) ≤ 38

@@ -28,7 +28,9 @@ use Rattle.dcc_packet.specs.Fields.{FieldOf, both, IsToken, IsReadBack}
 use Rattle.dcc_packet.proofs.FieldsBack.{one_word_back, both_back, whole_back}
 use Rattle.dcc_packet.proofs.Tokens.{keyword_token, decimal_token}
 use Rattle.std.specs.List.{AllByRecursion}
-use Rattle.dcc_saved.specs.FleetText.{own_address_word}
+use Rattle.dcc_saved.specs.DecoderLines.{own_address_word}
+use Rattle.dcc_saved.specs.DecoderLines.{own_address_field}
+use Rattle.dcc_saved.proofs.TokensBack.{address_token}
 
 version_back : (version : Version) → version_number (version_word version) ≡ Ok version
 version_back versions.One = refl
@@ -46,6 +48,13 @@ own_address_back None h = refl
 own_address_back (Some Broadcast) h = cc
 own_address_back (Some (Short s)) h = rw (address_back (Short s)) refl
 own_address_back (Some (Long l)) h = rw (address_back (Long l)) refl
+
+pub own_address_is_back : IsReadBack own_address_field
+own_address_is_back =
+    record {
+      back = λ own rest h. rw (own_address_back own.address h) refl;
+      tokens = λ own h. (address_token own.address, tt);
+    }
 
 own_board_back : (b : Board) → nat_le b.number 510 ≡ true → own_board (decimal b.number) ≡ Ok b
 own_board_back b h =

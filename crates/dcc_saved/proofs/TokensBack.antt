@@ -13,30 +13,19 @@ use Rattle.dcc_packet.specs.declared.packet.Packet.{Packet}
 use Rattle.dcc_packet.specs.Spelling.{spelling}
 use Rattle.dcc_packet.specs.Written.{direction_word}
 use Rattle.dcc_packet.proofs.Decimal.{short}
-use Rattle.dcc_packet.proofs.Tokens.{keyword_token, decimal_plain, decimal_token}
+use Rattle.dcc_packet.proofs.Tokens.{address_word_token, keyword_token, decimal_plain, decimal_token}
 use Rattle.dcc_packet.proofs.WrittenWords.{IsWord-address}
 use Rattle.dcc_packet.proofs.WrittenWords.{IsWord-direction, hex_plain}
 use Rattle.dcc_regs.specs.Loco.{is_pending_for}
-use Rattle.dcc_saved.specs.FleetText.{own_address_word, pending_text}
+use Rattle.dcc_saved.specs.DecoderLines.{own_address_word}
+use Rattle.dcc_saved.specs.FleetText.{pending_text}
 use Rattle.dcc_saved.proofs.LinesBack.{is_plain, IsToken}
 use Rattle.dcc_saved.proofs.NumbersBack.{on_words}
 use Rattle.dcc_saved.proofs.PendingBack.{IsWrite-pending}
 
 pub address_token : (address : Option Address) → IsToken (own_address_word address)
 address_token None = keyword_token (codes "none") (omega arith) refl refl (omega arith)
-address_token (Some Broadcast) = record { word_is = IsWord-address Broadcast; plain = refl; short = omega arith }
-address_token (Some (Short s)) =
-    let range = s.in_range in record {
-      word_is = IsWord-address (Short s);
-      plain = decimal_plain s.number (omega arith);
-      short = omega (arith, short s.number (omega arith));
-    }
-address_token (Some (Long l)) =
-    let range = l.in_range in record {
-      word_is = IsWord-address (Long l);
-      plain = decimal_plain l.number (omega arith);
-      short = omega (arith, short l.number (omega arith));
-    }
+address_token (Some address) = address_word_token address
 
 pub on_tokens : (on : ℕ → Bool) (k c : ℕ) → k + c ≤ 1000 → AllByRecursion IsToken (on_words on k c)
 on_tokens on k zero h = tt

@@ -30,6 +30,9 @@ use Rattle.dcc_saved.specs.declared.decoder_line.Numbered.TheVariants as kinds
 use Rattle.dcc_saved.specs.Numbered.{name_of}
 use Rattle.dcc_saved.specs.PendingWrite.{pending_write}
 use Rattle.dcc_saved.specs.declared.decoder_fields.SavedSpeed.{SavedSpeed}
+use Rattle.dcc_packet.specs.LineWords.{address_word}
+use Rattle.dcc_regs.specs.Addresses.{is_active}
+use Rattle.dcc_saved.specs.declared.decoder_fields.OwnAddress.{OwnAddress}
 
 -- the word that begins a line of this kind
 abbrev pub keyword : List ℕ → Word → Result (Unit {0}) PacketFault
@@ -68,6 +71,11 @@ some_address word = do
   to ← address word
   Ok (Some to)
 
+-- what is written for the active address
+abbrev pub own_address_word : Option Address → Word
+own_address_word None = codes "none"
+own_address_word (Some address) = address_word address
+
 -- the active address: `none`, or `s` or `l` and a number
 abbrev pub own_address : Word → Result (Option Address) PacketFault
 own_address word =
@@ -81,11 +89,23 @@ own_board word = do
   board ← board_number word
   if board.number == 511 then Err faults.Board else Ok board
 
+abbrev pub own_address_of : Word → Result OwnAddress PacketFault
+own_address_of word = do
+  address ← own_address word
+  Ok (record { address = address })
+
+abbrev pub own_address_field : FieldOf OwnAddress
+own_address_field =
+    record {
+      Fits = λ own. is_active own.address ≡ true;
+      read = λ words. word_and_rest own_address_of words;
+      written = λ own. own_address_word own.address ∷ [];
+    }
+
 abbrev pub loco_head : List Word → Result Head PacketFault
 loco_head rest = do
-  address ← word_and_rest own_address rest
-  end ← no_more_words address.1
-  Ok (heads.Decoder (who.Loco address.0))
+  own ← whole own_address_field rest
+  Ok (heads.Decoder (who.Loco own.address))
 
 abbrev pub board_head : List Word → Result Head PacketFault
 board_head rest = do

@@ -1,12 +1,19 @@
 //! The fields of decoder texts.
-ghost use Rattle.dcc_saved.specs.DecoderLines.{version_field, speed_field};
+ghost use Rattle.dcc_saved.specs.DecoderLines.{version_field, own_address_field, speed_field};
 
 use crate::decoder_line::Version;
-use crate::decoder_words::{take_speed, version_number};
-use dcc_packet::PacketFault;
+use crate::decoder_words::{own_address, take_speed, version_number};
 use dcc_packet::field::{Field, Line};
 use dcc_packet::words::Words;
+use dcc_packet::{Address, PacketFault};
 use dcc_regs::Speed;
+
+/// The active address of a locomotive decoder, or that it has none.
+#[derive(Clone, Copy)]
+pub struct OwnAddress {
+    /// The address, where it has one.
+    pub address: Option<Address>,
+}
 
 /// The speed of a locomotive decoder.
 #[derive(Clone, Copy)]
@@ -32,6 +39,27 @@ impl Field for Version {
     }
 
     #[tactic(auto, using(crate::proofs::RulesBack::version_is_back))]
+    fn is_read_back() {}
+}
+
+impl Field for OwnAddress {
+    ghost field = { own_address_field };
+
+    ghost most = { 7 };
+
+    fn take(words: &mut Words) -> Result<OwnAddress, PacketFault> {
+        let address = words.word().and_then(own_address)?;
+        Ok(OwnAddress { address })
+    }
+
+    fn put(&self, line: &mut Line) {
+        match &self.address {
+            None => line.push_str(" none"),
+            Some(address) => address.put(line),
+        }
+    }
+
+    #[tactic(auto, using(crate::proofs::RulesBack::own_address_is_back))]
     fn is_read_back() {}
 }
 

@@ -1,18 +1,17 @@
 //! The lines that are written for a decoder.
 ghost use Rattle.std.specs.Prelude.{◌≡◌, ◌+◌, ◌≤◌, ◌++◌, ◌∷◌, codes, length, if◌then◌else◌};
 ghost use Rattle.arrayvec.specs.ArrayVec.{array_vec_len};
-ghost use Rattle.dcc_packet.specs.Written.{address_word};
 ghost use Rattle.dcc_regs.specs.Loco.{holds_one as is_on_value, cv_held};
 ghost use Rattle.dcc_io.specs.Spaced.{behind_space};
 ghost use Rattle.dcc_saved.specs.FleetText.{speed_held, forward_held, pending_held, number_held, numbers_below};
-ghost use Rattle.dcc_saved.specs.FleetText.{own_address_word, pending_text, cv_line, loco_address_line};
+ghost use Rattle.dcc_saved.specs.FleetText.{pending_text, cv_line, loco_address_line};
 ghost use Rattle.dcc_saved.specs.FleetText.{written_speed, written_numbers, written_pending};
 ghost use Rattle.dcc_saved.specs.FleetText.{loco_front};
 ghost use Rattle.dcc_saved.specs.FleetText.{board_line, line_text, written_positions};
 ghost use Rattle.dcc_saved.specs.FleetText.{written_aspects};
 ghost use Rattle.dcc_saved.specs.FleetText.{board_text};
 
-use crate::decoder_fields::SavedSpeed;
+use crate::decoder_fields::{OwnAddress, SavedSpeed};
 use crate::decoder_line::Numbered;
 use arrayvec::ArrayVec;
 use dcc_io::{append, append_decimal, append_hex};
@@ -32,27 +31,6 @@ fn append_number(rows: &mut Rows, number: u32)
 {
     append(rows, b" ");
     append_decimal(rows, number);
-}
-
-/// Adds an address.
-#[tactic(auto, using(dcc_io::proofs::DecimalLemmas::decimal_is_short))]
-fn append_own_address(rows: &mut Rows, address: &Option<Address>)
-    requires { array_vec_len rows.old + 12 ≤ 4096 }
-    ensures items { rows.new.items ≡ rows.old.items ++ own_address_word address.now }
-    ensures len { array_vec_len rows.new ≤ array_vec_len rows.old + 12 }
-{
-    match address {
-        None => append(rows, b"none"),
-        Some(Address::Broadcast) => append(rows, b"all"),
-        Some(Address::Short(address)) => {
-            append(rows, b"s");
-            append_decimal(rows, u32::from(address.number()));
-        }
-        Some(Address::Long(address)) => {
-            append(rows, b"l");
-            append_decimal(rows, u32::from(address.number()));
-        }
-    }
 }
 
 fn append_pending(rows: &mut Rows, pending: &Option<Packet>)
@@ -140,13 +118,11 @@ fn append_numbers(rows: &mut Rows, numbered: Numbered, decoder: &dyn Decoder)
 }
 
 fn append_address_line(rows: &mut Rows, address: &Option<Address>)
-    requires { array_vec_len rows.old + 18 ≤ 4096 }
+    requires { array_vec_len rows.old + 41 ≤ 4096 }
     ensures items { rows.new.items ≡ rows.old.items ++ loco_address_line address.now }
-    ensures len { array_vec_len rows.new ≤ array_vec_len rows.old + 18 }
+    ensures len { array_vec_len rows.new ≤ array_vec_len rows.old + 41 }
 {
-    append(rows, b"loco ");
-    append_own_address(rows, address);
-    append(rows, b"\n");
+    append_line(rows, "loco", &OwnAddress { address: *address });
 }
 
 fn append_pending_line(rows: &mut Rows, decoder: &dyn Decoder)
@@ -203,10 +179,7 @@ pub(crate) fn cv_line(cv: u16, value: u8) -> Rows
     ensures { result.items ≡ cv_line cv value }
 {
     let mut rows = Rows::new();
-    append(&mut rows, b"cv");
-    append_number(&mut rows, u32::from(cv));
-    append_number(&mut rows, u32::from(value));
-    append(&mut rows, b"\n");
+    append_line(&mut rows, "cv", &(cv, value));
     rows
 }
 
@@ -274,9 +247,7 @@ pub(crate) fn board_rows(board: &Board, decoder: &dyn Decoder) -> Rows
     ensures { result.items ≡ board_text board.now (registers decoder.now) }
 {
     let mut rows = Rows::new();
-    append(&mut rows, b"board");
-    append_number(&mut rows, u32::from(board.number()));
-    append(&mut rows, b"\n");
+    append_line(&mut rows, "board", board);
     append_numbers(&mut rows, Numbered::Out, decoder);
     append_position_line(&mut rows, decoder);
     append_aspect_line(&mut rows, decoder);

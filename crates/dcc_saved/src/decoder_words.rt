@@ -18,6 +18,7 @@ ghost use Rattle.dcc_packet.specs.Line.{word_and_rest};
 ghost use Rattle.dcc_saved.specs.PendingWrite.{pending_write};
 ghost use Rattle.dcc_saved.specs.PossibleLines.{IsPossibleHead, IsSoundLine};
 
+use crate::decoder_fields::OwnAddress;
 use crate::decoder_line::{Head, LocoLine, Numbered, Version};
 use dcc_packet::field::Field;
 use dcc_packet::line_word::{address, board_number, cv_number, hex_frame, output_number};
@@ -93,9 +94,8 @@ fn loco_head(words: &mut Words) -> Result<Head, PacketFault>
     ensures is { result ≡ loco_head words.old }
     ensures possible { IfOk result IsPossibleHead }
 {
-    let address = words.word().and_then(own_address)?;
-    words.end()?;
-    Ok(Head::Decoder(Who::Loco(address)))
+    let own: OwnAddress = words.fields()?;
+    Ok(Head::Decoder(Who::Loco(own.address)))
 }
 
 fn board_head(words: &mut Words) -> Result<Head, PacketFault>
