@@ -3,7 +3,7 @@ use Rattle.std.proofs.Common.{refl, arith}
 use Rattle.std.specs.Fmt.{decimal}
 use Rattle.dcc_packet.specs.LineWords.{board_number, output_number, signal_number, direction_word, state_word, switch_word}
 use Rattle.dcc_packet.specs.Fields.{both, IsReadBack}
-use Rattle.dcc_packet.specs.LineFields.{board_field, output_field, signal_field, switch_field, switch_of, direction_field, direction_of, side_field, side_of, small_field}
+use Rattle.dcc_packet.specs.LineFields.{board_field, output_field, signal_field, switch_field, switch_of, direction_field, direction_of, bit_field, bit_of, small_field}
 use Rattle.dcc_packet.specs.LineFields.{accessory_fields, signal_fields}
 use Rattle.dcc_packet.proofs.FieldsBack.{one_word_back, both_back}
 use Rattle.dcc_packet.proofs.Tokens.{decimal_token, direction_token, state_token, switch_token}
@@ -12,6 +12,13 @@ use Rattle.dcc_packet.specs.LineWords.{address, address_word}
 use Rattle.dcc_packet.specs.LineFields.{address_field, number_field}
 use Rattle.dcc_packet.proofs.Tokens.{address_word_token}
 use Rattle.dcc_packet.proofs.WordsBack.{number-decimal, address_back}
+use Rattle.dcc_packet.specs.LineWords.{speed28_bits, speed128_bits, state_number, cv_number, bit_place}
+use Rattle.dcc_packet.specs.LineFields.{speed28_field, speed128_field, functions_field, state_field, cv_field, place_field}
+use Rattle.dcc_packet.specs.LineFields.{speed28_fields, speed128_fields, state_fields, cv_value_fields, cv_bit_fields}
+use Rattle.dcc_packet.proofs.Tokens.{group_token}
+use Rattle.dcc_packet.proofs.WrittenWords.{group_is_byte}
+use Rattle.dcc_packet.proofs.WordsBack.{speed28_bits_back, speed128_bits_back, group_back, group_bits_back, state_number_back}
+use Rattle.dcc_packet.proofs.WordsBack.{cv_back, place_back}
 
 pub address_is_back : IsReadBack address_field
 address_is_back = one_word_back address address_word address_back address_word_token
@@ -40,9 +47,9 @@ direction_is_back =
     one_word_back direction_of (λ direction. direction_word direction.forward)
     (λ direction. rw (direction_back direction.forward) refl) (λ direction. direction_token direction.forward)
 
-pub side_is_back : IsReadBack side_field
-side_is_back =
-    one_word_back side_of (λ side. state_word side.one) (λ side. rw (state_back side.one) refl)
+pub bit_is_back : IsReadBack bit_field
+bit_is_back =
+    one_word_back bit_of (λ side. state_word side.one) (λ side. rw (state_back side.one) refl)
     (λ side. state_token side.one)
 
 pub small_is_back : IsReadBack small_field
@@ -63,3 +70,50 @@ accessory_is_back =
 
 pub signal_line_is_back : IsReadBack signal_fields
 signal_line_is_back = both_back signal_field small_field signal_is_back small_is_back
+
+pub speed28_is_back : IsReadBack speed28_field
+speed28_is_back =
+    one_word_back speed28_bits (λ speed. decimal speed.bits) speed28_bits_back
+    (λ speed. decimal_token speed.bits (omega arith))
+
+pub speed128_is_back : IsReadBack speed128_field
+speed128_is_back =
+    one_word_back speed128_bits (λ speed. decimal speed.bits) speed128_bits_back
+    (λ speed. decimal_token speed.bits (omega arith))
+
+pub functions_are_back : IsReadBack functions_field
+functions_are_back =
+    record {
+      back = λ f rest h. rw (group_back f.group, group_bits_back f) refl;
+      tokens = λ f h.
+          (group_token f.group, (decimal_token f.bits (omega (arith, group_is_byte f.group, f.in_range)), tt));
+    }
+
+pub state_is_back : IsReadBack state_field
+state_is_back =
+    one_word_back state_number (λ state. decimal state.number) state_number_back
+    (λ state. decimal_token state.number (omega arith))
+
+pub cv_is_back : IsReadBack cv_field
+cv_is_back =
+    one_word_back cv_number (λ cv. decimal cv.number) cv_back (λ cv. decimal_token cv.number (omega arith))
+
+pub place_is_back : IsReadBack place_field
+place_is_back =
+    one_word_back bit_place (λ place. decimal place.place) place_back (λ place. decimal_token place.place (omega arith))
+
+pub speed28_line_is_back : IsReadBack speed28_fields
+speed28_line_is_back = both_back direction_field speed28_field direction_is_back speed28_is_back
+
+pub speed128_line_is_back : IsReadBack speed128_fields
+speed128_line_is_back = both_back direction_field speed128_field direction_is_back speed128_is_back
+
+pub state_line_is_back : IsReadBack state_fields
+state_line_is_back = both_back state_field switch_field state_is_back switch_is_back
+
+pub cv_value_is_back : IsReadBack cv_value_fields
+cv_value_is_back = both_back cv_field small_field cv_is_back small_is_back
+
+pub cv_bit_is_back : IsReadBack cv_bit_fields
+cv_bit_is_back =
+    both_back cv_field (both place_field bit_field) cv_is_back (both_back place_field bit_field place_is_back bit_is_back)

@@ -14,6 +14,11 @@ use Rattle.dcc_packet.proofs.WrittenWords.{literal, test_from_digits, IsWord-dec
 use Rattle.dcc_packet.specs.declared.address.Address.{Address}
 use Rattle.dcc_packet.specs.declared.address.Address.TheVariants.{Broadcast, Short, Long}
 use Rattle.dcc_packet.specs.LineWords.{address_word}
+use Rattle.std.specs.List.{AllByRecursion}
+use Rattle.dcc_packet.specs.declared.functions.Group.{Group}
+use Rattle.dcc_packet.specs.declared.functions.Group.TheVariants.{F0, F5, F9, F13, F21, F29, F37, F45, F53, F61}
+use Rattle.dcc_packet.specs.LineWords.{group_word}
+use Rattle.dcc_packet.specs.Fields.{IsWord}
 
 pub keyword_token : (word : Word) → 0 < length word → list_all (λ b. not (is_separator b)) word ≡ true
     → list_all is_plain word ≡ true → length word ≤ 12 → IsToken word
@@ -61,3 +66,20 @@ address_word_token (Long l) =
       plain = decimal_plain l.number (omega arith);
       short = omega (arith, short l.number (omega arith));
     }
+
+pub group_token : (g : Group) → IsToken (group_word g)
+group_token F0 = keyword_token (codes "0") (omega arith) refl refl (omega arith)
+group_token F5 = keyword_token (codes "5") (omega arith) refl refl (omega arith)
+group_token F9 = keyword_token (codes "9") (omega arith) refl refl (omega arith)
+group_token F13 = keyword_token (codes "13") (omega arith) refl refl (omega arith)
+group_token F21 = keyword_token (codes "21") (omega arith) refl refl (omega arith)
+group_token F29 = keyword_token (codes "29") (omega arith) refl refl (omega arith)
+group_token F37 = keyword_token (codes "37") (omega arith) refl refl (omega arith)
+group_token F45 = keyword_token (codes "45") (omega arith) refl refl (omega arith)
+group_token F53 = keyword_token (codes "53") (omega arith) refl refl (omega arith)
+group_token F61 = keyword_token (codes "61") (omega arith) refl refl (omega arith)
+
+-- words of lines are words
+pub all_words : (ws : List Word) → AllByRecursion IsToken ws → AllByRecursion IsWord ws
+all_words [] h = tt
+all_words (w ∷ ws) h = (h.0.word_is, all_words ws h.1)

@@ -89,12 +89,8 @@ impl<'a> Words<'a> {
     fn accessory(&mut self) -> Result<Packet, PacketFault>
         ensures { result ≡ accessory self.old }
     {
-        let (board, (output, switch)): (Board, (Output, Switch)) = self.fields()?;
-        Ok(Packet::Accessory {
-            board,
-            output,
-            on: switch.on,
-        })
+        let (board, (output, Switch { on })): (Board, (Output, Switch)) = self.fields()?;
+        Ok(Packet::Accessory { board, output, on })
     }
 
     #[tactic(auto, unfolding(crate::specs::Line::signal))]

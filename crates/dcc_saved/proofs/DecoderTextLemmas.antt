@@ -22,7 +22,7 @@ use Rattle.dcc_io.specs.Took.{Uses}
 use Rattle.dcc_saved.specs.DecoderLines.{version_line, head_line, speed_line, numbers_line, pending_line, loco_line}
 use Rattle.dcc_saved.specs.declared.decoder_line.Numbered.TheVariants as kinds
 use Rattle.dcc_packet.specs.declared.fields.Direction.{Direction}
-use Rattle.dcc_packet.specs.declared.fields.Side.{Side}
+use Rattle.dcc_packet.specs.declared.fields.Bit.{Bit}
 use Rattle.dcc_saved.specs.DecoderLines.{Four, positions_line, aspects_line}
 use Rattle.dcc_saved.specs.TextReader.{Text, Reader, ◌>>=◌, done, stop_at, line_by}
 use Rattle.dcc_saved.specs.TextReader.Stop.{too_many}
@@ -35,14 +35,14 @@ use Rattle.dcc_io.proofs.TookLemmas.{map_text}
 use Rattle.dcc_saved.proofs.ReadLemmas.{Leads-start, Leads-then, Answers-fault, Refuses-too_many}
 
 -- what follows each line of an accessory decoder
-abbrev pub behind_board_head : Board → ℕ → Four Side → Four ℕ → Head → Reader (Saved × Head)
+abbrev pub behind_board_head : Board → ℕ → Four Bit → Four ℕ → Head → Reader (Saved × Head)
 behind_board_head board outs positions aspects head =
     done (saved.Board (board_read board outs positions aspects), head)
 
-abbrev pub behind_aspects : Board → ℕ → Four Side → Four ℕ → Reader (Saved × Head)
+abbrev pub behind_aspects : Board → ℕ → Four Bit → Four ℕ → Reader (Saved × Head)
 behind_aspects board outs positions aspects = line_by head_line >>= behind_board_head board outs positions aspects
 
-abbrev pub behind_positions : Board → ℕ → Four Side → Reader (Saved × Head)
+abbrev pub behind_positions : Board → ℕ → Four Bit → Reader (Saved × Head)
 behind_positions board outs positions = line_by aspects_line >>= behind_aspects board outs positions
 
 abbrev pub behind_outs : Board → ℕ → Reader (Saved × Head)

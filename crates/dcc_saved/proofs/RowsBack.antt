@@ -21,10 +21,10 @@ use Rattle.dcc_saved.specs.declared.decoder_line.Numbered.TheVariants as kinds
 use Rattle.dcc_saved.specs.Numbered.{name_of, end_of}
 use Rattle.dcc_saved.specs.DecoderLines.{numbers_line, speed_line, pending_line}
 use Rattle.dcc_saved.specs.DecoderLines.{keyword, keyed, Four, four, speed_words, speed_field, positions_line, aspects_line}
-use Rattle.dcc_packet.specs.declared.fields.Side.{Side}
+use Rattle.dcc_packet.specs.declared.fields.Bit.{Bit}
 use Rattle.dcc_packet.specs.Fields.{FieldOf, both, IsReadBack}
-use Rattle.dcc_packet.specs.LineFields.{direction_field, side_field, small_field}
-use Rattle.dcc_packet.proofs.LineFieldsBack.{direction_is_back, side_is_back, small_is_back}
+use Rattle.dcc_packet.specs.LineFields.{direction_field, bit_field, small_field}
+use Rattle.dcc_packet.proofs.LineFieldsBack.{direction_is_back, bit_is_back, small_is_back}
 use Rattle.dcc_saved.specs.FleetText.{line_text, numbers_below, pending_text, first_four}
 use Rattle.dcc_saved.specs.TextReader.{line_by}
 use Rattle.dcc_saved.proofs.LinesBack.{IsToken, at, line_back, few_back, fed, line_read}
@@ -143,7 +143,7 @@ side_word : (one : Bool) → decimal (side_number one) ≡ state_word one
 side_word true = decimal_digit 1 (omega arith)
 side_word false = decimal_digit 0 (omega arith)
 
-abbrev pub first_sides : (ℕ → Bool) → Four Side
+abbrev pub first_sides : (ℕ → Bool) → Four Bit
 first_sides sides =
     (record { one = sides 0 }, (record { one = sides 1 }, (record { one = sides 2 }, record { one = sides 3 })))
 
@@ -155,5 +155,5 @@ positions_read numbers sides n text are =
     let word : (k : ℕ) → k ≤ 3 → decimal (numbers k) ≡ state_word (sides k) =
     λ k few. ap decimal (are k few) ∙ side_word (sides k) in
     rw (word 0 (omega arith), word 1 (omega arith), word 2 (omega arith), word 3 (omega arith))
-    (fields_read (codes "position") (four side_field) refl (four_back side_field side_is_back) (first_sides sides)
+    (fields_read (codes "position") (four bit_field) refl (four_back bit_field bit_is_back) (first_sides sides)
     (tt, (tt, (tt, tt))) (keyword_token (codes "position") (omega arith) refl refl (omega arith)) (omega arith) n text)

@@ -31,6 +31,9 @@ use Rattle.std.specs.List.{AllByRecursion}
 use Rattle.dcc_saved.specs.DecoderLines.{own_address_word}
 use Rattle.dcc_saved.specs.DecoderLines.{own_address_field}
 use Rattle.dcc_saved.proofs.TokensBack.{address_token}
+use Rattle.dcc_packet.specs.Words.{is_word}
+use Rattle.dcc_saved.specs.declared.decoder_line.Head.{Head}
+use Rattle.dcc_saved.specs.DecoderLines.{head_after}
 
 version_back : (version : Version) → version_number (version_word version) ≡ Ok version
 version_back versions.One = refl
@@ -62,34 +65,25 @@ own_board_back b h =
     let other : eqb b.number 511 ≡ false = grind (arith, nat_tests) in
     rw (board_back b, other) refl
 
-pub loco_back : (a : Option Address) → is_active a ≡ true
-    → head_line (codes "loco" ∷ own_address_word a ∷ []) ≡ Ok (heads.Decoder (who.Loco a))
+-- what a line that begins a decoder says behind its keyword
+pub loco_after : (a : Option Address) → is_active a ≡ true
+    → head_after (codes "loco") (own_address_word a ∷ []) ≡ Ok (heads.Decoder (who.Loco a))
+loco_after a h = rw (own_address_back a h) refl
+
+pub board_after : (b : Board) → nat_le b.number 510 ≡ true
+    → head_after (codes "board") (decimal b.number ∷ []) ≡ Ok (heads.Decoder (who.Board b))
+board_after b h = rw (own_board_back b h) refl
+
+-- such a line, and the same behind the CVs
+pub head_says : (word : Word) (ws : List Word) (head : Head) → head_after word ws ≡ Ok head
+    → head_line (word ∷ ws) ≡ Ok head
 unfolding head_line
-loco_back a h = rw (own_address_back a h) refl
+head_says word ws head says = says
 
-pub board_head_back : (b : Board) → nat_le b.number 510 ≡ true
-    → head_line (codes "board" ∷ decimal b.number ∷ []) ≡ Ok (heads.Decoder (who.Board b))
-unfolding head_line
-board_head_back b h = rw (own_board_back b h) refl
-
-pub end_back : head_line (codes "end" ∷ []) ≡ Ok heads.End
-unfolding head_line
-end_back = refl
-
--- the same behind the CVs
-pub loco_behind : (least : ℕ) (a : Option Address) → is_active a ≡ true
-    → loco_line least (codes "loco" ∷ own_address_word a ∷ []) ≡ Ok (behind.Head (heads.Decoder (who.Loco a)))
+pub head_says_behind : (least : ℕ) (word : Word) (ws : List Word) (head : Head) → is_word word (codes "cv") ≡ false
+    → head_after word ws ≡ Ok head → loco_line least (word ∷ ws) ≡ Ok (behind.Head head)
 unfolding loco_line
-loco_behind least a h = rw (own_address_back a h) refl
-
-pub board_behind : (least : ℕ) (b : Board) → nat_le b.number 510 ≡ true
-    → loco_line least (codes "board" ∷ decimal b.number ∷ []) ≡ Ok (behind.Head (heads.Decoder (who.Board b)))
-unfolding loco_line
-board_behind least b h = rw (own_board_back b h) refl
-
-pub end_behind : (least : ℕ) → loco_line least (codes "end" ∷ []) ≡ Ok (behind.Head heads.End)
-unfolding loco_line
-end_behind least = refl
+head_says_behind least word ws head other says = rw (other, says) refl
 
 pub cv_line_back : (least : ℕ) (cv : CvNumber) (value : ℕ) → least ≤ cv.number → value < 256
     → loco_line least (codes "cv" ∷ decimal cv.number ∷ decimal value ∷ []) ≡ Ok (behind.Cv cv value)

@@ -13,9 +13,8 @@ use Rattle.dcc_packet.specs.declared.packet.Packet.{Packet}
 use Rattle.dcc_packet.specs.Spelling.{spelling}
 use Rattle.dcc_packet.specs.Written.{direction_word}
 use Rattle.dcc_packet.proofs.Decimal.{short}
+use Rattle.dcc_packet.proofs.WrittenWords.{hex_plain}
 use Rattle.dcc_packet.proofs.Tokens.{address_word_token, keyword_token, decimal_plain, decimal_token}
-use Rattle.dcc_packet.proofs.WrittenWords.{IsWord-address}
-use Rattle.dcc_packet.proofs.WrittenWords.{IsWord-direction, hex_plain}
 use Rattle.dcc_regs.specs.Loco.{is_pending_for}
 use Rattle.dcc_saved.specs.DecoderLines.{own_address_word}
 use Rattle.dcc_saved.specs.FleetText.{pending_text}

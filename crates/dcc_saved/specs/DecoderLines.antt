@@ -12,9 +12,9 @@ use Rattle.dcc_packet.specs.Words.{Word, is_word}
 use Rattle.dcc_packet.specs.LineWords.{◌>>=◌, small_number, address, cv_number, board_number}
 use Rattle.dcc_packet.specs.LineWords.{output_number, hex_frame}
 use Rattle.dcc_packet.specs.declared.fields.Direction.{Direction}
-use Rattle.dcc_packet.specs.declared.fields.Side.{Side}
+use Rattle.dcc_packet.specs.declared.fields.Bit.{Bit}
 use Rattle.dcc_packet.specs.Fields.{FieldOf, one_word, both, whole, word_and_rest, no_more_words}
-use Rattle.dcc_packet.specs.LineFields.{direction_field, side_field, small_field}
+use Rattle.dcc_packet.specs.LineFields.{direction_field, bit_field, small_field}
 use Rattle.dcc_regs.specs.declared.register.Who.TheVariants as who
 use Rattle.dcc_regs.specs.declared.register.Speed.{Speed}
 use Rattle.dcc_regs.specs.declared.register.Speed.TheVariants as speeds
@@ -268,8 +268,8 @@ abbrev pub listed : {A : Type 0} → Four A → List A
 listed x = x.0 ∷ x.1.0 ∷ x.1.1.0 ∷ x.1.1.1 ∷ []
 
 -- position SIDE SIDE SIDE SIDE
-abbrev pub positions_line : List Word → Result (Four Side) PacketFault
-positions_line line = keyed (codes "position") (four side_field) line
+abbrev pub positions_line : List Word → Result (Four Bit) PacketFault
+positions_line line = keyed (codes "position") (four bit_field) line
 
 -- aspect ASPECT ASPECT ASPECT ASPECT
 abbrev pub aspects_line : List Word → Result (Four ℕ) PacketFault

@@ -2,7 +2,7 @@
 use Rattle.std.specs.Prelude.{zero, suc, ℕ, ◌+◌, ◌-◌, List, [], ◌∷◌, ◌++◌, Option, map, replicate, slice_set}
 use Rattle.dcc_packet.specs.declared.accessory.Board.{Board}
 use Rattle.dcc_packet.specs.declared.address.Address.{Address}
-use Rattle.dcc_packet.specs.declared.fields.Side.{Side}
+use Rattle.dcc_packet.specs.declared.fields.Bit.{Bit}
 use Rattle.dcc_regs.specs.declared.board_state.BoardState.{BoardState}
 use Rattle.dcc_regs.specs.declared.register.Who.{Who}
 use Rattle.dcc_regs.specs.declared.register.Who.TheVariants as who
@@ -63,7 +63,7 @@ loco_lines version address = do
   )
 
 -- what the lines of an accessory decoder say
-abbrev pub board_read : Board → ℕ → Four Side → Four ℕ → BoardState
+abbrev pub board_read : Board → ℕ → Four Bit → Four ℕ → BoardState
 board_read board outs positions aspects =
     record {
       board = board;

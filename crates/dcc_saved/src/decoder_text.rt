@@ -20,7 +20,7 @@ use crate::saved::Saved;
 use dcc_io::inputs::{line_of_next_byte, next_line, refuse_line};
 use dcc_io::{Input, KeptFault, Source, TextLine};
 use dcc_packet::field::Field;
-use dcc_packet::{Address, Board, Direction, Packet, PacketFault, Side};
+use dcc_packet::{Address, Bit, Board, Direction, Packet, PacketFault};
 use dcc_regs::{BoardState, LocoState, Who};
 
 /// The next line. Where there is none, the line behind the last is out of place.
@@ -189,7 +189,7 @@ fn read_board<R: Source>(input: &mut Input<R>, board: Board) -> Result<(Saved, H
     ensures possible { IfOk result (λ read. (is_possible read.0 ≡ true) × IsPossibleHead read.1) }
 {
     let outs = read_numbers(input, Numbered::Out)?;
-    let positions: Four<Side> = read_keyed(input, b"position")?;
+    let positions: Four<Bit> = read_keyed(input, b"position")?;
     let aspects: Four<u8> = read_keyed(input, b"aspect")?;
     let head = read_head(input)?;
     let state = BoardState {
