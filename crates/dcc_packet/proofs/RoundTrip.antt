@@ -33,7 +33,7 @@ use Rattle.dcc_packet.proofs.FieldsBack.{whole_back}
 use Rattle.dcc_packet.proofs.LineFieldsBack.{accessory_is_back, signal_line_is_back}
 use Rattle.dcc_packet.proofs.WordsBack.{address_back, hex_back}
 use Rattle.std.specs.List.{AllByRecursion}
-use Rattle.std.proofs.Common.{length, codes, arith}
+use Rattle.std.proofs.Common.{codes, arith}
 use Rattle.hex.specs.Hex.{lower_digits}
 use Rattle.hex.proofs.HexLemmas.{length-encode_with}
 use Rattle.dcc_packet.specs.declared.packet.OtherFrame.{OtherFrame}

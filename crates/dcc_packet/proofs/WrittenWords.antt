@@ -17,20 +17,10 @@ use Rattle.hex.specs.Hex.{encode_lower, encode_with, lower_digits}
 use Rattle.dcc_packet.specs.Words.{is_separator, words}
 use Rattle.dcc_packet.specs.declared.address.Address.{Address}
 use Rattle.dcc_packet.specs.declared.address.Address.TheVariants.{Broadcast, Short, Long}
-use Rattle.dcc_packet.specs.declared.instruction.What.{What}
-use Rattle.dcc_packet.specs.declared.instruction.What.TheVariants.{Reset, Speed28, Speed128, Functions, BinaryState}
-use Rattle.dcc_packet.specs.declared.instruction.What.TheVariants.{CvWrite, CvVerify, CvBitWrite, CvBitVerify}
 use Rattle.dcc_packet.specs.declared.functions.Group.{Group}
-use Rattle.dcc_packet.specs.declared.functions.Group.TheVariants.{F0, F5, F9, F13, F21, F29, F37, F45, F53, F61}
+use Rattle.dcc_packet.specs.declared.functions.Group.TheVariants.{F0, F5, F9}
 use Rattle.dcc_packet.specs.Group.{group_max}
-use Rattle.dcc_packet.specs.Written.{spaced_words, written_line, written_words, address_word, direction_word}
-use Rattle.dcc_packet.specs.Written.{group_word}
-use Rattle.dcc_packet.specs.Written.{state_word, switch_word, instruction_words}
-use Rattle.dcc_packet.specs.declared.packet.Packet.{Packet}
-use Rattle.dcc_packet.specs.declared.packet.Packet.TheVariants.{Idle, Loco, Accessory, Signal, Other}
-use Rattle.dcc_packet.specs.declared.packet.OtherFrame.{OtherFrame}
-use Rattle.hex.proofs.HexLemmas.{length-encode_with}
-use Rattle.dcc_packet.specs.Spelling.{BytesFit, ValueFits}
+use Rattle.dcc_packet.specs.Written.{spaced_words, address_word}
 use Rattle.dcc_packet.proofs.FirstWord.{is_some_word, filter_some}
 pub use Rattle.dcc_packet.specs.Fields.{IsWord}
 

@@ -8,7 +8,6 @@ use Rattle.std.proofs.lemmas.Grind.{get_or-set_at, common_steps}
 use Rattle.std.proofs.lemmas.List.{append-nil, length-replicate}
 use Rattle.dcc_saved.specs.declared.decoder_line.Head.{Head}
 use Rattle.dcc_saved.specs.declared.decoder_line.LocoLine.TheVariants as behind
-use Rattle.dcc_io.specs.Spaced.{behind_space}
 use Rattle.dcc_saved.specs.DecoderLines.{loco_line}
 use Rattle.dcc_saved.specs.DecoderText.{cvs_from}
 use Rattle.dcc_saved.specs.FleetText.{cv_line, cvs_text}

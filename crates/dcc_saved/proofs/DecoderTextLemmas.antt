@@ -1,5 +1,5 @@
 -- The lines of a decoder text, read one after the other.
-use Rattle.std.proofs.Common.{zero, suc, ◌≡◌, ℕ, ◌+◌, ◌-◌, ◌<◌, ◌≤◌, List, [], ◌∷◌, ◌++◌, length, Bool, Option, None}
+use Rattle.std.proofs.Common.{zero, suc, ◌≡◌, ℕ, ◌+◌, ◌-◌, ◌<◌, ◌≤◌, List, [], ◌∷◌, ◌++◌, length, Option, None}
 use Rattle.std.proofs.Common.{Some, Result, Ok, Err, refl, ◌∙◌, arith, replicate, slice_set, length-append}
 use Rattle.std.proofs.Common.{if◌then◌else◌, All, IfSome, IsOk, is_ok, slice_index_or, inr}
 use Rattle.std.proofs.lemmas.List.Elements.{All-append}

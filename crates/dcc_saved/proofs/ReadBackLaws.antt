@@ -11,21 +11,16 @@ use Rattle.dcc_saved.specs.declared.saved.Saved.{Saved}
 use Rattle.dcc_saved.specs.declared.decoder_line.Head.{Head}
 use Rattle.dcc_saved.specs.declared.decoder_line.Head.TheVariants as heads
 use Rattle.dcc_saved.specs.declared.decoder_line.Version.TheVariants as versions
-use Rattle.dcc_saved.specs.DecoderLines.{version_line, version_field}
 use Rattle.dcc_saved.specs.DecoderText.{decoders_from, decoder_text}
 use Rattle.dcc_saved.specs.FleetText.{cvs_text, text_of, fleet_text, loco_address_line, written_speed}
 use Rattle.dcc_saved.specs.FleetText.{written_numbers, written_pending, board_line}
 use Rattle.dcc_saved.specs.declared.decoder_line.Numbered.TheVariants as kinds
 use Rattle.dcc_saved.specs.FleetText.{written_positions, written_aspects}
 use Rattle.dcc_saved.specs.ReadBack.{SavesEach, IsPossibleDecoder, FleetsAreReadBack}
-use Rattle.dcc_saved.specs.TextReader.{line_by}
 use Rattle.dcc_saved.proofs.DecodersBack.{BeginsWith, loco_begins, board_begins, end_begins, GivesDecoder}
 use Rattle.dcc_saved.proofs.DecodersBack.{loco_given, board_given}
 use Rattle.dcc_saved.proofs.LinesKept.{read_lines}
 use Rattle.dcc_saved.proofs.LinesBack.{at}
-use Rattle.dcc_saved.proofs.RulesBack.{version_is_back}
-use Rattle.dcc_saved.proofs.RowsBack.{fields_read}
-use Rattle.dcc_packet.proofs.Tokens.{keyword_token}
 
 abbrev FleetDecoder : Type 0
 FleetDecoder = Who × RegisterMap

@@ -1,17 +1,15 @@
 -- Each line of a decoder is read again.
-use Rattle.std.proofs.Common.{◌≡◌, ℕ, ◌+◌, ◌<◌, ◌≤◌, Bool, true, false, nat_le, ◌&&◌, List, [], ◌∷◌, ◌++◌, length}
-use Rattle.std.proofs.Common.{codes, Option, Result, Ok, if◌then◌else◌, refl, sym, ap, ◌∙◌, arith, append_assoc}
+use Rattle.std.proofs.Common.{◌≡◌, ℕ, ◌+◌, ◌<◌, ◌≤◌, Bool, true, false, List, [], ◌∷◌, ◌++◌, length}
+use Rattle.std.proofs.Common.{codes, Option, Result, Ok, if◌then◌else◌, refl, sym, ap, ◌∙◌, arith}
 use Rattle.std.proofs.Common.{length-append}
 use Rattle.std.specs.Fmt.{decimal}
 use Rattle.std.proofs.lemmas.Fmt.{decimal_digit}
-use Rattle.std.proofs.lemmas.Bool.{and_parts, leb-true}
-use Rattle.std.specs.List.{AllByRecursion}
 use Rattle.std.proofs.lemmas.List.{append-nil}
 use Rattle.dcc_packet.specs.declared.address.Address.{Address}
 use Rattle.dcc_packet.specs.declared.packet.Packet.{Packet}
 use Rattle.dcc_packet.specs.declared.fault.PacketFault.{PacketFault}
 use Rattle.dcc_packet.specs.Words.{Word}
-use Rattle.dcc_packet.specs.Written.{spaced_words, direction_word, state_word}
+use Rattle.dcc_packet.specs.Written.{direction_word, state_word}
 use Rattle.dcc_regs.specs.declared.register.Speed.{Speed}
 use Rattle.dcc_regs.specs.declared.register.Speed.TheVariants.{Stop, Emergency, Step14, Step28, Step126}
 use Rattle.dcc_packet.specs.Bits.{is_one}
@@ -32,7 +30,7 @@ use Rattle.dcc_saved.proofs.NumbersBack.{on_words, value_of, numbers_are, row_sh
 use Rattle.dcc_saved.proofs.PendingBack.{pending_back}
 use Rattle.dcc_saved.proofs.RulesBack.{speed_is_back, keyed_back, four_back}
 use Rattle.dcc_packet.proofs.FieldsBack.{both_back}
-use Rattle.dcc_packet.proofs.Tokens.{keyword_token, decimal_token}
+use Rattle.dcc_packet.proofs.Tokens.{keyword_token}
 use Rattle.dcc_saved.proofs.TokensBack.{on_tokens}
 use Rattle.dcc_saved.proofs.TokensBack.{pending_token}
 

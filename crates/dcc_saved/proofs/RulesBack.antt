@@ -9,8 +9,7 @@ use Rattle.dcc_packet.specs.declared.cv.CvNumber.{CvNumber}
 use Rattle.dcc_packet.specs.declared.address.Address.{Address}
 use Rattle.dcc_packet.specs.declared.address.Address.TheVariants.{Broadcast, Short, Long}
 use Rattle.dcc_packet.specs.Words.{Word}
-use Rattle.dcc_packet.specs.Written.{direction_word}
-use Rattle.dcc_packet.proofs.WordsBack.{small_number-decimal, address_back, direction_back, cv_back}
+use Rattle.dcc_packet.proofs.WordsBack.{small_number-decimal, address_back, cv_back}
 use Rattle.dcc_packet.proofs.WordsBack.{board_back}
 use Rattle.dcc_regs.specs.declared.register.Who.TheVariants as who
 use Rattle.dcc_regs.specs.declared.register.Speed.{Speed}

@@ -8,13 +8,10 @@ use Rattle.std.proofs.lemmas.List.Elements.{All-cons, All-nil}
 use Rattle.hex.specs.Hex.{encode_lower, encode_with, lower_digits}
 use Rattle.hex.proofs.HexLemmas.{length-encode_with}
 use Rattle.dcc_packet.specs.declared.address.Address.{Address}
-use Rattle.dcc_packet.specs.declared.address.Address.TheVariants.{Broadcast, Short, Long}
 use Rattle.dcc_packet.specs.declared.packet.Packet.{Packet}
 use Rattle.dcc_packet.specs.Spelling.{spelling}
-use Rattle.dcc_packet.specs.Written.{direction_word}
-use Rattle.dcc_packet.proofs.Decimal.{short}
 use Rattle.dcc_packet.proofs.WrittenWords.{hex_plain}
-use Rattle.dcc_packet.proofs.Tokens.{address_word_token, keyword_token, decimal_plain, decimal_token}
+use Rattle.dcc_packet.proofs.Tokens.{address_word_token, keyword_token, decimal_token}
 use Rattle.dcc_regs.specs.Loco.{is_pending_for}
 use Rattle.dcc_saved.specs.DecoderLines.{own_address_word}
 use Rattle.dcc_saved.specs.FleetText.{pending_text}
