@@ -11,6 +11,9 @@ pub mod Decimal
 pub mod HexText
 pub mod WrittenWords
 pub mod WordsBack
+pub mod Tokens
+pub mod FieldsBack
+pub mod LineFieldsBack
 pub mod RoundTrip
 pub mod SameFrames
 pub mod SameAddresses

@@ -1,6 +1,5 @@
 -- A written line is read again.
 use Rattle.std.proofs.Common.{◌≡◌, ℕ, ◌<◌, Bool, List, [], ◌∷◌, Result, Ok, Err, ap, sym, ◌∙◌, refl}
-use Rattle.std.specs.Fmt.{decimal}
 use Rattle.hex.specs.Hex.{encode_lower, IsBytes}
 use Rattle.dcc_wire.specs.Frames.{IsFrame}
 use Rattle.dcc_packet.specs.declared.fault.PacketFault.{PacketFault}
@@ -20,18 +19,31 @@ use Rattle.dcc_packet.specs.declared.accessory.SignalAddress.{SignalAddress}
 use Rattle.dcc_packet.specs.declared.packet.Packet.{Packet}
 use Rattle.dcc_packet.specs.declared.packet.Packet.TheVariants.{Idle, Loco, Accessory, Signal, Other}
 use Rattle.dcc_packet.specs.declared.speed.SpeedBits28.{SpeedBits28}
-use Rattle.dcc_packet.specs.Written.{written_line, written_words, address_word, switch_word, instruction_words}
+use Rattle.dcc_packet.specs.Written.{written_line, written_words, address_word, instruction_words}
 use Rattle.dcc_packet.specs.Spelling.{BytesFit, ValueFits}
 use Rattle.dcc_packet.specs.Line.{idle, accessory, signal, frame, reset, speed28, speed128, functions, binary_state}
-use Rattle.dcc_packet.specs.Line.{cv_value, cv_bit, cv_access, cv_write, cv_verify, cv_bit_write, cv_bit_verify}
+use Rattle.dcc_packet.specs.Line.{cv_access, cv_write, cv_verify, cv_bit_write, cv_bit_verify}
 use Rattle.dcc_packet.specs.Line.{instruction, loco, spelling_or_fault, frame_of_words, Says}
 use Rattle.dcc_packet.specs.Spelling.{spelling}
 use Rattle.dcc_packet.proofs.OneSpelling.{one_packet}
-use Rattle.dcc_packet.proofs.WrittenWords.{written_are_words}
-use Rattle.dcc_packet.proofs.WordsBack.{address_back, direction_back, speed28_bits_back, speed128_bits_back}
-use Rattle.dcc_packet.proofs.WordsBack.{group_back, group_bits_back, state_number_back, cv_back, place_back}
-use Rattle.dcc_packet.proofs.WordsBack.{state_back, switch_back, board_back, output_back, signal_back, hex_back}
-use Rattle.dcc_packet.proofs.WordsBack.{small_number-decimal}
+use Rattle.dcc_packet.proofs.WrittenWords.{literal, words_spaced, hex_plain}
+use Rattle.dcc_packet.proofs.WordsBack.{address_back, hex_back}
+use Rattle.dcc_packet.specs.LineFields.{accessory_fields, signal_fields}
+use Rattle.dcc_packet.proofs.FieldsBack.{whole_back}
+use Rattle.dcc_packet.proofs.LineFieldsBack.{accessory_is_back, signal_line_is_back}
+use Rattle.dcc_packet.proofs.WordsBack.{address_back, hex_back}
+use Rattle.std.specs.List.{AllByRecursion}
+use Rattle.std.proofs.Common.{codes, arith}
+use Rattle.hex.specs.Hex.{lower_digits}
+use Rattle.hex.proofs.HexLemmas.{length-encode_with}
+use Rattle.dcc_packet.specs.declared.packet.OtherFrame.{OtherFrame}
+use Rattle.dcc_packet.specs.Words.{Word}
+use Rattle.dcc_packet.specs.Fields.{IsWord, IsToken}
+use Rattle.dcc_packet.specs.LineFields.{speed28_fields, speed128_fields, functions_field, state_fields, cv_value_fields}
+use Rattle.dcc_packet.specs.LineFields.{cv_bit_fields}
+use Rattle.dcc_packet.proofs.Tokens.{keyword_token, address_word_token, all_words}
+use Rattle.dcc_packet.proofs.LineFieldsBack.{speed28_line_is_back, speed128_line_is_back, functions_are_back}
+use Rattle.dcc_packet.proofs.LineFieldsBack.{state_line_is_back, cv_value_is_back, cv_bit_is_back}
 
 reset_back : instruction (instruction_words Reset) ≡ Ok Reset
 unfolding instruction reset
@@ -40,41 +52,45 @@ reset_back = refl
 speed28_back : (forward : Bool) (speed : SpeedBits28)
     → instruction (instruction_words (Speed28 forward speed)) ≡ Ok (Speed28 forward speed)
 unfolding instruction speed28
-speed28_back forward speed = rw (direction_back forward, speed28_bits_back speed) refl
+speed28_back forward speed =
+    rw (whole_back speed28_fields speed28_line_is_back (record { forward = forward }, speed) (tt, tt)) refl
 
 speed128_back : (forward : Bool) (speed : SpeedBits128)
     → instruction (instruction_words (Speed128 forward speed)) ≡ Ok (Speed128 forward speed)
 unfolding instruction speed128
-speed128_back forward speed = rw (direction_back forward, speed128_bits_back speed) refl
+speed128_back forward speed =
+    rw (whole_back speed128_fields speed128_line_is_back (record { forward = forward }, speed) (tt, tt)) refl
 
 functions_back : (f : GroupBits) → instruction (instruction_words (Functions f)) ≡ Ok (Functions f)
 unfolding instruction functions
-functions_back f = rw (group_back f.group, group_bits_back f) refl
+functions_back f = rw (whole_back functions_field functions_are_back f tt) refl
 
 binary_state_back : (n : StateNumber) (on : Bool)
     → instruction (instruction_words (BinaryState n on)) ≡ Ok (BinaryState n on)
 unfolding instruction binary_state
-binary_state_back n on = rw (state_number_back n, switch_back on) refl
+binary_state_back n on = rw (whole_back state_fields state_line_is_back (n, record { on = on }) (tt, tt)) refl
 
 cv_write_back : (cv : CvNumber) (value : ℕ) → value < 256
     → instruction (instruction_words (CvWrite cv value)) ≡ Ok (CvWrite cv value)
-unfolding instruction cv_access cv_write cv_value
-cv_write_back cv value h = rw (cv_back cv, small_number-decimal value h) refl
+unfolding instruction cv_access cv_write
+cv_write_back cv value h = rw (whole_back cv_value_fields cv_value_is_back (cv, value) (tt, h)) refl
 
 cv_verify_back : (cv : CvNumber) (value : ℕ) → value < 256
     → instruction (instruction_words (CvVerify cv value)) ≡ Ok (CvVerify cv value)
-unfolding instruction cv_access cv_verify cv_value
-cv_verify_back cv value h = rw (cv_back cv, small_number-decimal value h) refl
+unfolding instruction cv_access cv_verify
+cv_verify_back cv value h = rw (whole_back cv_value_fields cv_value_is_back (cv, value) (tt, h)) refl
 
 cv_bit_write_back : (cv : CvNumber) (p : BitPlace) (one : Bool)
     → instruction (instruction_words (CvBitWrite cv p one)) ≡ Ok (CvBitWrite cv p one)
-unfolding instruction cv_access cv_bit_write cv_bit
-cv_bit_write_back cv p one = rw (cv_back cv, place_back p, state_back one) refl
+unfolding instruction cv_access cv_bit_write
+cv_bit_write_back cv p one =
+    rw (whole_back cv_bit_fields cv_bit_is_back (cv, (p, record { one = one })) (tt, (tt, tt))) refl
 
 cv_bit_verify_back : (cv : CvNumber) (p : BitPlace) (one : Bool)
     → instruction (instruction_words (CvBitVerify cv p one)) ≡ Ok (CvBitVerify cv p one)
-unfolding instruction cv_access cv_bit_verify cv_bit
-cv_bit_verify_back cv p one = rw (cv_back cv, place_back p, state_back one) refl
+unfolding instruction cv_access cv_bit_verify
+cv_bit_verify_back cv p one =
+    rw (whole_back cv_bit_fields cv_bit_is_back (cv, (p, record { one = one })) (tt, (tt, tt))) refl
 
 -- the words of an instruction say the instruction
 what_back : (what : What) → ValueFits what → instruction (instruction_words what) ≡ Ok what
@@ -94,13 +110,13 @@ unfolding loco
 loco_back to what h = rw (address_back to, what_back what h) refl
 
 accessory_back : (b : Board) (o : Output) (on : Bool)
-    → accessory (decimal b.number ∷ decimal o.number ∷ switch_word on ∷ []) ≡ Ok (Accessory b o on)
+    → accessory (accessory_fields.written (b, (o, record { on = on }))) ≡ Ok (Accessory b o on)
 unfolding accessory
-accessory_back b o on = rw (board_back b, output_back o, switch_back on) refl
+accessory_back b o on = rw (whole_back accessory_fields accessory_is_back (b, (o, record { on = on })) (tt, (tt, tt))) refl
 
-signal_line_back : (s : SignalAddress) (a : ℕ) → a < 256 → signal (decimal s.number ∷ decimal a ∷ []) ≡ Ok (Signal s a)
+signal_line_back : (s : SignalAddress) (a : ℕ) → a < 256 → signal (signal_fields.written (s, a)) ≡ Ok (Signal s a)
 unfolding signal
-signal_line_back s a h = rw (signal_back s, small_number-decimal a h) refl
+signal_line_back s a h = rw (whole_back signal_fields signal_line_is_back (s, a) (tt, h)) refl
 
 frame_back : (f : List ℕ) → IsBytes f → IsFrame f → frame (encode_lower f ∷ []) ≡ Ok f
 unfolding frame
@@ -114,6 +130,63 @@ said_back (Loco to what) h = ap spelling_or_fault (loco_back to what h)
 said_back (Accessory b o on) h = ap spelling_or_fault (accessory_back b o on)
 said_back (Signal s a) h = ap spelling_or_fault (signal_line_back s a h)
 said_back (Other o) h = frame_back o.frame h o.valid
+
+cv_tokens : (access : Word) (ws : List Word) → IsToken access → AllByRecursion IsToken ws
+    → AllByRecursion IsToken (codes "cv" ∷ access ∷ ws)
+cv_tokens access ws token tokens = (keyword_token (codes "cv") (omega arith) refl refl (omega arith), (token, tokens))
+
+-- the words of an instruction may stand in a line
+instruction_tokens : (what : What) → ValueFits what → AllByRecursion IsToken (instruction_words what)
+instruction_tokens Reset h = (keyword_token (codes "reset") (omega arith) refl refl (omega arith), tt)
+instruction_tokens (Speed28 f b) h = (
+  keyword_token (codes "speed28") (omega arith) refl refl (omega arith),
+  speed28_line_is_back.tokens (record { forward = f }, b) (tt, tt),
+)
+instruction_tokens (Speed128 f b) h = (
+  keyword_token (codes "speed128") (omega arith) refl refl (omega arith),
+  speed128_line_is_back.tokens (record { forward = f }, b) (tt, tt),
+)
+instruction_tokens (Functions f) h =
+    (keyword_token (codes "functions") (omega arith) refl refl (omega arith), functions_are_back.tokens f tt)
+instruction_tokens (BinaryState n on) h = (
+  keyword_token (codes "state") (omega arith) refl refl (omega arith),
+  state_line_is_back.tokens (n, record { on = on }) (tt, tt),
+)
+instruction_tokens (CvWrite c v) h =
+    cv_tokens (codes "write") (cv_value_fields.written (c, v)) (keyword_token (codes "write") (omega arith) refl refl (omega arith))
+    (cv_value_is_back.tokens (c, v) (tt, h))
+instruction_tokens (CvVerify c v) h =
+    cv_tokens (codes "verify") (cv_value_fields.written (c, v)) (keyword_token (codes "verify") (omega arith) refl refl (omega arith))
+    (cv_value_is_back.tokens (c, v) (tt, h))
+instruction_tokens (CvBitWrite c p b) h =
+    cv_tokens (codes "bitwrite") (cv_bit_fields.written (c, (p, record { one = b })))
+    (keyword_token (codes "bitwrite") (omega arith) refl refl (omega arith))
+    (cv_bit_is_back.tokens (c, (p, record { one = b })) (tt, (tt, tt)))
+instruction_tokens (CvBitVerify c p b) h =
+    cv_tokens (codes "bitverify") (cv_bit_fields.written (c, (p, record { one = b })))
+    (keyword_token (codes "bitverify") (omega arith) refl refl (omega arith))
+    (cv_bit_is_back.tokens (c, (p, record { one = b })) (tt, (tt, tt)))
+
+IsWord-hex : (o : OtherFrame) → IsWord (encode_lower o.frame)
+IsWord-hex o =
+    record { some = omega (arith, length-encode_with lower_digits o.frame, o.valid.least); plain = hex_plain o.frame }
+
+-- the words of a written line are those that were written
+written_are_words : (p : Packet) → BytesFit p → words (written_line p) ≡ written_words p
+written_are_words Idle h = words_spaced (codes "idle") [] (literal (codes "idle") (omega arith) refl) tt
+written_are_words (Loco to what) h =
+    words_spaced (codes "loco") (address_word to ∷ instruction_words what) (literal (codes "loco") (omega arith) refl)
+    (all_words (address_word to ∷ instruction_words what) (address_word_token to, instruction_tokens what h))
+written_are_words (Accessory b o on) h =
+    let ws : List Word = accessory_fields.written (b, (o, record { on = on })) in
+    words_spaced (codes "accessory") ws (literal (codes "accessory") (omega arith) refl)
+    (all_words ws (accessory_is_back.tokens (b, (o, record { on = on })) (tt, (tt, tt))))
+written_are_words (Signal s a) h =
+    words_spaced (codes "signal") (signal_fields.written (s, a)) (literal (codes "signal") (omega arith) refl)
+    (all_words (signal_fields.written (s, a)) (signal_line_is_back.tokens (s, a) (tt, h)))
+written_are_words (Other o) h =
+    words_spaced (codes "frame") (encode_lower o.frame ∷ []) (literal (codes "frame") (omega arith) refl)
+    (IsWord-hex o, tt)
 
 -- a written line says its packet
 pub says_back : (p : Packet) → BytesFit p → Says (words (written_line p)) (Ok p)

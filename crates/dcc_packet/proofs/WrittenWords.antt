@@ -17,26 +17,12 @@ use Rattle.hex.specs.Hex.{encode_lower, encode_with, lower_digits}
 use Rattle.dcc_packet.specs.Words.{is_separator, words}
 use Rattle.dcc_packet.specs.declared.address.Address.{Address}
 use Rattle.dcc_packet.specs.declared.address.Address.TheVariants.{Broadcast, Short, Long}
-use Rattle.dcc_packet.specs.declared.instruction.What.{What}
-use Rattle.dcc_packet.specs.declared.instruction.What.TheVariants.{Reset, Speed28, Speed128, Functions, BinaryState}
-use Rattle.dcc_packet.specs.declared.instruction.What.TheVariants.{CvWrite, CvVerify, CvBitWrite, CvBitVerify}
 use Rattle.dcc_packet.specs.declared.functions.Group.{Group}
-use Rattle.dcc_packet.specs.declared.functions.Group.TheVariants.{F0, F5, F9, F13, F21, F29, F37, F45, F53, F61}
+use Rattle.dcc_packet.specs.declared.functions.Group.TheVariants.{F0, F5, F9}
 use Rattle.dcc_packet.specs.Group.{group_max}
-use Rattle.dcc_packet.specs.Written.{spaced_words, written_line, written_words, address_word, direction_word}
-use Rattle.dcc_packet.specs.Written.{group_word}
-use Rattle.dcc_packet.specs.Written.{state_word, switch_word, instruction_words}
-use Rattle.dcc_packet.specs.declared.packet.Packet.{Packet}
-use Rattle.dcc_packet.specs.declared.packet.Packet.TheVariants.{Idle, Loco, Accessory, Signal, Other}
-use Rattle.dcc_packet.specs.declared.packet.OtherFrame.{OtherFrame}
-use Rattle.hex.proofs.HexLemmas.{length-encode_with}
-use Rattle.dcc_packet.specs.Spelling.{BytesFit, ValueFits}
+use Rattle.dcc_packet.specs.Written.{spaced_words, address_word}
 use Rattle.dcc_packet.proofs.FirstWord.{is_some_word, filter_some}
-
--- some bytes, none of them a separator
-pub record IsWord (word : List ℕ) : Type 0 where
-  pub some : 0 < length word
-  pub plain : All (λ b. is_separator b ≡ false) word
+pub use Rattle.dcc_packet.specs.Fields.{IsWord}
 
 -- the words of a written line are the words that were written
 pub words_spaced : (word : List ℕ) (rest : List (List ℕ)) → IsWord word → AllByRecursion IsWord rest
@@ -98,76 +84,11 @@ IsWord-address (Long s) =
 pub literal : (word : List ℕ) → 0 < length word → list_all (λ b. not (is_separator b)) word ≡ true → IsWord word
 literal word some h = record { some = some; plain = plain_from_test word h }
 
-pub IsWord-direction : (forward : Bool) → IsWord (direction_word forward)
-IsWord-direction true = literal (codes "f") (omega arith) refl
-IsWord-direction false = literal (codes "r") (omega arith) refl
-
 pub group_is_byte : (g : Group) → group_max g ≤ 255
 group_is_byte F0 = omega arith
 group_is_byte F5 = omega arith
 group_is_byte F9 = omega arith
 group_is_byte g = omega arith
-
-pub IsWord-state : (one : Bool) → IsWord (state_word one)
-IsWord-state true = literal (codes "1") (omega arith) refl
-IsWord-state false = literal (codes "0") (omega arith) refl
-
-pub IsWord-switch : (on : Bool) → IsWord (switch_word on)
-IsWord-switch true = literal (codes "on") (omega arith) refl
-IsWord-switch false = literal (codes "off") (omega arith) refl
-
-pub IsWord-group : (g : Group) → IsWord (group_word g)
-IsWord-group F0 = literal (codes "0") (omega arith) refl
-IsWord-group F5 = literal (codes "5") (omega arith) refl
-IsWord-group F9 = literal (codes "9") (omega arith) refl
-IsWord-group F13 = literal (codes "13") (omega arith) refl
-IsWord-group F21 = literal (codes "21") (omega arith) refl
-IsWord-group F29 = literal (codes "29") (omega arith) refl
-IsWord-group F37 = literal (codes "37") (omega arith) refl
-IsWord-group F45 = literal (codes "45") (omega arith) refl
-IsWord-group F53 = literal (codes "53") (omega arith) refl
-IsWord-group F61 = literal (codes "61") (omega arith) refl
-
-pub instruction_is_words : (what : What) → ValueFits what → AllByRecursion IsWord (instruction_words what)
-instruction_is_words Reset h = (literal (codes "reset") (omega arith) refl, tt)
-instruction_is_words (Speed28 f b) h =
-    (literal (codes "speed28") (omega arith) refl, (IsWord-direction f, (IsWord-decimal b.bits (omega arith), tt)))
-instruction_is_words (Speed128 f b) h =
-    (literal (codes "speed128") (omega arith) refl, (IsWord-direction f, (IsWord-decimal b.bits (omega arith), tt)))
-instruction_is_words (Functions f) h = (
-  literal (codes "functions") (omega arith) refl,
-  (IsWord-group f.group, (IsWord-decimal f.bits (omega (arith, group_is_byte f.group, f.in_range)), tt)),
-)
-instruction_is_words (BinaryState n on) h =
-    (literal (codes "state") (omega arith) refl, (IsWord-decimal n.number (omega arith), (IsWord-switch on, tt)))
-instruction_is_words (CvWrite c v) h = (
-  literal (codes "cv") (omega arith) refl,
-  (
-    literal (codes "write") (omega arith) refl,
-    (IsWord-decimal c.number (omega arith), (IsWord-decimal v (omega arith), tt)),
-  ),
-)
-instruction_is_words (CvVerify c v) h = (
-  literal (codes "cv") (omega arith) refl,
-  (
-    literal (codes "verify") (omega arith) refl,
-    (IsWord-decimal c.number (omega arith), (IsWord-decimal v (omega arith), tt)),
-  ),
-)
-instruction_is_words (CvBitWrite c p b) h = (
-  literal (codes "cv") (omega arith) refl,
-  (
-    literal (codes "bitwrite") (omega arith) refl,
-    (IsWord-decimal c.number (omega arith), (IsWord-decimal p.place (omega arith), (IsWord-state b, tt))),
-  ),
-)
-instruction_is_words (CvBitVerify c p b) h = (
-  literal (codes "cv") (omega arith) refl,
-  (
-    literal (codes "bitverify") (omega arith) refl,
-    (IsWord-decimal c.number (omega arith), (IsWord-decimal p.place (omega arith), (IsWord-state b, tt))),
-  ),
-)
 
 pub digit_plain : (i : ℕ) → is_separator (get_or lower_digits i 0) ≡ false
 digit_plain i =
@@ -185,24 +106,3 @@ hex_plain (b ∷ bs) =
     (get_or lower_digits (b % 16) 0 ∷ encode_lower bs) (digit_plain (b / 16))
     (All-cons (λ b. is_separator b ≡ false) (get_or lower_digits (b % 16) 0) (encode_lower bs) (digit_plain (b % 16))
     (hex_plain bs))
-
-IsWord-hex : (o : OtherFrame) → IsWord (encode_lower o.frame)
-IsWord-hex o =
-    record { some = omega (arith, length-encode_with lower_digits o.frame, o.valid.least); plain = hex_plain o.frame }
-
--- the words of a written line are those that were written
-pub written_are_words : (p : Packet) → BytesFit p → words (written_line p) ≡ written_words p
-written_are_words Idle h = words_spaced (codes "idle") [] (literal (codes "idle") (omega arith) refl) tt
-written_are_words (Loco to what) h =
-    words_spaced (codes "loco") (address_word to ∷ instruction_words what) (literal (codes "loco") (omega arith) refl)
-    (IsWord-address to, instruction_is_words what h)
-written_are_words (Accessory b o on) h =
-    words_spaced (codes "accessory") (decimal b.number ∷ decimal o.number ∷ switch_word on ∷ [])
-    (literal (codes "accessory") (omega arith) refl)
-    (IsWord-decimal b.number (omega arith), (IsWord-decimal o.number (omega arith), (IsWord-switch on, tt)))
-written_are_words (Signal s a) h =
-    words_spaced (codes "signal") (decimal s.number ∷ decimal a ∷ []) (literal (codes "signal") (omega arith) refl)
-    (IsWord-decimal s.number (omega arith), (IsWord-decimal a (omega arith), tt))
-written_are_words (Other o) h =
-    words_spaced (codes "frame") (encode_lower o.frame ∷ []) (literal (codes "frame") (omega arith) refl)
-    (IsWord-hex o, tt)

@@ -1,11 +1,12 @@
 -- What single words of packet lines say.
-use Rattle.std.specs.Prelude.{ℕ, ◌&&◌, nat_le, Bool, true, false, List, length, codes, slice_index, drop, ◌==◌}
+use Rattle.std.specs.Prelude.{ℕ, ◌&&◌, nat_le, Bool, true, false, List, ◌++◌, length, codes, slice_index, drop, ◌==◌}
 use Rattle.std.specs.Prelude.{if◌then◌else◌, Result, Ok, Err}
 use Rattle.std.specs.Char.{is_ascii_digit}
+use Rattle.std.specs.Fmt.{decimal}
 use Rattle.std.specs.List.{list_all}
 use Rattle.std.specs.Str.Parse.{digits_value}
 use Rattle.dcc_packet.specs.declared.address.Address.{Address}
-use Rattle.dcc_packet.specs.declared.address.Address.TheVariants.{Broadcast}
+use Rattle.dcc_packet.specs.declared.address.Address.TheVariants.{Broadcast, Short, Long}
 use Rattle.dcc_packet.specs.declared.accessory.Board.{Board}
 use Rattle.dcc_packet.specs.declared.accessory.Output.{Output}
 use Rattle.dcc_packet.specs.declared.accessory.SignalAddress.{SignalAddress}
@@ -143,3 +144,33 @@ framed_bytes (Err fault) = Err faults.Frame
 -- HEX: the bytes of a frame, two digits of either case a byte
 abbrev pub hex_frame : Word → Result (List ℕ) PacketFault
 hex_frame word = framed_bytes (decode_of word)
+
+-- the words that are written
+abbrev pub address_word : Address → Word
+address_word Broadcast = codes "all"
+address_word (Short a) = codes "s" ++ decimal a.number
+address_word (Long a) = codes "l" ++ decimal a.number
+
+abbrev pub direction_word : Bool → Word
+direction_word true = codes "f"
+direction_word false = codes "r"
+
+abbrev pub state_word : Bool → Word
+state_word true = codes "1"
+state_word false = codes "0"
+
+abbrev pub switch_word : Bool → Word
+switch_word true = codes "on"
+switch_word false = codes "off"
+
+abbrev pub group_word : Group → Word
+group_word F0 = codes "0"
+group_word F5 = codes "5"
+group_word F9 = codes "9"
+group_word F13 = codes "13"
+group_word F21 = codes "21"
+group_word F29 = codes "29"
+group_word F37 = codes "37"
+group_word F45 = codes "45"
+group_word F53 = codes "53"
+group_word F61 = codes "61"

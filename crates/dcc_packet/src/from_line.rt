@@ -4,10 +4,10 @@ ghost use Rattle.dcc_packet.specs.Words.{words};
 ghost use Rattle.dcc_packet.specs.Spelling.{BytesFit};
 ghost use Rattle.dcc_packet.specs.Line.{idle, accessory, signal, frame, Says, spelling_or_fault};
 
-use crate::line_word::{board_number, hex_frame, output_number, signal_number, switch};
-use crate::numeral::small_number;
+use crate::fields::Switch;
+use crate::line_word::hex_frame;
 use crate::words::Words;
-use crate::{Packet, PacketFault};
+use crate::{Board, Output, Packet, PacketFault, SignalAddress};
 
 impl Packet {
     /// The packet of a line, which is one of these:
@@ -89,10 +89,7 @@ impl<'a> Words<'a> {
     fn accessory(&mut self) -> Result<Packet, PacketFault>
         ensures { result ≡ accessory self.old }
     {
-        let board = self.word().and_then(board_number)?;
-        let output = self.word().and_then(output_number)?;
-        let on = self.word().and_then(switch)?;
-        self.end()?;
+        let (board, (output, Switch { on })): (Board, (Output, Switch)) = self.fields()?;
         Ok(Packet::Accessory { board, output, on })
     }
 
@@ -100,9 +97,7 @@ impl<'a> Words<'a> {
     fn signal(&mut self) -> Result<Packet, PacketFault>
         ensures { result ≡ signal self.old }
     {
-        let address = self.word().and_then(signal_number)?;
-        let aspect = self.word().and_then(small_number)?;
-        self.end()?;
+        let (address, aspect): (SignalAddress, u8) = self.fields()?;
         Ok(Packet::Signal { address, aspect })
     }
 

@@ -1,16 +1,15 @@
 //! Packet lines to locomotives, behind the word `loco`.
 ghost use Rattle.std.specs.Prelude.{◌≡◌};
 ghost use Rattle.dcc_packet.specs.Line.{loco, instruction, reset, speed28, speed128, functions, binary_state};
-ghost use Rattle.dcc_packet.specs.Line.{cv_access, cv_write, cv_verify, cv_bit_write, cv_bit_verify, cv_value};
-ghost use Rattle.dcc_packet.specs.Line.{cv_bit};
+ghost use Rattle.dcc_packet.specs.Line.{cv_access, cv_write, cv_verify, cv_bit_write, cv_bit_verify};
 
-use crate::line_word::{
-    address, bit_place, bit_state, cv_number, direction, group, group_bits, speed28_bits,
-    speed128_bits, state_number, switch,
-};
-use crate::numeral::small_number;
+use crate::fields::{Bit, Direction, Switch};
+use crate::line_word::address;
 use crate::words::Words;
-use crate::{BitPlace, CvNumber, Packet, PacketFault, What};
+use crate::{
+    BitPlace, CvNumber, GroupBits, Packet, PacketFault, SpeedBits28, SpeedBits128, StateNumber,
+    What,
+};
 
 impl<'a> Words<'a> {
     #[tactic(auto, unfolding(crate::specs::Line::loco))]
@@ -56,9 +55,7 @@ impl<'a> Words<'a> {
     fn speed28(&mut self) -> Result<What, PacketFault>
         ensures { result ≡ speed28 self.old }
     {
-        let forward = self.word().and_then(direction)?;
-        let bits = self.word().and_then(speed28_bits)?;
-        self.end()?;
+        let (Direction { forward }, bits): (Direction, SpeedBits28) = self.fields()?;
         Ok(What::Speed28 { forward, bits })
     }
 
@@ -66,9 +63,7 @@ impl<'a> Words<'a> {
     fn speed128(&mut self) -> Result<What, PacketFault>
         ensures { result ≡ speed128 self.old }
     {
-        let forward = self.word().and_then(direction)?;
-        let bits = self.word().and_then(speed128_bits)?;
-        self.end()?;
+        let (Direction { forward }, bits): (Direction, SpeedBits128) = self.fields()?;
         Ok(What::Speed128 { forward, bits })
     }
 
@@ -76,9 +71,7 @@ impl<'a> Words<'a> {
     fn functions(&mut self) -> Result<What, PacketFault>
         ensures { result ≡ functions self.old }
     {
-        let group = self.word().and_then(group)?;
-        let bits = group_bits(group, self.word()?)?;
-        self.end()?;
+        let bits: GroupBits = self.fields()?;
         Ok(What::Functions(bits))
     }
 
@@ -86,9 +79,7 @@ impl<'a> Words<'a> {
     fn binary_state(&mut self) -> Result<What, PacketFault>
         ensures { result ≡ binary_state self.old }
     {
-        let number = self.word().and_then(state_number)?;
-        let on = self.word().and_then(switch)?;
-        self.end()?;
+        let (number, Switch { on }): (StateNumber, Switch) = self.fields()?;
         Ok(What::BinaryState { number, on })
     }
 
@@ -114,7 +105,7 @@ impl<'a> Words<'a> {
     fn cv_write(&mut self) -> Result<What, PacketFault>
         ensures { result ≡ cv_write self.old }
     {
-        let (cv, value) = self.cv_value()?;
+        let (cv, value): (CvNumber, u8) = self.fields()?;
         Ok(What::CvWrite { cv, value })
     }
 
@@ -122,7 +113,7 @@ impl<'a> Words<'a> {
     fn cv_verify(&mut self) -> Result<What, PacketFault>
         ensures { result ≡ cv_verify self.old }
     {
-        let (cv, value) = self.cv_value()?;
+        let (cv, value): (CvNumber, u8) = self.fields()?;
         Ok(What::CvVerify { cv, value })
     }
 
@@ -130,7 +121,7 @@ impl<'a> Words<'a> {
     fn cv_bit_write(&mut self) -> Result<What, PacketFault>
         ensures { result ≡ cv_bit_write self.old }
     {
-        let (cv, place, one) = self.cv_bit()?;
+        let (cv, (place, Bit { one })): (CvNumber, (BitPlace, Bit)) = self.fields()?;
         Ok(What::CvBitWrite { cv, place, one })
     }
 
@@ -138,30 +129,7 @@ impl<'a> Words<'a> {
     fn cv_bit_verify(&mut self) -> Result<What, PacketFault>
         ensures { result ≡ cv_bit_verify self.old }
     {
-        let (cv, place, one) = self.cv_bit()?;
+        let (cv, (place, Bit { one })): (CvNumber, (BitPlace, Bit)) = self.fields()?;
         Ok(What::CvBitVerify { cv, place, one })
-    }
-
-    /// A CV and a value, and the end of the line.
-    #[tactic(auto, unfolding(crate::specs::Line::cv_value))]
-    fn cv_value(&mut self) -> Result<(CvNumber, u8), PacketFault>
-        ensures { result ≡ cv_value self.old }
-    {
-        let cv = self.word().and_then(cv_number)?;
-        let value = self.word().and_then(small_number)?;
-        self.end()?;
-        Ok((cv, value))
-    }
-
-    /// A CV, a bit place and a state, and the end of the line.
-    #[tactic(auto, unfolding(crate::specs::Line::cv_bit))]
-    fn cv_bit(&mut self) -> Result<(CvNumber, BitPlace, bool), PacketFault>
-        ensures { result ≡ cv_bit self.old }
-    {
-        let cv = self.word().and_then(cv_number)?;
-        let place = self.word().and_then(bit_place)?;
-        let one = self.word().and_then(bit_state)?;
-        self.end()?;
-        Ok((cv, place, one))
     }
 }

@@ -1,19 +1,17 @@
 //! Packets as lines.
-ghost use Rattle.std.specs.Prelude.{◌≡◌, ◌+◌, ◌≤◌, ◌<◌, ◌++◌, ◌∷◌, [], length, codes, Result, Ok};
-ghost use Rattle.std.specs.Fmt.{decimal};
+ghost use Rattle.std.specs.Prelude.{◌≡◌, ◌+◌, ◌≤◌, ◌<◌, ◌++◌, ◌∷◌, length, codes, Result, Ok};
 ghost use Rattle.arrayvec.specs.ArrayString.{array_string_len};
 ghost use Rattle.dcc_packet.specs.declared.packet.Packet.{Packet};
 ghost use Rattle.dcc_packet.specs.declared.fault.PacketFault.{PacketFault};
 ghost use Rattle.dcc_packet.specs.Words.{words};
 ghost use Rattle.dcc_packet.specs.Line.{Says};
 ghost use Rattle.dcc_packet.specs.Spelling.{BytesFit, ValueFits};
-ghost use Rattle.dcc_packet.specs.Written.{state_word, instruction_words, spaced_words, written_line};
+ghost use Rattle.dcc_packet.specs.Written.{instruction_words, spaced_words, written_line};
 
-use crate::to_line_word::{
-    Line, direction_word, group_word, put_address, put_hex, put_number, put_word, state_word,
-    switch_word,
-};
-use crate::{BitPlace, CvNumber, Packet, What};
+use crate::field::{Field, Line};
+use crate::fields::{Bit, Direction, Switch};
+use crate::to_line_word::{put_address, put_hex, put_word};
+use crate::{Packet, What};
 use arrayvec::ArrayString;
 
 impl Packet {
@@ -46,14 +44,11 @@ impl Packet {
             }
             Packet::Accessory { board, output, on } => {
                 line.push_str("accessory");
-                put_number(&mut line, board.number);
-                put_number(&mut line, u16::from(output.number));
-                put_word(&mut line, switch_word(*on));
+                (*board, (*output, Switch { on: *on })).put(&mut line);
             }
             Packet::Signal { address, aspect } => {
                 line.push_str("signal");
-                put_number(&mut line, address.number);
-                put_number(&mut line, u16::from(*aspect));
+                (*address, *aspect).put(&mut line);
             }
             Packet::Other(other) => {
                 line.push_str("frame ");
@@ -74,52 +69,40 @@ fn put_instruction(line: &mut Line, what: &What)
         What::Reset => put_word(line, "reset"),
         What::Speed28 { forward, bits } => {
             put_word(line, "speed28");
-            put_word(line, direction_word(*forward));
-            put_number(line, u16::from(bits.bits));
+            (Direction { forward: *forward }, *bits).put(line);
         }
         What::Speed128 { forward, bits } => {
             put_word(line, "speed128");
-            put_word(line, direction_word(*forward));
-            put_number(line, u16::from(bits.bits));
+            (Direction { forward: *forward }, *bits).put(line);
         }
         What::Functions(functions) => {
             put_word(line, "functions");
-            put_word(line, group_word(functions.group));
-            put_number(line, u16::from(functions.bits));
+            functions.put(line);
         }
         What::BinaryState { number, on } => {
             put_word(line, "state");
-            put_number(line, u16::from(number.number));
-            put_word(line, switch_word(*on));
+            (*number, Switch { on: *on }).put(line);
         }
-        What::CvWrite { cv, value } => put_cv_value(line, "write", cv, *value),
-        What::CvVerify { cv, value } => put_cv_value(line, "verify", cv, *value),
-        What::CvBitWrite { cv, place, one } => put_cv_bit(line, "bitwrite", cv, place, *one),
-        What::CvBitVerify { cv, place, one } => put_cv_bit(line, "bitverify", cv, place, *one),
+        What::CvWrite { cv, value } => put_access(line, "write", &(*cv, *value)),
+        What::CvVerify { cv, value } => put_access(line, "verify", &(*cv, *value)),
+        What::CvBitWrite { cv, place, one } => {
+            put_access(line, "bitwrite", &(*cv, (*place, Bit { one: *one })));
+        }
+        What::CvBitVerify { cv, place, one } => {
+            put_access(line, "bitverify", &(*cv, (*place, Bit { one: *one })));
+        }
     }
 }
 
-/// `cv`, the access, the CV and a value.
-fn put_cv_value(line: &mut Line, access: &str, cv: &CvNumber, value: u8)
+/// `cv`, the access and its fields.
+fn put_access<F: Field>(line: &mut Line, access: &str, fields: &F)
     requires room { array_string_len line.old + 28 ≤ 40 }
     requires short { length access.now ≤ 9 }
-    ensures bytes { line.new.bytes ≡ line.old.bytes
-        ++ spaced_words (codes "cv" ∷ access.now ∷ decimal cv.now.number ∷ decimal value ∷ []) }
-    ensures len { array_string_len line.new ≤ array_string_len line.old + 25 }
+    requires few { F.most ≤ 14 }
+    ensures { line.new.bytes ≡ line.old.bytes
+        ++ spaced_words (codes "cv" ∷ access.now ∷ F.field.written fields.now) }
 {
     put_word(line, "cv");
     put_word(line, access);
-    put_number(line, cv.number);
-    put_number(line, u16::from(value));
-}
-
-/// `cv`, the access, the CV, a place and a state.
-fn put_cv_bit(line: &mut Line, access: &str, cv: &CvNumber, place: &BitPlace, one: bool)
-    requires room { array_string_len line.old + 28 ≤ 40 }
-    requires short { length access.now ≤ 9 }
-    ensures { let numbers = decimal cv.now.number ∷ decimal place.now.place ∷ state_word one ∷ [] in
-        line.new.bytes ≡ line.old.bytes ++ spaced_words (codes "cv" ∷ access.now ∷ numbers) }
-{
-    put_cv_value(line, access, cv, place.place);
-    put_word(line, state_word(one));
+    fields.put(line);
 }

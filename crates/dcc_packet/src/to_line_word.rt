@@ -6,12 +6,9 @@ ghost use Rattle.arrayvec.specs.ArrayString.{array_string_len};
 ghost use Rattle.dcc_packet.specs.Written.{address_word, direction_word, state_word, group_word, switch_word};
 ghost use Rattle.dcc_packet.specs.Written.{with_word};
 
+use crate::field::Line;
 use crate::{Address, Group};
-use arrayvec::ArrayString;
 use std::str;
-
-/// A line that is being written.
-pub(crate) type Line = ArrayString<40>;
 
 /// A space and a word.
 pub(crate) fn put_word(line: &mut Line, word: &str)

@@ -1,27 +1,18 @@
 -- A blank line is no line of a decoder text.
-use Rattle.std.proofs.Common.{◌≡◌, ℕ, Bool, List, [], Option, Ok}
+use Rattle.std.proofs.Common.{◌≡◌, ℕ, List, [], Option, Ok}
 use Rattle.dcc_packet.specs.declared.address.Address.{Address}
 use Rattle.dcc_packet.specs.declared.packet.Packet.{Packet}
 use Rattle.dcc_packet.specs.Words.{words}
-use Rattle.dcc_regs.specs.declared.register.Speed.{Speed}
 use Rattle.dcc_saved.specs.declared.decoder_line.Head.{Head}
 use Rattle.dcc_saved.specs.declared.decoder_line.LocoLine.{LocoLine}
-use Rattle.dcc_saved.specs.declared.decoder_line.Version.{Version}
-use Rattle.dcc_saved.specs.DecoderLines.{version_line, head_line, speed_line, numbers_line, pending_line}
-use Rattle.dcc_saved.specs.DecoderLines.{loco_line, positions_line, aspects_line}
+use Rattle.dcc_saved.specs.DecoderLines.{head_line, numbers_line, pending_line}
+use Rattle.dcc_saved.specs.DecoderLines.{loco_line, keyed}
+use Rattle.dcc_packet.specs.Fields.{FieldOf}
 use Rattle.dcc_saved.specs.declared.decoder_line.Numbered.{Numbered}
-
-pub blank_version : (x : Version) → version_line (words []) ≡ Ok x → ⊥
-unfolding version_line
-blank_version x e = cc
 
 pub blank_head : (x : Head) → head_line (words []) ≡ Ok x → ⊥
 unfolding head_line
 blank_head x e = cc
-
-pub blank_speed : (x : Speed × Bool) → speed_line (words []) ≡ Ok x → ⊥
-unfolding speed_line
-blank_speed x e = cc
 
 pub blank_numbers : (kind : Numbered) (x : ℕ) → numbers_line kind (words []) ≡ Ok x → ⊥
 unfolding numbers_line
@@ -35,10 +26,5 @@ pub blank_loco : (least : ℕ) (x : LocoLine) → loco_line least (words []) ≡
 unfolding loco_line
 blank_loco least x e = cc
 
-pub blank_positions : (x : List Bool) → positions_line (words []) ≡ Ok x → ⊥
-unfolding positions_line
-blank_positions x e = cc
-
-pub blank_aspects : (x : List ℕ) → aspects_line (words []) ≡ Ok x → ⊥
-unfolding aspects_line
-blank_aspects x e = cc
+pub blank_keyed : {A : Type 0} (name : List ℕ) (field : FieldOf A) (x : A) → keyed name field (words []) ≡ Ok x → ⊥
+blank_keyed name field x e = cc

@@ -8,14 +8,13 @@ use Rattle.std.proofs.lemmas.Grind.{get_or-set_at, common_steps}
 use Rattle.std.proofs.lemmas.List.{append-nil, length-replicate}
 use Rattle.dcc_saved.specs.declared.decoder_line.Head.{Head}
 use Rattle.dcc_saved.specs.declared.decoder_line.LocoLine.TheVariants as behind
-use Rattle.dcc_io.specs.Spaced.{behind_space}
 use Rattle.dcc_saved.specs.DecoderLines.{loco_line}
 use Rattle.dcc_saved.specs.DecoderText.{cvs_from}
 use Rattle.dcc_saved.specs.FleetText.{cv_line, cvs_text}
 use Rattle.dcc_saved.specs.TextReader.{line_by}
-use Rattle.dcc_saved.proofs.LinesBack.{at, few_back}
+use Rattle.dcc_saved.proofs.LinesBack.{at, line_read}
 use Rattle.dcc_saved.proofs.RulesBack.{cv_line_back}
-use Rattle.dcc_saved.proofs.TokensBack.{keyword_token, decimal_token}
+use Rattle.dcc_packet.proofs.Tokens.{keyword_token, decimal_token}
 
 -- the lines of so many CVs behind this one
 abbrev line_or_none : (ℕ → ℕ) → ℕ → List ℕ
@@ -45,24 +44,13 @@ all_after cvs c = ap (cvs_text cvs) (from_none c) ∙ cvs_split cvs 0 c
     from_none : (n : ℕ) → n ≡ 0 + n
     from_none n = omega arith
 
-cv_line_is : (n value : ℕ) (text : List ℕ)
-    → cv_line n value ++ text ≡ (codes "cv" ++ (behind_space n ++ behind_space value)) ++ 10 ∷ text
-cv_line_is n value text =
-    ap (λ (xs : List ℕ). xs ++ text) (append_assoc (codes "cv") (behind_space n) (behind_space value ++ codes "\n")
-    ∙ ap (λ (xs : List ℕ). codes "cv" ++ xs) (sym (append_assoc (behind_space n) (behind_space value) (codes "\n")))
-    ∙ sym (append_assoc (codes "cv") (behind_space n ++ behind_space value) (codes "\n")))
-    ∙ append_assoc (codes "cv" ++ (behind_space n ++ behind_space value)) (codes "\n") text
-
 -- one line
 one_line : (least n line value : ℕ) (text : List ℕ) (range : (1 ≤ n) × (n ≤ 1024)) → least ≤ n → value < 256
     → line_by (loco_line least) (at line (cv_line n value ++ text)) ≡ Ok
     (behind.Cv (record { number = n; in_range = range }) value, at (line + 1) text)
 one_line least n line value text range ascends small =
-    ap (λ (bytes : List ℕ). line_by (loco_line least) (at line bytes)) (cv_line_is n value text)
-    ∙ few_back (loco_line least) (behind.Cv (record { number = n; in_range = range }) value) line
-    (codes "cv" ++ (behind_space n ++ behind_space value)) (codes "cv") (decimal n ∷ decimal value ∷ []) text
-    (ap (λ (xs : List ℕ). codes "cv" ++ (behind_space n ++ 32 ∷ xs)) (sym (append-nil (decimal value))))
-    (keyword_token (codes "cv") (omega arith) refl refl (omega arith))
+    line_read (loco_line least) (behind.Cv (record { number = n; in_range = range }) value) line (codes "cv")
+    (decimal n ∷ decimal value ∷ []) text (keyword_token (codes "cv") (omega arith) refl refl (omega arith))
     (decimal_token n (omega (arith, range)), (decimal_token value (omega (arith, small)), tt)) (omega arith)
     (cv_line_back least (record { number = n; in_range = range }) value ascends small)
 

@@ -1,5 +1,5 @@
 -- The lines of a decoder text, read one after the other.
-use Rattle.std.proofs.Common.{zero, suc, ◌≡◌, ℕ, ◌+◌, ◌-◌, ◌<◌, ◌≤◌, List, [], ◌∷◌, ◌++◌, length, Bool, Option, None}
+use Rattle.std.proofs.Common.{zero, suc, ◌≡◌, ℕ, ◌+◌, ◌-◌, ◌<◌, ◌≤◌, List, [], ◌∷◌, ◌++◌, length, Option, None}
 use Rattle.std.proofs.Common.{Some, Result, Ok, Err, refl, ◌∙◌, arith, replicate, slice_set, length-append}
 use Rattle.std.proofs.Common.{if◌then◌else◌, All, IfSome, IsOk, is_ok, slice_index_or, inr}
 use Rattle.std.proofs.lemmas.List.Elements.{All-append}
@@ -7,7 +7,7 @@ use Rattle.dcc_packet.specs.declared.accessory.Board.{Board}
 use Rattle.dcc_packet.specs.declared.address.Address.{Address}
 use Rattle.dcc_packet.specs.declared.cv.CvNumber.{CvNumber}
 use Rattle.dcc_packet.specs.declared.packet.Packet.{Packet}
-use Rattle.dcc_regs.specs.declared.register.Speed.{Speed}
+use Rattle.dcc_saved.specs.declared.decoder_fields.SavedSpeed.{SavedSpeed}
 use Rattle.dcc_io.specs.declared.fault.KeptFault.{KeptFault}
 use Rattle.dcc_io.specs.declared.fault.KeptFault.TheVariants.{Number, Line, Read, TooMuch}
 use Rattle.dcc_io.specs.Faults.{as_tool_fault}
@@ -21,26 +21,28 @@ use Rattle.dcc_io.specs.InputState.{InputState}
 use Rattle.dcc_io.specs.Took.{Uses}
 use Rattle.dcc_saved.specs.DecoderLines.{version_line, head_line, speed_line, numbers_line, pending_line, loco_line}
 use Rattle.dcc_saved.specs.declared.decoder_line.Numbered.TheVariants as kinds
-use Rattle.dcc_saved.specs.DecoderLines.{positions_line, aspects_line}
+use Rattle.dcc_packet.specs.declared.fields.Direction.{Direction}
+use Rattle.dcc_packet.specs.declared.fields.Bit.{Bit}
+use Rattle.dcc_saved.specs.DecoderLines.{Four, positions_line, aspects_line}
 use Rattle.dcc_saved.specs.TextReader.{Text, Reader, ◌>>=◌, done, stop_at, line_by}
 use Rattle.dcc_saved.specs.TextReader.Stop.{too_many}
 use Rattle.dcc_saved.specs.TextRead.{at, GoesOn, Leads, Refuses, Answers, UsedWholeLines}
 use Rattle.dcc_regs.specs.declared.register.Who.{Who}
 use Rattle.dcc_saved.specs.declared.decoder_line.Version.{Version}
 use Rattle.dcc_saved.specs.DecoderText.{states_by, decoder_lines, behind_loco_line, cvs_from, cvs_lines, loco_lines}
-use Rattle.dcc_saved.specs.DecoderText.{board_lines, decoders_from, decoder_text}
+use Rattle.dcc_saved.specs.DecoderText.{board_read, board_lines, decoders_from, decoder_text}
 use Rattle.dcc_io.proofs.TookLemmas.{map_text}
 use Rattle.dcc_saved.proofs.ReadLemmas.{Leads-start, Leads-then, Answers-fault, Refuses-too_many}
 
 -- what follows each line of an accessory decoder
-abbrev pub behind_board_head : Board → ℕ → List Bool → List ℕ → Head → Reader (Saved × Head)
+abbrev pub behind_board_head : Board → ℕ → Four Bit → Four ℕ → Head → Reader (Saved × Head)
 behind_board_head board outs positions aspects head =
-    done (saved.Board (record { board = board; outs = outs; positions = positions; aspects = aspects }), head)
+    done (saved.Board (board_read board outs positions aspects), head)
 
-abbrev pub behind_aspects : Board → ℕ → List Bool → List ℕ → Reader (Saved × Head)
+abbrev pub behind_aspects : Board → ℕ → Four Bit → Four ℕ → Reader (Saved × Head)
 behind_aspects board outs positions aspects = line_by head_line >>= behind_board_head board outs positions aspects
 
-abbrev pub behind_positions : Board → ℕ → List Bool → Reader (Saved × Head)
+abbrev pub behind_positions : Board → ℕ → Four Bit → Reader (Saved × Head)
 behind_positions board outs positions = line_by aspects_line >>= behind_aspects board outs positions
 
 abbrev pub behind_outs : Board → ℕ → Reader (Saved × Head)
@@ -52,14 +54,14 @@ unfolding board_lines
 Leads-board board old fault = Leads-start (board_lines board) old fault
 
 -- what follows each line of a locomotive decoder
-abbrev pub behind_cvs : Option Address → Speed × Bool → ℕ → ℕ → Option Packet → List ℕ × Head → Reader (Saved × Head)
+abbrev pub behind_cvs : Option Address → SavedSpeed × Direction → ℕ → ℕ → Option Packet → List ℕ × Head → Reader (Saved × Head)
 behind_cvs address speed functions states pending cvs =
     done (
       saved.Loco
           (record {
             address = address;
-            speed = speed.0;
-            forward = speed.1;
+            speed = speed.0.speed;
+            forward = speed.1.forward;
             functions = functions;
             states = states;
             pending = pending;
@@ -68,17 +70,17 @@ behind_cvs address speed functions states pending cvs =
       cvs.1,
     )
 
-abbrev pub behind_pending : Option Address → Speed × Bool → ℕ → ℕ → Option Packet → Reader (Saved × Head)
+abbrev pub behind_pending : Option Address → SavedSpeed × Direction → ℕ → ℕ → Option Packet → Reader (Saved × Head)
 behind_pending address speed functions states pending = cvs_lines >>= behind_cvs address speed functions states pending
 
-abbrev pub behind_states : Option Address → Speed × Bool → ℕ → ℕ → Reader (Saved × Head)
+abbrev pub behind_states : Option Address → SavedSpeed × Direction → ℕ → ℕ → Reader (Saved × Head)
 behind_states address speed functions states =
     line_by (pending_line address) >>= behind_pending address speed functions states
 
-abbrev pub behind_functions : Version → Option Address → Speed × Bool → ℕ → Reader (Saved × Head)
+abbrev pub behind_functions : Version → Option Address → SavedSpeed × Direction → ℕ → Reader (Saved × Head)
 behind_functions version address speed functions = states_by version >>= behind_states address speed functions
 
-abbrev pub behind_speed : Version → Option Address → Speed × Bool → Reader (Saved × Head)
+abbrev pub behind_speed : Version → Option Address → SavedSpeed × Direction → Reader (Saved × Head)
 behind_speed version address speed = line_by (numbers_line kinds.Function) >>= behind_functions version address speed
 
 pub Leads-loco : (version : Version) (address : Option Address) (old : InputState) → old.fault ≡ None

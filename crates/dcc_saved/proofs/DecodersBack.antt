@@ -1,12 +1,10 @@
 -- Decoders are read again, each behind its first line and up to the first line of the next.
-use Rattle.std.proofs.Common.{◌≡◌, ℕ, ◌+◌, List, [], ◌∷◌, ◌++◌, codes, Option, Ok, refl, sym, ap, ◌∙◌, arith}
+use Rattle.std.proofs.Common.{◌≡◌, ℕ, ◌+◌, List, [], ◌∷◌, ◌++◌, codes, Option, Ok, refl, arith}
 use Rattle.std.specs.Fmt.{decimal}
-use Rattle.std.proofs.lemmas.List.{append-nil}
 use Rattle.dcc_packet.specs.declared.accessory.Board.{Board}
 use Rattle.dcc_packet.specs.declared.address.Address.{Address}
 use Rattle.dcc_packet.specs.declared.packet.Packet.{Packet}
 use Rattle.dcc_packet.proofs.BitLemmas.{byte_of-lt}
-use Rattle.dcc_packet.specs.Written.{spaced_words}
 use Rattle.dcc_regs.specs.declared.register.Register.TheVariants as registers
 use Rattle.dcc_regs.specs.declared.register.Speed.{Speed}
 use Rattle.dcc_regs.specs.declared.register.Who.{Who}
@@ -23,7 +21,8 @@ use Rattle.dcc_saved.specs.declared.decoder_line.Version.TheVariants as versions
 use Rattle.dcc_saved.specs.DecoderLines.{head_line, loco_line}
 use Rattle.dcc_saved.specs.declared.decoder_line.Numbered.TheVariants as kinds
 use Rattle.dcc_saved.specs.DecoderText.{decoder_lines, cvs_lines, loco_lines, board_lines}
-use Rattle.dcc_saved.specs.FleetText.{own_address_word, cvs_text, speed_held, forward_held, pending_held}
+use Rattle.dcc_saved.specs.DecoderLines.{own_address_word}
+use Rattle.dcc_saved.specs.FleetText.{cvs_text, speed_held, forward_held, pending_held}
 use Rattle.dcc_saved.specs.FleetText.{loco_address_line, board_line}
 use Rattle.dcc_saved.specs.FleetText.{written_speed as speed_bytes, written_numbers}
 use Rattle.dcc_saved.specs.FleetText.{written_pending as pending_bytes}
@@ -34,64 +33,54 @@ use Rattle.dcc_saved.specs.TextReader.{line_by}
 use Rattle.dcc_saved.proofs.BoardMapsBack.{sides_of, positions_of, aspects_of, board_state, sides_are}
 use Rattle.dcc_saved.proofs.BoardMapsBack.{aspects_small, same_board}
 use Rattle.dcc_saved.proofs.CvsBack.{IsHeadLine, all_cvs}
-use Rattle.dcc_saved.proofs.LinesBack.{at, few_back}
+use Rattle.dcc_saved.proofs.LinesBack.{at, line_read}
 use Rattle.dcc_saved.proofs.MapsBack.{speed_is, pending_is, no_state_0, loco_state, same_loco}
-use Rattle.dcc_saved.proofs.RowsBack.{fed, numbers_read, speed_read, pending_read}
+use Rattle.dcc_saved.proofs.RowsBack.{numbers_read, speed_read, pending_read}
 use Rattle.dcc_saved.proofs.RowsBack.{aspects_read, positions_read}
-use Rattle.dcc_saved.proofs.RulesBack.{loco_back, board_head_back, end_back, loco_behind, board_behind, end_behind}
-use Rattle.dcc_saved.proofs.TokensBack.{keyword_token, decimal_token, address_token}
+use Rattle.dcc_saved.proofs.RulesBack.{loco_after, board_after, head_says, head_says_behind}
+use Rattle.dcc_packet.proofs.Tokens.{keyword_token, decimal_token}
+use Rattle.dcc_saved.proofs.TokensBack.{address_token}
+use Rattle.dcc_packet.specs.Words.{Word}
+use Rattle.std.proofs.Common.{false, length, ◌≤◌}
+use Rattle.std.specs.List.{AllByRecursion}
+use Rattle.dcc_packet.specs.Words.{is_word}
+use Rattle.dcc_packet.specs.Fields.{IsToken}
+use Rattle.dcc_saved.specs.DecoderLines.{head_after}
+use Rattle.dcc_saved.specs.FleetText.{line_of}
 
 -- a text whose first line says what follows the decoder before it
 pub record BeginsWith (bytes : List ℕ) (head : Head) (rest : List ℕ) : Type 0 where
   pub first : (n : ℕ) → line_by head_line (at n bytes) ≡ Ok (head, at (n + 1) rest)
   pub behind_cv : IsHeadLine bytes head rest
 
+head_begins : (word : Word) (ws : List Word) (head : Head) (text : List ℕ) → IsToken word → AllByRecursion IsToken ws
+    → length ws ≤ 38 → is_word word (codes "cv") ≡ false → head_after word ws ≡ Ok head
+    → BeginsWith (line_of (word ∷ ws) ++ text) head text
+head_begins word ws head text token tokens few other says = record {
+  first = λ n. line_read head_line head n word ws text token tokens few (head_says word ws head says);
+  behind_cv = λ least n. line_read (loco_line least) (behind.Head head) n word ws text token tokens few
+      (head_says_behind least word ws head other says);
+}
+
 pub loco_begins : (address : Option Address) (text : List ℕ) (m : RegisterMap) → IsPossible (who.Loco address) m
     → BeginsWith (loco_address_line address ++ text) (heads.Decoder (who.Loco address)) text
 loco_begins address text m possible =
-    let line : List ℕ = codes "loco " ++ own_address_word address in
-    let is : line ≡ codes "loco" ++ spaced_words (own_address_word address ∷ []) =
-    ap (λ (xs : List ℕ). codes "loco " ++ xs) (sym (append-nil (own_address_word address))) in
-    let token = keyword_token (codes "loco") (omega arith) refl refl (omega arith) in
-    record {
-      first = λ n. ap (λ (bytes : List ℕ). line_by head_line (at n bytes)) (fed line text)
-          ∙ few_back head_line (heads.Decoder (who.Loco address)) n line (codes "loco") (own_address_word address ∷ [])
-          text is token (address_token address, tt) (omega arith) (loco_back address possible.decoder);
-      behind_cv = λ least n. ap (λ (bytes : List ℕ). line_by (loco_line least) (at n bytes)) (fed line text)
-          ∙ few_back (loco_line least) (behind.Head (heads.Decoder (who.Loco address))) n line (codes "loco")
-          (own_address_word address ∷ []) text is token (address_token address, tt) (omega arith)
-          (loco_behind least address possible.decoder);
-    }
+    head_begins (codes "loco") (own_address_word address ∷ []) (heads.Decoder (who.Loco address)) text
+    (keyword_token (codes "loco") (omega arith) refl refl (omega arith)) (address_token address, tt) (omega arith) refl
+    (loco_after address possible.decoder)
 
 pub board_begins : (board : Board) (text : List ℕ) (m : RegisterMap) → IsPossible (who.Board board) m
     → BeginsWith (board_line board ++ text) (heads.Decoder (who.Board board)) text
 board_begins board text m possible =
     let range = board.in_range in
-    let line : List ℕ = codes "board " ++ decimal board.number in
-    let is : line ≡ codes "board" ++ spaced_words (decimal board.number ∷ []) =
-    ap (λ (xs : List ℕ). codes "board " ++ xs) (sym (append-nil (decimal board.number))) in
-    let token = keyword_token (codes "board") (omega arith) refl refl (omega arith) in
-    let number = decimal_token board.number (omega (arith, range)) in
-    record {
-      first = λ n. ap (λ (bytes : List ℕ). line_by head_line (at n bytes)) (fed line text)
-          ∙ few_back head_line (heads.Decoder (who.Board board)) n line (codes "board") (decimal board.number ∷ []) text
-          is token (number, tt) (omega arith) (board_head_back board possible.decoder);
-      behind_cv = λ least n. ap (λ (bytes : List ℕ). line_by (loco_line least) (at n bytes)) (fed line text)
-          ∙ few_back (loco_line least) (behind.Head (heads.Decoder (who.Board board))) n line (codes "board")
-          (decimal board.number ∷ []) text is token (number, tt) (omega arith)
-          (board_behind least board possible.decoder);
-    }
+    head_begins (codes "board") (decimal board.number ∷ []) (heads.Decoder (who.Board board)) text
+    (keyword_token (codes "board") (omega arith) refl refl (omega arith))
+    (decimal_token board.number (omega (arith, range)), tt) (omega arith) refl (board_after board possible.decoder)
 
 pub end_begins : (text : List ℕ) → BeginsWith (codes "end\n" ++ text) heads.End text
 end_begins text =
-    let token = keyword_token (codes "end") (omega arith) refl refl (omega arith) in
-    record {
-      first = λ n. few_back head_line heads.End n (codes "end") (codes "end") [] text refl token tt (omega arith)
-          end_back;
-      behind_cv =
-          λ least n. few_back (loco_line least) (behind.Head heads.End) n (codes "end") (codes "end") [] text refl token
-          tt (omega arith) (end_behind least);
-    }
+    head_begins (codes "end") [] heads.End text (keyword_token (codes "end") (omega arith) refl refl (omega arith)) tt
+    (omega arith) refl refl
 
 -- a decoder that its lines save, and the first line behind them
 pub record GivesDecoder (decoder : Who × RegisterMap) (n : ℕ) (bytes : List ℕ) (head : Head) (rest : List ℕ) : Type 0

@@ -11,12 +11,11 @@ use Rattle.dcc_packet.specs.Words.{Word, words}
 use Rattle.dcc_packet.specs.Written.{spaced_words}
 use Rattle.dcc_packet.proofs.WrittenWords.{IsWord, not_true, words_spaced}
 use Rattle.dcc_io.specs.NumberedLines.{is_good}
+pub use Rattle.dcc_packet.specs.Fields.{is_plain, IsToken}
 use Rattle.dcc_saved.specs.TextReader.{Text, first_line, behind_line, ended_line, line_by}
 use Rattle.dcc_saved.specs.TextReader.Stop.{refused}
-
--- a byte that may stand in a line
-abbrev pub is_plain : ℕ → Bool
-is_plain b = is_ascii b && not (eqb b 10)
+use Rattle.std.proofs.Common.{codes, append_assoc}
+use Rattle.dcc_saved.specs.FleetText.{line_of}
 
 plain_is_ascii : (line : List ℕ) → list_all is_plain line ≡ true → list_all is_ascii line ≡ true
 plain_is_ascii [] h = refl
@@ -38,12 +37,6 @@ behind_line_is (b ∷ bs) rest h =
     let parts = and_parts (is_plain b) (list_all is_plain bs) h in
     let byte = and_parts (is_ascii b) (not (eqb b 10)) parts.0 in
     rw (not_true (eqb b 10) byte.1) (behind_line_is bs rest parts.1)
-
--- a word of a written line
-pub record IsToken (word : Word) : Type 0 where
-  pub word_is : IsWord word
-  pub plain : list_all is_plain word ≡ true
-  pub short : length word ≤ 12
 
 both : (a b : Bool) → a ≡ true → b ≡ true → (a && b) ≡ true
 both a b e f = rw (e, f) refl
@@ -103,3 +96,14 @@ pub few_back : {A : Type 0} (rule : List Word → Result A PacketFault) (x : A) 
     → line_by rule (at n (line ++ 10 ∷ rest)) ≡ Ok (x, at (n + 1) rest)
 few_back rule x n line word ws rest is token tokens few says =
     line_back rule x n line word ws rest is token tokens (short_line line word ws is token tokens few) says
+
+-- the line feed behind a line, and the text behind that
+pub fed : (line text : List ℕ) → (line ++ codes "\n") ++ text ≡ line ++ 10 ∷ text
+fed line text = append_assoc line (codes "\n") text
+
+pub line_read : {A : Type 0} (rule : List Word → Result A PacketFault) (x : A) (n : ℕ) (word : Word) (ws : List Word)
+    (rest : List ℕ) → IsToken word → AllByRecursion IsToken ws → length ws ≤ 38 → rule (word ∷ ws) ≡ Ok x
+    → line_by rule (at n (line_of (word ∷ ws) ++ rest)) ≡ Ok (x, at (n + 1) rest)
+line_read rule x n word ws rest token tokens few says =
+    ap (λ (bytes : List ℕ). line_by rule (at n bytes)) (fed (word ++ spaced_words ws) rest)
+    ∙ few_back rule x n (word ++ spaced_words ws) word ws rest refl token tokens few says

@@ -11,20 +11,16 @@ use Rattle.dcc_saved.specs.declared.saved.Saved.{Saved}
 use Rattle.dcc_saved.specs.declared.decoder_line.Head.{Head}
 use Rattle.dcc_saved.specs.declared.decoder_line.Head.TheVariants as heads
 use Rattle.dcc_saved.specs.declared.decoder_line.Version.TheVariants as versions
-use Rattle.dcc_saved.specs.DecoderLines.{version_line}
 use Rattle.dcc_saved.specs.DecoderText.{decoders_from, decoder_text}
 use Rattle.dcc_saved.specs.FleetText.{cvs_text, text_of, fleet_text, loco_address_line, written_speed}
 use Rattle.dcc_saved.specs.FleetText.{written_numbers, written_pending, board_line}
 use Rattle.dcc_saved.specs.declared.decoder_line.Numbered.TheVariants as kinds
 use Rattle.dcc_saved.specs.FleetText.{written_positions, written_aspects}
 use Rattle.dcc_saved.specs.ReadBack.{SavesEach, IsPossibleDecoder, FleetsAreReadBack}
-use Rattle.dcc_saved.specs.TextReader.{line_by}
 use Rattle.dcc_saved.proofs.DecodersBack.{BeginsWith, loco_begins, board_begins, end_begins, GivesDecoder}
 use Rattle.dcc_saved.proofs.DecodersBack.{loco_given, board_given}
 use Rattle.dcc_saved.proofs.LinesKept.{read_lines}
-use Rattle.dcc_saved.proofs.LinesBack.{at, few_back}
-use Rattle.dcc_saved.proofs.RulesBack.{version_back}
-use Rattle.dcc_saved.proofs.TokensBack.{keyword_token}
+use Rattle.dcc_saved.proofs.LinesBack.{at}
 
 abbrev FleetDecoder : Type 0
 FleetDecoder = Who × RegisterMap
@@ -120,13 +116,6 @@ all_given (decoder ∷ fleet) (suc room) before n text few possible =
       saves = (one.saves, more.saves);
     }
 
-version_read : (n : ℕ) (text : List ℕ)
-    → line_by version_line (at n (codes "dcc-decoders 2\n" ++ text)) ≡ Ok (versions.Two, at (n + 1) text)
-version_read n text =
-    few_back version_line versions.Two n (codes "dcc-decoders 2") (codes "dcc-decoders") (codes "2" ∷ []) text refl
-    (keyword_token (codes "dcc-decoders") (omega arith) refl refl (omega arith))
-    (keyword_token (codes "2") (omega arith) refl refl (omega arith), tt) (omega arith) version_back
-
 pub fleets_read_back : FleetsAreReadBack
 unfolding decoder_text
 fleets_read_back fleet line rest few possible =
@@ -135,7 +124,7 @@ fleets_read_back fleet line rest few possible =
     let reads : decoder_text (at line (fleet_text fleet ++ rest)) ≡ Ok (all.states, at all.line rest) =
     ap (λ (bytes : List ℕ). decoder_text (at line bytes))
     (append_assoc (codes "dcc-decoders 2\n") (flat_map text_of fleet ++ codes "end\n") rest)
-    ∙ rw (version_read line (tail fleet rest), first.first (line + 1)) all.reads in
+    ∙ rw (first.first (line + 1)) all.reads in
     record {
       states = all.states;
       behind = all.line;

@@ -10,7 +10,7 @@ use Rattle.dcc_io.specs.declared.fault.KeptFault.{KeptFault}
 use Rattle.dcc_io.specs.declared.fault.KeptFault.TheVariants.{Number, Line, Read, TooMuch}
 use Rattle.dcc_io.specs.TextPlace.{TextPlace, lines_with}
 use Rattle.dcc_io.specs.ReaderState.{IsAtEnd}
-use Rattle.dcc_io.specs.InputState.{InputState, all_lines, UsesAllLines}
+use Rattle.dcc_io.specs.InputState.{InputState, all_lines}
 use Rattle.dcc_io.specs.Took.{Uses, Took, Stops}
 use Rattle.dcc_io.specs.NumberedLines.{is_good}
 use Rattle.dcc_io.specs.NextLine.{has_line_feed, lines_within, IsOneLine, EndsLine, IsBadAt}

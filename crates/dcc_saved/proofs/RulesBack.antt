@@ -1,5 +1,5 @@
 -- The words that are written for a decoder are read again.
-use Rattle.std.proofs.Common.{◌≡◌, ℕ, ◌<◌, ◌≤◌, Bool, true, false, ◌&&◌, eqb, nat_le, nat_lt, List, [], ◌∷◌, codes}
+use Rattle.std.proofs.Common.{◌≡◌, ℕ, ◌<◌, ◌≤◌, true, false, ◌&&◌, eqb, nat_le, nat_lt, List, [], ◌∷◌, ◌++◌, codes}
 use Rattle.std.proofs.Common.{Option, None, Some, Ok, refl, arith}
 use Rattle.std.specs.Fmt.{decimal}
 use Rattle.std.proofs.lemmas.Bool.{and_parts, le-ltb, leb-true}
@@ -9,8 +9,7 @@ use Rattle.dcc_packet.specs.declared.cv.CvNumber.{CvNumber}
 use Rattle.dcc_packet.specs.declared.address.Address.{Address}
 use Rattle.dcc_packet.specs.declared.address.Address.TheVariants.{Broadcast, Short, Long}
 use Rattle.dcc_packet.specs.Words.{Word}
-use Rattle.dcc_packet.specs.Written.{direction_word, state_word}
-use Rattle.dcc_packet.proofs.WordsBack.{small_number-decimal, address_back, direction_back, cv_back, state_back}
+use Rattle.dcc_packet.proofs.WordsBack.{small_number-decimal, address_back, cv_back}
 use Rattle.dcc_packet.proofs.WordsBack.{board_back}
 use Rattle.dcc_regs.specs.declared.register.Who.TheVariants as who
 use Rattle.dcc_regs.specs.declared.register.Speed.{Speed}
@@ -19,14 +18,32 @@ use Rattle.dcc_regs.specs.Addresses.{is_active}
 use Rattle.dcc_regs.specs.Loco.{is_speed}
 use Rattle.dcc_saved.specs.declared.decoder_line.Head.TheVariants as heads
 use Rattle.dcc_saved.specs.declared.decoder_line.LocoLine.TheVariants as behind
+use Rattle.dcc_saved.specs.declared.decoder_line.Version.{Version}
 use Rattle.dcc_saved.specs.declared.decoder_line.Version.TheVariants as versions
-use Rattle.dcc_saved.specs.DecoderLines.{version_line, own_address, own_board, head_line, step_up_to, speed_line}
-use Rattle.dcc_saved.specs.DecoderLines.{positions_line, aspects_line, loco_line}
-use Rattle.dcc_saved.specs.FleetText.{own_address_word}
+use Rattle.dcc_saved.specs.DecoderLines.{version_number, version_word, version_field, own_address, own_board}
+use Rattle.dcc_saved.specs.DecoderLines.{head_line, step_up_to, speed_of, speed_words, speed_field}
+use Rattle.dcc_saved.specs.DecoderLines.{keyword, keyed, four, loco_line}
+use Rattle.dcc_packet.specs.Fields.{FieldOf, both, IsToken, IsReadBack}
+use Rattle.dcc_packet.proofs.FieldsBack.{one_word_back, both_back, whole_back}
+use Rattle.dcc_packet.proofs.Tokens.{keyword_token, decimal_token}
+use Rattle.std.specs.List.{AllByRecursion}
+use Rattle.dcc_saved.specs.DecoderLines.{own_address_word}
+use Rattle.dcc_saved.specs.DecoderLines.{own_address_field}
+use Rattle.dcc_saved.proofs.TokensBack.{address_token}
+use Rattle.dcc_packet.specs.Words.{is_word}
+use Rattle.dcc_saved.specs.declared.decoder_line.Head.{Head}
+use Rattle.dcc_saved.specs.DecoderLines.{head_after}
 
-pub version_back : version_line (codes "dcc-decoders" ∷ codes "2" ∷ []) ≡ Ok versions.Two
-unfolding version_line
-version_back = refl
+version_back : (version : Version) → version_number (version_word version) ≡ Ok version
+version_back versions.One = refl
+version_back versions.Two = refl
+
+version_token : (version : Version) → IsToken (version_word version)
+version_token versions.One = keyword_token (codes "1") (omega arith) refl refl (omega arith)
+version_token versions.Two = keyword_token (codes "2") (omega arith) refl refl (omega arith)
+
+pub version_is_back : IsReadBack version_field
+version_is_back = one_word_back version_number version_word version_back version_token
 
 own_address_back : (a : Option Address) → is_active a ≡ true → own_address (own_address_word a) ≡ Ok a
 own_address_back None h = refl
@@ -34,40 +51,38 @@ own_address_back (Some Broadcast) h = cc
 own_address_back (Some (Short s)) h = rw (address_back (Short s)) refl
 own_address_back (Some (Long l)) h = rw (address_back (Long l)) refl
 
+pub own_address_is_back : IsReadBack own_address_field
+own_address_is_back =
+    record {
+      back = λ own rest h. rw (own_address_back own.address h) refl;
+      tokens = λ own h. (address_token own.address, tt);
+    }
+
 own_board_back : (b : Board) → nat_le b.number 510 ≡ true → own_board (decimal b.number) ≡ Ok b
 own_board_back b h =
     let few = leb-true b.number 510 h in
     let other : eqb b.number 511 ≡ false = grind (arith, nat_tests) in
     rw (board_back b, other) refl
 
-pub loco_back : (a : Option Address) → is_active a ≡ true
-    → head_line (codes "loco" ∷ own_address_word a ∷ []) ≡ Ok (heads.Decoder (who.Loco a))
+-- what a line that begins a decoder says behind its keyword
+pub loco_after : (a : Option Address) → is_active a ≡ true
+    → head_after (codes "loco") (own_address_word a ∷ []) ≡ Ok (heads.Decoder (who.Loco a))
+loco_after a h = rw (own_address_back a h) refl
+
+pub board_after : (b : Board) → nat_le b.number 510 ≡ true
+    → head_after (codes "board") (decimal b.number ∷ []) ≡ Ok (heads.Decoder (who.Board b))
+board_after b h = rw (own_board_back b h) refl
+
+-- such a line, and the same behind the CVs
+pub head_says : (word : Word) (ws : List Word) (head : Head) → head_after word ws ≡ Ok head
+    → head_line (word ∷ ws) ≡ Ok head
 unfolding head_line
-loco_back a h = rw (own_address_back a h) refl
+head_says word ws head says = says
 
-pub board_head_back : (b : Board) → nat_le b.number 510 ≡ true
-    → head_line (codes "board" ∷ decimal b.number ∷ []) ≡ Ok (heads.Decoder (who.Board b))
-unfolding head_line
-board_head_back b h = rw (own_board_back b h) refl
-
-pub end_back : head_line (codes "end" ∷ []) ≡ Ok heads.End
-unfolding head_line
-end_back = refl
-
--- the same behind the CVs
-pub loco_behind : (least : ℕ) (a : Option Address) → is_active a ≡ true
-    → loco_line least (codes "loco" ∷ own_address_word a ∷ []) ≡ Ok (behind.Head (heads.Decoder (who.Loco a)))
+pub head_says_behind : (least : ℕ) (word : Word) (ws : List Word) (head : Head) → is_word word (codes "cv") ≡ false
+    → head_after word ws ≡ Ok head → loco_line least (word ∷ ws) ≡ Ok (behind.Head head)
 unfolding loco_line
-loco_behind least a h = rw (own_address_back a h) refl
-
-pub board_behind : (least : ℕ) (b : Board) → nat_le b.number 510 ≡ true
-    → loco_line least (codes "board" ∷ decimal b.number ∷ []) ≡ Ok (behind.Head (heads.Decoder (who.Board b)))
-unfolding loco_line
-board_behind least b h = rw (own_board_back b h) refl
-
-pub end_behind : (least : ℕ) → loco_line least (codes "end" ∷ []) ≡ Ok (behind.Head heads.End)
-unfolding loco_line
-end_behind least = refl
+head_says_behind least word ws head other says = rw (other, says) refl
 
 pub cv_line_back : (least : ℕ) (cv : CvNumber) (value : ℕ) → least ≤ cv.number → value < 256
     → loco_line least (codes "cv" ∷ decimal cv.number ∷ decimal value ∷ []) ≡ Ok (behind.Cv cv value)
@@ -86,31 +101,42 @@ step_back last n h small =
     let high : nat_lt last n ≡ false = le-ltb last n most in
     rw (small_number-decimal n (omega arith), low, high) refl
 
--- the words of a speed
-abbrev pub speed_words : Speed → List Word → List Word
-speed_words Stop rest = codes "stop" ∷ rest
-speed_words Emergency rest = codes "emergency" ∷ rest
-speed_words (Step14 n) rest = codes "14" ∷ decimal n ∷ rest
-speed_words (Step28 n) rest = codes "28" ∷ decimal n ∷ rest
-speed_words (Step126 n) rest = codes "126" ∷ decimal n ∷ rest
+speed_words_back : (speed : Speed) (rest : List Word) → is_speed speed ≡ true
+    → speed_of (speed_words speed ++ rest) ≡ Ok (speed, rest)
+speed_words_back Stop rest h = refl
+speed_words_back Emergency rest h = refl
+speed_words_back (Step14 n) rest h = rw (step_back 14 n h (omega arith)) refl
+speed_words_back (Step28 n) rest h = rw (step_back 28 n h (omega arith)) refl
+speed_words_back (Step126 n) rest h = rw (step_back 126 n h (omega arith)) refl
 
-pub speed_back : (speed : Speed) (forward : Bool) → is_speed speed ≡ true
-    → speed_line (codes "speed" ∷ speed_words speed (direction_word forward ∷ [])) ≡ Ok (speed, forward)
-unfolding speed_line
-speed_back Stop forward h = rw (direction_back forward) refl
-speed_back Emergency forward h = rw (direction_back forward) refl
-speed_back (Step14 n) forward h = rw (step_back 14 n h (omega arith), direction_back forward) refl
-speed_back (Step28 n) forward h = rw (step_back 28 n h (omega arith), direction_back forward) refl
-speed_back (Step126 n) forward h = rw (step_back 126 n h (omega arith), direction_back forward) refl
+step_token : (n last : ℕ) → last ≤ 126 → (nat_le 1 n && nat_le n last) ≡ true → IsToken (decimal n)
+step_token n last few h =
+    let most = leb-true n last (and_parts (nat_le 1 n) (nat_le n last) h).1 in
+    decimal_token n (omega (arith, most, few))
 
-pub positions_back : (a b c d : Bool)
-    → positions_line (codes "position" ∷ state_word a ∷ state_word b ∷ state_word c ∷ state_word d ∷ []) ≡ Ok
-    (a ∷ b ∷ c ∷ d ∷ [])
-unfolding positions_line
-positions_back a b c d = rw (state_back a, state_back b, state_back c, state_back d) refl
+speed_tokens : (speed : Speed) → is_speed speed ≡ true → AllByRecursion IsToken (speed_words speed)
+speed_tokens Stop h = (keyword_token (codes "stop") (omega arith) refl refl (omega arith), tt)
+speed_tokens Emergency h = (keyword_token (codes "emergency") (omega arith) refl refl (omega arith), tt)
+speed_tokens (Step14 n) h =
+    (keyword_token (codes "14") (omega arith) refl refl (omega arith), (step_token n 14 (omega arith) h, tt))
+speed_tokens (Step28 n) h =
+    (keyword_token (codes "28") (omega arith) refl refl (omega arith), (step_token n 28 (omega arith) h, tt))
+speed_tokens (Step126 n) h =
+    (keyword_token (codes "126") (omega arith) refl refl (omega arith), (step_token n 126 (omega arith) h, tt))
 
-pub aspects_back : (a b c d : ℕ) → a < 256 → b < 256 → c < 256 → d < 256
-    → aspects_line (codes "aspect" ∷ decimal a ∷ decimal b ∷ decimal c ∷ decimal d ∷ []) ≡ Ok (a ∷ b ∷ c ∷ d ∷ [])
-unfolding aspects_line
-aspects_back a b c d ha hb hc hd =
-    rw (small_number-decimal a ha, small_number-decimal b hb, small_number-decimal c hc, small_number-decimal d hd) refl
+pub speed_is_back : IsReadBack speed_field
+speed_is_back =
+    record {
+      back = λ saved rest h. rw (speed_words_back saved.speed rest h) refl;
+      tokens = λ saved h. speed_tokens saved.speed h;
+    }
+
+-- a line of a keyword and fields
+pub keyed_back : {A : Type 0} (name : Word) (field : FieldOf A) → keyword name name ≡ Ok tt → IsReadBack field → (x : A)
+    → field.Fits x → keyed name field (name ∷ field.written x) ≡ Ok x
+keyed_back name field is back x fits = rw (is, whole_back field back x fits) refl
+
+pub four_back : {A : Type 0} (field : FieldOf A) → IsReadBack field → IsReadBack (four field)
+four_back field back =
+    both_back field (both field (both field field)) back
+    (both_back field (both field field) back (both_back field field back back))

@@ -1,74 +1,27 @@
 -- Which words stand in lines.
-use Rattle.std.proofs.Common.{zero, suc, ◌≡◌, ℕ, ◌+◌, ◌/◌, ◌%◌, ◌<◌, ◌≤◌, Bool, true, false, not, List, [], ◌∷◌}
+use Rattle.std.proofs.Common.{zero, suc, ◌≡◌, ℕ, ◌+◌, ◌/◌, ◌%◌, ◌≤◌, Bool, true, false, List, [], ◌∷◌}
 use Rattle.std.proofs.Common.{length, codes, get_or, All, Option, None, Some, inl, inr, refl, arith}
-use Rattle.std.specs.Char.{is_ascii_digit}
-use Rattle.std.specs.Fmt.{decimal}
 use Rattle.std.specs.List.{list_all, AllByRecursion}
 use Rattle.std.proofs.lemmas.Bool.{and_parts, cases_lt}
-use Rattle.std.proofs.lemmas.Bool.Decides.{nat_tests}
-use Rattle.std.proofs.lemmas.Fmt.{decimal_is_IsNumeral}
 use Rattle.std.proofs.lemmas.List.{get_or_past}
 use Rattle.std.proofs.lemmas.List.Elements.{All-cons, All-nil}
 use Rattle.hex.specs.Hex.{encode_lower, encode_with, lower_digits}
 use Rattle.hex.proofs.HexLemmas.{length-encode_with}
 use Rattle.dcc_packet.specs.declared.address.Address.{Address}
-use Rattle.dcc_packet.specs.declared.address.Address.TheVariants.{Broadcast, Short, Long}
 use Rattle.dcc_packet.specs.declared.packet.Packet.{Packet}
 use Rattle.dcc_packet.specs.Spelling.{spelling}
-use Rattle.dcc_packet.specs.Words.{Word, is_separator}
-use Rattle.dcc_packet.specs.Written.{direction_word, state_word}
-use Rattle.dcc_packet.proofs.Decimal.{short}
-use Rattle.dcc_packet.proofs.WrittenWords.{literal, test_from_digits, IsWord-decimal, IsWord-address}
-use Rattle.dcc_packet.proofs.WrittenWords.{IsWord-direction, IsWord-state, hex_plain}
+use Rattle.dcc_packet.proofs.WrittenWords.{hex_plain}
+use Rattle.dcc_packet.proofs.Tokens.{address_word_token, keyword_token, decimal_token}
 use Rattle.dcc_regs.specs.Loco.{is_pending_for}
-use Rattle.dcc_saved.specs.FleetText.{own_address_word, pending_text}
+use Rattle.dcc_saved.specs.DecoderLines.{own_address_word}
+use Rattle.dcc_saved.specs.FleetText.{pending_text}
 use Rattle.dcc_saved.proofs.LinesBack.{is_plain, IsToken}
 use Rattle.dcc_saved.proofs.NumbersBack.{on_words}
 use Rattle.dcc_saved.proofs.PendingBack.{IsWrite-pending}
 
-pub keyword_token : (word : Word) → 0 < length word → list_all (λ b. not (is_separator b)) word ≡ true
-    → list_all is_plain word ≡ true → length word ≤ 12 → IsToken word
-keyword_token word some apart plain few = record { word_is = literal word some apart; plain = plain; short = few }
-
-plain_digit : (c : ℕ) → is_ascii_digit c ≡ true → is_plain c ≡ true
-plain_digit c h = grind (arith, nat_tests)
-
-plain_digits : (ds : List ℕ) → list_all is_ascii_digit ds ≡ true → list_all is_plain ds ≡ true
-plain_digits [] h = refl
-plain_digits (c ∷ cs) h =
-    let parts = and_parts (is_ascii_digit c) (list_all is_ascii_digit cs) h in
-    rw (plain_digit c parts.0, plain_digits cs parts.1) refl
-
-decimal_plain : (n : ℕ) → n < 65536 → list_all is_plain (decimal n) ≡ true
-decimal_plain n h =
-    plain_digits (decimal n) (test_from_digits (decimal n) (decimal_is_IsNumeral n (omega (arith, h))).0.1)
-
-pub decimal_token : (n : ℕ) → n < 65536 → IsToken (decimal n)
-decimal_token n h = record { word_is = IsWord-decimal n h; plain = decimal_plain n h; short = omega (arith, short n h) }
-
 pub address_token : (address : Option Address) → IsToken (own_address_word address)
 address_token None = keyword_token (codes "none") (omega arith) refl refl (omega arith)
-address_token (Some Broadcast) = record { word_is = IsWord-address Broadcast; plain = refl; short = omega arith }
-address_token (Some (Short s)) =
-    let range = s.in_range in record {
-      word_is = IsWord-address (Short s);
-      plain = decimal_plain s.number (omega arith);
-      short = omega (arith, short s.number (omega arith));
-    }
-address_token (Some (Long l)) =
-    let range = l.in_range in record {
-      word_is = IsWord-address (Long l);
-      plain = decimal_plain l.number (omega arith);
-      short = omega (arith, short l.number (omega arith));
-    }
-
-pub direction_token : (forward : Bool) → IsToken (direction_word forward)
-direction_token true = record { word_is = IsWord-direction true; plain = refl; short = omega arith }
-direction_token false = record { word_is = IsWord-direction false; plain = refl; short = omega arith }
-
-pub state_token : (one : Bool) → IsToken (state_word one)
-state_token true = record { word_is = IsWord-state true; plain = refl; short = omega arith }
-state_token false = record { word_is = IsWord-state false; plain = refl; short = omega arith }
+address_token (Some address) = address_word_token address
 
 pub on_tokens : (on : ℕ → Bool) (k c : ℕ) → k + c ≤ 1000 → AllByRecursion IsToken (on_words on k c)
 on_tokens on k zero h = tt

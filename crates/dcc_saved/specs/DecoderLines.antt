@@ -1,19 +1,24 @@
 -- The lines of a decoder text: what the words of each say, or the first fault from left to right. Of one
 -- word first the number decides, then its range, then its order.
-use Rattle.std.specs.Prelude.{ℕ, ◌+◌, ◌^◌, ◌==◌, nat_lt, Bool, List, [], ◌∷◌, codes, Option, None, Some, Result, Ok}
+use Rattle.std.specs.Prelude.{◌≡◌, ℕ, ◌+◌, ◌^◌, ◌==◌, nat_lt, true, List, [], ◌∷◌, codes, Option, None, Some, Result, Ok}
 use Rattle.std.specs.Prelude.{Err, if◌then◌else◌}
+use Rattle.std.specs.Fmt.{decimal}
 use Rattle.dcc_packet.specs.declared.accessory.Board.{Board}
 use Rattle.dcc_packet.specs.declared.address.Address.{Address}
 use Rattle.dcc_packet.specs.declared.packet.Packet.{Packet}
 use Rattle.dcc_packet.specs.declared.fault.PacketFault.{PacketFault}
 use Rattle.dcc_packet.specs.declared.fault.PacketFault.TheVariants as faults
 use Rattle.dcc_packet.specs.Words.{Word, is_word}
-use Rattle.dcc_packet.specs.LineWords.{◌>>=◌, small_number, address, direction, cv_number, bit_state, board_number}
+use Rattle.dcc_packet.specs.LineWords.{◌>>=◌, small_number, address, cv_number, board_number}
 use Rattle.dcc_packet.specs.LineWords.{output_number, hex_frame}
-use Rattle.dcc_packet.specs.Line.{word_and_rest, no_more_words}
+use Rattle.dcc_packet.specs.declared.fields.Direction.{Direction}
+use Rattle.dcc_packet.specs.declared.fields.Bit.{Bit}
+use Rattle.dcc_packet.specs.Fields.{FieldOf, one_word, both, whole, word_and_rest, no_more_words}
+use Rattle.dcc_packet.specs.LineFields.{direction_field, bit_field, small_field}
 use Rattle.dcc_regs.specs.declared.register.Who.TheVariants as who
 use Rattle.dcc_regs.specs.declared.register.Speed.{Speed}
 use Rattle.dcc_regs.specs.declared.register.Speed.TheVariants as speeds
+use Rattle.dcc_regs.specs.Loco.{is_speed}
 use Rattle.dcc_saved.specs.declared.decoder_line.Head.{Head}
 use Rattle.dcc_saved.specs.declared.decoder_line.Head.TheVariants as heads
 use Rattle.dcc_saved.specs.declared.decoder_line.Version.{Version}
@@ -24,10 +29,20 @@ use Rattle.dcc_saved.specs.declared.decoder_line.Numbered.{Numbered}
 use Rattle.dcc_saved.specs.declared.decoder_line.Numbered.TheVariants as kinds
 use Rattle.dcc_saved.specs.Numbered.{name_of}
 use Rattle.dcc_saved.specs.PendingWrite.{pending_write}
+use Rattle.dcc_saved.specs.declared.decoder_fields.SavedSpeed.{SavedSpeed}
+use Rattle.dcc_packet.specs.LineWords.{address_word}
+use Rattle.dcc_regs.specs.Addresses.{is_active}
+use Rattle.dcc_saved.specs.declared.decoder_fields.OwnAddress.{OwnAddress}
 
 -- the word that begins a line of this kind
 abbrev pub keyword : List ℕ → Word → Result (Unit {0}) PacketFault
 keyword name word = if is_word word name then Ok tt else Err faults.Word
+
+-- a line of this keyword and these fields, with which it ends
+abbrev pub keyed : {A : Type 0} → List ℕ → FieldOf A → List Word → Result A PacketFault
+keyed name field line = do
+  key ← word_and_rest (keyword name) line
+  whole field key.1
 
 -- numbers ascend: each is at least the one after the number before it
 abbrev pub in_order : ℕ → ℕ → Result (Unit {0}) PacketFault
@@ -40,18 +55,26 @@ version_number word =
     else if is_word word (codes "2") then Ok versions.Two
     else Err faults.Word
 
+abbrev pub version_word : Version → Word
+version_word versions.One = codes "1"
+version_word versions.Two = codes "2"
+
 -- dcc-decoders VERSION
-unfoldable pub version_line : List Word → Result Version PacketFault
-version_line line = do
-  key ← word_and_rest (keyword (codes "dcc-decoders")) line
-  version ← word_and_rest version_number key.1
-  end ← no_more_words version.1
-  Ok version.0
+abbrev pub version_field : FieldOf Version
+version_field = one_word version_number version_word
+
+abbrev pub version_line : List Word → Result Version PacketFault
+version_line line = keyed (codes "dcc-decoders") version_field line
 
 abbrev pub some_address : Word → Result (Option Address) PacketFault
 some_address word = do
   to ← address word
   Ok (Some to)
+
+-- what is written for the active address
+abbrev pub own_address_word : Option Address → Word
+own_address_word None = codes "none"
+own_address_word (Some address) = address_word address
 
 -- the active address: `none`, or `s` or `l` and a number
 abbrev pub own_address : Word → Result (Option Address) PacketFault
@@ -66,11 +89,23 @@ own_board word = do
   board ← board_number word
   if board.number == 511 then Err faults.Board else Ok board
 
+abbrev pub own_address_of : Word → Result OwnAddress PacketFault
+own_address_of word = do
+  address ← own_address word
+  Ok (record { address = address })
+
+abbrev pub own_address_field : FieldOf OwnAddress
+own_address_field =
+    record {
+      Fits = λ own. is_active own.address ≡ true;
+      read = λ words. word_and_rest own_address_of words;
+      written = λ own. own_address_word own.address ∷ [];
+    }
+
 abbrev pub loco_head : List Word → Result Head PacketFault
 loco_head rest = do
-  address ← word_and_rest own_address rest
-  end ← no_more_words address.1
-  Ok (heads.Decoder (who.Loco address.0))
+  own ← whole own_address_field rest
+  Ok (heads.Decoder (who.Loco own.address))
 
 abbrev pub board_head : List Word → Result Head PacketFault
 board_head rest = do
@@ -120,14 +155,30 @@ abbrev pub speed_of : List Word → Result (Speed × List Word) PacketFault
 speed_of [] = Err faults.Word
 speed_of (word ∷ rest) = speed_after word rest
 
+abbrev pub speed_words : Speed → List Word
+speed_words speeds.Stop = codes "stop" ∷ []
+speed_words speeds.Emergency = codes "emergency" ∷ []
+speed_words (speeds.Step14 n) = codes "14" ∷ decimal n ∷ []
+speed_words (speeds.Step28 n) = codes "28" ∷ decimal n ∷ []
+speed_words (speeds.Step126 n) = codes "126" ∷ decimal n ∷ []
+
+abbrev pub saved_speed : List Word → Result (SavedSpeed × List Word) PacketFault
+saved_speed words = do
+  speed ← speed_of words
+  Ok (record { speed = speed.0 }, speed.1)
+
+-- SPEED
+abbrev pub speed_field : FieldOf SavedSpeed
+speed_field =
+    record {
+      Fits = λ saved. is_speed saved.speed ≡ true;
+      read = λ words. saved_speed words;
+      written = λ saved. speed_words saved.speed;
+    }
+
 -- speed SPEED f|r
-unfoldable pub speed_line : List Word → Result (Speed × Bool) PacketFault
-speed_line line = do
-  key ← word_and_rest (keyword (codes "speed")) line
-  speed ← speed_of key.1
-  forward ← word_and_rest direction speed.1
-  end ← no_more_words forward.1
-  Ok (speed.0, forward.0)
+abbrev pub speed_line : List Word → Result (SavedSpeed × Direction) PacketFault
+speed_line line = keyed (codes "speed") (both speed_field direction_field) line
 
 -- a function of a locomotive decoder, 0 to 68
 abbrev pub function_number : Word → Result ℕ PacketFault
@@ -206,24 +257,20 @@ unfoldable pub loco_line : ℕ → List Word → Result LocoLine PacketFault
 loco_line least [] = Err faults.Word
 loco_line least (word ∷ rest) = loco_line_after least word rest
 
+-- four fields of a kind
+abbrev pub Four : Type 0 → Type 0
+Four A = A × (A × (A × A))
+
+abbrev pub four : {A : Type 0} → FieldOf A → FieldOf (Four A)
+four field = both field (both field (both field field))
+
+abbrev pub listed : {A : Type 0} → Four A → List A
+listed x = x.0 ∷ x.1.0 ∷ x.1.1.0 ∷ x.1.1.1 ∷ []
+
 -- position SIDE SIDE SIDE SIDE
-unfoldable pub positions_line : List Word → Result (List Bool) PacketFault
-positions_line line = do
-  key ← word_and_rest (keyword (codes "position")) line
-  first ← word_and_rest bit_state key.1
-  second ← word_and_rest bit_state first.1
-  third ← word_and_rest bit_state second.1
-  fourth ← word_and_rest bit_state third.1
-  end ← no_more_words fourth.1
-  Ok (first.0 ∷ second.0 ∷ third.0 ∷ fourth.0 ∷ [])
+abbrev pub positions_line : List Word → Result (Four Bit) PacketFault
+positions_line line = keyed (codes "position") (four bit_field) line
 
 -- aspect ASPECT ASPECT ASPECT ASPECT
-unfoldable pub aspects_line : List Word → Result (List ℕ) PacketFault
-aspects_line line = do
-  key ← word_and_rest (keyword (codes "aspect")) line
-  first ← word_and_rest small_number key.1
-  second ← word_and_rest small_number first.1
-  third ← word_and_rest small_number second.1
-  fourth ← word_and_rest small_number third.1
-  end ← no_more_words fourth.1
-  Ok (first.0 ∷ second.0 ∷ third.0 ∷ fourth.0 ∷ [])
+abbrev pub aspects_line : List Word → Result (Four ℕ) PacketFault
+aspects_line line = keyed (codes "aspect") (four small_field) line

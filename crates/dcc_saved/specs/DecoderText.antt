@@ -1,7 +1,9 @@
 -- The decoder text, versions 1 and 2.
-use Rattle.std.specs.Prelude.{zero, suc, ℕ, ◌+◌, ◌-◌, List, [], ◌∷◌, ◌++◌, Option, replicate, slice_set}
+use Rattle.std.specs.Prelude.{zero, suc, ℕ, ◌+◌, ◌-◌, List, [], ◌∷◌, ◌++◌, Option, map, replicate, slice_set}
 use Rattle.dcc_packet.specs.declared.accessory.Board.{Board}
 use Rattle.dcc_packet.specs.declared.address.Address.{Address}
+use Rattle.dcc_packet.specs.declared.fields.Bit.{Bit}
+use Rattle.dcc_regs.specs.declared.board_state.BoardState.{BoardState}
 use Rattle.dcc_regs.specs.declared.register.Who.{Who}
 use Rattle.dcc_regs.specs.declared.register.Who.TheVariants as who
 use Rattle.dcc_saved.specs.declared.saved.Saved.{Saved}
@@ -14,7 +16,7 @@ use Rattle.dcc_saved.specs.declared.decoder_line.LocoLine.{LocoLine}
 use Rattle.dcc_saved.specs.declared.decoder_line.Numbered.TheVariants as kinds
 use Rattle.dcc_saved.specs.declared.decoder_line.LocoLine.TheVariants as behind
 use Rattle.dcc_saved.specs.DecoderLines.{version_line, head_line, speed_line, numbers_line, pending_line}
-use Rattle.dcc_saved.specs.DecoderLines.{loco_line, positions_line, aspects_line}
+use Rattle.dcc_saved.specs.DecoderLines.{loco_line, Four, listed, positions_line, aspects_line}
 use Rattle.dcc_saved.specs.TextReader.{Reader, ◌>>=◌, done, stop_at, line_by}
 use Rattle.dcc_saved.specs.TextReader.Stop.{too_many}
 
@@ -50,8 +52,8 @@ loco_lines version address = do
     saved.Loco
         (record {
           address = address;
-          speed = speed.0;
-          forward = speed.1;
+          speed = speed.0.speed;
+          forward = speed.1.forward;
           functions = functions;
           states = states;
           pending = pending;
@@ -60,6 +62,16 @@ loco_lines version address = do
     cvs.1,
   )
 
+-- what the lines of an accessory decoder say
+abbrev pub board_read : Board → ℕ → Four Bit → Four ℕ → BoardState
+board_read board outs positions aspects =
+    record {
+      board = board;
+      outs = outs;
+      positions = map (λ side. side.one) (listed positions);
+      aspects = listed aspects;
+    }
+
 -- the lines of an accessory decoder behind its first, and the line behind them
 unfoldable pub board_lines : Board → Reader (Saved × Head)
 board_lines board = do
@@ -67,7 +79,7 @@ board_lines board = do
   positions ← line_by positions_line
   aspects ← line_by aspects_line
   head ← line_by head_line
-  done (saved.Board (record { board = board; outs = outs; positions = positions; aspects = aspects }), head)
+  done (saved.Board (board_read board outs positions aspects), head)
 
 -- the lines of a decoder behind its first, and the line behind them
 abbrev pub decoder_lines : Version → Who → Reader (Saved × Head)

@@ -1,6 +1,7 @@
 -- The decoder text that is written for a fleet, from who each decoder is and what its registers hold.
 use Rattle.std.specs.Prelude.{zero, suc, ℕ, ◌==◌, Bool, true, List, [], ◌∷◌, ◌++◌, codes, Option, None, Some}
 use Rattle.std.specs.Prelude.{if◌then◌else◌}
+use Rattle.std.specs.Fmt.{decimal}
 use Rattle.std.specs.List.{flat_map}
 use Rattle.hex.specs.Hex.{encode_lower}
 use Rattle.dcc_packet.specs.declared.address.Address.{Address}
@@ -8,11 +9,13 @@ use Rattle.dcc_packet.specs.declared.accessory.Board.{Board}
 use Rattle.dcc_packet.specs.declared.packet.Packet.{Packet}
 use Rattle.dcc_packet.specs.Spelling.{spelling}
 use Rattle.dcc_packet.specs.Words.{Word}
-use Rattle.dcc_packet.specs.Written.{address_word, direction_word}
+use Rattle.dcc_packet.specs.Written.{words_in_line}
+use Rattle.dcc_packet.specs.Fields.{FieldOf, both}
+use Rattle.dcc_packet.specs.LineFields.{direction_field, small_field}
 use Rattle.dcc_regs.specs.declared.register.Who.{Who}
 use Rattle.dcc_regs.specs.declared.register.Who.TheVariants as who
 use Rattle.dcc_regs.specs.declared.register.Speed.{Speed}
-use Rattle.dcc_regs.specs.declared.register.Speed.TheVariants.{Stop, Emergency, Step14, Step28, Step126}
+use Rattle.dcc_regs.specs.declared.register.Speed.TheVariants.{Stop}
 use Rattle.dcc_regs.specs.declared.register.Register.TheVariants as registers
 use Rattle.dcc_regs.specs.declared.register.Value.{Value}
 use Rattle.dcc_regs.specs.declared.register.Value.TheVariants as values
@@ -22,6 +25,15 @@ use Rattle.dcc_io.specs.Spaced.{behind_space}
 use Rattle.dcc_saved.specs.declared.decoder_line.Numbered.{Numbered}
 use Rattle.dcc_saved.specs.declared.decoder_line.Numbered.TheVariants as kinds
 use Rattle.dcc_saved.specs.Numbered.{name_of, end_of, register_of}
+use Rattle.dcc_saved.specs.DecoderLines.{own_address_word, Four, four, speed_field}
+
+-- these words in a line
+abbrev pub line_of : List Word → List ℕ
+line_of words = words_in_line words ++ codes "\n"
+
+-- a line of this keyword and these fields
+abbrev pub line_text : {A : Type 0} → List ℕ → FieldOf A → A → List ℕ
+line_text name field x = line_of (name ∷ field.written x)
 
 -- what a register of a decoder holds, and where it has no such register what a new decoder holds
 abbrev pub speed_held : Option Value → Speed
@@ -45,25 +57,13 @@ unfoldable pub numbers_below : (ℕ → Bool) → ℕ → List ℕ
 numbers_below on zero = []
 numbers_below on (suc n) = numbers_below on n ++ (if on n then behind_space n else [])
 
--- the active address
-abbrev pub own_address_word : Option Address → Word
-own_address_word None = codes "none"
-own_address_word (Some address) = address_word address
-
-abbrev pub speed_text : Speed → List ℕ
-speed_text Stop = codes "stop"
-speed_text Emergency = codes "emergency"
-speed_text (Step14 n) = codes "14" ++ behind_space n
-speed_text (Step28 n) = codes "28" ++ behind_space n
-speed_text (Step126 n) = codes "126" ++ behind_space n
-
 abbrev pub pending_text : Option Packet → List ℕ
 pending_text None = codes "none"
 pending_text (Some packet) = encode_lower (spelling packet)
 
 -- the lines of CVs up to this one, but for those that are 0
 abbrev pub cv_line : ℕ → ℕ → List ℕ
-cv_line cv value = (codes "cv" ++ behind_space cv) ++ (behind_space value ++ codes "\n")
+cv_line cv value = line_of (codes "cv" ∷ decimal cv ∷ decimal value ∷ [])
 
 unfoldable pub cvs_text : (ℕ → ℕ) → ℕ → List ℕ
 cvs_text cvs zero = []
@@ -71,12 +71,12 @@ cvs_text cvs (suc n) = cvs_text cvs n ++ (if cvs (suc n) == 0 then [] else cv_li
 
 -- the lines of a locomotive decoder before its CVs
 abbrev pub loco_address_line : Option Address → List ℕ
-loco_address_line address = (codes "loco " ++ own_address_word address) ++ codes "\n"
+loco_address_line address = line_of (codes "loco" ∷ own_address_word address ∷ [])
 
 abbrev pub written_speed : RegisterMap → List ℕ
 written_speed m =
-    (codes "speed " ++ speed_text (speed_held (m registers.Speed)))
-    ++ (32 ∷ direction_word (forward_held (m registers.Direction)) ++ codes "\n")
+    line_text (codes "speed") (both speed_field direction_field)
+    (record { speed = speed_held (m registers.Speed) }, record { forward = forward_held (m registers.Direction) })
 
 abbrev pub written_numbers : Numbered → RegisterMap → List ℕ
 written_numbers kind m =
@@ -92,18 +92,18 @@ loco_front address m =
 
 -- the lines of an accessory decoder
 abbrev pub board_line : Board → List ℕ
-board_line board = (codes "board" ++ behind_space board.number) ++ codes "\n"
+board_line board = line_of (codes "board" ∷ decimal board.number ∷ [])
 
-abbrev pub four_numbers : (ℕ → ℕ) → List ℕ
-four_numbers numbers =
-    behind_space (numbers 0)
-    ++ (behind_space (numbers 1) ++ (behind_space (numbers 2) ++ (behind_space (numbers 3) ++ codes "\n")))
+abbrev pub first_four : (ℕ → ℕ) → Four ℕ
+first_four numbers = (numbers 0, (numbers 1, (numbers 2, numbers 3)))
 
 abbrev pub written_positions : RegisterMap → List ℕ
-written_positions m = codes "position" ++ four_numbers (λ n. number_held (m (registers.Position n)))
+written_positions m =
+    line_text (codes "position") (four small_field) (first_four (λ n. number_held (m (registers.Position n))))
 
 abbrev pub written_aspects : RegisterMap → List ℕ
-written_aspects m = codes "aspect" ++ four_numbers (λ n. number_held (m (registers.Aspect n)))
+written_aspects m =
+    line_text (codes "aspect") (four small_field) (first_four (λ n. number_held (m (registers.Aspect n))))
 
 abbrev pub board_text : Board → RegisterMap → List ℕ
 board_text board m = board_line board ++ (written_numbers kinds.Out m ++ (written_positions m ++ written_aspects m))

@@ -15,6 +15,9 @@ pub enum Version {
     Two,
 }
 
+/// Four fields of a kind.
+pub type Four<F> = (F, (F, (F, F)));
+
 /// A line that begins a decoder, or the last line.
 #[derive(Clone, Copy)]
 pub enum Head {

@@ -1,21 +1,22 @@
 //! The lines that are written for a decoder.
-ghost use Rattle.std.specs.Prelude.{◌≡◌, ◌+◌, ◌≤◌, ◌++◌, ◌∷◌, codes, if◌then◌else◌};
+ghost use Rattle.std.specs.Prelude.{◌≡◌, ◌+◌, ◌≤◌, ◌++◌, ◌∷◌, codes, length, if◌then◌else◌};
 ghost use Rattle.arrayvec.specs.ArrayVec.{array_vec_len};
-ghost use Rattle.dcc_packet.specs.Written.{address_word, direction_word};
 ghost use Rattle.dcc_regs.specs.Loco.{holds_one as is_on_value};
 ghost use Rattle.dcc_io.specs.Spaced.{behind_space};
 ghost use Rattle.dcc_saved.specs.FleetText.{speed_held, forward_held, pending_held, number_held, numbers_below};
-ghost use Rattle.dcc_saved.specs.FleetText.{own_address_word, speed_text, pending_text, cv_line, loco_address_line};
+ghost use Rattle.dcc_saved.specs.FleetText.{pending_text, cv_line, loco_address_line};
 ghost use Rattle.dcc_saved.specs.FleetText.{written_speed, written_numbers, written_pending};
 ghost use Rattle.dcc_saved.specs.FleetText.{loco_front};
-ghost use Rattle.dcc_saved.specs.FleetText.{board_line, four_numbers, written_positions};
+ghost use Rattle.dcc_saved.specs.FleetText.{board_line, line_text, written_positions};
 ghost use Rattle.dcc_saved.specs.FleetText.{written_aspects};
 ghost use Rattle.dcc_saved.specs.FleetText.{board_text};
 
+use crate::decoder_fields::{OwnAddress, SavedSpeed};
 use crate::decoder_line::Numbered;
 use arrayvec::ArrayVec;
 use dcc_io::{append, append_decimal, append_hex};
-use dcc_packet::{Address, Board, Packet};
+use dcc_packet::field::{Field, Line};
+use dcc_packet::{Address, Board, Direction, Packet};
 use dcc_regs::{Decoder, Register, Speed, Value};
 
 /// Some lines of a decoder, at most all of them before its CVs.
@@ -32,50 +33,6 @@ fn append_number(rows: &mut Rows, number: u32)
     append_decimal(rows, number);
 }
 
-/// Adds an address.
-#[tactic(auto, using(dcc_io::proofs::DecimalLemmas::decimal_is_short))]
-fn append_own_address(rows: &mut Rows, address: &Option<Address>)
-    requires { array_vec_len rows.old + 12 ≤ 4096 }
-    ensures items { rows.new.items ≡ rows.old.items ++ own_address_word address.now }
-    ensures len { array_vec_len rows.new ≤ array_vec_len rows.old + 12 }
-{
-    match address {
-        None => append(rows, b"none"),
-        Some(Address::Broadcast) => append(rows, b"all"),
-        Some(Address::Short(address)) => {
-            append(rows, b"s");
-            append_decimal(rows, u32::from(address.number()));
-        }
-        Some(Address::Long(address)) => {
-            append(rows, b"l");
-            append_decimal(rows, u32::from(address.number()));
-        }
-    }
-}
-
-fn append_speed(rows: &mut Rows, speed: Speed)
-    requires { array_vec_len rows.old + 14 ≤ 4096 }
-    ensures items { rows.new.items ≡ rows.old.items ++ speed_text speed }
-    ensures len { array_vec_len rows.new ≤ array_vec_len rows.old + 14 }
-{
-    match speed {
-        Speed::Stop => append(rows, b"stop"),
-        Speed::Emergency => append(rows, b"emergency"),
-        Speed::Step14(step) => {
-            append(rows, b"14");
-            append_number(rows, u32::from(step));
-        }
-        Speed::Step28(step) => {
-            append(rows, b"28");
-            append_number(rows, u32::from(step));
-        }
-        Speed::Step126(step) => {
-            append(rows, b"126");
-            append_number(rows, u32::from(step));
-        }
-    }
-}
-
 fn append_pending(rows: &mut Rows, pending: &Option<Packet>)
     requires { array_vec_len rows.old + 12 ≤ 4096 }
     ensures items { rows.new.items ≡ rows.old.items ++ pending_text pending.now }
@@ -85,12 +42,6 @@ fn append_pending(rows: &mut Rows, pending: &Option<Packet>)
         None => append(rows, b"none"),
         Some(packet) => append_hex(rows, packet.frame().bytes()),
     }
-}
-
-fn direction_word(forward: bool) -> &'static [u8]
-    ensures { result.now ≡ direction_word forward }
-{
-    if forward { b"f" } else { b"r" }
 }
 
 fn speed_in(value: Option<Value>) -> Speed
@@ -139,18 +90,17 @@ fn is_on(value: Option<Value>) -> bool
 }
 
 fn append_speed_line(rows: &mut Rows, decoder: &dyn Decoder)
-    requires { array_vec_len rows.old + 24 ≤ 4096 }
+    requires { array_vec_len rows.old + 41 ≤ 4096 }
     ensures items { rows.new.items ≡ rows.old.items ++ written_speed (registers decoder.now) }
-    ensures len { array_vec_len rows.new ≤ array_vec_len rows.old + 24 }
+    ensures len { array_vec_len rows.new ≤ array_vec_len rows.old + 41 }
 {
-    append(rows, b"speed ");
-    append_speed(rows, speed_in(decoder.get(Register::Speed)));
-    append(rows, b" ");
-    append(
+    let speed = speed_in(decoder.get(Register::Speed));
+    let forward = forward_in(decoder.get(Register::Direction));
+    append_line(
         rows,
-        direction_word(forward_in(decoder.get(Register::Direction))),
+        "speed",
+        &(SavedSpeed { speed }, Direction { forward }),
     );
-    append(rows, b"\n");
 }
 
 fn append_numbers(rows: &mut Rows, numbered: Numbered, decoder: &dyn Decoder)
@@ -168,13 +118,11 @@ fn append_numbers(rows: &mut Rows, numbered: Numbered, decoder: &dyn Decoder)
 }
 
 fn append_address_line(rows: &mut Rows, address: &Option<Address>)
-    requires { array_vec_len rows.old + 18 ≤ 4096 }
+    requires { array_vec_len rows.old + 41 ≤ 4096 }
     ensures items { rows.new.items ≡ rows.old.items ++ loco_address_line address.now }
-    ensures len { array_vec_len rows.new ≤ array_vec_len rows.old + 18 }
+    ensures len { array_vec_len rows.new ≤ array_vec_len rows.old + 41 }
 {
-    append(rows, b"loco ");
-    append_own_address(rows, address);
-    append(rows, b"\n");
+    append_line(rows, "loco", &OwnAddress { address: *address });
 }
 
 fn append_pending_line(rows: &mut Rows, decoder: &dyn Decoder)
@@ -205,49 +153,67 @@ pub(crate) fn cv_line(cv: u16, value: u8) -> Rows
     ensures { result.items ≡ cv_line cv value }
 {
     let mut rows = Rows::new();
-    append(&mut rows, b"cv");
-    append_number(&mut rows, u32::from(cv));
-    append_number(&mut rows, u32::from(value));
-    append(&mut rows, b"\n");
+    append_line(&mut rows, "cv", &(cv, value));
     rows
 }
 
-fn append_position_line(rows: &mut Rows, decoder: &dyn Decoder)
-    requires { array_vec_len rows.old + 60 ≤ 4096 }
-    ensures items { rows.new.items ≡ rows.old.items ++ written_positions (registers decoder.now) }
-    ensures len { array_vec_len rows.new ≤ array_vec_len rows.old + 60 }
+/// Adds the line that begins with this word and has these fields.
+fn append_line<F: Field>(rows: &mut Rows, name: &str, fields: &F)
+    requires rows { array_vec_len rows.old + 41 ≤ 4096 }
+    requires line { length name.now + F.most ≤ 40 }
+    ensures items { rows.new.items ≡ rows.old.items ++ line_text name.now F.field fields.now }
+    ensures len { array_vec_len rows.new ≤ array_vec_len rows.old + 41 }
 {
-    append(rows, b"position");
-    append_number(
-        rows,
-        u32::from(number_in(decoder.get(Register::Position(0)))),
-    );
-    append_number(
-        rows,
-        u32::from(number_in(decoder.get(Register::Position(1)))),
-    );
-    append_number(
-        rows,
-        u32::from(number_in(decoder.get(Register::Position(2)))),
-    );
-    append_number(
-        rows,
-        u32::from(number_in(decoder.get(Register::Position(3)))),
-    );
+    let mut line = Line::new();
+    line.push_str(name);
+    fields.put(&mut line);
+    append(rows, line.as_bytes());
     append(rows, b"\n");
 }
 
-fn append_aspect_line(rows: &mut Rows, decoder: &dyn Decoder)
-    requires { array_vec_len rows.old + 60 ≤ 4096 }
-    ensures items { rows.new.items ≡ rows.old.items ++ written_aspects (registers decoder.now) }
-    ensures len { array_vec_len rows.new ≤ array_vec_len rows.old + 60 }
+fn position(decoder: &dyn Decoder, n: u8) -> u8
+    ensures { result ≡ number_held (registers decoder.now (Register.Position n)) }
 {
-    append(rows, b"aspect");
-    append_number(rows, u32::from(number_in(decoder.get(Register::Aspect(0)))));
-    append_number(rows, u32::from(number_in(decoder.get(Register::Aspect(1)))));
-    append_number(rows, u32::from(number_in(decoder.get(Register::Aspect(2)))));
-    append_number(rows, u32::from(number_in(decoder.get(Register::Aspect(3)))));
-    append(rows, b"\n");
+    number_in(decoder.get(Register::Position(n)))
+}
+
+fn aspect(decoder: &dyn Decoder, n: u8) -> u8
+    ensures { result ≡ number_held (registers decoder.now (Register.Aspect n)) }
+{
+    number_in(decoder.get(Register::Aspect(n)))
+}
+
+fn append_position_line(rows: &mut Rows, decoder: &dyn Decoder)
+    requires { array_vec_len rows.old + 41 ≤ 4096 }
+    ensures items { rows.new.items ≡ rows.old.items ++ written_positions (registers decoder.now) }
+    ensures len { array_vec_len rows.new ≤ array_vec_len rows.old + 41 }
+{
+    append_line(
+        rows,
+        "position",
+        &(
+            position(decoder, 0),
+            (
+                position(decoder, 1),
+                (position(decoder, 2), position(decoder, 3)),
+            ),
+        ),
+    );
+}
+
+fn append_aspect_line(rows: &mut Rows, decoder: &dyn Decoder)
+    requires { array_vec_len rows.old + 41 ≤ 4096 }
+    ensures items { rows.new.items ≡ rows.old.items ++ written_aspects (registers decoder.now) }
+    ensures len { array_vec_len rows.new ≤ array_vec_len rows.old + 41 }
+{
+    append_line(
+        rows,
+        "aspect",
+        &(
+            aspect(decoder, 0),
+            (aspect(decoder, 1), (aspect(decoder, 2), aspect(decoder, 3))),
+        ),
+    );
 }
 
 /// The lines of an accessory decoder.
@@ -255,9 +221,7 @@ pub(crate) fn board_rows(board: &Board, decoder: &dyn Decoder) -> Rows
     ensures { result.items ≡ board_text board.now (registers decoder.now) }
 {
     let mut rows = Rows::new();
-    append(&mut rows, b"board");
-    append_number(&mut rows, u32::from(board.number()));
-    append(&mut rows, b"\n");
+    append_line(&mut rows, "board", board);
     append_numbers(&mut rows, Numbered::Out, decoder);
     append_position_line(&mut rows, decoder);
     append_aspect_line(&mut rows, decoder);

@@ -2,27 +2,26 @@
 
 ghost use Rattle.std.specs.Prelude.{◌≡◌, ◌<◌, ◌^◌, ◌%◌, None, true, nat_le, IfOk};
 ghost use Rattle.dcc_regs.specs.Addresses.{is_active};
-ghost use Rattle.dcc_regs.specs.Loco.{is_speed, is_pending_for};
+ghost use Rattle.dcc_regs.specs.Loco.{is_pending_for};
 ghost use Rattle.dcc_regs.specs.Possible.{is_decoder};
 ghost use Rattle.dcc_saved.specs.Inner.RequiredLine.{TakesLine, Judges};
 ghost use Rattle.dcc_saved.specs.TextReader.{line_by};
 ghost use Rattle.dcc_saved.specs.TextRead.{Answers};
-ghost use Rattle.dcc_saved.specs.DecoderLines.{version_line, head_line, speed_line, numbers_line};
-ghost use Rattle.dcc_saved.specs.DecoderLines.{pending_line, loco_line, positions_line, aspects_line};
+ghost use Rattle.dcc_saved.specs.DecoderLines.{version_line, head_line, numbers_line};
+ghost use Rattle.dcc_saved.specs.DecoderLines.{pending_line, loco_line, keyed};
 ghost use Rattle.dcc_saved.specs.Numbered.{end_of};
 ghost use Rattle.dcc_saved.specs.DecoderText.{board_lines, cvs_lines, decoder_lines, loco_lines, states_by};
 ghost use Rattle.dcc_saved.specs.PossibleLines.{IsPossibleHead, IsSoundLine, is_possible};
 
-use crate::decoder_line::{Head, LocoLine, Numbered, Version};
-use crate::decoder_words::{
-    aspects_line, head_line, loco_line, numbers_line, pending_line, positions_line, speed_line,
-    version_line,
-};
+use crate::decoder_fields::SavedSpeed;
+use crate::decoder_line::{Four, Head, LocoLine, Numbered, Version};
+use crate::decoder_words::{head_line, keyed, loco_line, numbers_line, pending_line};
 use crate::saved::Saved;
 use dcc_io::inputs::{line_of_next_byte, next_line, refuse_line};
 use dcc_io::{Input, KeptFault, Source, TextLine};
-use dcc_packet::{Address, Board, Packet, PacketFault};
-use dcc_regs::{BoardState, LocoState, Speed, Who};
+use dcc_packet::field::Field;
+use dcc_packet::{Address, Bit, Board, Direction, Packet, PacketFault};
+use dcc_regs::{BoardState, LocoState, Who};
 
 /// The next line. Where there is none, the line behind the last is out of place.
 fn line_in_place<R: Source>(input: &mut Input<R>) -> Result<TextLine, KeptFault>
@@ -58,8 +57,7 @@ pub(crate) fn read_version<R: Source>(input: &mut Input<R>) -> Result<Version, K
     requires { input.old.fault ≡ None }
     ensures { Answers (line_by version_line) input.old result input.new }
 {
-    let line = line_in_place(input)?;
-    judge(input, line.number, version_line(line.text.as_bytes()))
+    read_keyed(input, b"dcc-decoders")
 }
 
 /// The line that begins a decoder, or the last line.
@@ -70,16 +68,6 @@ pub(crate) fn read_head<R: Source>(input: &mut Input<R>) -> Result<Head, KeptFau
 {
     let line = line_in_place(input)?;
     judge(input, line.number, head_line(line.text.as_bytes()))
-}
-
-/// The line of the speed and the direction.
-fn read_speed<R: Source>(input: &mut Input<R>) -> Result<(Speed, bool), KeptFault>
-    requires { input.old.fault ≡ None }
-    ensures reads { Answers (line_by speed_line) input.old result input.new }
-    ensures possible { IfOk result (λ read. is_speed read.0 ≡ true) }
-{
-    let line = line_in_place(input)?;
-    judge(input, line.number, speed_line(line.text.as_bytes()))
 }
 
 /// The line of the numbers that are on.
@@ -136,22 +124,14 @@ fn read_loco_line<R: Source>(input: &mut Input<R>, least: u16) -> Result<LocoLin
     judge(input, line.number, loco_line(line.text.as_bytes(), least))
 }
 
-/// The line of the positions.
-fn read_positions<R: Source>(input: &mut Input<R>) -> Result<[bool; 4], KeptFault>
+/// The fields of the line that begins with this word.
+fn read_keyed<R: Source, F: Field + Copy>(input: &mut Input<R>, name: &[u8]) -> Result<F, KeptFault>
     requires { input.old.fault ≡ None }
-    ensures { Answers (line_by positions_line) input.old result input.new }
+    ensures reads { Answers (line_by (keyed name.now F.field)) input.old result input.new }
+    ensures fits { IfOk result F.field.Fits }
 {
     let line = line_in_place(input)?;
-    judge(input, line.number, positions_line(line.text.as_bytes()))
-}
-
-/// The line of the aspects.
-fn read_aspects<R: Source>(input: &mut Input<R>) -> Result<[u8; 4], KeptFault>
-    requires { input.old.fault ≡ None }
-    ensures { Answers (line_by aspects_line) input.old result input.new }
-{
-    let line = line_in_place(input)?;
-    judge(input, line.number, aspects_line(line.text.as_bytes()))
+    judge(input, line.number, keyed(name, line.text.as_bytes()))
 }
 
 /// The CVs and the line behind them.
@@ -184,15 +164,15 @@ fn read_loco<R: Source>(
     ensures reads { Answers (loco_lines version address) input.old result input.new }
     ensures possible { IfOk result (λ read. (is_possible read.0 ≡ true) × IsPossibleHead read.1) }
 {
-    let (speed, forward) = read_speed(input)?;
+    let (saved, direction): (SavedSpeed, Direction) = read_keyed(input, b"speed")?;
     let functions = read_numbers(input, Numbered::Function)?;
     let states = states_of(input, version)?;
     let pending = read_pending(input, &address)?;
     let (cvs, head) = read_cvs(input)?;
     let state = LocoState {
         address,
-        speed,
-        forward,
+        speed: saved.speed,
+        forward: direction.forward,
         functions,
         states,
         pending,
@@ -209,14 +189,19 @@ fn read_board<R: Source>(input: &mut Input<R>, board: Board) -> Result<(Saved, H
     ensures possible { IfOk result (λ read. (is_possible read.0 ≡ true) × IsPossibleHead read.1) }
 {
     let outs = read_numbers(input, Numbered::Out)?;
-    let positions = read_positions(input)?;
-    let aspects = read_aspects(input)?;
+    let positions: Four<Bit> = read_keyed(input, b"position")?;
+    let aspects: Four<u8> = read_keyed(input, b"aspect")?;
     let head = read_head(input)?;
     let state = BoardState {
         board,
         outs: outs as u8,
-        positions,
-        aspects,
+        positions: [
+            positions.0.one,
+            positions.1.0.one,
+            positions.1.1.0.one,
+            positions.1.1.1.one,
+        ],
+        aspects: [aspects.0, aspects.1.0, aspects.1.1.0, aspects.1.1.1],
     };
     Ok((Saved::Board(state), head))
 }

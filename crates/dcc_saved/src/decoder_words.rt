@@ -6,23 +6,22 @@ ghost use Rattle.dcc_regs.specs.Addresses.{is_active};
 ghost use Rattle.dcc_regs.specs.Heard.{hears as hears_packet};
 ghost use Rattle.dcc_regs.specs.Loco.{is_speed, is_byte_write, is_pending_for};
 ghost use Rattle.dcc_regs.specs.Writes.{is_own_write};
-ghost use Rattle.dcc_saved.specs.DecoderLines.{in_order, version_number, version_line, own_address, own_board};
+ghost use Rattle.dcc_saved.specs.DecoderLines.{in_order, version_number, own_address, own_board};
 ghost use Rattle.dcc_saved.specs.DecoderLines.{loco_head, board_head, end_head, head_after, head_line, step_up_to};
-ghost use Rattle.dcc_saved.specs.DecoderLines.{speed_of, speed_after, speed_line, function_number, binary_state};
+ghost use Rattle.dcc_saved.specs.DecoderLines.{speed_of, speed_after, function_number, binary_state};
 ghost use Rattle.dcc_saved.specs.DecoderLines.{number_of, numbers_from, numbers_line, pending_word};
 ghost use Rattle.dcc_saved.specs.DecoderLines.{pending_line, cv_words, loco_line_after, loco_line};
 ghost use Rattle.dcc_saved.specs.Numbered.{end_of};
-ghost use Rattle.dcc_saved.specs.DecoderLines.{positions_line, aspects_line};
+ghost use Rattle.dcc_saved.specs.DecoderLines.{keyed};
 ghost use Rattle.dcc_saved.specs.Inner.DecoderWords.{Gives, TakesKeyword, TakesSpeed};
 ghost use Rattle.dcc_packet.specs.Line.{word_and_rest};
-ghost use Rattle.dcc_packet.specs.LineWords.{bit_state, small_number};
 ghost use Rattle.dcc_saved.specs.PendingWrite.{pending_write};
 ghost use Rattle.dcc_saved.specs.PossibleLines.{IsPossibleHead, IsSoundLine};
 
+use crate::decoder_fields::OwnAddress;
 use crate::decoder_line::{Head, LocoLine, Numbered, Version};
-use dcc_packet::line_word::{
-    address, bit_state, board_number, cv_number, direction, hex_frame, output_number,
-};
+use dcc_packet::field::Field;
+use dcc_packet::line_word::{address, board_number, cv_number, hex_frame, output_number};
 use dcc_packet::numeral::small_number;
 use dcc_packet::words::Words;
 use dcc_packet::{Address, Board, Packet, PacketFault};
@@ -54,7 +53,7 @@ fn in_order(least: u16, n: u16) -> Result<(), PacketFault>
 }
 
 /// `1` or `2`
-fn version_number(word: &[u8]) -> Result<Version, PacketFault>
+pub(crate) fn version_number(word: &[u8]) -> Result<Version, PacketFault>
     ensures { result ≡ version_number word.now }
 {
     match word {
@@ -62,18 +61,6 @@ fn version_number(word: &[u8]) -> Result<Version, PacketFault>
         b"2" => Ok(Version::Two),
         _ => Err(PacketFault::Word),
     }
-}
-
-/// `dcc-decoders VERSION`
-#[tactic(auto, unfolding(crate::specs::DecoderLines::version_line))]
-pub fn version_line(line: &[u8]) -> Result<Version, PacketFault>
-    ensures { result ≡ version_line (words line.now) }
-{
-    let mut words = Words::new(line);
-    take_keyword(&mut words, b"dcc-decoders")?;
-    let version = words.word().and_then(version_number)?;
-    words.end()?;
-    Ok(version)
 }
 
 /// The active address of a locomotive decoder, or `none`.
@@ -107,9 +94,8 @@ fn loco_head(words: &mut Words) -> Result<Head, PacketFault>
     ensures is { result ≡ loco_head words.old }
     ensures possible { IfOk result IsPossibleHead }
 {
-    let address = words.word().and_then(own_address)?;
-    words.end()?;
-    Ok(Head::Decoder(Who::Loco(address)))
+    let own: OwnAddress = words.fields()?;
+    Ok(Head::Decoder(Who::Loco(own.address)))
 }
 
 fn board_head(words: &mut Words) -> Result<Head, PacketFault>
@@ -195,26 +181,13 @@ fn speed_after(word: &[u8], rest: &mut Words) -> Result<Speed, PacketFault>
     }
 }
 
-fn take_speed(words: &mut Words) -> Result<Speed, PacketFault>
+/// Takes a speed.
+pub(crate) fn take_speed(words: &mut Words) -> Result<Speed, PacketFault>
     ensures is { TakesSpeed (speed_of words.old) result words.new }
     ensures possible { IfOk result (λ speed. is_speed speed ≡ true) }
 {
     let word = words.word()?;
     speed_after(word, words)
-}
-
-/// `speed SPEED f|r`
-#[tactic(auto, unfolding(crate::specs::DecoderLines::speed_line))]
-pub fn speed_line(line: &[u8]) -> Result<(Speed, bool), PacketFault>
-    ensures is { result ≡ speed_line (words line.now) }
-    ensures possible { IfOk result (λ read. is_speed read.0 ≡ true) }
-{
-    let mut words = Words::new(line);
-    take_keyword(&mut words, b"speed")?;
-    let speed = take_speed(&mut words)?;
-    let forward = words.word().and_then(direction)?;
-    words.end()?;
-    Ok((speed, forward))
 }
 
 /// A function of a locomotive decoder, 0 to 68.
@@ -363,32 +336,12 @@ pub fn loco_line(line: &[u8], least: u16) -> Result<LocoLine, PacketFault>
     loco_line_after(word, &mut words, least)
 }
 
-/// `position SIDE SIDE SIDE SIDE`
-#[tactic(auto, unfolding(crate::specs::DecoderLines::positions_line))]
-pub fn positions_line(line: &[u8]) -> Result<[bool; 4], PacketFault>
-    ensures { result ≡ positions_line (words line.now) }
+/// The fields of a line that begins with this word.
+pub fn keyed<F: Field>(name: &[u8], line: &[u8]) -> Result<F, PacketFault>
+    ensures is { result ≡ keyed name.now F.field (words line.now) }
+    ensures fits { IfOk result F.field.Fits }
 {
     let mut words = Words::new(line);
-    take_keyword(&mut words, b"position")?;
-    let first = words.word().and_then(bit_state)?;
-    let second = words.word().and_then(bit_state)?;
-    let third = words.word().and_then(bit_state)?;
-    let fourth = words.word().and_then(bit_state)?;
-    words.end()?;
-    Ok([first, second, third, fourth])
-}
-
-/// `aspect ASPECT ASPECT ASPECT ASPECT`
-#[tactic(auto, unfolding(crate::specs::DecoderLines::aspects_line))]
-pub fn aspects_line(line: &[u8]) -> Result<[u8; 4], PacketFault>
-    ensures { result ≡ aspects_line (words line.now) }
-{
-    let mut words = Words::new(line);
-    take_keyword(&mut words, b"aspect")?;
-    let first = words.word().and_then(small_number)?;
-    let second = words.word().and_then(small_number)?;
-    let third = words.word().and_then(small_number)?;
-    let fourth = words.word().and_then(small_number)?;
-    words.end()?;
-    Ok([first, second, third, fourth])
+    take_keyword(&mut words, name)?;
+    words.fields()
 }

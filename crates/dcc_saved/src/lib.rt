@@ -1,6 +1,7 @@
 //! The decoder text: how it is read and written, that what was written is read back, and the word that names a decoder.
 #![tactic(auto)]
 
+mod decoder_fields;
 mod decoder_line;
 mod decoder_rows;
 mod decoder_text;

@@ -22,25 +22,25 @@ returns-in_err-positions-clause-reads g c =
     let outs = Leads-then _ _ first c.in_ok-outs.ensures.reads in
     rw (p.1, p.2)
     (Answers-fault (line_by positions_line) (behind_positions c.args.board c.in_ok-outs.outs) _ outs
-    c.in_err-positions.ensures)
+    c.in_err-positions.ensures.reads)
 
 pub returns-in_err-aspects-clause-reads : goal.returns-in_err-aspects-clause-reads
 returns-in_err-aspects-clause-reads g c =
     let p = err_from_is_err_and c.from_residual-in_err-aspects.result c.from_residual-in_err-aspects.ensures.1 in
     let first = Leads-board c.args.board c.args.input.now c.requires.fault in
     let outs = Leads-then _ _ first c.in_ok-outs.ensures.reads in
-    let positions = Leads-then _ _ outs c.in_ok-positions.ensures in
+    let positions = Leads-then _ _ outs c.in_ok-positions.ensures.reads in
     rw (p.1, p.2)
     (Answers-fault (line_by aspects_line)
-    (behind_aspects c.args.board c.in_ok-outs.outs c.in_ok-positions.positions) _ positions c.in_err-aspects.ensures)
+    (behind_aspects c.args.board c.in_ok-outs.outs c.in_ok-positions.positions) _ positions c.in_err-aspects.ensures.reads)
 
 pub returns-in_err-head-clause-reads : goal.returns-in_err-head-clause-reads
 returns-in_err-head-clause-reads g c =
     let p = err_from_is_err_and c.from_residual-in_err-head.result c.from_residual-in_err-head.ensures.1 in
     let first = Leads-board c.args.board c.args.input.now c.requires.fault in
     let outs = Leads-then _ _ first c.in_ok-outs.ensures.reads in
-    let positions = Leads-then _ _ outs c.in_ok-positions.ensures in
-    let aspects = Leads-then _ _ positions c.in_ok-aspects.ensures in
+    let positions = Leads-then _ _ outs c.in_ok-positions.ensures.reads in
+    let aspects = Leads-then _ _ positions c.in_ok-aspects.ensures.reads in
     rw (p.1, p.2)
     (Answers-fault (line_by head_line)
     (behind_board_head c.args.board c.in_ok-outs.outs c.in_ok-positions.positions c.in_ok-aspects.aspects) _ aspects
@@ -50,6 +50,6 @@ pub returns-clause-reads : goal.returns-clause-reads
 returns-clause-reads g c =
     let first = Leads-board c.args.board c.args.input.now c.requires.fault in
     let outs = Leads-then _ _ first c.in_ok-outs.ensures.reads in
-    let positions = Leads-then _ _ outs c.in_ok-positions.ensures in
-    let aspects = Leads-then _ _ positions c.in_ok-aspects.ensures in
+    let positions = Leads-then _ _ outs c.in_ok-positions.ensures.reads in
+    let aspects = Leads-then _ _ positions c.in_ok-aspects.ensures.reads in
     Leads-then _ _ aspects c.in_ok-head.ensures.reads

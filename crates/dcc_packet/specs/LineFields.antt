@@ -1,0 +1,147 @@
+-- The fields of packet lines.
+use Rattle.std.specs.Prelude.{ℕ, ◌<◌, [], ◌∷◌, Result, Ok}
+use Rattle.std.specs.Fmt.{decimal}
+use Rattle.dcc_packet.specs.declared.accessory.Board.{Board}
+use Rattle.dcc_packet.specs.declared.accessory.Output.{Output}
+use Rattle.dcc_packet.specs.declared.accessory.SignalAddress.{SignalAddress}
+use Rattle.dcc_packet.specs.declared.fault.PacketFault.{PacketFault}
+use Rattle.dcc_packet.specs.declared.fields.Direction.{Direction}
+use Rattle.dcc_packet.specs.declared.fields.Bit.{Bit}
+use Rattle.dcc_packet.specs.declared.fields.Switch.{Switch}
+use Rattle.dcc_packet.specs.LineWords.{◌>>=◌, small_number, board_number, output_number, switch, signal_number}
+use Rattle.dcc_packet.specs.LineWords.{direction, bit_state, direction_word, state_word, switch_word}
+use Rattle.dcc_packet.specs.Words.{Word}
+use Rattle.dcc_packet.specs.Fields.{FieldOf, one_word, both, word_and_rest}
+use Rattle.dcc_packet.specs.declared.address.Address.{Address}
+use Rattle.dcc_packet.specs.LineWords.{number, address, address_word}
+use Rattle.std.specs.Prelude.{List}
+use Rattle.dcc_packet.specs.declared.cv.BitPlace.{BitPlace}
+use Rattle.dcc_packet.specs.declared.cv.CvNumber.{CvNumber}
+use Rattle.dcc_packet.specs.declared.functions.GroupBits.{GroupBits}
+use Rattle.dcc_packet.specs.declared.speed.SpeedBits28.{SpeedBits28}
+use Rattle.dcc_packet.specs.declared.speed.SpeedBits128.{SpeedBits128}
+use Rattle.dcc_packet.specs.declared.state.StateNumber.{StateNumber}
+use Rattle.dcc_packet.specs.LineWords.{speed28_bits, speed128_bits, group, group_bits, group_word, state_number, cv_number}
+use Rattle.dcc_packet.specs.LineWords.{bit_place}
+
+-- TO
+abbrev pub address_field : FieldOf Address
+address_field = one_word address address_word
+
+-- BOARD
+abbrev pub board_field : FieldOf Board
+board_field = one_word board_number (λ board. decimal board.number)
+
+-- OUTPUT
+abbrev pub output_field : FieldOf Output
+output_field = one_word output_number (λ output. decimal output.number)
+
+-- ADDRESS of a signal
+abbrev pub signal_field : FieldOf SignalAddress
+signal_field = one_word signal_number (λ address. decimal address.number)
+
+abbrev pub switch_of : Word → Result Switch PacketFault
+switch_of word = do
+  on ← switch word
+  Ok (record { on = on })
+
+-- on or off
+abbrev pub switch_field : FieldOf Switch
+switch_field = one_word switch_of (λ switch. switch_word switch.on)
+
+abbrev pub direction_of : Word → Result Direction PacketFault
+direction_of word = do
+  forward ← direction word
+  Ok (record { forward = forward })
+
+-- f for forward, r for reverse
+abbrev pub direction_field : FieldOf Direction
+direction_field = one_word direction_of (λ direction. direction_word direction.forward)
+
+abbrev pub bit_of : Word → Result Bit PacketFault
+bit_of word = do
+  one ← bit_state word
+  Ok (record { one = one })
+
+-- SIDE of a pair of outputs, or a bit of a CV: 1 or 0
+abbrev pub bit_field : FieldOf Bit
+bit_field = one_word bit_of (λ side. state_word side.one)
+
+-- ASPECT, VALUE: a number up to 255
+abbrev pub small_field : FieldOf ℕ
+small_field =
+    record {
+      Fits = λ n. n < 256;
+      read = λ words. word_and_rest small_number words;
+      written = λ n. decimal n ∷ [];
+    }
+
+-- a number up to 65535
+abbrev pub number_field : FieldOf ℕ
+number_field =
+    record {
+      Fits = λ n. n < 65536;
+      read = λ words. word_and_rest number words;
+      written = λ n. decimal n ∷ [];
+    }
+
+-- BITS of `speed28`
+abbrev pub speed28_field : FieldOf SpeedBits28
+speed28_field = one_word speed28_bits (λ speed. decimal speed.bits)
+
+-- BITS of `speed128`
+abbrev pub speed128_field : FieldOf SpeedBits128
+speed128_field = one_word speed128_bits (λ speed. decimal speed.bits)
+
+abbrev pub functions_of_words : List Word → Result (GroupBits × List Word) PacketFault
+functions_of_words words = do
+  named ← word_and_rest group words
+  word_and_rest (group_bits named.0) named.1
+
+-- GROUP BITS
+abbrev pub functions_field : FieldOf GroupBits
+functions_field =
+    record {
+      Fits = λ functions. Unit {0};
+      read = λ words. functions_of_words words;
+      written = λ functions. group_word functions.group ∷ decimal functions.bits ∷ [];
+    }
+
+-- NUMBER of a binary state
+abbrev pub state_field : FieldOf StateNumber
+state_field = one_word state_number (λ state. decimal state.number)
+
+-- CV
+abbrev pub cv_field : FieldOf CvNumber
+cv_field = one_word cv_number (λ cv. decimal cv.number)
+
+-- PLACE
+abbrev pub place_field : FieldOf BitPlace
+place_field = one_word bit_place (λ place. decimal place.place)
+
+-- f|r BITS
+abbrev pub speed28_fields : FieldOf (Direction × SpeedBits28)
+speed28_fields = both direction_field speed28_field
+
+abbrev pub speed128_fields : FieldOf (Direction × SpeedBits128)
+speed128_fields = both direction_field speed128_field
+
+-- NUMBER on|off
+abbrev pub state_fields : FieldOf (StateNumber × Switch)
+state_fields = both state_field switch_field
+
+-- CV VALUE
+abbrev pub cv_value_fields : FieldOf (CvNumber × ℕ)
+cv_value_fields = both cv_field small_field
+
+-- CV PLACE 0|1
+abbrev pub cv_bit_fields : FieldOf (CvNumber × (BitPlace × Bit))
+cv_bit_fields = both cv_field (both place_field bit_field)
+
+-- accessory BOARD OUTPUT on|off
+abbrev pub accessory_fields : FieldOf (Board × (Output × Switch))
+accessory_fields = both board_field (both output_field switch_field)
+
+-- signal ADDRESS ASPECT
+abbrev pub signal_fields : FieldOf (SignalAddress × ℕ)
+signal_fields = both signal_field small_field

@@ -1,0 +1,301 @@
+//! The fields of packet lines.
+ghost use Rattle.dcc_packet.specs.LineFields.{board_field, output_field, signal_field, switch_field, bit_field};
+ghost use Rattle.dcc_packet.specs.LineFields.{direction_field, small_field, number_field, address_field};
+ghost use Rattle.dcc_packet.specs.LineFields.{speed28_field, speed128_field, functions_field, state_field, cv_field};
+ghost use Rattle.dcc_packet.specs.LineFields.{place_field};
+
+use crate::field::{Field, Line};
+use crate::line_word::{
+    address, bit_place, bit_state, board_number, cv_number, direction, group, group_bits,
+    output_number, signal_number, speed28_bits, speed128_bits, state_number, switch,
+};
+use crate::numeral::{number, small_number};
+use crate::to_line_word::{
+    direction_word, group_word, put_address, put_number, put_word, state_word, switch_word,
+};
+use crate::words::Words;
+use crate::{
+    Address, BitPlace, Board, CvNumber, GroupBits, Output, PacketFault, SignalAddress, SpeedBits28,
+    SpeedBits128, StateNumber,
+};
+
+/// `on` or `off`.
+#[derive(Clone, Copy)]
+pub struct Switch {
+    /// Whether it is `on`.
+    pub on: bool,
+}
+
+/// The direction in which a locomotive runs, `f` or `r`.
+#[derive(Clone, Copy)]
+pub struct Direction {
+    /// Whether it is forward.
+    pub forward: bool,
+}
+
+/// A bit of a CV, or the side of a pair of outputs, `1` or `0`.
+#[derive(Clone, Copy)]
+pub struct Bit {
+    /// Whether it is `1`.
+    pub one: bool,
+}
+
+impl Field for Address {
+    ghost field = { address_field };
+
+    ghost most = { 7 };
+
+    fn take(words: &mut Words) -> Result<Address, PacketFault> {
+        words.word().and_then(address)
+    }
+
+    fn put(&self, line: &mut Line) {
+        put_address(line, self);
+    }
+
+    #[tactic(auto, using(crate::proofs::LineFieldsBack::address_is_back))]
+    fn is_read_back() {}
+}
+
+impl Field for Board {
+    ghost field = { board_field };
+
+    ghost most = { 6 };
+
+    fn take(words: &mut Words) -> Result<Board, PacketFault> {
+        words.word().and_then(board_number)
+    }
+
+    fn put(&self, line: &mut Line) {
+        put_number(line, self.number);
+    }
+
+    #[tactic(auto, using(crate::proofs::LineFieldsBack::board_is_back))]
+    fn is_read_back() {}
+}
+
+impl Field for Output {
+    ghost field = { output_field };
+
+    ghost most = { 6 };
+
+    fn take(words: &mut Words) -> Result<Output, PacketFault> {
+        words.word().and_then(output_number)
+    }
+
+    fn put(&self, line: &mut Line) {
+        put_number(line, u16::from(self.number));
+    }
+
+    #[tactic(auto, using(crate::proofs::LineFieldsBack::output_is_back))]
+    fn is_read_back() {}
+}
+
+impl Field for SignalAddress {
+    ghost field = { signal_field };
+
+    ghost most = { 6 };
+
+    fn take(words: &mut Words) -> Result<SignalAddress, PacketFault> {
+        words.word().and_then(signal_number)
+    }
+
+    fn put(&self, line: &mut Line) {
+        put_number(line, self.number);
+    }
+
+    #[tactic(auto, using(crate::proofs::LineFieldsBack::signal_is_back))]
+    fn is_read_back() {}
+}
+
+impl Field for Switch {
+    ghost field = { switch_field };
+
+    ghost most = { 4 };
+
+    fn take(words: &mut Words) -> Result<Switch, PacketFault> {
+        let on = words.word().and_then(switch)?;
+        Ok(Switch { on })
+    }
+
+    fn put(&self, line: &mut Line) {
+        put_word(line, switch_word(self.on));
+    }
+
+    #[tactic(auto, using(crate::proofs::LineFieldsBack::switch_is_back))]
+    fn is_read_back() {}
+}
+
+impl Field for Direction {
+    ghost field = { direction_field };
+
+    ghost most = { 2 };
+
+    fn take(words: &mut Words) -> Result<Direction, PacketFault> {
+        let forward = words.word().and_then(direction)?;
+        Ok(Direction { forward })
+    }
+
+    fn put(&self, line: &mut Line) {
+        put_word(line, direction_word(self.forward));
+    }
+
+    #[tactic(auto, using(crate::proofs::LineFieldsBack::direction_is_back))]
+    fn is_read_back() {}
+}
+
+impl Field for Bit {
+    ghost field = { bit_field };
+
+    ghost most = { 2 };
+
+    fn take(words: &mut Words) -> Result<Bit, PacketFault> {
+        let one = words.word().and_then(bit_state)?;
+        Ok(Bit { one })
+    }
+
+    fn put(&self, line: &mut Line) {
+        put_word(line, state_word(self.one));
+    }
+
+    #[tactic(auto, using(crate::proofs::LineFieldsBack::bit_is_back))]
+    fn is_read_back() {}
+}
+
+impl Field for SpeedBits28 {
+    ghost field = { speed28_field };
+
+    ghost most = { 6 };
+
+    fn take(words: &mut Words) -> Result<SpeedBits28, PacketFault> {
+        words.word().and_then(speed28_bits)
+    }
+
+    fn put(&self, line: &mut Line) {
+        put_number(line, u16::from(self.bits));
+    }
+
+    #[tactic(auto, using(crate::proofs::LineFieldsBack::speed28_is_back))]
+    fn is_read_back() {}
+}
+
+impl Field for SpeedBits128 {
+    ghost field = { speed128_field };
+
+    ghost most = { 6 };
+
+    fn take(words: &mut Words) -> Result<SpeedBits128, PacketFault> {
+        words.word().and_then(speed128_bits)
+    }
+
+    fn put(&self, line: &mut Line) {
+        put_number(line, u16::from(self.bits));
+    }
+
+    #[tactic(auto, using(crate::proofs::LineFieldsBack::speed128_is_back))]
+    fn is_read_back() {}
+}
+
+impl Field for GroupBits {
+    ghost field = { functions_field };
+
+    ghost most = { 9 };
+
+    fn take(words: &mut Words) -> Result<GroupBits, PacketFault> {
+        let group = words.word().and_then(group)?;
+        group_bits(group, words.word()?)
+    }
+
+    fn put(&self, line: &mut Line) {
+        put_word(line, group_word(self.group));
+        put_number(line, u16::from(self.bits));
+    }
+
+    #[tactic(auto, using(crate::proofs::LineFieldsBack::functions_are_back))]
+    fn is_read_back() {}
+}
+
+impl Field for StateNumber {
+    ghost field = { state_field };
+
+    ghost most = { 6 };
+
+    fn take(words: &mut Words) -> Result<StateNumber, PacketFault> {
+        words.word().and_then(state_number)
+    }
+
+    fn put(&self, line: &mut Line) {
+        put_number(line, u16::from(self.number));
+    }
+
+    #[tactic(auto, using(crate::proofs::LineFieldsBack::state_is_back))]
+    fn is_read_back() {}
+}
+
+impl Field for CvNumber {
+    ghost field = { cv_field };
+
+    ghost most = { 6 };
+
+    fn take(words: &mut Words) -> Result<CvNumber, PacketFault> {
+        words.word().and_then(cv_number)
+    }
+
+    fn put(&self, line: &mut Line) {
+        put_number(line, self.number);
+    }
+
+    #[tactic(auto, using(crate::proofs::LineFieldsBack::cv_is_back))]
+    fn is_read_back() {}
+}
+
+impl Field for BitPlace {
+    ghost field = { place_field };
+
+    ghost most = { 6 };
+
+    fn take(words: &mut Words) -> Result<BitPlace, PacketFault> {
+        words.word().and_then(bit_place)
+    }
+
+    fn put(&self, line: &mut Line) {
+        put_number(line, u16::from(self.place));
+    }
+
+    #[tactic(auto, using(crate::proofs::LineFieldsBack::place_is_back))]
+    fn is_read_back() {}
+}
+
+impl Field for u8 {
+    ghost field = { small_field };
+
+    ghost most = { 6 };
+
+    fn take(words: &mut Words) -> Result<u8, PacketFault> {
+        words.word().and_then(small_number)
+    }
+
+    fn put(&self, line: &mut Line) {
+        put_number(line, u16::from(*self));
+    }
+
+    #[tactic(auto, using(crate::proofs::LineFieldsBack::small_is_back))]
+    fn is_read_back() {}
+}
+
+impl Field for u16 {
+    ghost field = { number_field };
+
+    ghost most = { 6 };
+
+    fn take(words: &mut Words) -> Result<u16, PacketFault> {
+        words.word().and_then(number)
+    }
+
+    fn put(&self, line: &mut Line) {
+        put_number(line, *self);
+    }
+
+    #[tactic(auto, using(crate::proofs::LineFieldsBack::number_is_back))]
+    fn is_read_back() {}
+}
