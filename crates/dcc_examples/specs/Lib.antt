@@ -1,3 +1,3 @@
 pub mod Counting
+pub mod OwnBoard
 pub mod Rails
-pub mod Telling

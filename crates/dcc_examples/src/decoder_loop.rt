@@ -4,8 +4,9 @@ ghost use Rattle.std.specs.Prelude.{List, ⊤};
 ghost use Rattle.dcc_packet.specs.declared.packet.Packet.{Packet};
 ghost use Rattle.dcc_regs.specs.Heard.{heard};
 ghost use Rattle.dcc_order.specs.Hearing.{ArePackets, HasHeardHalves};
-ghost use Rattle.dcc_examples.specs.Telling.{IsTold};
+ghost use Rattle.dcc_order.specs.ToldTracks.{IsTold};
 
+use dcc_order::laws;
 use dcc_packet::{
     Address, Board, GroupBits, OtherFrame, Output, Packet, SignalAddress, StateNumber, What,
 };
@@ -20,6 +21,7 @@ pub fn hear_track<D: Decoder, N: Notify>(durations: &[u16], loco: &mut D, listen
     ensures told { (packets : List Packet) → ArePackets packets durations.now
         → IsTold N.told (heard (D.who loco.old) packets) listener.old listener.new }
 {
+    laws::tracks_are_told::<N>();
     let mut framer = Framer::new();
     for us in durations {
         if let Seen::Packet(frame) = framer.push(*us) {

@@ -9,7 +9,7 @@ use std::alloc::Global;
 pub fn listed(alloc: Global) -> Result<Vec<u8>, ToolFault>
     ensures { IfOk result (λ listing. listing.items ≡ codes "84 036261\n") }
 {
-    laws::what_calls_write();
+    laws::what_show_lists();
     let capture = b"58*28 100*14 58*4 100*4 58*4 100*6 58*2 100*6 58*4 100*8 58*4";
     let mut input = Input::new(Counted::new(capture.as_slice()), Limits::full());
     let mut listing = Counted::new(Vec::new(alloc));

@@ -1,5 +1,5 @@
-//! How the libraries are used: a decoder's loop, which hears the capture on standard input, two boosters compared, and a station
-//! that sends. What a user would copy stands in the modules.
+//! How the libraries are used: a decoder's loop, which hears the capture on standard input, two boosters compared, a programmer that
+//! reads a variable, and a station that sends. What a user would copy stands in the modules.
 #![tactic(auto)]
 
 mod counted_decoder;
@@ -7,16 +7,21 @@ mod counting_listener;
 mod decoder_loop;
 mod equal_again;
 mod first_call;
+mod own_board;
 mod own_streams;
 mod played_lists;
+mod programmer;
 mod refreshed;
 mod sent_and_heard;
 mod station_sends;
 mod two_boosters;
 
 use dcc_order::NoMemory;
-use dcc_packet::PacketFault;
+use dcc_packet::{Address, CvNumber, Packet, PacketFault};
+use dcc_regs::Who;
+use dcc_service::ServiceDecoder;
 use dcc_station::{Refused, StationFault};
+use std::alloc::Global;
 use std::io;
 use thiserror::Error;
 
@@ -53,6 +58,22 @@ fn durations<R: Input + Alloc>(rt: &R) -> io::Result<Vec<u16, R::A>> {
     Ok(durations)
 }
 
+/// What two boosters send is compared for locomotive 3: first tracks that are alike, then tracks that are not.
+fn compare_boosters<R: Print>(rt: &R, alloc: Global) -> Result<(), Fault> {
+    let who = Who::Loco(Some(Address::short(3)?));
+    let slow = Packet::from_line("loco s3 speed28 f 4")?;
+    let fast = Packet::from_line("loco s3 speed28 f 8")?;
+    let write = Packet::from_line("loco s3 cv write 3 12")?;
+    let left = [slow, write, write, fast];
+    let repeated = [slow, Packet::Idle, slow, write, write, fast];
+    let found = two_boosters::compare_in_step(alloc, who, &left, &repeated)?;
+    println!(rt; "{found:?}")?;
+    let faster = [fast, write, write, fast];
+    let found = two_boosters::compare_in_step(alloc, who, &left, &faster)?;
+    println!(rt; "{found:?}")?;
+    Ok(())
+}
+
 fn main(rt: HostRuntime) -> Result<(), Fault> {
     println!(rt; "a decoder's loop")?;
     let mut cvs = [0; 1024];
@@ -62,7 +83,10 @@ fn main(rt: HostRuntime) -> Result<(), Fault> {
     let speed = loco.state().speed;
     println!(rt; "{speed:?}")?;
     println!(rt; "two boosters")?;
-    two_boosters::run(&rt, rt.alloc())?;
+    compare_boosters(&rt, rt.alloc())?;
+    println!(rt; "a programmer")?;
+    let value = programmer::read_cv(&mut ServiceDecoder::new(&cvs), CvNumber::new(29)?);
+    println!(rt; "CV29 has {value:?}")?;
     println!(rt; "a station that sends")?;
     station_sends::run(&rt, rt.alloc())
 }

@@ -7,7 +7,7 @@ ghost use Rattle.dcc_regs.specs.declared.register.Register.TheVariants as regist
 ghost use Rattle.dcc_station.specs.Refresh.{intended};
 
 use dcc_packet::Packet;
-use dcc_regs::{Decoder, laws as decoders};
+use dcc_regs::Decoder;
 use dcc_station::{Station, StationFault, laws};
 use std::alloc::Global;
 
@@ -22,8 +22,7 @@ pub fn send_one<D: Decoder>(
     ensures { result ≡ Ok true → (r : Register) → r ≢ registers.Pending
         → D.registers decoder.new r ≡ after (D.who decoder.old) (D.registers decoder.old) (intended (command ∷ [])) r }
 {
-    decoders::no_packet_heard();
-    decoders::one_more_packet_heard();
+    laws::stations_are_heard();
     laws::refresh_is_transparent_where_nothing_waits();
     let mut station = Station::new(alloc, 16, 32, 2)?;
     if station.command(command).is_err() {

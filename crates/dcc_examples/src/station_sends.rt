@@ -4,9 +4,11 @@ ghost use Rattle.std.specs.Prelude.{◌≡◌, ◌++◌, ◌∷◌, [], List};
 ghost use Rattle.dcc_wire.specs.Sending.{Sent};
 ghost use Rattle.dcc_packet.specs.Spelling.{spelling};
 ghost use Rattle.dcc_station.specs.Sending.{Next};
-ghost use Rattle.dcc_examples.specs.Rails.{HasHeardAll, sent_as};
+ghost use Rattle.dcc_order.specs.SentHalves.{HasHeardAll};
+ghost use Rattle.dcc_examples.specs.Rails.{sent_as};
 
 use crate::Fault;
+use dcc_order::laws;
 use dcc_packet::Packet;
 use dcc_station::Station;
 use dcc_wire::{Framer, Halves, Seen, Timing};
@@ -21,6 +23,7 @@ pub fn send_next(station: &mut Station, rails: &mut Framer) -> (Packet, Seen)
     ensures rails { (before : List Sent) → HasHeardAll before rails.old
         → HasHeardAll (before ++ sent_as result.0 ∷ []) rails.new }
 {
+    laws::frames_are_sent();
     let packet = station.next();
     let frame = packet.frame();
     let _bytes = frame.bytes(); // What a booster would be given that takes bytes.

@@ -20,3 +20,6 @@ pub mod ComparisonLaws
 pub mod IndexLaws
 pub mod GivenBoth
 pub mod AlikeVerdicts
+pub mod InStepLaws
+pub mod ToldTrackLaws
+pub mod SentHalvesLaws

@@ -8,6 +8,9 @@ pub mod Members
 pub mod Turns
 pub mod OneMore
 pub mod GivenLists
+pub mod InStep
+pub mod ToldTracks
+pub mod SentHalves
 pub mod Held
 pub mod HeldPlaces
 pub mod Comparisons

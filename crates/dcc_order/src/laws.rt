@@ -5,11 +5,16 @@ ghost use Rattle.dcc_regs.specs.Result.{RegisterMap};
 ghost use Rattle.dcc_regs.specs.declared.register.Who.{Who};
 ghost use Rattle.dcc_order.specs.Hearing.{HasHeardHalves};
 ghost use Rattle.dcc_order.specs.HearingLaws.{AlikeHalves, AlikeHalvesLeaveTheSame, NoHalvesHeard, OneListOfPackets};
+ghost use Rattle.dcc_order.specs.InStep.{LessIsWantedBehindLeft, LessIsWantedBehindRight, NoMoreIsGiven, NothingGivenYet};
+ghost use Rattle.dcc_order.specs.InStep.{OneMoreOfLeft, OneMoreOfRight, PlacesAreCounted, VerdictIsOfBoth, VerdictIsOfTheGiven};
 ghost use Rattle.dcc_order.specs.SendingLaws.{NothingElseIsSeen, SentPacketIsDone, SentPacketsAreHeard};
+ghost use Rattle.dcc_order.specs.SentHalves.{FrameIsSeen, FramesAreHeard, NothingIsSeen, SendingBegins, SomethingIsSeen};
+ghost use Rattle.dcc_order.specs.ToldTracks.{NoHalfHasCome, NoPacketHasCome, PacketIsPassedOver, PacketIsTold};
+ghost use Rattle.dcc_order.specs.ToldTracks.{TrackIsHeard, TrackIsTold};
 ghost use Rattle.dcc_order.specs.OneMore.{FinishedBlocksStay, OneMorePacket};
 ghost use Rattle.dcc_order.specs.Laws.{AlikeIsTheVerdict, AlikeListsAgreeAfterEachBlock, AlikeListsLeaveTheSame};
 
-use dcc_regs::Decoder;
+use dcc_regs::{Decoder, Notify};
 
 /// However two streams of halves are cut: two decoders of any types that started as one and the same, and have heard,
 /// each through a new framer and in any pieces, halves whose packets are alike for them, hold the same in each
@@ -76,4 +81,41 @@ pub fn one_more_packet()
 /// Whatever packets follow, the blocks that a write has ended stay as they are.
 pub fn finished_blocks_stay()
     ensures { FinishedBlocksStay }
+{}
+
+/// Two lists that a comparer is given as it wants them, for a loop of one's own over a [`Comparer`](crate::Comparer): where nothing
+/// was given yet, behind the next packet of either list or its end, when less is wanted each time, and at the verdict, which is
+/// that of the two lists, and that of what was given of them alone.
+pub fn lists_in_step()
+    ensures begins { NothingGivenYet }
+    ensures left { OneMoreOfLeft }
+    ensures right { OneMoreOfRight }
+    ensures less_behind_left { LessIsWantedBehindLeft }
+    ensures less_behind_right { LessIsWantedBehindRight }
+    ensures counted { PlacesAreCounted }
+    ensures verdict { VerdictIsOfBoth }
+    ensures given_alone { VerdictIsOfTheGiven }
+    ensures no_more { NoMoreIsGiven }
+{}
+
+/// A track that comes half by half, for a loop of one's own over a framer, a decoder and a listener: before the first half, behind
+/// each half, by what it shows, and at the end: the decoder has heard the track, and the listener was told what the decoder
+/// hears of it.
+pub fn tracks_are_told<N: Notify>()
+    ensures begins { NoHalfHasCome N.told }
+    ensures no_packet { NoPacketHasCome N.told }
+    ensures packet { PacketIsTold N.told }
+    ensures passed_over { PacketIsPassedOver N.told }
+    ensures heard { TrackIsHeard N.told }
+    ensures told { TrackIsTold N.told }
+{}
+
+/// A frame that is sent to a framer half by half, for a loop of one's own over [`Halves`](dcc_wire::Halves): before the first half, behind
+/// each half, and at the end, where the frame is the last that the framer has seen.
+pub fn frames_are_sent()
+    ensures begins { SendingBegins }
+    ensures nothing { NothingIsSeen }
+    ensures something { SomethingIsSeen }
+    ensures seen { FrameIsSeen }
+    ensures heard { FramesAreHeard }
 {}

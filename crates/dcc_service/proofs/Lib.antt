@@ -6,4 +6,5 @@ pub mod QuestionLemmas
 pub mod LawLemmas
 pub mod ReaderLemmas
 pub mod ReadingLemmas
+pub mod ReadingsUnderWay
 pub mod WorkedExamples

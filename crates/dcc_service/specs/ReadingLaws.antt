@@ -6,7 +6,7 @@ use Rattle.dcc_packet.specs.Rows.{bit}
 use Rattle.dcc_packet.specs.declared.cv.CvNumber.{CvNumber}
 use Rattle.dcc_service.specs.declared.packet.ServicePacket.{ServicePacket}
 use Rattle.dcc_service.specs.declared.reader.Reading.{Reading}
-use Rattle.dcc_service.specs.declared.reader.Reading.TheVariants.{Value, NoAnswer}
+use Rattle.dcc_service.specs.declared.reader.Reading.TheVariants.{More, Value, NoAnswer}
 use Rattle.dcc_service.specs.Bits.{bits_from_lowest, number_from_lowest}
 use Rattle.dcc_packet.specs.Cvs.{IsCvs, cv_in}
 use Rattle.dcc_service.specs.CvAnswers.{CvAnswers, Asks, question_frame}
@@ -52,3 +52,43 @@ NumbersHaveTheirBits =
 abbrev pub QuestionsHaveTheirFrames : Type 0
 QuestionsHaveTheirFrames =
     (so_far : CvAnswers) (question : ServicePacket) → Asks so_far question → spelling question ≡ question_frame so_far
+
+-- a decoder with these CVs is put a question: what it answers, and its CVs then
+pub record IsPut (question : ServicePacket) (cvs after : List ℕ) (answer : Bool) : Type 0 where
+  pub bytes : IsCvs cvs
+  pub is : answer ≡ is_acknowledged question cvs
+  pub acted : after ≡ acted_on question cvs
+
+-- a CV is being read of a decoder that began with these CVs: it has them still, and all answers so far are true
+pub record IsReading (cv : CvNumber) (cvs now : List ℕ) (so_far : CvAnswers) : Type 0 where
+  pub same_cv : so_far.cv ≡ cv
+  pub kept : now ≡ cvs
+  pub first : AreFirstOf so_far.answers (true_answers (cv_in cvs cv.number))
+
+-- where nothing was asked yet
+abbrev pub ReadingBegins : Type 0
+ReadingBegins = (cv : CvNumber) (cvs : List ℕ) (so_far : CvAnswers) → so_far ≡ record { cv = cv; answers = [] }
+    → IsReading cv cvs cvs so_far
+
+-- the next question was put, and there is a further one
+abbrev pub ReadingGoesOn : Type 0
+ReadingGoesOn = (cv : CvNumber) (cvs now after : List ℕ) (so_far next : CvAnswers) (question : ServicePacket) (answer : Bool)
+    → IsReading cv cvs now so_far → Asks so_far question → IsPut question now after answer
+    → Comes so_far.cv (so_far.answers ++ answer ∷ []) (More next) → IsReading cv cvs after next
+
+-- no question changes a CV
+abbrev pub ReadingKeepsTheCvs : Type 0
+ReadingKeepsTheCvs = (cv : CvNumber) (cvs now after : List ℕ) (so_far : CvAnswers) (question : ServicePacket) (answer : Bool)
+    → IsReading cv cvs now so_far → Asks so_far question → IsPut question now after answer → after ≡ cvs
+
+-- a value that is told is that of the CV
+abbrev pub ReadingTellsTheValue : Type 0
+ReadingTellsTheValue = (cv : CvNumber) (cvs now after : List ℕ) (so_far : CvAnswers) (question : ServicePacket) (answer : Bool)
+    (value : ℕ) → IsReading cv cvs now so_far → Asks so_far question → IsPut question now after answer
+    → Comes so_far.cv (so_far.answers ++ answer ∷ []) (Value value) → value ≡ cv_in cvs cv.number
+
+-- and a value is told
+abbrev pub ReadingIsAnswered : Type 0
+ReadingIsAnswered = (cv : CvNumber) (cvs now after : List ℕ) (so_far : CvAnswers) (question : ServicePacket) (answer : Bool)
+    → IsReading cv cvs now so_far → Asks so_far question → IsPut question now after answer
+    → Comes so_far.cv (so_far.answers ++ answer ∷ []) NoAnswer → ⊥

@@ -7,7 +7,8 @@ ghost use Rattle.dcc_service.specs.QuestionLaws.{QuestionsAreAnswered, OneStep, 
 ghost use Rattle.dcc_service.specs.QuestionLaws.{WritesAreDone, BitWritesAreDone, KeptCvsStay};
 ghost use Rattle.dcc_service.specs.ReadingLaws.{DecodersTellTheTruth, ReadingLeavesTheCvs, TruthComesToTheValue};
 ghost use Rattle.dcc_service.specs.ReadingLaws.{SilenceComesToNoAnswer, NumbersHaveTheirBits};
-ghost use Rattle.dcc_service.specs.ReadingLaws.{QuestionsHaveTheirFrames};
+ghost use Rattle.dcc_service.specs.ReadingLaws.{QuestionsHaveTheirFrames, ReadingBegins, ReadingGoesOn, ReadingIsAnswered};
+ghost use Rattle.dcc_service.specs.ReadingLaws.{ReadingKeepsTheCvs, ReadingTellsTheValue};
 
 use crate::ServicePacket;
 use crate::progress::is_reset;
@@ -79,4 +80,14 @@ pub fn numbers_have_their_bits()
 /// The question of a reading has this frame.
 pub fn questions_have_their_frames()
     ensures { QuestionsHaveTheirFrames }
+{}
+
+/// A reading that is under way, for a loop of one's own over a [`CvReader`](crate::CvReader): where nothing was asked yet, behind each
+/// question and its answer, and at the value that it tells, which is that of the CV.
+pub fn readings_under_way()
+    ensures begins { ReadingBegins }
+    ensures goes_on { ReadingGoesOn }
+    ensures keeps { ReadingKeepsTheCvs }
+    ensures tells { ReadingTellsTheValue }
+    ensures is_answered { ReadingIsAnswered }
 {}

@@ -14,3 +14,4 @@ pub mod ResetLeft
 pub mod LeftByAll
 pub mod LeftByOne
 pub mod LeftToldRight
+pub mod HeardStations

@@ -5,7 +5,7 @@ use Rattle.dcc_regs.specs.declared.register.Who.{Who}
 use Rattle.dcc_regs.specs.declared.register.Register.{Register}
 use Rattle.dcc_regs.specs.declared.register.Register.TheVariants as registers
 use Rattle.dcc_regs.specs.Writes.{is_own_write}
-use Rattle.dcc_regs.specs.Result.{RegisterMap, result}
+use Rattle.dcc_regs.specs.Result.{RegisterMap, HasHeard, result, step}
 use Rattle.dcc_station.specs.Commands.{is_sendable}
 use Rattle.dcc_station.specs.Sending.{Sending, idle_sending, with_command, Next, NextAll}
 
@@ -53,3 +53,35 @@ abbrev pub WaitingIsTheEnd : Type 0
 WaitingIsTheEnd =
     (s : Sending) (commands packets : List Packet) → StandsFor s commands packets
     → (done : List Packet) × (commands ≡ done ++ s.waiting)
+
+-- a decoder, which was so at the start, has heard all that a station handed out, and the station accepted these commands
+pub record HasHeardStation (s : Sending) (commands : List Packet) (who : Who) (start : RegisterMap) (who' : Who)
+    (now : RegisterMap) : Type 0 where
+  pub packets : List Packet
+  pub stands : StandsFor s commands packets
+  pub heard : HasHeard packets who start who' now
+
+-- where nothing was handed out yet
+abbrev pub NothingHandedOut : Type 0
+NothingHandedOut = (s : Sending) (commands : List Packet) (who : Who) (start : RegisterMap) → StandsFor s commands []
+    → HasHeardStation s commands who start who start
+
+-- one more packet was handed out, and the decoder has heard it
+abbrev pub OneMoreHandedOut : Type 0
+OneMoreHandedOut =
+    (s new : Sending) (commands : List Packet) (p : Packet) (who who' who'' : Who) (start now after : RegisterMap)
+    → HasHeardStation s commands who start who' now → Next s p new → who'' ≡ who' → after ≡ step who' now p
+    → HasHeardStation new commands who start who'' after
+
+-- one more command was accepted
+abbrev pub OneMoreAccepted : Type 0
+OneMoreAccepted = (s new : Sending) (commands : List Packet) (p : Packet) (who who' : Who) (start now : RegisterMap)
+    → HasHeardStation s commands who start who' now
+    → ((packets : List Packet) → StandsFor s commands packets → StandsFor new (commands ++ p ∷ []) packets)
+    → HasHeardStation new (commands ++ p ∷ []) who start who' now
+
+-- where nothing waits, the decoder holds what the commands ask for, in each register but Pending
+abbrev pub HeardIsIntended : Type 0
+HeardIsIntended = (s : Sending) (commands : List Packet) (who who' : Who) (start now : RegisterMap) (register : Register)
+    → HasHeardStation s commands who start who' now → s.waiting ≡ [] → register ≢ registers.Pending
+    → now register ≡ result who start (intended commands) register

@@ -1,6 +1,7 @@
 //! Laws of refreshing.
 
-ghost use Rattle.dcc_station.specs.Refresh.{EntriesAreHandedOutInTurn, RefreshIsTransparent};
+ghost use Rattle.dcc_station.specs.Refresh.{EntriesAreHandedOutInTurn, HeardIsIntended, NothingHandedOut, OneMoreAccepted};
+ghost use Rattle.dcc_station.specs.Refresh.{OneMoreHandedOut, RefreshIsTransparent};
 ghost use Rattle.dcc_station.specs.Refresh.{TransparentWhereNothingWaits, WaitingIsTheEnd};
 ghost use Rattle.dcc_station.specs.States.{StatesAreNoEntries, StatesConflictWithNoEntry};
 
@@ -33,4 +34,14 @@ pub fn states_are_no_entries()
 /// A binary state conflicts with no packet that is refreshed.
 pub fn states_conflict_with_no_entry()
     ensures { StatesConflictWithNoEntry }
+{}
+
+/// A decoder that hears what a station hands out, for a loop of one's own over a [`Station`](crate::Station): where nothing was handed out
+/// yet, behind each packet that it hears and each command that is accepted, and where nothing waits: it holds then what the commands
+/// ask for.
+pub fn stations_are_heard()
+    ensures begins { NothingHandedOut }
+    ensures handed_out { OneMoreHandedOut }
+    ensures accepted { OneMoreAccepted }
+    ensures intended { HeardIsIntended }
 {}

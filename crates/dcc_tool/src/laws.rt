@@ -1,6 +1,7 @@
 //! The laws of listings, of decoder texts, of what is encoded, and of what calls write.
 
 ghost use Rattle.dcc_tool.specs.EncodedShown.{EncodingsAreCaptures, EncodedFramesAreSeen, EncodingsAreShown};
+ghost use Rattle.dcc_tool.specs.ListedText.{ShowListsTheText};
 ghost use Rattle.dcc_tool.specs.Written.{EncodeWritesTheEncoding, RunWritesTheDecoders, ShowWritesTheListing};
 ghost use Rattle.dcc_tool.specs.Written.{SameInputWritesTheVerdict, SameWritesTheVerdict};
 
@@ -24,4 +25,10 @@ pub fn what_calls_write()
     ensures run { RunWritesTheDecoders }
     ensures same { SameWritesTheVerdict }
     ensures same_input { SameInputWritesTheVerdict }
+{}
+
+/// What `show` has written that answers Ok, of a capture in memory and into memory, as one text. Where `listed_text` unfolds in a proof,
+/// that of a given capture computes.
+pub fn what_show_lists()
+    ensures { ShowListsTheText }
 {}

@@ -1,24 +1,30 @@
-use Rattle.std.proofs.Common.{◌∙◌, sym}
-use Rattle.dcc_examples.proofs.ReadTracks.{read_left, read_right, read_verdict}
 use Rattle.dcc_examples.proofs.two_boosters.compare_in_step.Goals as goal
 
 pub packets-preserved-in-Continue-1 : goal.packets-preserved-in-Continue-1
 packets-preserved-in-Continue-1 c =
-    read_left c.next.result c.next.new.self.rest.now c.next.new.self.ended c.give.new.self
-    (sym c.wants.ensures.is ∙ c.in-Left.is) c.give.ensures.who
-    (c.wants.ensures.left c.in-Left.is) (c.in_ok-give-in-Left.ensures.stands)
-    (record { some = c.next.ensures.some; none = c.next.ensures.none }) c.packets.invariant
+    c.lists_in_step.ensures.left _ _ _ _ _ _ c.packets.invariant c.in-Left.ensures.is c.next_left.ensures
+    c.give.ensures.who c.in_ok-give-in-Left.ensures.stands
+
+pub packets-smaller-in-Continue-1 : goal.packets-smaller-in-Continue-1
+packets-smaller-in-Continue-1 c =
+    c.lists_in_step.ensures.less_behind_left _ _ _ _ _ _ c.packets.invariant c.in-Left.ensures.is c.next_left.ensures
+    c.in_ok-give-in-Left.ensures.stands
 
 pub packets-preserved : goal.packets-preserved
 packets-preserved c =
-    read_right c.next-in-Right.result c.next-in-Right.new.self.rest.now c.next-in-Right.new.self.ended
-    c.give-in-Right.new.self (sym c.wants.ensures.is ∙ c.in-Right.is) c.give-in-Right.ensures.who
-    (c.wants.ensures.right c.in-Right.is) (c.in_ok-give-in-Right.ensures.stands)
-    (record { some = c.next-in-Right.ensures.some; none = c.next-in-Right.ensures.none }) c.packets.invariant
+    c.lists_in_step.ensures.right _ _ _ _ _ _ c.packets.invariant c.in-Right.ensures.is c.next_right.ensures
+    c.give-in-Right.ensures.who c.in_ok-give-in-Right.ensures.stands
+
+pub packets-smaller : goal.packets-smaller
+packets-smaller c =
+    c.lists_in_step.ensures.less_behind_right _ _ _ _ _ _ c.packets.invariant c.in-Right.ensures.is c.next_right.ensures
+    c.in_ok-give-in-Right.ensures.stands
+
+pub give-requires-in-Right-clause-right : goal.give-requires-in-Right-clause-right
+give-requires-in-Right-clause-right c =
+    λ is. c.lists_in_step.ensures.counted _ _ _ c.next_right.ensures c.requires.right_fits
 
 pub returns-in-Done-clause-read : goal.returns-in-Done-clause-read
 returns-in-Done-clause-read c =
-    let i = c.packets.invariant in
-    rw (c.given-left.ensures.given i.lists i.stands)
-    (read_verdict c.args.who c.args.left.now c.args.right.now _ _ _ _ c.packets.comparer c.in-Done.verdict i
-    (c.wants.ensures.done c.in-Done.verdict c.in-Done.is i.lists i.stands))
+    c.lists_in_step.ensures.given_alone _ _ _ _ _ c.given-left.result c.packets.invariant c.in-Done.ensures.is
+    c.given-left.ensures.is

@@ -1,3 +1,0 @@
-mod SoFar
-mod RailsLemmas
-mod ReadTracks

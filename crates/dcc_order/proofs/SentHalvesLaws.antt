@@ -1,0 +1,129 @@
+-- A frame that is sent to a framer at the rails, half by half.
+use Rattle.std.proofs.Common.{◌≡◌, ◌∙◌, ℕ, ◌+◌, ◌-◌, List, [], ◌∷◌, ◌++◌, length, ap, sym, subst, refl, append_assoc}
+use Rattle.std.proofs.Common.{append-nil}
+use Rattle.std.proofs.lemmas.List.{append_cancel_left}
+use Rattle.dcc_wire.specs.declared.seen.Seen.{Seen}
+use Rattle.dcc_wire.specs.declared.seen.Seen.TheVariants.{Nothing, Packet as PacketSeen, Refused}
+use Rattle.dcc_wire.specs.Framing.{Rest, StandsFor, seen, report_at}
+use Rattle.dcc_wire.specs.Frames.{IsFrame}
+use Rattle.dcc_wire.specs.Sending.{Sent, sent, sent_all, at_last_halves, AllFrames}
+use Rattle.dcc_wire.proofs.SendingLemmas.{seen-sent_all}
+use Rattle.dcc_order.specs.ToldTracks.{IsTaken}
+use Rattle.dcc_order.specs.SentHalves.{last_seen, HasComeBehind, SendingBegins, NothingIsSeen}
+use Rattle.dcc_order.specs.SentHalves.{SomethingIsSeen, FrameIsSeen, FramesAreHeard}
+
+last_seen-one : (first : Seen) (more : List (ℕ × Seen)) (at : ℕ × Seen) → last_seen first (more ++ at ∷ []) ≡ at.1
+last_seen-one first [] at = refl
+last_seen-one first (next ∷ more) at = last_seen-one next.1 more at
+
+-- what is kept at one half more
+keeps_old : (more : List (ℕ × Seen)) (place : ℕ) (answer kept : Seen) → kept ≡ last_seen Nothing more
+    → answer ≡ Nothing → kept ≡ last_seen Nothing (more ++ report_at place answer)
+unfolding report_at
+keeps_old more place Nothing kept e is = e ∙ ap (last_seen Nothing) (sym (append-nil more))
+keeps_old more place (PacketSeen frame) kept e is = absurd (cc)
+keeps_old more place (Refused fault) kept e is = absurd (cc)
+
+keeps_new : (more : List (ℕ × Seen)) (place : ℕ) (answer : Seen) → (answer ≡ Nothing → ⊥)
+    → answer ≡ last_seen Nothing (more ++ report_at place answer)
+unfolding report_at
+keeps_new more place Nothing some = absurd (some refl)
+keeps_new more place (PacketSeen frame) some = sym (last_seen-one Nothing more (place, PacketSeen frame))
+keeps_new more place (Refused fault) some = sym (last_seen-one Nothing more (place, Refused fault))
+
+-- one half more has come
+one_more : (track halves left later : List ℕ) (framer next : Rest) (us : ℕ) (answer kept now : Seen)
+    → (c : HasComeBehind track halves left framer kept) → left ≡ us ∷ later → IsTaken framer us next answer
+    → now ≡ last_seen Nothing (c.more ++ report_at (length (track ++ c.come)) answer)
+    → HasComeBehind track halves later next now
+one_more track halves left later framer next us answer kept now c is taken last =
+    let whole : track ++ (c.come ++ us ∷ []) ≡ (track ++ c.come) ++ us ∷ [] =
+    sym (append_assoc track c.come (us ∷ [])) in
+    let place : ℕ = length (track ++ c.come) in
+    record {
+      come = c.come ++ us ∷ [];
+      parts = append_assoc c.come (us ∷ []) later ∙ ap (λ (l : List ℕ). c.come ++ l) (sym is) ∙ c.parts;
+      stands = rw whole (taken.stands (track ++ c.come) c.stands);
+      more = c.more ++ report_at place answer;
+      sees = ap seen whole ∙ taken.sees (track ++ c.come) c.stands ∙ ap (λ l. l ++ report_at place answer) c.sees
+          ∙ append_assoc (seen track) c.more (report_at place answer);
+      last = last;
+    }
+
+pub sending_begins : SendingBegins
+sending_begins start one left is = record {
+  behind = λ track stands. record {
+    come = [];
+    parts = is;
+    stands = rw (append-nil track) stands;
+    more = [];
+    sees = ap seen (append-nil track) ∙ sym (append-nil (seen track));
+    last = refl;
+  };
+}
+
+pub nothing_is_seen : NothingIsSeen
+nothing_is_seen start framer next one left later us answer kept sending is taken quiet = record {
+  behind = λ track stands.
+      let c = sending.behind track stands in
+      one_more track (sent one.bytes one.timing) left later framer next us answer kept kept c is taken
+      (keeps_old c.more (length (track ++ c.come)) answer kept c.last quiet);
+}
+
+pub something_is_seen : SomethingIsSeen
+something_is_seen start framer next one left later us answer kept sending is taken told = record {
+  behind = λ track stands.
+      let c = sending.behind track stands in
+      one_more track (sent one.bytes one.timing) left later framer next us answer kept answer c is taken
+      (keeps_new c.more (length (track ++ c.come)) answer told);
+}
+
+sent_all-more : (before : List Sent) (one : Sent)
+    → sent_all (before ++ one ∷ []) ≡ sent_all before ++ sent one.bytes one.timing
+unfolding sent_all
+sent_all-more [] one = append-nil (sent one.bytes one.timing)
+sent_all-more (p ∷ before) one =
+    ap (λ l. sent p.bytes p.timing ++ l) (sent_all-more before one)
+    ∙ sym (append_assoc (sent p.bytes p.timing) (sent_all before) (sent one.bytes one.timing))
+
+frames-more : (before : List Sent) (one : Sent) → AllFrames before → IsFrame one.bytes → AllFrames (before ++ one ∷ [])
+unfolding AllFrames
+frames-more [] one all f = (f, tt)
+frames-more (p ∷ before) one all f = (all.0, frames-more before one all.1 f)
+
+seen-more : (place : ℕ) (before : List Sent) (one : Sent)
+    → (n : ℕ)
+    × (at_last_halves place (before ++ one ∷ []) ≡ at_last_halves place before ++ (n, PacketSeen one.bytes) ∷ [])
+unfolding at_last_halves
+seen-more place [] one = (place + length (sent one.bytes one.timing) - 1, refl)
+seen-more place (p ∷ before) one =
+    let next : ℕ = place + length (sent p.bytes p.timing) in
+    let later = seen-more next before one in
+    (later.0, ap (λ l. (next - 1, PacketSeen p.bytes) ∷ l) later.1)
+
+-- all of the frame has come
+all_come : (before : List Sent) (one : Sent) (left come : List ℕ) → left ≡ [] → come ++ left ≡ sent one.bytes one.timing
+    → sent_all before ++ come ≡ sent_all (before ++ one ∷ [])
+all_come before one left come none parts =
+    let taken : come ≡ sent one.bytes one.timing =
+    sym (append-nil come) ∙ ap (λ (l : List ℕ). come ++ l) (sym none) ∙ parts in
+    ap (λ l. sent_all before ++ l) taken ∙ sym (sent_all-more before one)
+
+pub frame_is_seen : FrameIsSeen
+frame_is_seen start framer one left kept before sending none f heard =
+    let c = sending.behind (sent_all before) heard.1 in
+    let frames = frames-more before one heard.0 f in
+    let last = seen-more 0 before one in
+    let shown : seen (sent_all before) ++ c.more ≡ seen (sent_all before) ++ (last.0, PacketSeen one.bytes) ∷ [] =
+    sym c.sees ∙ ap seen (all_come before one left c.come none c.parts) ∙ seen-sent_all (before ++ one ∷ []) frames
+    ∙ last.1 ∙ ap (λ l. l ++ (last.0, PacketSeen one.bytes) ∷ []) (sym (seen-sent_all before heard.0)) in
+    let only : c.more ≡ (last.0, PacketSeen one.bytes) ∷ [] =
+    append_cancel_left (seen (sent_all before)) c.more ((last.0, PacketSeen one.bytes) ∷ []) shown in
+    c.last ∙ ap (last_seen Nothing) only
+
+pub frames_are_heard : FramesAreHeard
+frames_are_heard start framer one left kept before sending none f heard =
+    let c = sending.behind (sent_all before) heard.1 in (
+      frames-more before one heard.0 f,
+      subst (λ track. StandsFor framer track) (all_come before one left c.come none c.parts) c.stands,
+    )

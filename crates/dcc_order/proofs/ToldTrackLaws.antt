@@ -1,0 +1,103 @@
+-- A track that comes half by half: a decoder hears it, and a listener is told what the decoder hears.
+use Rattle.std.proofs.Common.{Bool, ap, ◌∙◌, sym, ◌≡◌, ℕ, ◌+◌, ◌<◌, ◌≤◌, true, false, List, [], ◌∷◌, ◌++◌, length}
+use Rattle.std.proofs.Common.{take, slice_index_or, refl, subst, arith}
+use Rattle.std.proofs.lemmas.Grind.{common_steps}
+use Rattle.std.proofs.lemmas.List.Elements.{filter-append}
+use Rattle.dcc_wire.specs.Framing.{Rest}
+use Rattle.dcc_wire.specs.declared.seen.Seen.{Seen}
+use Rattle.dcc_wire.specs.declared.seen.Seen.TheVariants.{Nothing, Packet as PacketSeen, Refused}
+use Rattle.dcc_wire.specs.declared.frame.Frame.{Frame}
+use Rattle.dcc_packet.specs.declared.packet.Packet.{Packet}
+use Rattle.dcc_regs.specs.Heard.{heard, hears}
+use Rattle.dcc_regs.specs.Notes.{Note}
+use Rattle.dcc_regs.specs.Result.{RegisterMap, HasHeard}
+use Rattle.dcc_regs.specs.declared.register.Who.{Who}
+use Rattle.dcc_regs.proofs.InParts.{heard_more, heard_nothing}
+use Rattle.dcc_order.specs.Hearing.{AreSpelled, ArePackets, frames_of}
+use Rattle.dcc_order.specs.ToldTracks.{IsTold, HaveCome, IsTaken, NoHalfHasCome, NoPacketHasCome, PacketIsTold}
+use Rattle.dcc_order.specs.ToldTracks.{PacketIsPassedOver, TrackIsHeard, TrackIsTold}
+use Rattle.dcc_order.proofs.HearingLemmas.{packets_more, no_packets, one_list_of_packets}
+
+told_more : {L : Type 0} (told : L → Note → L → Type 0) (first more : List Packet) (a b c : L) → IsTold told first a b
+    → IsTold told more b c → IsTold told (first ++ more) a c
+told_more told [] more a b c e f = subst (λ l. IsTold told more l c) e f
+told_more told (p ∷ first) more a b c e f = (e.0, e.1, told_more told first more e.0 b c e.2 f)
+
+-- an answer that is no packet spells none
+none_spelled : (answer : Seen) → ((frame : Frame) → answer ≡ PacketSeen frame → ⊥) → AreSpelled [] (frames_of answer)
+none_spelled Nothing never = refl
+none_spelled (PacketSeen frame) never = absurd (never frame refl)
+none_spelled (Refused fault) never = refl
+
+take_more : (ds : List ℕ) (n : ℕ) → n < length ds → take n ds ++ slice_index_or ds n 0 ∷ [] ≡ take (n + 1) ds
+take_more ds n h = grind (arith, common_steps)
+
+take_all : (ds : List ℕ) (n : ℕ) → length ds ≤ n → take n ds ≡ ds
+take_all ds n h = grind (arith, common_steps)
+
+-- one half more, with the packets that it shows
+one_half : {L : Type 0} (told : L → Note → L → Type 0) (track : List ℕ) (n : ℕ) (framer next : Rest) (answer : Seen)
+    (shown : List Packet) (who who' who'' : Who) (start now after : RegisterMap) (a b c : L)
+    → HaveCome told (take n track) framer who start who' now a b → n < length track
+    → IsTaken framer (slice_index_or track n 0) next answer → AreSpelled shown (frames_of answer)
+    → HasHeard shown who' now who'' after → IsTold told (heard who shown) b c
+    → HaveCome told (take (n + 1) track) next who start who'' after a c
+one_half {L} told track n framer next answer shown who who' who'' start now after a b c come in_track taken spelled
+    hear tell =
+    subst (λ halves. HaveCome told halves next who start who'' after a c) (take_more track n in_track) (record {
+      stands = taken.stands (take n track) come.stands;
+      packets = come.packets ++ shown;
+      seen = packets_more (take n track) (take n track ++ slice_index_or track n 0 ∷ []) answer (length (take n track))
+          come.packets shown (taken.sees (take n track) come.stands) come.seen spelled;
+      heard_all = heard_more come.heard_all hear;
+      told_all =
+          let e : heard who (come.packets ++ shown) ≡ heard who come.packets ++ heard who shown =
+          filter-append (hears who) come.packets shown in
+          rw e (told_more told (heard who come.packets) (heard who shown) a b c come.told_all tell);
+    })
+
+-- a decoder that is who it was hears what it heard
+hears_as_before : (who who' who'' asked : Who) (p : Packet) (is_heard truth : Bool) → who' ≡ who → who'' ≡ who'
+    → asked ≡ who'' → is_heard ≡ hears asked p → is_heard ≡ truth → hears who p ≡ truth
+hears_as_before who who' who'' asked p is_heard truth e f g h i =
+    ap (λ w. hears w p) (sym e ∙ sym f ∙ sym g) ∙ sym h ∙ i
+
+pub no_half_has_come : {L : Type 0} (told : L → Note → L → Type 0) → NoHalfHasCome told
+no_half_has_come {L} told framer who start listener stands =
+    record { stands = stands; packets = []; seen = no_packets; heard_all = heard_nothing who start; told_all = refl }
+
+pub no_packet_has_come : {L : Type 0} (told : L → Note → L → Type 0) → NoPacketHasCome told
+no_packet_has_come {L} told track n framer next answer who who' start now a b come in_track taken never =
+    one_half told track n framer next answer [] who who' who' start now now a b b come in_track taken
+    (none_spelled answer never) (heard_nothing who' now) refl
+
+pub packet_is_told : {L : Type 0} (told : L → Note → L → Type 0) → PacketIsTold told
+packet_is_told {L} told track n framer next answer frame p who who' who'' asked start now after is_heard a b c come
+    in_track taken is spelled same stepped asks hear so tell =
+    let heard_it : hears who p ≡ true =
+    hears_as_before who who' who'' asked p is_heard true come.heard_all.same_who same asks hear so in
+    one_half told track n framer next answer (p ∷ []) who who' who'' start now after a b c come in_track taken
+    (rw is (ap (λ (f : List ℕ). f ∷ []) spelled)) (record { same_who = same; registers = stepped })
+    (rw heard_it (c, tell, refl))
+
+pub packet_is_passed_over : {L : Type 0} (told : L → Note → L → Type 0) → PacketIsPassedOver told
+packet_is_passed_over {L} told track n framer next answer frame p who who' who'' asked start now after is_heard a b
+    come in_track taken is spelled same stepped asks hear so =
+    let heard_it : hears who p ≡ false =
+    hears_as_before who who' who'' asked p is_heard false come.heard_all.same_who same asks hear so in
+    one_half told track n framer next answer (p ∷ []) who who' who'' start now after a b b come in_track taken
+    (rw is (ap (λ (f : List ℕ). f ∷ []) spelled)) (record { same_who = same; registers = stepped }) (rw heard_it refl)
+
+pub track_is_heard : {L : Type 0} (told : L → Note → L → Type 0) → TrackIsHeard told
+track_is_heard {L} told track n framer who who' start now a b come all = record {
+  packets = come.packets;
+  seen = subst (λ halves. ArePackets come.packets halves) (take_all track n all) come.seen;
+  heard = come.heard_all;
+}
+
+pub track_is_told : {L : Type 0} (told : L → Note → L → Type 0) → TrackIsTold told
+track_is_told {L} told track n framer who who' start now a b packets come all are =
+    let same : come.packets ≡ packets =
+    one_list_of_packets track come.packets packets
+    (subst (λ halves. ArePackets come.packets halves) (take_all track n all) come.seen) are in
+    rw (sym same) come.told_all

@@ -1,0 +1,83 @@
+-- A track that comes half by half: a decoder hears it, and a listener is told what the decoder hears.
+use Rattle.std.specs.Prelude.{ℕ, ◌+◌, ◌≡◌, ◌<◌, ◌≤◌, Bool, true, false, List, [], ◌∷◌, ◌++◌, length, take, slice_index_or}
+use Rattle.dcc_wire.specs.Framing.{Rest, StandsFor, seen, report_at}
+use Rattle.dcc_wire.specs.declared.seen.Seen.{Seen}
+use Rattle.dcc_wire.specs.declared.seen.Seen.TheVariants.{Packet as PacketSeen}
+use Rattle.dcc_wire.specs.declared.frame.Frame.{Frame}
+use Rattle.dcc_packet.specs.declared.packet.Packet.{Packet}
+use Rattle.dcc_packet.specs.Spelling.{spelling}
+use Rattle.dcc_regs.specs.declared.register.Who.{Who}
+use Rattle.dcc_regs.specs.Heard.{heard, hears}
+use Rattle.dcc_regs.specs.Notes.{Note, note_of}
+use Rattle.dcc_regs.specs.Result.{RegisterMap, HasHeard, step}
+use Rattle.dcc_order.specs.Hearing.{ArePackets, HasHeardHalves}
+
+-- a listener was told these packets, one after the other, each by the call of its kind
+abbrev pub IsTold : {L : Type 0} → (L → Note → L → Type 0) → List Packet → L → L → Type 0
+IsTold told [] old now = now ≡ old
+IsTold {L} told (p ∷ later) old now = (between : L) × told old (note_of p) between × IsTold told later between now
+
+-- these halves have come to a framer, a decoder has heard their packets, and a listener was told those that it hears
+pub record HaveCome {L : Type 0} (told : L → Note → L → Type 0) (halves : List ℕ) (framer : Rest) (who : Who)
+    (start : RegisterMap) (who' : Who) (now : RegisterMap) (listener listener' : L) : Type 0 where
+  pub stands : StandsFor framer halves
+  pub packets : List Packet
+  pub seen : ArePackets packets halves
+  pub heard_all : HasHeard packets who start who' now
+  pub told_all : IsTold told (heard who packets) listener listener'
+
+-- a framer takes a half, and answers so
+pub record IsTaken (framer : Rest) (us : ℕ) (next : Rest) (answer : Seen) : Type 0 where
+  pub stands : (halves : List ℕ) → StandsFor framer halves → StandsFor next (halves ++ us ∷ [])
+  pub sees : (halves : List ℕ) → StandsFor framer halves
+      → seen (halves ++ us ∷ []) ≡ seen halves ++ report_at (length halves) answer
+
+-- before the first half
+abbrev pub NoHalfHasCome : {L : Type 0} → (L → Note → L → Type 0) → Type 0
+NoHalfHasCome {L} told = (framer : Rest) (who : Who) (start : RegisterMap) (listener : L) → StandsFor framer []
+    → HaveCome told [] framer who start who start listener listener
+
+-- behind a half that shows no packet
+abbrev pub NoPacketHasCome : {L : Type 0} → (L → Note → L → Type 0) → Type 0
+NoPacketHasCome {L} told =
+    (track : List ℕ) (n : ℕ) (framer next : Rest) (answer : Seen) (who who' : Who) (start now : RegisterMap)
+    (listener listener' : L) → HaveCome told (take n track) framer who start who' now listener listener'
+    → n < length track → IsTaken framer (slice_index_or track n 0) next answer
+    → ((frame : Frame) → answer ≡ PacketSeen frame → ⊥)
+    → HaveCome told (take (n + 1) track) next who start who' now listener listener'
+
+-- behind one that shows a packet, which the decoder hears: the listener is told it
+abbrev pub PacketIsTold : {L : Type 0} → (L → Note → L → Type 0) → Type 0
+PacketIsTold {L} told =
+    (track : List ℕ) (n : ℕ) (framer next : Rest) (answer : Seen) (frame : Frame) (p : Packet) (who who' who'' asked : Who)
+    (start now after : RegisterMap) (is_heard : Bool) (listener listener' listener'' : L)
+    → HaveCome told (take n track) framer who start who' now listener listener'
+    → n < length track → IsTaken framer (slice_index_or track n 0) next answer → answer ≡ PacketSeen frame
+    → spelling p ≡ frame → who'' ≡ who' → after ≡ step who' now p → asked ≡ who'' → is_heard ≡ hears asked p
+    → is_heard ≡ true → told listener' (note_of p) listener''
+    → HaveCome told (take (n + 1) track) next who start who'' after listener listener''
+
+-- behind one that shows a packet, which the decoder does not hear
+abbrev pub PacketIsPassedOver : {L : Type 0} → (L → Note → L → Type 0) → Type 0
+PacketIsPassedOver {L} told =
+    (track : List ℕ) (n : ℕ) (framer next : Rest) (answer : Seen) (frame : Frame) (p : Packet) (who who' who'' asked : Who)
+    (start now after : RegisterMap) (is_heard : Bool) (listener listener' : L)
+    → HaveCome told (take n track) framer who start who' now listener listener'
+    → n < length track → IsTaken framer (slice_index_or track n 0) next answer → answer ≡ PacketSeen frame
+    → spelling p ≡ frame → who'' ≡ who' → after ≡ step who' now p → asked ≡ who'' → is_heard ≡ hears asked p
+    → is_heard ≡ false
+    → HaveCome told (take (n + 1) track) next who start who'' after listener listener'
+
+-- at the end the decoder has heard the track
+abbrev pub TrackIsHeard : {L : Type 0} → (L → Note → L → Type 0) → Type 0
+TrackIsHeard {L} told =
+    (track : List ℕ) (n : ℕ) (framer : Rest) (who who' : Who) (start now : RegisterMap) (listener listener' : L)
+    → HaveCome told (take n track) framer who start who' now listener listener' → length track ≤ n
+    → HasHeardHalves track who start who' now
+
+-- and the listener was told the packets of the track that the decoder hears
+abbrev pub TrackIsTold : {L : Type 0} → (L → Note → L → Type 0) → Type 0
+TrackIsTold {L} told =
+    (track : List ℕ) (n : ℕ) (framer : Rest) (who who' : Who) (start now : RegisterMap) (listener listener' : L)
+    (packets : List Packet) → HaveCome told (take n track) framer who start who' now listener listener' → length track ≤ n
+    → ArePackets packets track → IsTold told (heard who packets) listener listener'
