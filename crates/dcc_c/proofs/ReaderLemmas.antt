@@ -1,9 +1,8 @@
 -- A reading is the one of its numbers.
-use Rattle.std.proofs.Common.{◌≡◌, ℕ, ◌<◌, ◌≤◌, ◌^◌, [], Option, None, Some, Ok, refl, sym, ap, ◌∙◌, subst, arith, length}
-use Rattle.std.specs.Prelude.{◌↔◌, IsSome, IfSome, Result}
+use Rattle.std.proofs.Common.{◌≡◌, ℕ, ◌<◌, ◌≤◌, ◌^◌, Option, None, Some, Ok, refl, sym, ap, ◌∙◌, arith, length}
+use Rattle.std.specs.Prelude.{◌↔◌, IsSome, IfSome}
 use Rattle.std.specs.Result.{result_ok}
 use Rattle.dcc_packet.specs.declared.cv.CvNumber.{CvNumber}
-use Rattle.dcc_packet.specs.declared.fault.PacketFault.{PacketFault}
 use Rattle.dcc_packet.specs.declared.fault.PacketFault.TheVariants as faults
 use Rattle.dcc_packet.specs.Values.{cv_of}
 use Rattle.dcc_packet.proofs.UpTo.{from_one_to_ok}
@@ -12,7 +11,7 @@ use Rattle.dcc_service.specs.CvAnswers.{CvAnswers}
 use Rattle.dcc_service.proofs.BitsLemmas.{bits_from_lowest-number, number_from_lowest-small}
 use Rattle.dcc_service.proofs.ReaderLemmas.{counted, valued}
 use Rattle.dcc_c.specs.declared.reader.DccReader.{DccReader}
-use Rattle.dcc_c.specs.Readers.{IsReading, reader_numbers}
+use Rattle.dcc_c.specs.Readers.{IsReading}
 
 cv_back : (number : ℕ) (cv : CvNumber) → number ≡ cv.number → cv_of number ≡ Ok cv
 cv_back number cv e =

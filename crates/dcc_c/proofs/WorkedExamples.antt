@@ -1,5 +1,5 @@
 -- Zeros in a C program's memory are a station that has no room.
-use Rattle.std.proofs.Common.{◌≡◌, ◌<◌, ◌≤◌, ℕ, refl, inl, arith, length, replicate}
+use Rattle.std.proofs.Common.{◌≡◌, refl, inl, arith, replicate}
 use Rattle.dcc_packet.specs.declared.packet.Packet.TheVariants.{Idle}
 use Rattle.dcc_station.specs.Sending.{idle_sending}
 use Rattle.dcc_c.specs.declared.station_ring.DccRing.{DccRing}

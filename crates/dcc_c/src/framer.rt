@@ -22,8 +22,29 @@ pub extern "C" fn dcc_framer_new() -> KeptFramer
 
 /// Takes a half of this many microseconds, as `Framer::push` does. The answer is 1 where an outcome ends with it, which is
 /// written then, and else 0.
+#[tactic(auto, unfolding(dcc_wire::specs::Framing::report_at))]
 #[unsafe(no_mangle)]
 pub extern "C" fn dcc_push(framer: &mut KeptFramer, us: u16, outcome: &mut DccOutcome) -> u8
+    ensures history { (halves : List ℕ) × StandsFor (kept_rest framer.old) halves }
+    ensures stands { (halves : List ℕ) → StandsFor (kept_rest framer.old) halves
+        → StandsFor (kept_rest framer.new) (halves ++ us ∷ []) }
+    ensures sees { (halves : List ℕ) → StandsFor (kept_rest framer.old) halves →
+        seen (halves ++ us ∷ []) ≡ seen halves ++ report_at (length halves) (seen_at_answer result outcome.new) }
+    ensures hunts { result ≢ 0 → kept_rest framer.new ≡ Hunting (ones_left (seen_at_answer result outcome.new)) }
+    ensures at { result ≢ 0 → outcome.new.at ≡ 1 }
+    ensures numbers { result ≢ 0 → outcome.new ≡ outcome_numbers outcome.new.at (outcome_seen outcome.new) }
+    ensures bit { result ≤ 1 }
+    ensures kept { result ≡ 0 → outcome.new ≡ outcome.old }
+{
+    if framer.pass(us) {
+        return 0;
+    }
+    push_apart(framer, us, outcome)
+}
+
+/// The same for a half that may show something, out of the way of what each half costs.
+#[inline(never)]
+fn push_apart(framer: &mut KeptFramer, us: u16, outcome: &mut DccOutcome) -> u8
     ensures history { (halves : List ℕ) × StandsFor (kept_rest framer.old) halves }
     ensures stands { (halves : List ℕ) → StandsFor (kept_rest framer.old) halves
         → StandsFor (kept_rest framer.new) (halves ++ us ∷ []) }

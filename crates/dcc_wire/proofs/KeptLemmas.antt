@@ -1,13 +1,13 @@
--- One half more of a body that is kept as plain numbers, where no byte ends with it.
+-- One half more of a body that is kept as plain numbers, where it shows nothing.
 use Rattle.std.proofs.Common.{◌≡◌, ℕ, ◌+◌, ◌*◌, ◌<◌, ◌++◌, Bool, true, false, cond, List, [], ◌∷◌, Some, None}
-use Rattle.std.proofs.Common.{inl, inr, length, refl, sym, ap, ◌∙◌, subst, add-one, append-nil, if◌then◌else◌}
+use Rattle.std.proofs.Common.{inl, inr, arith, bit_xor, suc, ◌≤◌, length, refl, sym, ap, ◌∙◌, subst, add-one, append-nil, if◌then◌else◌}
 use Rattle.dcc_wire.specs.declared.half.Half.{Half}
 use Rattle.dcc_wire.specs.declared.half.Half.TheVariants.{Zero}
 use Rattle.dcc_wire.specs.declared.seen.Seen.TheVariants.{Nothing}
 use Rattle.dcc_wire.specs.Bodies.{bits_of, first_half, halves_of}
 use Rattle.dcc_wire.specs.Framing.{Hunting, InBody}
 use Rattle.dcc_wire.specs.Half.{bit_of}
-use Rattle.dcc_wire.specs.Inner.KeptSteps.{Grows, HasRoomFor}
+use Rattle.dcc_wire.specs.Inner.KeptSteps.{FitsBehind, Grows, HasRoomFor}
 use Rattle.dcc_wire.specs.Inner.Steps.{rest_after, answer_to, answer_of, left_of}
 use Rattle.dcc_wire.specs.Kept.{Kept, IsKept, kept_halves, kept_rest}
 use Rattle.dcc_wire.specs.Outcomes.{bytes_in, outcome_of}
@@ -15,7 +15,7 @@ use Rattle.dcc_wire.specs.Packed.{IsPacked, byte_bits, packed_bits}
 use Rattle.dcc_wire.proofs.HistoryLemmas.{HasHistory, history_more}
 use Rattle.dcc_wire.proofs.OpenBodies.{answer-bit, answer-first, bit_more, first_more, half_of, half_of-bit}
 use Rattle.dcc_wire.proofs.OutcomeLemmas.{answer-open, outcome_of-something}
-use Rattle.dcc_wire.proofs.PackedLemmas.{packed_bits-more, packed_more, packed_none, packed_open}
+use Rattle.dcc_wire.proofs.PackedLemmas.{packed_bits-more, packed_bits-whole, packed_more, packed_none, packed_open, packed_whole, shift_fits}
 
 in_body_rest : (k : Kept) (has_first : Bool) → k.in_body ≡ true → k.has_first ≡ has_first
     → kept_rest k ≡ InBody (halves_of (packed_bits k.bytes k.count k.shift) ++ first_half
@@ -86,19 +86,90 @@ module _ (k : Kept) (is : IsKept k) (in_body : k.in_body ≡ true) (half : Half)
       (subst (λ l. bytes_in 6 l ≡ None) whole (packed_open k.bytes k.xor (k.count + 1) (2 * k.shift + cond bit 1 0) packed)))
       (λ in_it. packed)
 
+  -- the same of the last bit of a byte
+  pub byte_comes : k.has_first ≡ true → k.first ≡ bit → k.count ≡ 8 → length k.bytes < 6
+      → Grows k half (record k {
+        has_first = false;
+        bytes = k.bytes ++ (2 * k.shift + cond bit 1 0) ∷ [];
+        xor = bit_xor k.xor (2 * k.shift + cond bit 1 0);
+        shift = 0;
+        count = 0;
+      })
+  unfolding first_half
+  byte_comes has same eight room =
+      let bits = packed_bits k.bytes k.count k.shift in
+      let byte = 2 * k.shift + cond bit 1 0 in
+      let new : Kept = record k { has_first = false; bytes = k.bytes ++ byte ∷ []; xor = bit_xor k.xor byte; shift = 0; count = 0 } in
+      let before = is.packed in_body in
+      let zero_first : k.count ≡ 0 → bit ≡ false = λ none. absurd (omega (arith, none, eight)) in
+      let packed = packed_whole k.bytes k.xor k.count k.shift bit before zero_first room eight in
+      let nine : 9 ≡ suc k.count = omega (arith, eight) in
+      let whole : packed_bits (k.bytes ++ byte ∷ []) 0 0 ≡ bits ++ bit ∷ [] =
+      packed_bits-whole k.bytes byte (shift_fits k.count k.shift bit before.part before.zero_first zero_first)
+      ∙ ap (λ n. packed_bits k.bytes n byte) nine ∙ packed_bits-more k.bytes k.count k.shift bit in
+      let longer = halves_of (bits ++ bit ∷ []) ++ first_half None in
+      let e : (halves_of bits ++ first_half (Some bit)) ++ half ∷ [] ≡ longer =
+      ap (λ h. (halves_of bits ++ first_half (Some bit)) ++ h ∷ []) (half_of-bit half bit of) ∙ sym (bit_more bits bit)
+      ∙ sym (append-nil (halves_of (bits ++ bit ∷ []))) in
+      grows (halves_of bits ++ first_half (Some bit)) longer new
+      (in_body_rest k true in_body has ∙ ap (λ b. InBody (halves_of bits ++ first_half (Some b))) same)
+      (in_body_rest new false in_body refl ∙ ap (λ l. InBody (halves_of l ++ first_half None)) whole) e
+      (ap (λ l. answer_of (outcome_of l)) (append-nil (halves_of (bits ++ bit ∷ [])) ∙ bit_more bits bit)
+      ∙ answer-bit bits bit
+      ∙ answer-open (bits ++ bit ∷ [])
+      (subst (λ l. bytes_in 6 l ≡ None) whole
+      (packed_open (k.bytes ++ byte ∷ []) (bit_xor k.xor byte) 0 0 packed)))
+      (λ in_it. packed)
+
 pub bit_of-half_of : (bit : Bool) → bit_of (half_of bit) ≡ Some bit
 unfolding half_of
 bit_of-half_of true = refl
 bit_of-half_of false = refl
 
--- a second half that leaves the last byte unfinished
+-- what fits behind a first half
+fits : (k : Kept) (bit : Bool) → k.has_first ≡ true → HasRoomFor k bit → FitsBehind k bit
+fits k bit has (inl none) = cc
+fits k bit has (inr behind) = behind
+
+-- a second half within a byte
 pub second_added : (k : Kept) (bit : Bool) (number : ℕ) (half : Half) → IsKept k → k.in_body ≡ true → k.has_first ≡ true
-    → HasRoomFor k bit → number ≡ cond bit 1 0 → bit_of half ≡ Some bit
+    → HasRoomFor k bit → number ≡ cond bit 1 0 → k.count < 8 → bit_of half ≡ Some bit
     → Grows k half (record k { has_first = false; shift = 2 * k.shift + number; count = k.count + 1 })
-second_added k bit number half is in_body has (inl none) e of = cc
-second_added k bit number half is in_body has (inr fits) e of =
+second_added k bit number half is in_body has room e less of =
+    let behind = fits k bit has room in
     subst (λ n. Grows k half (record k { has_first = false; shift = 2 * k.shift + n; count = k.count + 1 })) (sym e)
-    (bit_comes k is in_body half bit of has fits.same fits.part fits.zero_first fits.room)
+    (bit_comes k is in_body half bit of has behind.same less behind.zero_first behind.room)
+
+-- a second half at the end of a byte
+pub byte_added : (k : Kept) (bit : Bool) (number : ℕ) (bytes : List ℕ) (half : Half) → IsKept k → k.in_body ≡ true
+    → k.has_first ≡ true → HasRoomFor k bit → number ≡ cond bit 1 0 → 8 ≤ k.count
+    → bytes ≡ k.bytes ++ (2 * k.shift + number) ∷ [] → bit_of half ≡ Some bit
+    → Grows k half (record k {
+      has_first = false;
+      bytes = bytes;
+      xor = bit_xor k.xor (2 * k.shift + number);
+      shift = 0;
+      count = 0;
+    })
+byte_added k bit number bytes half is in_body has room e most is_bytes of =
+    let behind = fits k bit has room in
+    let part = (is.packed in_body).part in
+    let eight : k.count ≡ 8 = omega (arith, most, part) in
+    subst (λ l. Grows k half (record k {
+      has_first = false;
+      bytes = l;
+      xor = bit_xor k.xor (2 * k.shift + number);
+      shift = 0;
+      count = 0;
+    })) (sym is_bytes)
+    (subst (λ n. Grows k half (record k {
+      has_first = false;
+      bytes = k.bytes ++ (2 * k.shift + n) ∷ [];
+      xor = bit_xor k.xor (2 * k.shift + n);
+      shift = 0;
+      count = 0;
+    })) (sym e)
+    (byte_comes k is in_body half bit of has behind.same eight behind.room))
 
 -- a half between bodies
 module _ (k : Kept) (is : IsKept k) (out : k.in_body ≡ false) (half : Half) where

@@ -93,6 +93,21 @@ impl KeptFramer {
         self.take_half(Half::of(us))
     }
 
+    /// Takes a half of this many microseconds where it shows nothing, as most do, and answers whether it did. Where it may show
+    /// something the framer stays as it is, and [`push`](KeptFramer::push) takes the half.
+    #[tactic(auto, unfolding(crate::specs::Framing::StandsFor), using(crate::proofs::FramerSteps::pushes))]
+    #[inline(always)]
+    pub fn pass(&mut self, us: u16) -> bool
+        ensures history { (durations : List ℕ) × StandsFor (kept_rest self.old) durations }
+        ensures stands { IsTrue result → (durations : List ℕ) → StandsFor (kept_rest self.old) durations
+            → StandsFor (kept_rest self.new) (durations ++ us ∷ []) }
+        ensures sees { IsTrue result → (durations : List ℕ) → StandsFor (kept_rest self.old) durations
+            → seen (durations ++ us ∷ []) ≡ seen durations }
+        ensures left { result ≡ false → self.new ≡ self.old }
+    {
+        self.pass_half(Half::of(us))
+    }
+
     #[inline(always)]
     fn take_half(&mut self, half: Half) -> Seen
         ensures history { (durations : List ℕ) × StandsFor (kept_rest self.old) durations }
@@ -100,16 +115,29 @@ impl KeptFramer {
         ensures answer { result ≡ answer_to (kept_rest self.old) half }
         ensures hunts { result ≢ Seen.Nothing → kept_rest self.new ≡ Hunting (ones_left result) }
     {
+        if self.pass_half(half) {
+            Seen::Nothing
+        } else {
+            self.take_apart(half)
+        }
+    }
+
+    #[inline(always)]
+    fn pass_half(&mut self, half: Half) -> bool
+        ensures history { (durations : List ℕ) × StandsFor (kept_rest self.old) durations }
+        ensures grows { IsTrue result → Grows self.old half self.new }
+        ensures left { result ≡ false → self.new ≡ self.old }
+    {
         if !self.in_body {
             self.hunt(half);
-            return Seen::Nothing;
+            return true;
         }
         match half.bit() {
             Some(bit) if self.has_room_for(bit) => {
                 self.add(bit);
-                Seen::Nothing
+                true
             }
-            Some(_) | None => self.take_apart(half),
+            Some(_) | None => false,
         }
     }
 
@@ -132,7 +160,7 @@ impl KeptFramer {
         }
     }
 
-    /// Whether a half of this bit leaves the body and its last byte unfinished.
+    /// Whether the body stays unfinished with a half of this bit.
     #[inline(always)]
     fn has_room_for(&self, bit: bool) -> bool
         requires { self.now.in_body ≡ true }
@@ -141,7 +169,7 @@ impl KeptFramer {
         if !self.has_first {
             return true;
         }
-        self.first == bit && self.count < 8 && (self.count > 0 || !bit && self.bytes.has_room())
+        self.first == bit && (self.count > 0 || !bit && self.bytes.has_room())
     }
 
     /// Takes a half of this bit, for which there is room.
@@ -151,13 +179,21 @@ impl KeptFramer {
         requires room { HasRoomFor self.old bit }
         ensures { (half : HalfOf) → bit_of half ≡ Some bit → Grows self.old half self.new }
     {
-        if self.has_first {
-            self.has_first = false;
-            self.shift = 2 * self.shift + u8::from(bit);
-            self.count += 1;
-        } else {
+        if !self.has_first {
             self.has_first = true;
             self.first = bit;
+            return;
+        }
+        self.has_first = false;
+        let shift = 2 * self.shift + u8::from(bit);
+        if self.count < 8 {
+            self.shift = shift;
+            self.count += 1;
+        } else {
+            self.bytes.push(shift);
+            self.xor ^= shift;
+            self.shift = 0;
+            self.count = 0;
         }
     }
 

@@ -5,15 +5,14 @@ use Rattle.dcc_wire.specs.declared.seen.Seen.TheVariants.{Nothing}
 use Rattle.dcc_wire.specs.Inner.Steps.{rest_after, answer_to}
 use Rattle.dcc_wire.specs.Kept.{Kept, IsKept, kept_rest}
 
--- a bit, which the first half of a kept body's next bit fits, leaves its last byte unfinished
+-- a bit, which the first half of a kept body's next bit fits, leaves the body unfinished
 pub record FitsBehind (k : Kept) (bit : Bool) : Type 0 where
   pub has_first : k.has_first ≡ true
   pub same : k.first ≡ bit
-  pub part : k.count < 8
   pub zero_first : k.count ≡ 0 → bit ≡ false
   pub room : length k.bytes < 6
 
--- a half of this bit leaves the body and its last byte unfinished: it is the first half of a bit, or the second of one that fits
+-- a half of this bit leaves the body unfinished: it is the first half of a bit, or the second of one that fits
 abbrev pub HasRoomFor : Kept → Bool → Type 0
 HasRoomFor k bit = (k.has_first ≡ false) ⊎ FitsBehind k bit
 

@@ -1,4 +1,4 @@
-use Rattle.std.proofs.Common.{◌≤◌, ap, ◌∙◌, refl, arith, length, []}
+use Rattle.std.proofs.Common.{ap, ◌∙◌, refl, arith}
 use Rattle.dcc_c.specs.Readers.{reader_numbers}
 use Rattle.dcc_c.proofs.reader.dcc_reader_new.Goals as goal
 
