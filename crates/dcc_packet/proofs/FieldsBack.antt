@@ -53,7 +53,3 @@ put_both ws more old mid new first second =
     second ∙ ap (λ (bytes : List ℕ). bytes ++ spaced_words more) first
     ∙ append_assoc old (spaced_words ws) (spaced_words more)
     ∙ ap (λ (bytes : List ℕ). old ++ bytes) (sym (spaced_both ws more))
-
--- text and a word
-pub put_one : (word : Word) (old new : List ℕ) → new ≡ old ++ 32 ∷ word → new ≡ old ++ spaced_words (word ∷ [])
-put_one word old new e = e ∙ ap (λ (bytes : List ℕ). old ++ 32 ∷ bytes) (sym (append-nil word))

@@ -26,7 +26,7 @@ use Rattle.dcc_packet.specs.Line.{cv_access, cv_write, cv_verify, cv_bit_write, 
 use Rattle.dcc_packet.specs.Line.{instruction, loco, spelling_or_fault, frame_of_words, Says}
 use Rattle.dcc_packet.specs.Spelling.{spelling}
 use Rattle.dcc_packet.proofs.OneSpelling.{one_packet}
-use Rattle.dcc_packet.proofs.WrittenWords.{literal, words_spaced, hex_plain}
+use Rattle.dcc_packet.proofs.WrittenWords.{words_spaced}
 use Rattle.dcc_packet.proofs.WordsBack.{address_back, hex_back}
 use Rattle.dcc_packet.specs.LineFields.{accessory_fields, signal_fields}
 use Rattle.dcc_packet.proofs.FieldsBack.{whole_back}
@@ -34,14 +34,11 @@ use Rattle.dcc_packet.proofs.LineFieldsBack.{accessory_is_back, signal_line_is_b
 use Rattle.dcc_packet.proofs.WordsBack.{address_back, hex_back}
 use Rattle.std.specs.List.{AllByRecursion}
 use Rattle.std.proofs.Common.{codes, arith}
-use Rattle.hex.specs.Hex.{lower_digits}
-use Rattle.hex.proofs.HexLemmas.{length-encode_with}
-use Rattle.dcc_packet.specs.declared.packet.OtherFrame.{OtherFrame}
 use Rattle.dcc_packet.specs.Words.{Word}
-use Rattle.dcc_packet.specs.Fields.{IsWord, IsToken}
+use Rattle.dcc_packet.specs.Fields.{IsToken}
 use Rattle.dcc_packet.specs.LineFields.{speed28_fields, speed128_fields, functions_field, state_fields, cv_value_fields}
 use Rattle.dcc_packet.specs.LineFields.{cv_bit_fields}
-use Rattle.dcc_packet.proofs.Tokens.{keyword_token, address_word_token, all_words}
+use Rattle.dcc_packet.proofs.Tokens.{keyword_token, address_word_token, hex_token}
 use Rattle.dcc_packet.proofs.LineFieldsBack.{speed28_line_is_back, speed128_line_is_back, functions_are_back}
 use Rattle.dcc_packet.proofs.LineFieldsBack.{state_line_is_back, cv_value_is_back, cv_bit_is_back}
 
@@ -133,60 +130,57 @@ said_back (Other o) h = frame_back o.frame h o.valid
 
 cv_tokens : (access : Word) (ws : List Word) → IsToken access → AllByRecursion IsToken ws
     → AllByRecursion IsToken (codes "cv" ∷ access ∷ ws)
-cv_tokens access ws token tokens = (keyword_token (codes "cv") (omega arith) refl refl (omega arith), (token, tokens))
+cv_tokens access ws token tokens = (keyword_token (codes "cv") (omega arith) refl (omega arith), (token, tokens))
 
 -- the words of an instruction may stand in a line
 instruction_tokens : (what : What) → ValueFits what → AllByRecursion IsToken (instruction_words what)
-instruction_tokens Reset h = (keyword_token (codes "reset") (omega arith) refl refl (omega arith), tt)
+instruction_tokens Reset h = (keyword_token (codes "reset") (omega arith) refl (omega arith), tt)
 instruction_tokens (Speed28 f b) h = (
-  keyword_token (codes "speed28") (omega arith) refl refl (omega arith),
+  keyword_token (codes "speed28") (omega arith) refl (omega arith),
   speed28_line_is_back.tokens (record { forward = f }, b) (tt, tt),
 )
 instruction_tokens (Speed128 f b) h = (
-  keyword_token (codes "speed128") (omega arith) refl refl (omega arith),
+  keyword_token (codes "speed128") (omega arith) refl (omega arith),
   speed128_line_is_back.tokens (record { forward = f }, b) (tt, tt),
 )
 instruction_tokens (Functions f) h =
-    (keyword_token (codes "functions") (omega arith) refl refl (omega arith), functions_are_back.tokens f tt)
+    (keyword_token (codes "functions") (omega arith) refl (omega arith), functions_are_back.tokens f tt)
 instruction_tokens (BinaryState n on) h = (
-  keyword_token (codes "state") (omega arith) refl refl (omega arith),
+  keyword_token (codes "state") (omega arith) refl (omega arith),
   state_line_is_back.tokens (n, record { on = on }) (tt, tt),
 )
 instruction_tokens (CvWrite c v) h =
-    cv_tokens (codes "write") (cv_value_fields.written (c, v)) (keyword_token (codes "write") (omega arith) refl refl (omega arith))
+    cv_tokens (codes "write") (cv_value_fields.written (c, v)) (keyword_token (codes "write") (omega arith) refl (omega arith))
     (cv_value_is_back.tokens (c, v) (tt, h))
 instruction_tokens (CvVerify c v) h =
-    cv_tokens (codes "verify") (cv_value_fields.written (c, v)) (keyword_token (codes "verify") (omega arith) refl refl (omega arith))
+    cv_tokens (codes "verify") (cv_value_fields.written (c, v)) (keyword_token (codes "verify") (omega arith) refl (omega arith))
     (cv_value_is_back.tokens (c, v) (tt, h))
 instruction_tokens (CvBitWrite c p b) h =
     cv_tokens (codes "bitwrite") (cv_bit_fields.written (c, (p, record { one = b })))
-    (keyword_token (codes "bitwrite") (omega arith) refl refl (omega arith))
+    (keyword_token (codes "bitwrite") (omega arith) refl (omega arith))
     (cv_bit_is_back.tokens (c, (p, record { one = b })) (tt, (tt, tt)))
 instruction_tokens (CvBitVerify c p b) h =
     cv_tokens (codes "bitverify") (cv_bit_fields.written (c, (p, record { one = b })))
-    (keyword_token (codes "bitverify") (omega arith) refl refl (omega arith))
+    (keyword_token (codes "bitverify") (omega arith) refl (omega arith))
     (cv_bit_is_back.tokens (c, (p, record { one = b })) (tt, (tt, tt)))
-
-IsWord-hex : (o : OtherFrame) → IsWord (encode_lower o.frame)
-IsWord-hex o =
-    record { some = omega (arith, length-encode_with lower_digits o.frame, o.valid.least); plain = hex_plain o.frame }
 
 -- the words of a written line are those that were written
 written_are_words : (p : Packet) → BytesFit p → words (written_line p) ≡ written_words p
-written_are_words Idle h = words_spaced (codes "idle") [] (literal (codes "idle") (omega arith) refl) tt
+written_are_words Idle h = words_spaced (codes "idle") [] (keyword_token (codes "idle") (omega arith) refl (omega arith)) tt
 written_are_words (Loco to what) h =
-    words_spaced (codes "loco") (address_word to ∷ instruction_words what) (literal (codes "loco") (omega arith) refl)
-    (all_words (address_word to ∷ instruction_words what) (address_word_token to, instruction_tokens what h))
+    words_spaced (codes "loco") (address_word to ∷ instruction_words what)
+    (keyword_token (codes "loco") (omega arith) refl (omega arith)) (address_word_token to, instruction_tokens what h)
 written_are_words (Accessory b o on) h =
-    let ws : List Word = accessory_fields.written (b, (o, record { on = on })) in
-    words_spaced (codes "accessory") ws (literal (codes "accessory") (omega arith) refl)
-    (all_words ws (accessory_is_back.tokens (b, (o, record { on = on })) (tt, (tt, tt))))
+    words_spaced (codes "accessory") (accessory_fields.written (b, (o, record { on = on })))
+    (keyword_token (codes "accessory") (omega arith) refl (omega arith))
+    (accessory_is_back.tokens (b, (o, record { on = on })) (tt, (tt, tt)))
 written_are_words (Signal s a) h =
-    words_spaced (codes "signal") (signal_fields.written (s, a)) (literal (codes "signal") (omega arith) refl)
-    (all_words (signal_fields.written (s, a)) (signal_line_is_back.tokens (s, a) (tt, h)))
+    words_spaced (codes "signal") (signal_fields.written (s, a))
+    (keyword_token (codes "signal") (omega arith) refl (omega arith)) (signal_line_is_back.tokens (s, a) (tt, h))
 written_are_words (Other o) h =
-    words_spaced (codes "frame") (encode_lower o.frame ∷ []) (literal (codes "frame") (omega arith) refl)
-    (IsWord-hex o, tt)
+    words_spaced (codes "frame") (encode_lower o.frame ∷ [])
+    (keyword_token (codes "frame") (omega arith) refl (omega arith))
+    (hex_token o.frame (omega (arith, o.valid.least)) (omega (arith, o.valid.most)), tt)
 
 -- a written line says its packet
 pub says_back : (p : Packet) → BytesFit p → Says (words (written_line p)) (Ok p)

@@ -1,5 +1,5 @@
 -- Fields of lines. A field is a word or a few: which values it may have, how they are read, which words are written.
-use Rattle.std.specs.Prelude.{◌≡◌, ℕ, ◌≤◌, ◌<◌, ◌==◌, ◌&&◌, not, Bool, true, false, List, [], ◌∷◌, ◌++◌, length, All}
+use Rattle.std.specs.Prelude.{◌≡◌, ℕ, ◌≤◌, ◌<◌, ◌==◌, ◌&&◌, not, Bool, true, List, [], ◌∷◌, ◌++◌, length}
 use Rattle.std.specs.Prelude.{Result, Ok, Err}
 use Rattle.std.specs.Char.{is_ascii}
 use Rattle.std.specs.List.{list_all, AllByRecursion}
@@ -25,6 +25,7 @@ abbrev pub Gives : {A : Type 0} → Result (A × List Word) PacketFault → Resu
 Gives read (Ok x) rest = read ≡ Ok (x, rest)
 Gives read (Err fault) rest = read ≡ Err fault
 
+-- a field of lines with values of this type
 pub record FieldOf (A : Type 0) : Type 1 where
   -- the values that it may have
   pub Fits : A → Type 0
@@ -56,18 +57,13 @@ whole field words = do
   end ← no_more_words x.1
   Ok x.0
 
--- some bytes, none of them a separator
-pub record IsWord (word : Word) : Type 0 where
-  pub some : 0 < length word
-  pub plain : All (λ b. is_separator b ≡ false) word
-
--- a byte that may stand in a line
+-- a byte that may stand in a word of a line: ASCII, no separator and no line feed
 abbrev pub is_plain : ℕ → Bool
-is_plain b = is_ascii b && not (b == 10)
+is_plain b = is_ascii b && (not (is_separator b) && not (b == 10))
 
--- a word of a written line
+-- a word of a written line: 1 to 12 such bytes
 pub record IsToken (word : Word) : Type 0 where
-  pub word_is : IsWord word
+  pub some : 0 < length word
   pub plain : list_all is_plain word ≡ true
   pub short : length word ≤ 12
 

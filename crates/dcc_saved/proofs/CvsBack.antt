@@ -50,7 +50,7 @@ one_line : (least n line value : ℕ) (text : List ℕ) (range : (1 ≤ n) × (n
     (behind.Cv (record { number = n; in_range = range }) value, at (line + 1) text)
 one_line least n line value text range ascends small =
     line_read (loco_line least) (behind.Cv (record { number = n; in_range = range }) value) line (codes "cv")
-    (decimal n ∷ decimal value ∷ []) text (keyword_token (codes "cv") (omega arith) refl refl (omega arith))
+    (decimal n ∷ decimal value ∷ []) text (keyword_token (codes "cv") (omega arith) refl (omega arith))
     (decimal_token n (omega (arith, range)), (decimal_token value (omega (arith, small)), tt)) (omega arith)
     (cv_line_back least (record { number = n; in_range = range }) value ascends small)
 

@@ -66,7 +66,7 @@ pub loco_begins : (address : Option Address) (text : List ℕ) (m : RegisterMap)
     → BeginsWith (loco_address_line address ++ text) (heads.Decoder (who.Loco address)) text
 loco_begins address text m possible =
     head_begins (codes "loco") (own_address_word address ∷ []) (heads.Decoder (who.Loco address)) text
-    (keyword_token (codes "loco") (omega arith) refl refl (omega arith)) (address_token address, tt) (omega arith) refl
+    (keyword_token (codes "loco") (omega arith) refl (omega arith)) (address_token address, tt) (omega arith) refl
     (loco_after address possible.decoder)
 
 pub board_begins : (board : Board) (text : List ℕ) (m : RegisterMap) → IsPossible (who.Board board) m
@@ -74,12 +74,12 @@ pub board_begins : (board : Board) (text : List ℕ) (m : RegisterMap) → IsPos
 board_begins board text m possible =
     let range = board.in_range in
     head_begins (codes "board") (decimal board.number ∷ []) (heads.Decoder (who.Board board)) text
-    (keyword_token (codes "board") (omega arith) refl refl (omega arith))
+    (keyword_token (codes "board") (omega arith) refl (omega arith))
     (decimal_token board.number (omega (arith, range)), tt) (omega arith) refl (board_after board possible.decoder)
 
 pub end_begins : (text : List ℕ) → BeginsWith (codes "end\n" ++ text) heads.End text
 end_begins text =
-    head_begins (codes "end") [] heads.End text (keyword_token (codes "end") (omega arith) refl refl (omega arith)) tt
+    head_begins (codes "end") [] heads.End text (keyword_token (codes "end") (omega arith) refl (omega arith)) tt
     (omega arith) refl refl
 
 -- a decoder that its lines save, and the first line behind them

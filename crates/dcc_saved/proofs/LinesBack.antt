@@ -7,52 +7,60 @@ use Rattle.std.proofs.lemmas.Bool.{and_parts, le-leb}
 use Rattle.std.proofs.lemmas.List.Folds.{list_all-append}
 use Rattle.dcc_packet.specs.declared.fault.PacketFault.{PacketFault}
 use Rattle.dcc_packet.specs.declared.fault.PacketFault.TheVariants as faults
-use Rattle.dcc_packet.specs.Words.{Word, words}
+use Rattle.dcc_packet.specs.Words.{Word, is_separator, words}
 use Rattle.dcc_packet.specs.Written.{spaced_words}
-use Rattle.dcc_packet.proofs.WrittenWords.{IsWord, not_true, words_spaced}
+use Rattle.dcc_packet.proofs.WrittenWords.{not_true, words_spaced}
 use Rattle.dcc_io.specs.NumberedLines.{is_good}
-pub use Rattle.dcc_packet.specs.Fields.{is_plain, IsToken}
+use Rattle.dcc_packet.specs.Fields.{is_plain}
+pub use Rattle.dcc_packet.specs.Fields.{IsToken}
 use Rattle.dcc_saved.specs.TextReader.{Text, first_line, behind_line, ended_line, line_by}
 use Rattle.dcc_saved.specs.TextReader.Stop.{refused}
 use Rattle.std.proofs.Common.{codes, append_assoc}
 use Rattle.dcc_saved.specs.FleetText.{line_of}
 
-plain_is_ascii : (line : List ℕ) → list_all is_plain line ≡ true → list_all is_ascii line ≡ true
-plain_is_ascii [] h = refl
-plain_is_ascii (b ∷ bs) h =
-    let parts = and_parts (is_plain b) (list_all is_plain bs) h in
-    let byte = and_parts (is_ascii b) (not (eqb b 10)) parts.0 in
-    rw (byte.0, plain_is_ascii bs parts.1) refl
+-- a byte that may stand in a line
+abbrev is_in_line : ℕ → Bool
+is_in_line b = is_ascii b && not (eqb b 10)
 
-first_line_is : (line rest : List ℕ) → list_all is_plain line ≡ true → first_line (line ++ 10 ∷ rest) ≡ line
+line_is_ascii : (line : List ℕ) → list_all is_in_line line ≡ true → list_all is_ascii line ≡ true
+line_is_ascii [] h = refl
+line_is_ascii (b ∷ bs) h =
+    let parts = and_parts (is_in_line b) (list_all is_in_line bs) h in
+    let byte = and_parts (is_ascii b) (not (eqb b 10)) parts.0 in
+    rw (byte.0, line_is_ascii bs parts.1) refl
+
+first_line_is : (line rest : List ℕ) → list_all is_in_line line ≡ true → first_line (line ++ 10 ∷ rest) ≡ line
 first_line_is [] rest h = refl
 first_line_is (b ∷ bs) rest h =
-    let parts = and_parts (is_plain b) (list_all is_plain bs) h in
+    let parts = and_parts (is_in_line b) (list_all is_in_line bs) h in
     let byte = and_parts (is_ascii b) (not (eqb b 10)) parts.0 in
     rw (not_true (eqb b 10) byte.1) (ap (λ (xs : List ℕ). b ∷ xs) (first_line_is bs rest parts.1))
 
-behind_line_is : (line rest : List ℕ) → list_all is_plain line ≡ true → behind_line (line ++ 10 ∷ rest) ≡ Some rest
+behind_line_is : (line rest : List ℕ) → list_all is_in_line line ≡ true → behind_line (line ++ 10 ∷ rest) ≡ Some rest
 behind_line_is [] rest h = refl
 behind_line_is (b ∷ bs) rest h =
-    let parts = and_parts (is_plain b) (list_all is_plain bs) h in
+    let parts = and_parts (is_in_line b) (list_all is_in_line bs) h in
     let byte = and_parts (is_ascii b) (not (eqb b 10)) parts.0 in
     rw (not_true (eqb b 10) byte.1) (behind_line_is bs rest parts.1)
+
+word_in_line : (word : Word) → list_all is_plain word ≡ true → list_all is_in_line word ≡ true
+word_in_line [] h = refl
+word_in_line (b ∷ bs) h =
+    let parts = and_parts (is_plain b) (list_all is_plain bs) h in
+    let byte = and_parts (is_ascii b) (not (is_separator b) && not (eqb b 10)) parts.0 in
+    rw (byte.0, (and_parts (not (is_separator b)) (not (eqb b 10)) byte.1).1, word_in_line bs parts.1) refl
 
 both : (a b : Bool) → a ≡ true → b ≡ true → (a && b) ≡ true
 both a b e f = rw (e, f) refl
 
-pub append_plain : (xs ys : List ℕ) → list_all is_plain xs ≡ true → list_all is_plain ys ≡ true
-    → list_all is_plain (xs ++ ys) ≡ true
-append_plain xs ys first second =
-    list_all-append is_plain xs ys ∙ both (list_all is_plain xs) (list_all is_plain ys) first second
+pub append_line : (xs ys : List ℕ) → list_all is_in_line xs ≡ true → list_all is_in_line ys ≡ true
+    → list_all is_in_line (xs ++ ys) ≡ true
+append_line xs ys first second =
+    list_all-append is_in_line xs ys ∙ both (list_all is_in_line xs) (list_all is_in_line ys) first second
 
-pub spaced_plain : (ws : List Word) → AllByRecursion IsToken ws → list_all is_plain (spaced_words ws) ≡ true
-spaced_plain [] h = refl
-spaced_plain (w ∷ ws) h = append_plain w (spaced_words ws) h.0.plain (spaced_plain ws h.1)
-
-all_words : (ws : List Word) → AllByRecursion IsToken ws → AllByRecursion IsWord ws
-all_words [] h = tt
-all_words (w ∷ ws) h = (h.0.word_is, all_words ws h.1)
+pub spaced_in_line : (ws : List Word) → AllByRecursion IsToken ws → list_all is_in_line (spaced_words ws) ≡ true
+spaced_in_line [] h = refl
+spaced_in_line (w ∷ ws) h = append_line w (spaced_words ws) (word_in_line w h.0.plain) (spaced_in_line ws h.1)
 
 spaced_short : (ws : List Word) → AllByRecursion IsToken ws → length (spaced_words ws) ≤ 13 * length ws
 spaced_short [] h = omega arith
@@ -79,12 +87,13 @@ pub line_back : {A : Type 0} (rule : List Word → Result A PacketFault) (x : A)
     → rule (word ∷ ws) ≡ Ok x
     → line_by rule (at n (line ++ 10 ∷ rest)) ≡ Ok (x, at (n + 1) rest)
 line_back rule x n line word ws rest is token tokens short says =
-    let plain : list_all is_plain line ≡ true =
-    ap (list_all is_plain) is ∙ append_plain word (spaced_words ws) token.plain (spaced_plain ws tokens) in
+    let plain : list_all is_in_line line ≡ true =
+    ap (list_all is_in_line) is
+    ∙ append_line word (spaced_words ws) (word_in_line word token.plain) (spaced_in_line ws tokens) in
     let good : is_good line ≡ true =
     both (nat_le (length line) 512) (list_all is_ascii line) (le-leb (length line) 512 short)
-    (plain_is_ascii line plain) in
-    let split : words line ≡ word ∷ ws = ap words is ∙ words_spaced word ws token.word_is (all_words ws tokens) in
+    (line_is_ascii line plain) in
+    let split : words line ≡ word ∷ ws = ap words is ∙ words_spaced word ws token tokens in
     good_is_read rule x n line rest (first_line (line ++ 10 ∷ rest)) (behind_line (line ++ 10 ∷ rest))
     (first_line_is line rest plain) (behind_line_is line rest plain) good (ap rule split ∙ says)
 

@@ -55,9 +55,9 @@ row_says kinds.State on sound = ons_are kinds.State on sound 0 0 128 (omega arit
 row_says kinds.Out on sound = ons_are kinds.Out on sound 0 0 8 (omega arith) (omega arith)
 
 name_token : (kind : Numbered) → IsToken (name_of kind)
-name_token kinds.Function = keyword_token (codes "on") (omega arith) refl refl (omega arith)
-name_token kinds.State = keyword_token (codes "states") (omega arith) refl refl (omega arith)
-name_token kinds.Out = keyword_token (codes "out") (omega arith) refl refl (omega arith)
+name_token kinds.Function = keyword_token (codes "on") (omega arith) refl (omega arith)
+name_token kinds.State = keyword_token (codes "states") (omega arith) refl (omega arith)
+name_token kinds.Out = keyword_token (codes "out") (omega arith) refl (omega arith)
 
 few : (kind : Numbered) → 0 + end_of kind ≤ 1000
 few kinds.Function = omega arith
@@ -109,7 +109,7 @@ pub speed_read : (speed : Speed) (forward : Bool) (n : ℕ) (text : List ℕ) �
 speed_read speed forward n text h =
     fields_read (codes "speed") (both speed_field direction_field) refl
     (both_back speed_field direction_field speed_is_back direction_is_back) (record { speed = speed }, record { forward = forward }) (h, tt)
-    (keyword_token (codes "speed") (omega arith) refl refl (omega arith)) (few_words speed (direction_word forward)) n text
+    (keyword_token (codes "speed") (omega arith) refl (omega arith)) (few_words speed (direction_word forward)) n text
 
 pub pending_read : (active : Option Address) (pending : Option Packet) (n : ℕ) (text : List ℕ)
     → is_pending_for active pending ≡ true
@@ -121,7 +121,7 @@ pending_read active pending n text h =
     ∙ few_back (pending_line active) pending n (codes "pending " ++ pending_text pending) (codes "pending")
     (pending_text pending ∷ []) text
     (ap (λ (xs : List ℕ). codes "pending " ++ xs) (sym (append-nil (pending_text pending))))
-    (keyword_token (codes "pending") (omega arith) refl refl (omega arith)) (pending_token active pending h, tt)
+    (keyword_token (codes "pending") (omega arith) refl (omega arith)) (pending_token active pending h, tt)
     (omega arith)
     (pending_back active pending h)
 
@@ -131,7 +131,7 @@ pub aspects_read : (numbers : ℕ → ℕ) (n : ℕ) (text : List ℕ) → ((k :
 aspects_read numbers n text small =
     fields_read (codes "aspect") (four small_field) refl (four_back small_field small_is_back) (first_four numbers)
     (small 0 (omega arith), (small 1 (omega arith), (small 2 (omega arith), small 3 (omega arith))))
-    (keyword_token (codes "aspect") (omega arith) refl refl (omega arith)) (omega arith) n text
+    (keyword_token (codes "aspect") (omega arith) refl (omega arith)) (omega arith) n text
 
 -- a side in decimal
 abbrev pub side_number : Bool → ℕ
@@ -154,4 +154,4 @@ positions_read numbers sides n text are =
     λ k few. ap decimal (are k few) ∙ side_word (sides k) in
     rw (word 0 (omega arith), word 1 (omega arith), word 2 (omega arith), word 3 (omega arith))
     (fields_read (codes "position") (four bit_field) refl (four_back bit_field bit_is_back) (first_sides sides)
-    (tt, (tt, (tt, tt))) (keyword_token (codes "position") (omega arith) refl refl (omega arith)) (omega arith) n text)
+    (tt, (tt, (tt, tt))) (keyword_token (codes "position") (omega arith) refl (omega arith)) (omega arith) n text)

@@ -39,8 +39,8 @@ version_back versions.One = refl
 version_back versions.Two = refl
 
 version_token : (version : Version) → IsToken (version_word version)
-version_token versions.One = keyword_token (codes "1") (omega arith) refl refl (omega arith)
-version_token versions.Two = keyword_token (codes "2") (omega arith) refl refl (omega arith)
+version_token versions.One = keyword_token (codes "1") (omega arith) refl (omega arith)
+version_token versions.Two = keyword_token (codes "2") (omega arith) refl (omega arith)
 
 pub version_is_back : IsReadBack version_field
 version_is_back = one_word_back version_number version_word version_back version_token
@@ -115,14 +115,14 @@ step_token n last few h =
     decimal_token n (omega (arith, most, few))
 
 speed_tokens : (speed : Speed) → is_speed speed ≡ true → AllByRecursion IsToken (speed_words speed)
-speed_tokens Stop h = (keyword_token (codes "stop") (omega arith) refl refl (omega arith), tt)
-speed_tokens Emergency h = (keyword_token (codes "emergency") (omega arith) refl refl (omega arith), tt)
+speed_tokens Stop h = (keyword_token (codes "stop") (omega arith) refl (omega arith), tt)
+speed_tokens Emergency h = (keyword_token (codes "emergency") (omega arith) refl (omega arith), tt)
 speed_tokens (Step14 n) h =
-    (keyword_token (codes "14") (omega arith) refl refl (omega arith), (step_token n 14 (omega arith) h, tt))
+    (keyword_token (codes "14") (omega arith) refl (omega arith), (step_token n 14 (omega arith) h, tt))
 speed_tokens (Step28 n) h =
-    (keyword_token (codes "28") (omega arith) refl refl (omega arith), (step_token n 28 (omega arith) h, tt))
+    (keyword_token (codes "28") (omega arith) refl (omega arith), (step_token n 28 (omega arith) h, tt))
 speed_tokens (Step126 n) h =
-    (keyword_token (codes "126") (omega arith) refl refl (omega arith), (step_token n 126 (omega arith) h, tt))
+    (keyword_token (codes "126") (omega arith) refl (omega arith), (step_token n 126 (omega arith) h, tt))
 
 pub speed_is_back : IsReadBack speed_field
 speed_is_back =

@@ -13,8 +13,8 @@ ghost use Rattle.dcc_saved.specs.DecoderLines.{number_of, numbers_from, numbers_
 ghost use Rattle.dcc_saved.specs.DecoderLines.{pending_line, cv_words, loco_line_after, loco_line};
 ghost use Rattle.dcc_saved.specs.Numbered.{end_of};
 ghost use Rattle.dcc_saved.specs.DecoderLines.{keyed};
-ghost use Rattle.dcc_saved.specs.Inner.DecoderWords.{Gives, TakesKeyword, TakesSpeed};
-ghost use Rattle.dcc_packet.specs.Line.{word_and_rest};
+ghost use Rattle.dcc_saved.specs.Inner.DecoderWords.{TakesKeyword, TakesSpeed};
+ghost use Rattle.dcc_packet.specs.Fields.{word_and_rest, Gives};
 ghost use Rattle.dcc_saved.specs.PendingWrite.{pending_write};
 ghost use Rattle.dcc_saved.specs.PossibleLines.{IsPossibleHead, IsSoundLine};
 

@@ -1,15 +1,10 @@
 -- How words of a decoder text are read.
-use Rattle.std.specs.Prelude.{◌≡◌, ℕ, List, Result, Ok, Err}
+use Rattle.std.specs.Prelude.{ℕ, List, Result}
 use Rattle.dcc_packet.specs.declared.fault.PacketFault.{PacketFault}
 use Rattle.dcc_packet.specs.Words.{Word}
-use Rattle.dcc_packet.specs.Line.{word_and_rest}
+use Rattle.dcc_packet.specs.Fields.{word_and_rest, Gives}
 use Rattle.dcc_regs.specs.declared.register.Speed.{Speed}
 use Rattle.dcc_saved.specs.DecoderLines.{keyword}
-
--- a rule gave this value and these words are left, or this fault
-abbrev pub Gives : {A : Type 0} → Result (A × List Word) PacketFault → Result A PacketFault → List Word → Type 0
-Gives read (Ok x) rest = read ≡ Ok (x, rest)
-Gives read (Err fault) rest = read ≡ Err fault
 
 abbrev pub TakesKeyword : List ℕ → List Word → Result (Unit {0}) PacketFault → List Word → Type 0
 TakesKeyword name line result rest = Gives (word_and_rest (keyword name) line) result rest
