@@ -1,8 +1,11 @@
 //! An accessory decoder written from nothing, over fields of its own. All that is proved of decoders holds of it.
 
+ghost use Rattle.std.specs.List.{AllZip};
 ghost use Rattle.std.specs.Prelude.{◌≡◌, ◌≤◌, ◌<◌, ℕ, false, nat_le, slice_index, slice_index_or, true, unwrap_or};
+ghost use Rattle.dcc_order.specs.Hearing.{HasHeardHalves, whole_track};
 ghost use Rattle.dcc_regs.specs.Outputs.{aspect_set, out_set, position_set};
 
+use dcc_order::hear_track;
 use dcc_packet::{Address, Board, Packet, What};
 use dcc_regs::{Decoder, Register, Value, Who, hears};
 
@@ -97,3 +100,14 @@ fn set_aspects(aspects: &mut [u8; 4], packet: &Packet)
 fn are_bytes(aspects: &[u8])
     ensures { (n : ℕ) → slice_index aspects.now n < 256 }
 {}
+
+/// A fleet of such boards hears a track, which may come in pieces: each holds what the packets in it give.
+pub fn hear(boards: &mut [OwnBoard], pieces: &[&[u16]])
+    ensures { AllZip
+        (λ old new. HasHeardHalves (whole_track pieces.now) (⟦<OwnBoard as Decoder>⟧.who old)
+        (⟦<OwnBoard as Decoder>⟧.registers old) (⟦<OwnBoard as Decoder>⟧.who new)
+        (⟦<OwnBoard as Decoder>⟧.registers new))
+        boards.old boards.new }
+{
+    hear_track(boards, pieces);
+}

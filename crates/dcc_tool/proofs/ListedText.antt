@@ -1,8 +1,8 @@
 -- The listing of a capture that stands in memory.
-use Rattle.std.proofs.Common.{◌≡◌, ◌∙◌, ◌++◌, ◌∷◌, [], ℕ, List, Option, Some, ap, sym, refl}
+use Rattle.std.proofs.Common.{◌∙◌, ◌++◌, ◌∷◌, [], ℕ, List, Option, ap, sym}
 use Rattle.std.specs.Prelude.{unwrap_or}
 use Rattle.dcc_wire.specs.Framing.{seen}
-use Rattle.dcc_io.specs.InputState.{InputState, fresh}
+use Rattle.dcc_io.specs.InputState.{InputState}
 use Rattle.dcc_capture.specs.Listing.{listing}
 use Rattle.dcc_tool.specs.ListedText.{listed_text, ShowListsTheText}
 use Rattle.dcc_tool.specs.Written.{halves_said}

@@ -1,5 +1,5 @@
 -- What a call of the program does.
-use Rattle.std.proofs.Common.{◌≡◌, ◌⊎◌, inl, inr, ℕ, ◌+◌, ◌<◌, ◌≤◌, zero, suc, arith, add-one, length, take, get_or}
+use Rattle.std.proofs.Common.{◌≡◌, inl, inr, ℕ, ◌+◌, ◌<◌, ◌≤◌, zero, suc, arith, add-one, length, take, get_or}
 use Rattle.std.proofs.Common.{List, [], ◌∷◌, ◌++◌, map, Option, None, Some, Result, Ok, Err, All, true, false, ◌↔◌}
 use Rattle.std.proofs.Common.{refl, sym, ap, ◌∙◌, subst, IfSome}
 use Rattle.std.proofs.Math.Seq.{take-suc}
@@ -23,7 +23,7 @@ use Rattle.dcc_saved.specs.DecoderText.{decoder_text}
 use Rattle.dcc_saved.specs.PossibleLines.{is_possible}
 use Rattle.dcc_saved.specs.TextRead.{Answers, UsedWholeLines}
 use Rattle.dcc_listen.specs.FleetRun.{Fleet, Runs}
-use Rattle.dcc_tool.specs.Performs.{Streams, EncodesLines, SavesThese, RunsText, RunsDecoders, decoder_of}
+use Rattle.dcc_tool.specs.Performs.{Streams, EncodesLines, SavesThese, RunsText, decoder_of}
 
 -- where an answer came, no fault was kept
 none_kept : {A : Type 0} (x : A) (fault : Option KeptFault) (P : Type 0)

@@ -1,9 +1,7 @@
 -- What a call has written that answers Ok.
-use Rattle.std.proofs.Common.{◌≡◌, ℕ, ◌+◌, ◌++◌, List, Option, Some, None, IfSome, length, subst, sym, ap, ◌∙◌}
+use Rattle.std.proofs.Common.{◌≡◌, ℕ, ◌++◌, List, Option, Some, None, IfSome, subst, ap}
 use Rattle.std.specs.Io.KnownBytes.{Appends}
 use Rattle.dcc_wire.specs.Framing.{seen}
-use Rattle.dcc_packet.specs.declared.packet.Packet.{Packet}
-use Rattle.dcc_io.specs.declared.fault.KeptFault.{KeptFault}
 use Rattle.dcc_io.specs.InputState.{InputState}
 use Rattle.dcc_io.specs.Items.{Grammar, EndsWith, in_text}
 use Rattle.dcc_io.specs.PacketLines.{packet_lines}
@@ -12,7 +10,6 @@ use Rattle.dcc_io.specs.WriterState.{WriterState}
 use Rattle.dcc_capture.specs.Capture.{captures}
 use Rattle.dcc_capture.specs.Listing.{listing}
 use Rattle.dcc_capture.proofs.ListingLaws.{lists_in_hex}
-use Rattle.dcc_listen.specs.Shown.{Lists}
 use Rattle.dcc_listen.specs.FleetRun.{HaveHeard}
 use Rattle.dcc_send.specs.Encoded.{Encodes}
 use Rattle.dcc_tool.specs.Written.{Gains, halves_said, ShowWritesTheListing, EncodeWritesTheEncoding, RunWritesTheDecoders}

@@ -1,4 +1,4 @@
-use Rattle.std.proofs.Common.{◌∙◌, codes, List, ℕ, Some, refl, ap}
+use Rattle.std.proofs.Common.{◌∙◌, codes, Some, refl, ap}
 use Rattle.dcc_tool.specs.ListedText.{listed_text}
 use Rattle.dcc_examples.proofs.first_call.listed.Goals as goal
 
