@@ -1,5 +1,5 @@
 -- Two sides, taken in step, and what a verdict on their packets says.
-use Rattle.std.proofs.Common.{◌≡◌, ◌⊎◌, inl, inr, ◌∙◌, ◌++◌, ◌∷◌, [], refl, sym, ap, subst, Bool, true, false, List, Option, Some, None}
+use Rattle.std.proofs.Common.{◌≡◌, inl, inr, ◌∙◌, ◌++◌, [], sym, ap, subst, Bool, true, false, List, Option, Some, None}
 use Rattle.std.proofs.Common.{append-nil}
 use Rattle.std.specs.Prelude.{is_none}
 use Rattle.std.specs.Option.{option_to_list}
@@ -14,10 +14,9 @@ use Rattle.dcc_order.specs.GivenLists.{MayFollow, with_item}
 use Rattle.dcc_order.specs.Laws.{AlikeIsTheVerdict, AlikeListsLeaveTheSame}
 use Rattle.dcc_order.specs.Verdicts.{IsVerdict}
 use Rattle.dcc_io.specs.declared.fault.ToolFault.{ToolFault}
-use Rattle.dcc_io.specs.declared.fault.ToolFault.TheVariants.{NoMemory}
 use Rattle.dcc_io.specs.InputState.{InputState}
 use Rattle.dcc_listen.specs.declared.side.Progress.{Progress}
-use Rattle.dcc_listen.specs.Compared.{Compared, ReadsSome, OneFails}
+use Rattle.dcc_listen.specs.Compared.{Compared, OneFails}
 use Rattle.dcc_listen.specs.ComparedBoth.{ComparedBoth}
 use Rattle.dcc_listen.specs.Gathered.{Gathered, GatherFails}
 use Rattle.dcc_listen.specs.GatheredBoth.{GatheredBoth}

@@ -2,3 +2,4 @@
 pub mod Held
 pub mod InStep
 pub mod Sides
+pub mod Pushing

@@ -1,12 +1,14 @@
 //! The packets of the first of two captures in one input, all held.
-ghost use Rattle.std.specs.Prelude.{◌<◌, ◌^◌, IfOk, IfErr, length};
+ghost use Rattle.std.specs.Prelude.{◌≡◌, ◌<◌, ◌^◌, None, IfOk, IfErr, length};
 ghost use Rattle.dcc_listen.specs.GatheredBoth.{BothFail, GatheredFirst};
+ghost use Rattle.dcc_listen.specs.Inner.Pushing.{PushesFirst};
 
 use crate::gathering::hold_seen;
-use dcc_capture::next_of_first;
-use dcc_io::{Input, Source, ToolFault};
+use dcc_capture::{half_at_hand, next_of_first};
+use dcc_io::inputs::line_of_next_byte;
+use dcc_io::{Input, KeptFault, Source, ToolFault};
 use dcc_packet::Packet;
-use dcc_wire::Framer;
+use dcc_wire::{Framer, Seen};
 use std::alloc::Global;
 
 /// Reads the first of two captures up to the end of the line `---` behind it, and holds its packets.
@@ -26,13 +28,32 @@ pub fn gather_first<R: Source>(
     let mut packets = Vec::new(alloc);
     let mut before = 0;
     'runs: loop {
-        match next_of_first(input, before)? {
-            Some((line, run)) => {
+        match push_first(input, &mut framer, before)? {
+            Some((line, seen)) => {
                 before = line;
-                let shown = framer.push_run(run.us, run.n);
-                hold_seen(&mut packets, &shown.seen)?;
+                hold_seen(&mut packets, &seen)?;
             }
             None => return Ok(packets),
         }
+    }
+}
+
+/// Pushes the next run of the first capture, most often a half that stands whole among the bytes at hand, and tells its line.
+#[inline(always)]
+fn push_first<R: Source>(
+    input: &mut Input<R>,
+    framer: &mut Framer,
+    before: u64,
+) -> Result<Option<(u64, Seen)>, KeptFault>
+    requires { input.old.fault ≡ None }
+    ensures { PushesFirst before input.old framer.old result input.new framer.new }
+{
+    let line = line_of_next_byte(input);
+    if let Some(us) = half_at_hand(input) {
+        return Ok(Some((line, framer.push(us))));
+    }
+    match next_of_first(input, before)? {
+        Some((line, run)) => Ok(Some((line, framer.push_run(run.us, run.n).seen))),
+        None => Ok(None),
     }
 }

@@ -5,8 +5,9 @@ ghost use Rattle.dcc_packet.specs.declared.packet.Packet.{Packet};
 ghost use Rattle.dcc_order.specs.Hearing.{AreSpelled, frames_of};
 ghost use Rattle.dcc_io.specs.InputState.{InputState};
 ghost use Rattle.dcc_listen.specs.Taking.{Gathering, TakesPacket};
+ghost use Rattle.dcc_listen.specs.Inner.Pushing.{PushesNext};
 
-use dcc_capture::next_run;
+use dcc_capture::{half_at_hand, next_run};
 use dcc_io::{Input, KeptFault, Source};
 use dcc_packet::Packet;
 use dcc_wire::{Framer, Seen};
@@ -23,16 +24,31 @@ pub(crate) fn next_packet<R: Source>(
     ensures bytes { IfOk result (λ item. input.new.bytes + length (option_to_list item) ≤ input.old.bytes) }
 {
     'runs: loop {
-        match next_run(input)? {
-            Some(run) => {
-                let shown = framer.push_run(run.us, run.n);
-                match packet_in(&shown.seen) {
-                    Some(packet) => return Ok(Some(packet)),
-                    None => (),
-                }
-            }
+        match push_next(input, framer)? {
+            Some(seen) => match packet_in(&seen) {
+                Some(packet) => return Ok(Some(packet)),
+                None => (),
+            },
             None => return Ok(None),
         }
+    }
+}
+
+/// Pushes the next run of a capture, most often a half that stands whole among the bytes at hand.
+#[inline(always)]
+fn push_next<R: Source>(
+    input: &mut Input<R>,
+    framer: &mut Framer,
+) -> Result<Option<Seen>, KeptFault>
+    requires { input.old.fault ≡ None }
+    ensures { PushesNext input.old framer.old result input.new framer.new }
+{
+    if let Some(us) = half_at_hand(input) {
+        return Ok(Some(framer.push(us)));
+    }
+    match next_run(input)? {
+        Some(run) => Ok(Some(framer.push_run(run.us, run.n).seen)),
+        None => Ok(None),
     }
 }
 

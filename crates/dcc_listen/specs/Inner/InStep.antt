@@ -1,5 +1,5 @@
 -- Two sides, taken in step.
-use Rattle.std.specs.Prelude.{◌≡◌, Bool, List, Option}
+use Rattle.std.specs.Prelude.{◌≡◌, List, Option}
 use Rattle.dcc_packet.specs.declared.packet.Packet.{Packet}
 use Rattle.dcc_regs.specs.declared.register.Who.{Who}
 use Rattle.dcc_order.specs.declared.comparer.Comparer.{Comparer}

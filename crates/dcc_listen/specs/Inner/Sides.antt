@@ -1,5 +1,5 @@
 -- The two sides of a comparison: how far they were taken, of a capture and of held packets.
-use Rattle.std.specs.Prelude.{◌≡◌, ◌<◌, ◌^◌, ◌++◌, ◌⊎◌, Bool, true, false, List, [], None, length}
+use Rattle.std.specs.Prelude.{◌≡◌, ◌<◌, ◌^◌, ◌++◌, ◌⊎◌, Bool, true, false, List, None, length}
 use Rattle.dcc_packet.specs.declared.packet.Packet.{Packet}
 use Rattle.dcc_wire.specs.declared.framer.Framer.{Framer}
 use Rattle.dcc_order.specs.GivenLists.{MayFollow}

@@ -11,19 +11,18 @@ runs-init g c =
 
 pub runs-preserved : goal.runs-preserved
 runs-preserved g c =
-    let answer = rw c.in-Some-2.is at (c.in_ok-line.ensures.reads c.runs.invariant.leads.fault) in
+    let (run, answer, pushes) = rw c.in-Some-2.is at c.in_ok-line.ensures in
     let so_far = c.runs.invariant in
     let held = c.in_ok-hold_seen-in-Some-2.ensures in
-    GatheringFirst-run c.args.input.now c.runs.input c.next_of_first.new.input c.runs.before c.in-Some-2.line
-    c.in-Some-2.run' c.runs.framer c.push_run-shown.new.self
-    c.runs.packets.items c.hold_seen.new.packets.items c.push_run-shown.result so_far held.0 answer
-    (c.push_run-shown.ensures.stands so_far.halves so_far.stands)
-    (c.push_run-shown.ensures.sees so_far.halves so_far.stands) held.1 held.2 held.3
+    GatheringFirst-run c.args.input.now c.runs.input c.push_first.new.input c.runs.before c.in-Some-2.line run
+    c.runs.framer c.push_first.new.framer c.runs.packets.items c.hold_seen.new.packets.items
+    (record { seen = c.in-Some-2.seen; at = pushes.at }) so_far held.0 answer
+    (pushes.stands so_far.halves so_far.stands) (pushes.sees so_far.halves so_far.stands) held.1 held.2 held.3
 
 pub returns-in-None-clause-gathers : goal.returns-in-None-clause-gathers
 returns-in-None-clause-gathers g c =
-    let answer = rw c.in-None.is at (c.in_ok-line.ensures.reads c.runs.invariant.leads.fault) in
-    gathers_first c.args.input.now c.runs.input c.next_of_first.new.input c.runs.before c.runs.framer
+    let answer = rw c.in-None.is at c.in_ok-line.ensures in
+    gathers_first c.args.input.now c.runs.input c.push_first.new.input c.runs.before c.runs.framer
     c.runs.packets.items (sym c.fault.ensures.fault ∙ c.in_default.is)
     c.runs.invariant answer
 
@@ -31,6 +30,5 @@ pub returns-in_err-line-clause-fails : goal.returns-in_err-line-clause-fails
 returns-in_err-line-clause-fails g c =
     let p = err_from_is_err_and c.from_residual.result c.from_residual.ensures.1 in
     rw (p.1, p.2)
-    (first_stops c.args.input.now c.runs.input c.next_of_first.new.input c.runs.before c.runs.framer
-    c.runs.packets.items _ (sym c.fault.ensures.fault ∙ c.in_default.is) c.runs.invariant
-    (c.in_err-line.ensures.reads c.runs.invariant.leads.fault))
+    (first_stops c.args.input.now c.runs.input c.push_first.new.input c.runs.before c.runs.framer
+    c.runs.packets.items _ (sym c.fault.ensures.fault ∙ c.in_default.is) c.runs.invariant c.in_err-line.ensures)

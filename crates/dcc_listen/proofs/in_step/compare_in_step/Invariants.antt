@@ -1,4 +1,4 @@
-use Rattle.std.proofs.Common.{◌≡◌, ◌+◌, cond}
+use Rattle.std.proofs.Common.{◌+◌, cond}
 use Rattle.dcc_listen.specs.Inner.InStep.{TakenInStep}
 use Rattle.dcc_listen.proofs.in_step.compare_in_step.Given as goal
 

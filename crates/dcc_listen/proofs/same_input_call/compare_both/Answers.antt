@@ -1,4 +1,4 @@
-use Rattle.std.proofs.Common.{◌∙◌, sym, subst, append-nil, ap}
+use Rattle.std.proofs.Common.{◌∙◌, subst}
 use Rattle.std.proofs.lemmas.Result.{IfOk-weaker, IfErr-weaker}
 use Rattle.dcc_order.specs.Verdicts.{IsVerdict}
 use Rattle.dcc_listen.proofs.GatherFirstLemmas.{gathers_both, second_fails}
