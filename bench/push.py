@@ -4,7 +4,7 @@
     bench/push.py
 
 Ordinary packets and the half-bits of a noisy track, where each seventh packet is cut off by a bad half. Wants crates/dcc_c/out/libdcc_c.a
-(tools/c-library) and a C compiler.
+(tools/c-library), a C compiler and valgrind. Status 1 where the two tell different outcomes, or `dcc_push` takes more than MOST times the other.
 """
 import os
 import re
@@ -13,6 +13,7 @@ import sys
 import tempfile
 
 TOP = os.path.join(os.path.dirname(os.path.abspath(__file__)), "..")
+MOST = float(os.environ.get("MOST", 1.6))
 PACKETS = ["036261", "ff00ff", "039093", "ff00ff", "8cfd71", "c3e83f7f6b", "03ec1c06f5"]
 
 
@@ -49,7 +50,11 @@ def main():
                 print(f"{name}: they differ: {sums}")
                 return 1
             library_cost, plain_cost = [(cost - reading) / (turns * len(turn)) for cost in costs]
-            print(f"{name}: dcc_push {library_cost:.1f} instructions a half-bit, plain C {plain_cost:.1f}: {library_cost / plain_cost:.2f} times")
+            times = library_cost / plain_cost
+            print(f"{name}: dcc_push {library_cost:.1f} instructions a half-bit, plain C {plain_cost:.1f}: {times:.2f} times")
+            if times > MOST:
+                print(f"{name}: {MOST:g} times are let through")
+                return 1
     return 0
 
 
