@@ -1,2 +1,1 @@
 mod AskedLemmas
-mod WorkedExamples

@@ -1,7 +1,7 @@
 //! One call of the program, over any words, streams and standard error.
 
 use crate::request::asked;
-use crate::telling::tell_words;
+use dcc_command::tell_words;
 use dcc_tool::{Ending, Input, Sink, Source, ToolFault, Usage, perform, tell_end};
 use std::alloc::Global;
 use std::env::{Env, FillError};
@@ -27,7 +27,10 @@ where
     let words = words_of(rt)?;
     match asked(rt.alloc(), words.as_slice()) {
         Ok(request) => perform(rt.alloc(), request?, input, writer),
-        Err(error) => tell_words(rt, &error),
+        Err(error) => {
+            tell_words(rt, &error)?;
+            Ok(Ending::Done)
+        }
     }
 }
 

@@ -1,11 +1,11 @@
 //! What the words of a command line ask for.
 ghost use Rattle.std.specs.Prelude.{◌≡◌, IfOk, codes, map};
 ghost use Rattle.clap.specs.Words.{FailsBy, fault_of, first_of, found_of, rows_of, subcommand_of, subcommand_rows_of};
-ghost use Rattle.dcc.specs.CommandLine.{dcc_app};
+ghost use Rattle.dcc_command.specs.CommandLine.{dcc_app};
 ghost use Rattle.dcc.specs.Asked.{Asks, AsksOf, IsEncoding, IsFlag, IsSize, IsStation, ReadsCvOf, comparison};
 
-use crate::command_line::command;
 use clap::{ArgMatches, Error};
+use dcc_command::taken;
 use dcc_packet::CvNumber;
 use dcc_tool::{Encode, Request, ToolFault, Usage, read_who};
 use std::alloc::Global;
@@ -18,8 +18,7 @@ pub fn asked<S: AsStr>(alloc: Global, words: &[S]) -> Result<Result<Request, Too
     ensures takes { FailsBy (fault_of dcc_app (map S.text words.now)) result }
     ensures asks { IfOk result (AsksOf (subcommand_of dcc_app (map S.text words.now))) }
 {
-    let matches = command(alloc)?.try_get_matches_from(words)?;
-    Ok(request_of(&matches))
+    Ok(request_of(&taken(alloc, words)?))
 }
 
 /// The request of words that clap has taken. A word for `--who` that names no decoder is U1.

@@ -1,8 +1,8 @@
 use Rattle.std.proofs.Common.{◌≡◌, ◌∙◌, ap, ap₂}
 use Rattle.std.proofs.lemmas.Result.{IfOk-weaker}
 use Rattle.clap.specs.Words.{App, app_of, with_subcommand}
-use Rattle.dcc.specs.CommandLine.{encode_app, readcv_app, run_app, same_app, show_app, timing_app, top_app}
-use Rattle.dcc.proofs.command_line.command.Goals as goal
+use Rattle.dcc_command.specs.CommandLine.{encode_app, readcv_app, run_app, same_app, show_app, top_app}
+use Rattle.dcc_command.proofs.command_line.command.Goals as goal
 
 -- a subcommand more
 more : {old new added joined : App} → old ≡ new → added ≡ joined

@@ -4,14 +4,14 @@ ghost use Rattle.clap.specs.Words.{kind_of};
 
 use clap::Error;
 use clap::error::ErrorKind;
-use dcc_tool::{Ending, ToolFault, Usage};
+use dcc_io::{ToolFault, Usage};
 
 /// What comes of a command line that asks for no subcommand: clap's own text, which for `--help` and `--version` was
 /// asked for and goes to standard output. That fails only where the text cannot be written.
-pub fn tell_words<R: Print + Eprint>(rt: &R, error: &Error) -> Result<Ending, ToolFault>
+pub fn tell_words<R: Print + Eprint>(rt: &R, error: &Error) -> Result<(), ToolFault>
     ensures no_memory { kind_of error.now ≡ ErrorKind.OutOfMemory → result ≡ Err ToolFault.NoMemory }
     ensures asked_for { (kind_of error.now ≡ ErrorKind.DisplayHelp) ⊎ (kind_of error.now ≡ ErrorKind.DisplayVersion)
-        → (result ≡ Ok Ending.Done) ⊎ (result ≡ Err ToolFault.Write) }
+        → (result ≡ Ok tt) ⊎ (result ≡ Err ToolFault.Write) }
     ensures wrong { kind_of error.now ≢ ErrorKind.OutOfMemory → kind_of error.now ≢ ErrorKind.DisplayHelp
         → kind_of error.now ≢ ErrorKind.DisplayVersion → result ≡ Err (ToolFault.Usage Usage.Words) }
 {
@@ -23,7 +23,7 @@ pub fn tell_words<R: Print + Eprint>(rt: &R, error: &Error) -> Result<Ending, To
         return Err(ToolFault::Usage(Usage::Words));
     }
     match printed {
-        Ok(()) => Ok(Ending::Done),
+        Ok(()) => Ok(()),
         Err(_) => Err(ToolFault::Write),
     }
 }

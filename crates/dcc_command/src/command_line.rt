@@ -2,8 +2,8 @@
 ghost use Rattle.std.specs.Prelude.{◌≡◌, IfOk, false, codes};
 ghost use Rattle.clap.specs.Words.{app_of, rule_of};
 ghost use Rattle.clap.specs.declared.builder.command.Command.TheViews.{out-Command as fields_of};
-ghost use Rattle.dcc.specs.CommandLine.{cv_rule, dcc_app, encode_app, encode_flags, flag_rule, readcv_app, run_app};
-ghost use Rattle.dcc.specs.CommandLine.{same_app, show_app, size_rule, timing_app, top_app, who_rule};
+ghost use Rattle.dcc_command.specs.CommandLine.{cv_rule, dcc_app, encode_app, encode_flags, flag_rule, readcv_app, run_app};
+ghost use Rattle.dcc_command.specs.CommandLine.{same_app, show_app, size_rule, timing_app, top_app, who_rule};
 
 use crate::help_texts;
 use clap::{Arg, ArgAction, Command, value_parser};

@@ -3,7 +3,7 @@ use Rattle.std.proofs.Common.{◌≡◌, refl, codes, List, [], ◌∷◌, Some,
 use Rattle.clap.specs.Words.{Text, fault_of, one_of, subcommand_of}
 use Rattle.clap.specs.declared.error.kind.ErrorKind.TheVariants as kind
 use Rattle.clap.proofs.OnLiterals.{clap_on_literals}
-use Rattle.dcc.specs.CommandLine.{dcc_app}
+use Rattle.dcc_command.specs.CommandLine.{dcc_app}
 
 -- the subcommand that is entered, and what `get_one` reads of this argument
 abbrev read_of : Text → List Text → Option (Text × Option Text)
