@@ -13,6 +13,11 @@ use Rattle.dcc_io.specs.Took.{LinesAt}
 use Rattle.dcc_io.specs.Items.{Gave, StopsAt, only_fault}
 use Rattle.dcc_io.specs.PacketLines.{Saying, lines_by, items_in, packet_words}
 
+-- what the words of a line say where this comes of them, or their fault
+abbrev pub said_or_fault : {B C : Type 0} → (C → B) → Result C PacketFault → Result B PacketFault
+said_or_fault as_said (Ok says) = Ok (as_said says)
+said_or_fault as_said (Err fault) = Err fault
+
 -- what the next line says that says anything
 abbrev pub AnswersSaid : {A B C : Type 0} → Saying A B → (C → B) → InputState → Result (Option C) KeptFault → InputState
     → Type 0
@@ -38,7 +43,3 @@ ReadsSaid saying as_said old line (Err answer) new =
 -- the packet of the next line that says one
 abbrev pub AnswersPacket : InputState → Result (Option Packet) KeptFault → InputState → Type 0
 AnswersPacket old result new = AnswersSaid packet_words spelling old result new
-
--- a line's words say a packet, or have a fault, which is kept
-abbrev pub ReadsPacket : InputState → TextLine → Result (Option Packet) KeptFault → InputState → Type 0
-ReadsPacket old line result new = ReadsSaid packet_words spelling old line result new

@@ -55,7 +55,3 @@ station_lines = lines_by station_words
 abbrev pub asked_by : StationLine → List Asked
 asked_by (lines.Command packet) = Command (spelling packet) ∷ []
 asked_by (lines.Send n) = replicate n Next
-
-abbrev pub asked_or_fault : Result StationLine PacketFault → Result (List Asked) PacketFault
-asked_or_fault (Ok line) = Ok (asked_by line)
-asked_or_fault (Err fault) = Err fault

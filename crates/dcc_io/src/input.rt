@@ -7,7 +7,6 @@ ghost use Rattle.dcc_io.specs.Inner.FrontWords.{BeginsWithWord, HasLineFeedAt, I
 ghost use Rattle.dcc_io.specs.PassedWords.{AnswersWord, EndsWord, Passed};
 ghost use Rattle.dcc_io.specs.KeptAnswers.{AnswersKept};
 ghost use Rattle.dcc_io.specs.NextLine.{AnswersLine, EndsLine};
-ghost use Rattle.dcc_io.specs.PacketRead.{AnswersPacket, ReadsPacket};
 ghost use Rattle.dcc_io.specs.Inner.FrontLine.{BeginsWithLine, IsFrontLine, SkipsLine};
 ghost use Rattle.dcc_io.specs.Counted.{CountsRun, TakesHalf, TakesRun};
 ghost use Rattle.dcc_io.specs.InputState.{InputState, closed_text, closing, AnswersByte, HasCause, fresh};
@@ -21,7 +20,7 @@ use crate::word::{
     FrontWord, Run, RunWord, begins_with_line_feed, begins_with_run, front_word, is_gap,
     len_of_line, short_front_word, whole_word,
 };
-use dcc_packet::{Packet, PacketFault};
+use dcc_packet::PacketFault;
 use std::marker::Model;
 
 /// How much of one input is taken at most. What would pass a limit is U7.
@@ -433,69 +432,6 @@ impl<R: Source> Input<R> {
                 }
                 None => return Ok(None),
             }
-        }
-    }
-
-    /// The packet of the next line that says one, or none at the end. A fault is kept.
-    pub(crate) fn next_packet(&mut self) -> Result<Option<Packet>, KeptFault>
-        ensures kept { AnswersKept self.old result self.new }
-        ensures reads { self.old.fault ≡ None → AnswersPacket self.old result self.new }
-    {
-        match self.fault {
-            Some(fault) => Err(fault),
-            None => self.next_packet_line(),
-        }
-    }
-
-    /// The packet of the next line that says one, or none at the end.
-    fn next_packet_line(&mut self) -> Result<Option<Packet>, KeptFault>
-        requires { self.old.fault ≡ None }
-        ensures { AnswersPacket self.old result self.new }
-    {
-        'lines: loop {
-            if self.take_skipped_line() {
-                continue;
-            }
-            match self.next_line()? {
-                Some(line) => {
-                    if !line.is_skipped() {
-                        return self.read_packet(&line);
-                    }
-                }
-                None => return Ok(None),
-            }
-        }
-    }
-
-    /// The packet that the words of a line say, or the fault, which is kept.
-    fn read_packet(&mut self, line: &TextLine) -> Result<Option<Packet>, KeptFault>
-        ensures { ReadsPacket self.old line.now result self.new }
-    {
-        match Packet::from_line(line.text.as_str()) {
-            Ok(packet) => Ok(Some(packet)),
-            Err(fault) => Err(self.refuse(KeptFault::Line {
-                line: line.number,
-                fault,
-            })),
-        }
-    }
-
-    /// The packet of the next line, if that line stands whole in the bytes that were read and says one. So most lines take no
-    /// read, and no copy of them is made. Any other line is left to `next_packet`, a skipped or a bad one too, and so is each
-    /// where a fault is kept.
-    pub(crate) fn packet_at_hand(&mut self) -> Option<Packet>
-        ensures some { IfSome result (λ packet. AnswersPacket self.old (Ok (Some packet)) self.new) }
-        ensures none { IfNone result (self.new ≡ self.old) }
-        ensures kept { IfSome self.old.fault (λ fault. result ≡ None) }
-    {
-        if self.fault().is_some() {
-            return None;
-        }
-        let line = self.whole_line()?;
-        let len = line.len();
-        match Packet::from_line_bytes(line) {
-            Ok(packet) if self.take_line(len) => Some(packet),
-            Ok(_) | Err(_) => None,
         }
     }
 

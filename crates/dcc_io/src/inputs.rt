@@ -134,7 +134,7 @@ pub fn packet_at_hand<R: Source>(input: &mut Input<R>) -> Option<Packet>
     ensures none { IfNone result (input.new ≡ input.old) }
     ensures kept { IfSome input.old.fault (λ fault. result ≡ None) }
 {
-    input.packet_at_hand()
+    input.said_at_hand::<Packet>()
 }
 
 /// The packet of the next line that says one, or none at the end. A fault is kept.
@@ -142,7 +142,7 @@ pub fn next_packet<R: Source>(input: &mut Input<R>) -> Result<Option<Packet>, Ke
     ensures kept { AnswersKept input.old result input.new }
     ensures reads { input.old.fault ≡ None → AnswersPacket input.old result input.new }
 {
-    input.next_packet()
+    input.next_said::<Packet>()
 }
 
 /// What the next line asks of a station, if that line stands whole in the bytes that were read and asks anything. Any other
@@ -152,7 +152,7 @@ pub fn station_line_at_hand<R: Source>(input: &mut Input<R>) -> Option<StationLi
     ensures none { IfNone result (input.new ≡ input.old) }
     ensures kept { IfSome input.old.fault (λ fault. result ≡ None) }
 {
-    input.station_line_at_hand()
+    input.said_at_hand::<StationLine>()
 }
 
 /// What the next line asks of a station that asks anything, or none at the end. A fault is kept.
@@ -160,5 +160,5 @@ pub fn next_station_line<R: Source>(input: &mut Input<R>) -> Result<Option<Stati
     ensures kept { AnswersKept input.old result input.new }
     ensures reads { input.old.fault ≡ None → AnswersSaid station_words asked_by input.old result input.new }
 {
-    input.next_station_line()
+    input.next_said::<StationLine>()
 }

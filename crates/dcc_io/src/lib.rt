@@ -11,6 +11,7 @@ mod input;
 pub mod inputs;
 pub mod laws;
 mod line_end;
+mod said_line;
 mod station_line;
 mod stream;
 mod text;

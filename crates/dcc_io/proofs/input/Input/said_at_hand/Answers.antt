@@ -1,10 +1,9 @@
 use Rattle.std.proofs.Common.{sym, refl}
-use Rattle.dcc_io.specs.StationLines.{station_words, asked_by}
 use Rattle.dcc_io.proofs.PacketReadLemmas.{answers_line}
-use Rattle.dcc_io.proofs.input.Input.station_line_at_hand.Goals as goal
+use Rattle.dcc_io.proofs.input.Input.said_at_hand.Goals as goal
 
 pub returns-in-Ok-clause-some : goal.returns-in-Ok-clause-some
 returns-in-Ok-clause-some g c =
     let front = c.in_ok-line.ensures in
-    answers_line station_words asked_by c.args.self.now c.take_line.new.self c.in_ok-line.line.now c.in-Ok.asks
+    answers_line g.L.SaidLine.saying g.L.SaidLine.as_said c.args.self.now c.take_line.new.self c.in_ok-line.line.now c.in-Ok.says
     (c.take_line.ensures.taken c.if-take_line.true c.in_ok-line.line.now front.begins refl) front.says (sym c.in-Ok.ensures)
