@@ -17,7 +17,7 @@ use Rattle.dcc_wire.proofs.OpenBodies.{answer-bit, answer-first, bit_more, first
 use Rattle.dcc_wire.proofs.OutcomeLemmas.{answer-open, outcome_of-something}
 use Rattle.dcc_wire.proofs.PackedLemmas.{packed_bits-more, packed_bits-whole, packed_more, packed_none, packed_open, packed_whole, shift_fits}
 
-in_body_rest : (k : Kept) (has_first : Bool) → k.in_body ≡ true → k.has_first ≡ has_first
+pub in_body_rest : (k : Kept) (has_first : Bool) → k.in_body ≡ true → k.has_first ≡ has_first
     → kept_rest k ≡ InBody (halves_of (packed_bits k.bytes k.count k.shift) ++ first_half
     (if has_first then Some k.first else None))
 in_body_rest k has_first in_body e =

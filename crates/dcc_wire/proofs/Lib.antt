@@ -3,6 +3,7 @@ pub mod BitNumbers
 pub mod OutcomeLemmas
 pub mod FramingLemmas
 pub mod KeptLemmas
+pub mod KeptEnds
 pub mod OpenBodies
 pub mod ByteLemmas
 pub mod SendingLemmas

@@ -3,7 +3,6 @@
 ghost use Rattle.std.specs.Prelude.{◌≡◌};
 
 use crate::bytes::PacketBytes;
-use arrayvec::ArrayVec;
 use std::marker::Model;
 use thiserror::Error;
 
@@ -80,10 +79,9 @@ impl Frame {
         if bytes.len() < 2 || bytes.len() > 5 {
             return Err(FrameFault::Length);
         }
-        let mut all = ArrayVec::<u8, 6>::new();
-        all.try_extend_from_slice(bytes).unwrap();
+        let mut all = PacketBytes::of(bytes);
         all.push(xor(bytes));
-        Frame::of(&all)
+        Ok(Frame { bytes: all })
     }
 
     /// The frame of bytes that are known to be one.

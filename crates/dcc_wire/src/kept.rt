@@ -71,7 +71,7 @@ impl Model for KeptFramer {
 }
 
 impl KeptFramer {
-    ghost use Rattle.std.specs.Prelude.{◌≡◌, ◌≢◌, ℕ, List, ◌++◌, [], ◌∷◌, Some, length, IsTrue, true, false};
+    ghost use Rattle.std.specs.Prelude.{◌≡◌, ◌≢◌, ◌↔◌, ℕ, List, ◌++◌, [], ◌∷◌, Some, length, IsTrue, true, false};
     ghost use Rattle.dcc_wire.specs.Half.{bit_of};
     ghost use Rattle.dcc_wire.specs.Outcomes.{ones_left};
     ghost use Rattle.dcc_wire.specs.Framing.{Hunting, InBody, StandsFor, seen, report_at};
@@ -93,7 +93,7 @@ impl KeptFramer {
         self.take_half(Half::of(us))
     }
 
-    /// Takes a half of this many microseconds where it shows nothing, as most do, and answers whether it did. Where it may show
+    /// Takes a half of this many microseconds where it shows nothing, as most do, and answers whether it did. Where it shows
     /// something the framer stays as it is, and [`push`](KeptFramer::push) takes the half.
     #[tactic(auto, unfolding(crate::specs::Framing::StandsFor), using(crate::proofs::FramerSteps::pushes))]
     #[inline(always)]
@@ -104,6 +104,8 @@ impl KeptFramer {
         ensures sees { IsTrue result → (durations : List ℕ) → StandsFor (kept_rest self.old) durations
             → seen (durations ++ us ∷ []) ≡ seen durations }
         ensures left { result ≡ false → self.new ≡ self.old }
+        ensures shows { result ≡ false → (durations : List ℕ) → StandsFor (kept_rest self.old) durations
+            → seen (durations ++ us ∷ []) ≢ seen durations }
     {
         self.pass_half(Half::of(us))
     }
@@ -127,18 +129,20 @@ impl KeptFramer {
         ensures history { (durations : List ℕ) × StandsFor (kept_rest self.old) durations }
         ensures grows { IsTrue result → Grows self.old half self.new }
         ensures left { result ≡ false → self.new ≡ self.old }
+        ensures shows { result ≡ false → answer_to (kept_rest self.old) half ≢ Seen.Nothing }
     {
         if !self.in_body {
             self.hunt(half);
             return true;
         }
-        match half.bit() {
-            Some(bit) if self.has_room_for(bit) => {
-                self.add(bit);
-                true
-            }
-            Some(_) | None => false,
+        let Some(bit) = half.bit() else {
+            return false;
+        };
+        if !self.has_room_for(bit) {
+            return false;
         }
+        self.add(bit);
+        true
     }
 
     /// Takes a half between bodies.
@@ -164,7 +168,7 @@ impl KeptFramer {
     #[inline(always)]
     fn has_room_for(&self, bit: bool) -> bool
         requires { self.now.in_body ≡ true }
-        ensures { IsTrue result → HasRoomFor self.now bit }
+        ensures { IsTrue result ↔ HasRoomFor self.now bit }
     {
         if !self.has_first {
             return true;
@@ -197,8 +201,7 @@ impl KeptFramer {
         }
     }
 
-    /// Takes a half as the framer that is kept does. (It is kept out of the way of what each half costs.)
-    #[inline(never)]
+    /// Takes a half as the framer that is kept does.
     fn take_apart(&mut self, half: Half) -> Seen
         ensures history { (durations : List ℕ) × StandsFor (kept_rest self.old) durations }
         ensures after { kept_rest self.new ≡ rest_after (kept_rest self.old) half }

@@ -15,6 +15,7 @@ impl Framer {
     ghost use Rattle.std.specs.Prelude.{◌≡◌, ◌≢◌, ◌<◌, ◌≤◌, ◌+◌, ◌-◌, ℕ, List, ◌++◌, length, replicate};
     ghost use Rattle.dcc_wire.specs.Framing.{Hunting, StandsFor, seen, report_at};
     ghost use Rattle.dcc_wire.specs.Half.{class_of};
+    ghost use Rattle.dcc_wire.specs.Inner.RunSteps.{PushesRun};
     ghost use Rattle.dcc_wire.specs.Outcomes.{ones_left};
     ghost use Rattle.dcc_wire.specs.Runs.{rest_after_run};
 
@@ -70,25 +71,15 @@ impl Framer {
             let seen = self.push(us);
             return RunSeen { seen, at: 1 };
         }
+        // (the prover knows a type's invariant where one of its fields is named)
+        let _ = &self.state;
         self.push_many(us, n)
     }
 
     /// The same for any number of halves.
     fn push_many(&mut self, us: u16, n: u32) -> RunSeen
-        ensures history { (durations : List ℕ) × StandsFor self.old durations }
-        ensures stands { (durations : List ℕ) → StandsFor self.old durations
-            → StandsFor self.new (durations ++ replicate n us) }
-        ensures sees { (durations : List ℕ) → StandsFor self.old durations →
-            seen (durations ++ replicate n us) ≡ seen durations ++ report_at (length durations + result.at - 1) result.seen }
-        ensures before { (durations : List ℕ) → StandsFor self.old durations
-            → seen (durations ++ replicate (result.at - 1) us) ≡ seen durations }
-        ensures nothing { result.seen ≡ Seen.Nothing → result.at ≡ n }
-        ensures something { result.seen ≢ Seen.Nothing → (1 ≤ result.at) × (result.at ≤ n) }
-        ensures hunts { result.seen ≢ Seen.Nothing
-            → self.new ≡ rest_after_run (Hunting (ones_left result.seen)) (class_of us) (n - result.at) }
+        ensures { PushesRun self.old us n result self.new }
     {
-        // (the prover knows a type's invariant where one of its fields is named)
-        let _ = &self.state;
         let half = Half::of(us);
         let mut at = 0;
         while !self.is_quiet(half) {

@@ -1,4 +1,4 @@
-use Rattle.std.proofs.Common.{◌≡◌, ◌≢◌, ℕ, ◌+◌, ◌-◌, ◌++◌, List, replicate, ap, subst, ◌∙◌, rules, arith}
+use Rattle.std.proofs.Common.{◌≡◌, ◌≢◌, ℕ, ◌+◌, ◌-◌, ◌++◌, List, replicate, ap, refl, subst, ◌∙◌, rules, arith}
 use Rattle.dcc_wire.specs.declared.seen.Seen.TheVariants.{Nothing}
 use Rattle.dcc_wire.specs.Half.{class_of}
 use Rattle.dcc_wire.specs.Framing.{StandsFor, seen}
@@ -8,16 +8,22 @@ use Rattle.dcc_wire.proofs.RunLemmas.{quiet_before, nothing_seen}
 use Rattle.dcc_wire.proofs.framer.Framer.push_many.Goals as goal
 use Rattle.dcc_wire.proofs.framer.Framer.push_many.Goals.{After-skip, After-skip-2}
 
-pub returns-then-at-n-clause-sees : goal.returns-then-at-n-clause-sees
-returns-then-at-n-clause-sees c = λ durations h.
-    nothing_seen durations (durations ++ replicate c.args.n c.args.us) _
-    (subst (λ k. seen (durations ++ replicate k c.args.us) ≡ seen durations) (omega arith)
-    (c.loop-half.invariant.0.quiet durations h))
-
-pub returns-then-at-n-clause-before : goal.returns-then-at-n-clause-before
-returns-then-at-n-clause-before c = λ durations h.
-    quiet_before durations c.args.us (c.loop-half.at - 1) c.loop-half.at (omega arith)
-    (c.loop-half.invariant.0.quiet durations h)
+pub returns-then-at-n : goal.returns-then-at-n
+returns-then-at-n c = record {
+  stands = λ durations h.
+      subst (λ k. StandsFor c.loop-half.self (durations ++ replicate k c.args.us)) (omega arith)
+      (c.loop-half.invariant.0.stands durations h);
+  sees = λ durations h.
+      nothing_seen durations (durations ++ replicate c.args.n c.args.us) _
+      (subst (λ k. seen (durations ++ replicate k c.args.us) ≡ seen durations) (omega arith)
+      (c.loop-half.invariant.0.quiet durations h));
+  before = λ durations h.
+      quiet_before durations c.args.us (c.loop-half.at - 1) c.loop-half.at (omega arith)
+      (c.loop-half.invariant.0.quiet durations h);
+  nothing = λ _. omega arith;
+  something = λ some. absurd (some refl);
+  hunts = λ some. absurd (some refl);
+}
 
 pub skip-requires : goal.skip-requires
 skip-requires c =
@@ -45,23 +51,28 @@ stands_then c =
     c.push_some-some.result.at c.push_some-some.result.seen
     c.loop-half.invariant.0 c.push_some-some.ensures.some.0 c.push_some-some.ensures.stands c.push_some-some.ensures.sees
 
-pub returns-then-not-is_nothing-clause-stands : goal.returns-then-not-is_nothing-clause-stands
-returns-then-not-is_nothing-clause-stands c =
-    skip_stands c.args.self.now c.push_some-some.new.self c.skip.new.self c.args.us (c.loop-half.at + c.push_some-some.result.at) c.args.n
-    (omega arith) (quiet_then c) (skipped_then c) (stands_then c)
-
-pub returns-then-not-is_nothing-clause-sees : goal.returns-then-not-is_nothing-clause-sees
-returns-then-not-is_nothing-clause-sees c = λ durations h.
-    skip_sees c.args.self.now c.push_some-some.new.self c.skip.new.self c.args.us (c.loop-half.at + c.push_some-some.result.at) c.args.n (omega arith)
-    (quiet_then c) (skipped_then c) (stands_then c) durations h
-    ∙ run_sees c.args.self.now c.loop-half.self c.push_some-some.new.self c.args.us c.loop-half.at
-    c.push_some-some.result.at c.push_some-some.result.seen
-    c.loop-half.invariant.0 c.push_some-some.ensures.some.0 c.push_some-some.ensures.stands c.push_some-some.ensures.sees durations h
-
-pub returns-then-not-is_nothing-clause-before : goal.returns-then-not-is_nothing-clause-before
-returns-then-not-is_nothing-clause-before c =
-    run_before c.args.self.now c.loop-half.self c.args.us c.loop-half.at c.push_some-some.result.at
-    c.loop-half.invariant.0 c.push_some-some.ensures.some.0 c.push_some-some.ensures.before
+pub returns-then-not-is_nothing : goal.returns-then-not-is_nothing
+returns-then-not-is_nothing c =
+    let at = c.loop-half.at + c.push_some-some.result.at in
+    let something : c.push_some-some.result.seen ≢ Nothing = search rules in
+    record {
+      stands = skip_stands c.args.self.now c.push_some-some.new.self c.skip.new.self c.args.us at c.args.n
+          (omega arith) (quiet_then c) (skipped_then c) (stands_then c);
+      sees = λ durations h.
+          skip_sees c.args.self.now c.push_some-some.new.self c.skip.new.self c.args.us at c.args.n (omega arith)
+          (quiet_then c) (skipped_then c) (stands_then c) durations h
+          ∙ run_sees c.args.self.now c.loop-half.self c.push_some-some.new.self c.args.us c.loop-half.at
+          c.push_some-some.result.at c.push_some-some.result.seen
+          c.loop-half.invariant.0 c.push_some-some.ensures.some.0 c.push_some-some.ensures.stands
+          c.push_some-some.ensures.sees durations h;
+      before = run_before c.args.self.now c.loop-half.self c.args.us c.loop-half.at c.push_some-some.result.at
+          c.loop-half.invariant.0 c.push_some-some.ensures.some.0 c.push_some-some.ensures.before;
+      nothing = λ none. absurd (something none);
+      something = λ _. (omega (arith, c.push_some-some.ensures.some), omega (arith, c.push_some-some.ensures.some));
+      hunts = λ some.
+          skipped_then c
+          ∙ ap (λ r. rest_after_run r (class_of c.args.us) (c.args.n - at)) (c.push_some-some.ensures.hunts some);
+    }
 
 pub loop-half-preserved : goal.loop-half-preserved
 loop-half-preserved c =
@@ -89,15 +100,13 @@ seen_from c durations h =
     c.loop-half.invariant.1 (quiet_from c) (skipped_from c) c.loop-half.invariant.0.stands durations h
     ∙ c.loop-half.invariant.0.quiet durations h
 
-pub returns-clause-stands : goal.returns-clause-stands
-returns-clause-stands c =
-    skip_stands c.args.self.now c.loop-half.self c.skip-2.new.self c.args.us c.loop-half.at c.args.n
-    c.loop-half.invariant.1 (quiet_from c) (skipped_from c) c.loop-half.invariant.0.stands
-
-pub returns-clause-sees : goal.returns-clause-sees
-returns-clause-sees c =
-    λ durations h. nothing_seen durations (durations ++ replicate c.args.n c.args.us) _ (seen_from c durations h)
-
-pub returns-clause-before : goal.returns-clause-before
-returns-clause-before c =
-    λ durations h. quiet_before durations c.args.us (c.args.n - 1) c.args.n (omega arith) (seen_from c durations h)
+pub returns : goal.returns
+returns c = record {
+  stands = skip_stands c.args.self.now c.loop-half.self c.skip-2.new.self c.args.us c.loop-half.at c.args.n
+      c.loop-half.invariant.1 (quiet_from c) (skipped_from c) c.loop-half.invariant.0.stands;
+  sees = λ durations h. nothing_seen durations (durations ++ replicate c.args.n c.args.us) _ (seen_from c durations h);
+  before = λ durations h. quiet_before durations c.args.us (c.args.n - 1) c.args.n (omega arith) (seen_from c durations h);
+  nothing = λ _. refl;
+  something = λ some. absurd (some refl);
+  hunts = λ some. absurd (some refl);
+}

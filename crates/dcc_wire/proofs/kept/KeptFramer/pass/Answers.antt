@@ -1,7 +1,7 @@
-use Rattle.std.proofs.Common.{append-nil, ap, length, ◌++◌, sym, ◌∙◌}
+use Rattle.std.proofs.Common.{append-nil, length}
 use Rattle.dcc_wire.specs.Framing.{StandsFor, report_at, seen}
-use Rattle.dcc_wire.specs.Inner.Steps.{answer_to}
 use Rattle.dcc_wire.proofs.FramingLemmas.{seen-push}
+use Rattle.dcc_wire.proofs.KeptEnds.{report_shows}
 use Rattle.dcc_wire.proofs.kept.KeptFramer.pass.Goals as goal
 
 pub returns-clause-sees : goal.returns-clause-sees
@@ -9,3 +9,10 @@ unfolding StandsFor report_at
 returns-clause-sees c = λ passed durations stands.
     let quiet = (c.pass_half.ensures.grows passed).answer in
     rw (seen-push durations c.args.us, ← stands, ← c.of.ensures, quiet) (append-nil (seen durations))
+
+pub returns-clause-shows : goal.returns-clause-shows
+unfolding StandsFor
+returns-clause-shows c = λ left durations stands.
+    let something = c.pass_half.ensures.shows left in
+    rw (seen-push durations c.args.us, ← stands, ← c.of.ensures)
+    (report_shows (seen durations) (length durations) _ something)

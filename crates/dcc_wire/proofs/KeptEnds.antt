@@ -1,0 +1,122 @@
+-- A half with which a body that is kept as plain numbers comes to an outcome.
+use Rattle.std.proofs.Common.{◌≡◌, ◌≢◌, ℕ, ◌≤◌, ◌⊎◌, inl, inr, Bool, true, false, List, [], ◌∷◌, ◌++◌, Some, None}
+use Rattle.std.proofs.Common.{length, refl, sym, ap, ◌∙◌, arith, length-append, if◌then◌else◌}
+use Rattle.std.proofs.lemmas.Bool.{cases_lt}
+use Rattle.dcc_wire.specs.declared.half.Half.{Half}
+use Rattle.dcc_wire.specs.declared.seen.Fault.TheVariants.{BadHalf, SplitBit, TooLong}
+use Rattle.dcc_wire.specs.declared.seen.Seen.{Seen}
+use Rattle.dcc_wire.specs.declared.seen.Seen.TheVariants.{Nothing, Packet, Refused}
+use Rattle.dcc_wire.specs.Bodies.{first_half, halves_of}
+use Rattle.dcc_wire.specs.Framing.{InBody, report_at}
+use Rattle.dcc_wire.specs.Half.{bit_of}
+use Rattle.dcc_wire.specs.Inner.KeptSteps.{HasRoomFor}
+use Rattle.dcc_wire.specs.Inner.Steps.{answer_of, answer_to}
+use Rattle.dcc_wire.specs.Kept.{Kept, IsKept, kept_rest}
+use Rattle.dcc_wire.specs.Outcomes.{body_outcome, outcome_of}
+use Rattle.dcc_wire.specs.Packed.{packed_bits}
+use Rattle.dcc_wire.proofs.KeptLemmas.{in_body_rest}
+use Rattle.dcc_wire.proofs.OpenBodies.{answer-bad, answer-bit, answer-split, bad_half, half_of, half_of-bit}
+use Rattle.dcc_wire.proofs.OutcomeLemmas.{answer-closed, answer-full, something_closed}
+use Rattle.dcc_wire.proofs.PackedLemmas.{closed_by_one, length-packed_bits}
+
+one_or_zero : (b : Bool) → (b ≡ true) ⊎ (b ≡ false)
+one_or_zero true = inl refl
+one_or_zero false = inr refl
+
+same_or_apart : (a b : Bool) → (a ≡ b) ⊎ (a ≢ b)
+same_or_apart true true = inl refl
+same_or_apart false false = inl refl
+same_or_apart true false = inr (λ e. cc)
+same_or_apart false true = inr (λ e. cc)
+
+module _ (k : Kept) (is : IsKept k) (in_body : k.in_body ≡ true) (half : Half) where
+  -- it is bad
+  pub bad_shows : bit_of half ≡ None → answer_to (kept_rest k) half ≢ Nothing
+  unfolding answer_to
+  bad_shows none =
+      let answer : answer_to (kept_rest k) half ≡ Refused BadHalf =
+      ap (λ r. answer_to r half) (in_body_rest k k.has_first in_body refl)
+      ∙ ap (λ h. answer_to (InBody (halves_of (packed_bits k.bytes k.count k.shift)
+      ++ first_half (if k.has_first then Some k.first else None))) h) (bad_half half none)
+      ∙ answer-bad (packed_bits k.bytes k.count k.shift) (is.unfinished in_body) (if k.has_first then Some k.first else None) in
+      λ nothing. cc
+
+  module _ (bit : Bool) (of : bit_of half ≡ Some bit) (has : k.has_first ≡ true) where
+    second : answer_to (kept_rest k) half ≡ answer_of
+        (outcome_of ((halves_of (packed_bits k.bytes k.count k.shift) ++ first_half (Some k.first)) ++ half_of bit ∷ []))
+    unfolding answer_to
+    second =
+        ap (λ r. answer_to r half) (in_body_rest k true in_body has)
+        ∙ ap (λ h. answer_of
+        (outcome_of ((halves_of (packed_bits k.bytes k.count k.shift) ++ first_half (Some k.first)) ++ h ∷ [])))
+        (half_of-bit half bit of)
+
+    -- it splits a bit
+    split : k.first ≢ bit → answer_to (kept_rest k) half ≡ Refused SplitBit
+    split apart =
+        second ∙ answer-split (packed_bits k.bytes k.count k.shift) (is.unfinished in_body) k.first bit apart
+
+    second_same : k.first ≡ bit → answer_to (kept_rest k) half ≡ answer_of
+        (outcome_of ((halves_of (packed_bits k.bytes k.count k.shift) ++ first_half (Some bit)) ++ half_of bit ∷ []))
+    second_same same =
+        second
+        ∙ ap (λ b. answer_of
+        (outcome_of ((halves_of (packed_bits k.bytes k.count k.shift) ++ first_half (Some b)) ++ half_of bit ∷ []))) same
+
+    -- it is that of an end bit
+    ends : k.first ≡ bit → bit ≡ true → k.count ≡ 0 → answer_to (kept_rest k) half ≡ body_outcome k.bytes
+    ends same one none =
+        let bits = packed_bits k.bytes k.count k.shift in
+        second_same same ∙ answer-bit bits bit
+        ∙ rw one (answer-closed bits k.bytes (closed_by_one k.bytes k.xor k.count k.shift (is.packed in_body) none))
+
+    -- a seventh byte begins with it
+    begins_seventh : k.first ≡ bit → bit ≡ false → k.count ≡ 0 → 6 ≤ length k.bytes
+        → answer_to (kept_rest k) half ≡ Refused TooLong
+    begins_seventh same zero none most =
+        let bits = packed_bits k.bytes k.count k.shift in
+        let few = (is.packed in_body).few in
+        let all : length bits ≡ 54 = omega (arith, length-packed_bits k.bytes k.count k.shift, none, few, most) in
+        second_same same ∙ answer-bit bits bit ∙ rw zero (answer-full bits (is.unfinished in_body) all)
+
+    whole_shows : ¬ (HasRoomFor k bit) → k.first ≡ bit → k.count ≡ 0 → answer_to (kept_rest k) half ≢ Nothing
+    whole_shows no_room same none = elim (one_or_zero bit) [
+      | inl one ↦ λ nothing. something_closed k.bytes (sym (ends same one none) ∙ nothing)
+      | inr zero ↦ elim (cases_lt (length k.bytes) 6) [
+        | inl less ↦ absurd
+            (no_room (inr (record { has_first = has; same = same; zero_first = λ _. zero; room = less })))
+        | inr most ↦ let answer = begins_seventh same zero none most in λ nothing. cc
+      ]
+    ]
+
+    second_shows : ¬ (HasRoomFor k bit) → answer_to (kept_rest k) half ≢ Nothing
+    second_shows no_room = elim (same_or_apart k.first bit) [
+      | inl same ↦ elim (cases_lt 0 k.count) [
+        | inl some ↦ absurd (no_room (inr (record {
+          has_first = has;
+          same = same;
+          zero_first = λ none. absurd (omega (arith, some, none));
+          room = (is.packed in_body).room some;
+        })))
+        | inr none ↦ whole_shows no_room same (omega (arith, none))
+      ]
+      | inr apart ↦ let answer = split apart in λ nothing. cc
+    ]
+
+  -- it leaves no room
+  pub no_room_shows : (bit : Bool) → bit_of half ≡ Some bit → ¬ (HasRoomFor k bit) → answer_to (kept_rest k) half ≢ Nothing
+  no_room_shows bit of no_room = elim (one_or_zero k.has_first) [
+    | inl has ↦ second_shows bit of has no_room
+    | inr not_yet ↦ absurd (no_room (inl not_yet))
+  ]
+
+longer : (xs : List (ℕ × Seen)) (x : ℕ × Seen) → xs ++ x ∷ [] ≢ xs
+longer xs x e = let same = ap length e in omega (arith, length-append xs (x ∷ []), same)
+
+-- an outcome makes what is seen longer
+pub report_shows : (seen_so_far : List (ℕ × Seen)) (place : ℕ) (answer : Seen) → answer ≢ Nothing
+    → seen_so_far ++ report_at place answer ≢ seen_so_far
+unfolding report_at
+report_shows so_far place Nothing some = absurd (some refl)
+report_shows so_far place (Packet bytes) some = longer so_far (place, Packet bytes)
+report_shows so_far place (Refused fault) some = longer so_far (place, Refused fault)
