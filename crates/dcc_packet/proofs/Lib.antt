@@ -4,7 +4,6 @@ pub mod Same
 pub mod BitLemmas
 pub mod OneSpelling
 pub mod FirstWord
-pub mod Digits
 pub mod UpTo
 pub mod HexFrame
 pub mod Decimal

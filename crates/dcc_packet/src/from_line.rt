@@ -6,7 +6,7 @@ ghost use Rattle.dcc_packet.specs.Line.{idle, accessory, signal, frame, Says, sp
 
 use crate::fields::Switch;
 use crate::line_word::hex_frame;
-use crate::words::Words;
+use crate::words::{Words, is_word};
 use crate::{Board, Output, Packet, PacketFault, SignalAddress};
 
 impl Packet {
@@ -62,15 +62,15 @@ impl<'a> Words<'a> {
         ensures { Says self.old result }
     {
         let word = self.word()?;
-        if word == b"idle".as_slice() {
+        if is_word(word, b"idle") {
             self.idle()
-        } else if word == b"loco".as_slice() {
+        } else if is_word(word, b"loco") {
             self.loco()
-        } else if word == b"accessory".as_slice() {
+        } else if is_word(word, b"accessory") {
             self.accessory()
-        } else if word == b"signal".as_slice() {
+        } else if is_word(word, b"signal") {
             self.signal()
-        } else if word == b"frame".as_slice() {
+        } else if is_word(word, b"frame") {
             self.frame()
         } else {
             Err(PacketFault::Word)

@@ -5,7 +5,7 @@ ghost use Rattle.dcc_packet.specs.Line.{cv_access, cv_write, cv_verify, cv_bit_w
 
 use crate::fields::{Bit, Direction, Switch};
 use crate::line_word::address;
-use crate::words::Words;
+use crate::words::{Words, is_word};
 use crate::{
     BitPlace, CvNumber, GroupBits, Packet, PacketFault, SpeedBits28, SpeedBits128, StateNumber,
     What,
@@ -26,17 +26,17 @@ impl<'a> Words<'a> {
         ensures { result ≡ instruction self.old }
     {
         let word = self.word()?;
-        if word == b"reset".as_slice() {
+        if is_word(word, b"reset") {
             self.reset()
-        } else if word == b"speed28".as_slice() {
+        } else if is_word(word, b"speed28") {
             self.speed28()
-        } else if word == b"speed128".as_slice() {
+        } else if is_word(word, b"speed128") {
             self.speed128()
-        } else if word == b"functions".as_slice() {
+        } else if is_word(word, b"functions") {
             self.functions()
-        } else if word == b"state".as_slice() {
+        } else if is_word(word, b"state") {
             self.binary_state()
-        } else if word == b"cv".as_slice() {
+        } else if is_word(word, b"cv") {
             self.cv_access()
         } else {
             Err(PacketFault::Word)
@@ -88,13 +88,13 @@ impl<'a> Words<'a> {
         ensures { result ≡ cv_access self.old }
     {
         let word = self.word()?;
-        if word == b"write".as_slice() {
+        if is_word(word, b"write") {
             self.cv_write()
-        } else if word == b"verify".as_slice() {
+        } else if is_word(word, b"verify") {
             self.cv_verify()
-        } else if word == b"bitwrite".as_slice() {
+        } else if is_word(word, b"bitwrite") {
             self.cv_bit_write()
-        } else if word == b"bitverify".as_slice() {
+        } else if is_word(word, b"bitverify") {
             self.cv_bit_verify()
         } else {
             Err(PacketFault::Word)

@@ -1,7 +1,5 @@
 //! Numbers in packet lines.
-ghost use Rattle.std.specs.Prelude.{◌≡◌, ◌≤◌, length, IsTrue};
-ghost use Rattle.std.specs.Char.{is_ascii_digit};
-ghost use Rattle.std.specs.List.{list_all};
+ghost use Rattle.std.specs.Prelude.{◌≡◌, false, IsTrue, IfSome, IfNone};
 ghost use Rattle.std.specs.Str.Parse.{digits_value};
 ghost use Rattle.dcc_packet.specs.LineWords.{is_numeral, number, small_number};
 
@@ -11,10 +9,9 @@ use crate::PacketFault;
 pub fn number(word: &[u8]) -> Result<u16, PacketFault>
     ensures { result ≡ number word.now }
 {
-    if !is_numeral(word) {
+    let Some(value) = numeral_value(word) else {
         return Err(PacketFault::Number);
-    }
-    let value = digits_value(word);
+    };
     if value > 65535 {
         return Err(PacketFault::Number);
     }
@@ -32,26 +29,20 @@ pub fn small_number(word: &[u8]) -> Result<u8, PacketFault>
     Ok(value as u8)
 }
 
-fn is_numeral(word: &[u8]) -> bool
-    ensures { result ≡ is_numeral word.now }
+/// The value of 1 to 5 decimal digits, and none of any other word. (Each digit is looked at once.)
+fn numeral_value(word: &[u8]) -> Option<u32>
+    ensures some { IfSome result (λ value. IsTrue (is_numeral word.now) × (value ≡ digits_value 10 word.now)) }
+    ensures none { IfNone result (is_numeral word.now ≡ false) }
 {
-    1 <= word.len() && word.len() <= 5 && are_digits(word)
-}
-
-fn are_digits(word: &[u8]) -> bool
-    ensures { result ≡ list_all is_ascii_digit word.now }
-{
-    word.iter().all(|byte| byte.is_ascii_digit())
-}
-
-fn digits_value(digits: &[u8]) -> u32
-    requires few { length digits.now ≤ 5 }
-    requires digits { IsTrue (is_numeral digits.now) }
-    ensures { result ≡ digits_value 10 digits.now }
-{
-    let mut value = 0;
-    for digit in digits {
-        value = value * 10 + u32::from(*digit - b'0');
+    if word.is_empty() || word.len() > 5 {
+        return None;
     }
-    value
+    let mut value = 0;
+    for byte in word {
+        if !byte.is_ascii_digit() {
+            return None;
+        }
+        value = value * 10 + u32::from(*byte - b'0');
+    }
+    Some(value)
 }

@@ -20,6 +20,8 @@ type Bytes = ArrayVec<u8, 6>;
 impl Packet {
     /// The frame that spells the packet: the bytes of its row and the error byte (NMRA S-9.2.1; RCN-211 to
     /// RCN-214). Reading it gives the packet again.
+    // (Inlined, it has its caller take the packet apart, each field for itself, before it looks which packet it is.)
+    #[inline(never)]
     pub fn frame(&self) -> Frame
         ensures spelled { result ≡ spelling self.now }
         ensures fits { BytesFit self.now }
