@@ -6,9 +6,9 @@ ghost use Rattle.dcc_io.specs.ReaderState.{ReaderState, IsFront, AnswersNext, Fi
 use crate::stream::{Failed, Source};
 use std::marker::Model;
 
-const SIZE: usize = 512;
+const SIZE: usize = 4096;
 
-/// A reader, read by 512 bytes at a time.
+/// A reader, read by 4096 bytes at a time.
 #[derive(Drop)]
 pub struct Buffered<R: Source> {
     reader: R,
@@ -26,7 +26,7 @@ impl<R: Source> Model for Buffered<R> {
       failures = R.failures b.reader;
     } };
 
-    ghost invariant = { λ b. (b.start ≤ b.end) × (b.end ≤ 512) };
+    ghost invariant = { λ b. (b.start ≤ b.end) × (b.end ≤ 4096) };
 }
 
 impl<R: Source> Buffered<R> {
