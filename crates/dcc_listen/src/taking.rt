@@ -7,7 +7,7 @@ ghost use Rattle.dcc_io.specs.InputState.{InputState};
 ghost use Rattle.dcc_listen.specs.Taking.{Gathering, TakesPacket};
 ghost use Rattle.dcc_listen.specs.Inner.Pushing.{PushesNext};
 
-use dcc_capture::{half_at_hand, next_run};
+use dcc_capture::{half_at_hand, read_run};
 use dcc_io::{Input, KeptFault, Source};
 use dcc_packet::Packet;
 use dcc_wire::{Framer, Seen};
@@ -46,7 +46,7 @@ fn push_next<R: Source>(
     if let Some(us) = half_at_hand(input) {
         return Ok(Some(framer.push(us)));
     }
-    match next_run(input)? {
+    match read_run(input)? {
         Some(run) => Ok(Some(framer.push_run(run.us, run.n).seen)),
         None => Ok(None),
     }

@@ -19,7 +19,7 @@ returns-in-Some-2 g c =
     let same = c.in_default.ensures.none in
     let reads = rw c.in-Some-2.is at (c.in_ok-run.ensures.reads (subst (λ i. i.fault ≡ None) (sym same) c.requires)) in (
       c.in-Some-2.run',
-      subst (λ i. AnswersRun i (Ok (Some c.in-Some-2.run')) c.next_run.new.input) same reads,
+      subst (λ i. AnswersRun i (Ok (Some c.in-Some-2.run')) c.read_run.new.input) same reads,
       record {
         at = c.push_run.result.at;
         stands = c.push_run.ensures.stands;
