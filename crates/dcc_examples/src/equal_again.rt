@@ -3,7 +3,7 @@
 ghost use Rattle.std.specs.Prelude.{◌≡◌};
 ghost use Rattle.dcc_order.specs.Hearing.{HasHeardHalves, whole_track};
 ghost use Rattle.dcc_order.specs.HearingLaws.{AlikeHalves};
-ghost use Rattle.dcc_packet.specs.Cvs.{cv_in};
+ghost use Rattle.dcc_regs.specs.Cvs.{cv_in};
 ghost use Rattle.dcc_regs.specs.Loco.{start_map, start_who};
 
 use crate::counted_decoder::CountedDecoder;

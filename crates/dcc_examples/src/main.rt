@@ -2,6 +2,7 @@
 //! reads a variable, and a station that sends. What a user would copy stands in the modules.
 #![tactic(auto)]
 
+mod cab;
 mod counted_decoder;
 mod counting_listener;
 mod decoder_loop;
@@ -21,6 +22,7 @@ use dcc_packet::{Address, CvNumber, Packet, PacketFault};
 use dcc_regs::Who;
 use dcc_service::ServiceDecoder;
 use dcc_station::{Refused, StationFault};
+use dcc_wire::{Framer, Seen};
 use std::alloc::Global;
 use std::io;
 use thiserror::Error;
@@ -66,11 +68,26 @@ fn compare_boosters<R: Print>(rt: &R, alloc: Global) -> Result<(), Fault> {
     let write = Packet::from_line("loco s3 cv write 3 12")?;
     let left = [slow, write, write, fast];
     let repeated = [slow, Packet::Idle, slow, write, write, fast];
-    let found = two_boosters::compare_in_step(alloc, who, &left, &repeated)?;
-    println!(rt; "{found:?}")?;
+    let (verdict, (lefts, rights)) = two_boosters::compare_in_step(alloc, who, &left, &repeated)?;
+    println!(rt; "{verdict:?}, {lefts} and {rights} read")?;
     let faster = [fast, write, write, fast];
-    let found = two_boosters::compare_in_step(alloc, who, &left, &faster)?;
-    println!(rt; "{found:?}")?;
+    let (verdict, (lefts, rights)) = two_boosters::compare_in_step(alloc, who, &left, &faster)?;
+    println!(rt; "{verdict:?}, {lefts} and {rights} read")?;
+    Ok(())
+}
+
+/// A station sends six packets: each of its two commands twice, then both again in turn.
+fn send_six<R: Print>(rt: &R, alloc: Global) -> Result<(), Fault> {
+    let mut station = station_sends::with_two_commands(alloc)?;
+    let mut rails = Framer::new();
+    for _ in 0..6 {
+        let (packet, heard) = station_sends::send_next(&mut station, &mut rails);
+        let sent = packet.to_line();
+        if let Seen::Packet(frame) = heard {
+            let heard = Packet::read(&frame).to_line();
+            println!(rt; "sent {sent}, heard {heard}")?;
+        }
+    }
     Ok(())
 }
 
@@ -88,5 +105,5 @@ fn main(rt: HostRuntime) -> Result<(), Fault> {
     let value = programmer::read_cv(&mut ServiceDecoder::new(&cvs), CvNumber::new(29)?);
     println!(rt; "CV29 has {value:?}")?;
     println!(rt; "a station that sends")?;
-    station_sends::run(&rt, rt.alloc())
+    send_six(&rt, rt.alloc())
 }

@@ -1,13 +1,12 @@
 //! An accessory decoder written from nothing, over fields of its own. All that is proved of decoders holds of it.
 
 ghost use Rattle.std.specs.List.{AllZip};
-ghost use Rattle.std.specs.Prelude.{◌≡◌, ◌≤◌, ◌<◌, ℕ, false, nat_le, slice_index, slice_index_or, true, unwrap_or};
+ghost use Rattle.std.specs.Prelude.{◌≡◌, ◌<◌, ℕ, nat_le, slice_index, true};
 ghost use Rattle.dcc_order.specs.Hearing.{HasHeardHalves, whole_track};
-ghost use Rattle.dcc_regs.specs.Outputs.{aspect_set, out_set, position_set};
 
 use dcc_order::hear_track;
 use dcc_packet::{Address, Board, Packet, What};
-use dcc_regs::{Decoder, Register, Value, Who, hears};
+use dcc_regs::{Decoder, Register, Value, Who, hears, laws};
 
 /// Eight outputs, the sides of their four pairs, and the aspects of four signals.
 #[derive(Drop)]
@@ -16,7 +15,41 @@ pub struct OwnBoard {
     pub outs: [bool; 8],
     pub sides: [bool; 4],
     pub aspects: [u8; 4],
-    pub ghost is_board: { nat_le board.number 510 ≡ true },
+    ghost is_board: { nat_le board.number 510 ≡ true },
+    ghost are_bytes: { (n : ℕ) → slice_index aspects n < 256 },
+}
+
+impl OwnBoard {
+    ghost use Rattle.dcc_regs.specs.Board.{TakesPacket};
+    ghost use Rattle.dcc_examples.specs.OwnBoard.{content};
+
+    /// Takes a packet that it hears. An output that is turned on is the side of its pair.
+    fn take(&mut self, packet: &Packet)
+        ensures takes { TakesPacket packet.now (content self.old) (content self.new) }
+        ensures same { self.new.board ≡ self.old.board }
+    {
+        match packet {
+            Packet::Accessory { output, on, .. } => {
+                let output = output.number();
+                self.outs[output as usize] = *on;
+                if *on {
+                    self.sides[output as usize / 2] = output % 2 == 1;
+                }
+            }
+            Packet::Signal { address, aspect } => {
+                if address.number() == 2047 {
+                    self.aspects = [*aspect; 4];
+                } else {
+                    self.aspects[address.number() as usize % 4] = *aspect;
+                }
+            }
+            Packet::Loco {
+                to: Address::Broadcast,
+                what: What::Reset,
+            } => self.outs = [false; 8],
+            _ => (),
+        }
+    }
 }
 
 impl Decoder for OwnBoard {
@@ -29,15 +62,14 @@ impl Decoder for OwnBoard {
     ghost registers = { λ d. board_registers (content d) };
 
     fn who(&self) -> Who {
-        are_bytes(&self.aspects);
+        laws::boards_take_packets();
         Who::Board(self.board)
     }
 
     fn apply(&mut self, packet: &Packet) {
-        if hears(self.who(), packet) {
-            set_outs(&mut self.outs, packet);
-            set_sides(&mut self.sides, packet);
-            set_aspects(&mut self.aspects, packet);
+        laws::boards_take_packets();
+        if hears(Who::Board(self.board), packet) {
+            self.take(packet);
         }
     }
 
@@ -50,56 +82,6 @@ impl Decoder for OwnBoard {
         }
     }
 }
-
-/// Turns one output on or off, or all off at the reset of all decoders.
-fn set_outs(outs: &mut [bool; 8], packet: &Packet)
-    ensures { (n : ℕ) → n ≤ 7
-        → slice_index_or outs.new n false ≡ unwrap_or (out_set packet.now n) (slice_index_or outs.old n false) }
-{
-    match packet {
-        Packet::Accessory { output, on, .. } => outs[output.number() as usize] = *on,
-        Packet::Loco {
-            to: Address::Broadcast,
-            what: What::Reset,
-        } => *outs = [false; 8],
-        _ => (),
-    }
-}
-
-/// An output that is turned on is the side of its pair.
-fn set_sides(sides: &mut [bool; 4], packet: &Packet)
-    ensures { (n : ℕ) → n ≤ 3
-        → slice_index_or sides.new n false ≡ unwrap_or (position_set packet.now n) (slice_index_or sides.old n false) }
-{
-    if let Packet::Accessory {
-        output,
-        on: true,
-        ..
-    } = packet
-    {
-        let output = output.number();
-        sides[output as usize / 2] = output % 2 == 1;
-    }
-}
-
-/// Gives one signal an aspect, or all of them.
-fn set_aspects(aspects: &mut [u8; 4], packet: &Packet)
-    ensures { (n : ℕ) → n ≤ 3
-        → slice_index aspects.new n ≡ unwrap_or (aspect_set packet.now n) (slice_index aspects.old n) }
-{
-    if let Packet::Signal { address, aspect } = packet {
-        if address.number() == 2047 {
-            *aspects = [*aspect; 4];
-        } else {
-            aspects[address.number() as usize % 4] = *aspect;
-        }
-    }
-}
-
-/// A law: aspects are bytes.
-fn are_bytes(aspects: &[u8])
-    ensures { (n : ℕ) → slice_index aspects.now n < 256 }
-{}
 
 /// A fleet of such boards hears a track, which may come in pieces: each holds what the packets in it give.
 pub fn hear(boards: &mut [OwnBoard], pieces: &[&[u16]])

@@ -1,9 +1,9 @@
 //! A reader and a writer of one's own, as a test wants them: each fails once so many calls were made.
 
 ghost use Rattle.std.specs.Prelude.{Some};
-ghost use Rattle.dcc_io.specs.WriterState.{WriterState};
+ghost use Rattle.dcc_tool.specs.WriterState.{WriterState};
 
-use dcc_io::{Failed, Sink, Source};
+use dcc_tool::{Failed, Sink, Source};
 
 /// A reader over bytes.
 #[derive(Drop)]

@@ -1,7 +1,7 @@
 //! A programmer of one's own: it reads a configuration variable by the questions of a reader, on a track of one's own.
 
 ghost use Rattle.std.specs.Prelude.{◌≡◌, ℕ, List, Some};
-ghost use Rattle.dcc_packet.specs.Cvs.{cv_in};
+ghost use Rattle.dcc_service.specs.Cvs.{cv_in};
 ghost use Rattle.dcc_service.specs.ReadingLaws.{IsPut};
 
 use dcc_packet::CvNumber;

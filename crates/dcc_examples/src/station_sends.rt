@@ -1,7 +1,10 @@
 //! A station that sends: commands wait in it, what it sends next becomes half-bits, and a framer hears the same packets.
 
 ghost use Rattle.std.specs.Prelude.{◌≡◌, ◌++◌, ◌∷◌, [], List};
-ghost use Rattle.dcc_wire.specs.Sending.{Sent};
+ghost use Rattle.dcc_wire.specs.Frames.{IsFrame};
+ghost use Rattle.dcc_wire.specs.HalvesLeft.{halves_left};
+ghost use Rattle.dcc_wire.specs.NominalTimings.{main_timing};
+ghost use Rattle.dcc_wire.specs.Sending.{Sent, sent};
 ghost use Rattle.dcc_packet.specs.Spelling.{spelling};
 ghost use Rattle.dcc_station.specs.Sending.{Next};
 ghost use Rattle.dcc_order.specs.SentHalves.{HasHeardAll};
@@ -25,36 +28,36 @@ pub fn send_next(station: &mut Station, rails: &mut Framer) -> (Packet, Seen)
 {
     laws::frames_are_sent();
     let packet = station.next();
-    let frame = packet.frame();
-    let _bytes = frame.bytes(); // What a booster would be given that takes bytes.
     let mut heard = Seen::Nothing;
-    for us in Halves::new(frame, Timing::main()) {
+    for us in halves_of(&packet) {
         // Here a booster would switch the rails over for so many microseconds.
-        let seen = rails.push(us);
-        if !seen.is_nothing() {
-            heard = seen;
+        match rails.push(us) {
+            Seen::Nothing => (),
+            seen => heard = seen,
         }
     }
     (packet, heard)
 }
 
-/// Gives a station two commands, and sends six packets: each command twice, then both again in turn.
-pub fn run<R: Print>(rt: &R, alloc: Global) -> Result<(), Fault> {
+/// The half-bits of a packet.
+fn halves_of(packet: &Packet) -> Halves
+    ensures frame { IsFrame (spelling packet.now) }
+    ensures halves { halves_left result ≡ sent (spelling packet.now) main_timing }
+{
+    let frame = packet.frame();
+    let _bytes = frame.bytes(); // What a booster would be given that takes bytes.
+    Halves::new(frame, Timing::main())
+}
+
+/// A station with two commands. Four may wait in it, eight are refreshed, and each is sent twice before.
+pub fn with_two_commands(alloc: Global) -> Result<Station, Fault> {
     let (queue, slots, repeats) = (4, 8, 2);
     let mut station = Station::new(alloc, queue, slots, repeats)?;
     for line in ["loco s3 speed28 f 4", "loco s3 functions 0 16"] {
-        if let Err((refused, _packet)) = station.command(Packet::from_line(line)?) {
-            return Err(Fault::Refused(refused));
-        }
+        let command = Packet::from_line(line)?;
+        station
+            .command(command)
+            .map_err(|(refused, _packet)| refused)?;
     }
-    let mut rails = Framer::new();
-    for _ in 0..6 {
-        let (packet, heard) = send_next(&mut station, &mut rails);
-        let sent = packet.to_line();
-        if let Seen::Packet(frame) = heard {
-            let heard = Packet::read(&frame).to_line();
-            println!(rt; "sent {sent}, heard {heard}")?;
-        }
-    }
-    Ok(())
+    Ok(station)
 }

@@ -11,7 +11,7 @@ use Rattle.dcc_order.specs.declared.wants.Wants.{Wants}
 use Rattle.dcc_order.specs.declared.wants.Wants.TheVariants.{Left, Right, Done}
 use Rattle.dcc_order.specs.Comparisons.{StandsFor, Stage}
 use Rattle.dcc_order.specs.GivenLists.{Lists, no_lists, with_item, MayFollow, IsVerdictOfAll}
-use Rattle.dcc_order.specs.InStep.{IsFront, ends_wanted, most_wanted, BecomesBy, NothingGivenYet, OneMoreOfLeft}
+use Rattle.dcc_order.specs.InStep.{IsFront, IsInStep, ends_wanted, most_wanted, BecomesBy, NothingGivenYet, OneMoreOfLeft}
 use Rattle.dcc_order.specs.InStep.{OneMoreOfRight, LessIsWantedBehindLeft, LessIsWantedBehindRight, PlacesAreCounted}
 use Rattle.dcc_order.specs.InStep.{VerdictIsOfBoth, VerdictIsOfTheGiven, NoMoreIsGiven}
 
@@ -44,13 +44,13 @@ stands_left : (c next : Comparison) (item : Option Packet) (lists : Lists) → L
     → StandsFor c lists → StandsFor next (left_with item lists)
 stands_left c next item lists is becomes stands =
     subst (λ l. StandsFor next l) (is_left_with item lists)
-    (subst (λ w. StandsFor next (with_item w item lists)) (sym is) (becomes lists stands))
+    (subst (λ w. StandsFor next (with_item w item lists)) (sym is) (becomes.stands lists stands))
 
 stands_right : (c next : Comparison) (item : Option Packet) (lists : Lists) → Right ≡ c.wants → BecomesBy c item next
     → StandsFor c lists → StandsFor next (right_with item lists)
 stands_right c next item lists is becomes stands =
     subst (λ l. StandsFor next l) (is_right_with item lists)
-    (subst (λ w. StandsFor next (with_item w item lists)) (sym is) (becomes lists stands))
+    (subst (λ w. StandsFor next (with_item w item lists)) (sym is) (becomes.stands lists stands))
 
 -- no side is wanted whose end was given
 left_is_open : (c : Comparison) (lists : Lists) → c.wants ≡ Left → StandsFor c lists
@@ -87,6 +87,7 @@ front_more whole given ended item front going is =
     (is ∙ ap (λ (l : List Packet). slice_get l (length given)) front.parts ∙ behind given front.rest)
 
 pub nothing_given_yet : NothingGivenYet
+unfolding IsInStep
 nothing_given_yet who left right c stands same = record {
   lists = no_lists;
   stands = stands;
@@ -96,10 +97,11 @@ nothing_given_yet who left right c stands same = record {
 }
 
 pub one_more_of_left : OneMoreOfLeft
-one_more_of_left who left right c next item s is at same becomes = record {
+unfolding IsInStep
+one_more_of_left who left right c next item s is at becomes = record {
   lists = left_with item s.lists;
   stands = stands_left c next item s.lists is becomes s.stands;
-  who_is = same ∙ s.who_is;
+  who_is = becomes.same_who ∙ s.who_is;
   left_front =
       front_more left s.lists.left s.lists.left_ended item s.left_front (left_is_open c s.lists (sym is) s.stands).0
       (at.is ∙ ap (slice_get left) s.stands.left_given);
@@ -107,10 +109,11 @@ one_more_of_left who left right c next item s is at same becomes = record {
 }
 
 pub one_more_of_right : OneMoreOfRight
-one_more_of_right who left right c next item s is at same becomes = record {
+unfolding IsInStep
+one_more_of_right who left right c next item s is at becomes = record {
   lists = right_with item s.lists;
   stands = stands_right c next item s.lists is becomes s.stands;
-  who_is = same ∙ s.who_is;
+  who_is = becomes.same_who ∙ s.who_is;
   left_front = s.left_front;
   right_front =
       front_more right s.lists.right s.lists.right_ended item s.right_front (right_is_open c s.lists (sym is) s.stands)
@@ -165,11 +168,13 @@ less_behind_right left right c next lists (Some p) is stands then at =
     omega (arith, stands.left_given, stands.right_given, then.left_given, then.right_given)
 
 pub less_is_wanted_behind_left : LessIsWantedBehindLeft
+unfolding IsInStep
 less_is_wanted_behind_left who left right c next item s is at becomes =
     less_behind_left left right c next s.lists item is s.stands
     (stands_left c next item s.lists is becomes s.stands) at.is
 
 pub less_is_wanted_behind_right : LessIsWantedBehindRight
+unfolding IsInStep
 less_is_wanted_behind_right who left right c next item s is at becomes =
     less_behind_right left right c next s.lists item is s.stands
     (stands_right c next item s.lists is becomes s.stands) at.is
@@ -185,6 +190,7 @@ settled c lists verdict is stands =
     let stage = subst (λ (w : Wants). Stage w c lists) (sym is) stands.stage in stage.of_all
 
 pub verdict_is_of_both : VerdictIsOfBoth
+unfolding IsInStep
 verdict_is_of_both who left right c verdict s is =
     rw (s.left_front.parts, s.right_front.parts, sym s.who_is)
     (settled c s.lists verdict is s.stands s.left_front.rest s.right_front.rest s.left_front.may s.right_front.may)
@@ -203,6 +209,7 @@ taken whole given ended n f is =
     ap (λ (m : ℕ). take m whole) is ∙ ap (take (length given)) f.parts ∙ front given f.rest ∙ sym (append-nil given)
 
 pub verdict_is_of_the_given : VerdictIsOfTheGiven
+unfolding IsInStep
 verdict_is_of_the_given who left right c verdict given s is counted =
     let one : take given.0 left ≡ s.lists.left ++ [] =
     taken left s.lists.left s.lists.left_ended given.0 s.left_front (ap (λ (p : ℕ × ℕ). p.0) counted ∙ s.stands.left_given)
@@ -218,6 +225,7 @@ few : (whole given : List Packet) (ended : Bool) (n : ℕ) → IsFront whole giv
 few whole given ended n f is = omega (arith, ap length f.parts, length-append given f.rest)
 
 pub no_more_is_given : NoMoreIsGiven
+unfolding IsInStep
 no_more_is_given who left right c s = (
   few left s.lists.left s.lists.left_ended c.left_given s.left_front s.stands.left_given,
   few right s.lists.right s.lists.right_ended c.right_given s.right_front s.stands.right_given,

@@ -8,8 +8,8 @@ use Rattle.dcc_wire.specs.Framing.{Rest, StandsFor, seen, report_at}
 use Rattle.dcc_wire.specs.Frames.{IsFrame}
 use Rattle.dcc_wire.specs.Sending.{Sent, sent, sent_all, at_last_halves, AllFrames}
 use Rattle.dcc_wire.proofs.SendingLemmas.{seen-sent_all}
-use Rattle.dcc_order.specs.ToldTracks.{IsTaken}
-use Rattle.dcc_order.specs.SentHalves.{last_seen, HasComeBehind, SendingBegins, NothingIsSeen}
+use Rattle.dcc_order.specs.ToldTracks.{StandsForOneMore, ShowsAtOneMore}
+use Rattle.dcc_order.specs.SentHalves.{last_seen, HasComeBehind, HasHeardAll, IsBeingSent, SendingBegins, NothingIsSeen}
 use Rattle.dcc_order.specs.SentHalves.{SomethingIsSeen, FrameIsSeen, FramesAreHeard}
 
 last_seen-one : (first : Seen) (more : List (ℕ × Seen)) (at : ℕ × Seen) → last_seen first (more ++ at ∷ []) ≡ at.1
@@ -33,50 +33,48 @@ keeps_new more place (Refused fault) some = sym (last_seen-one Nothing more (pla
 
 -- one half more has come
 one_more : (track halves left later : List ℕ) (framer next : Rest) (us : ℕ) (answer kept now : Seen)
-    → (c : HasComeBehind track halves left framer kept) → left ≡ us ∷ later → IsTaken framer us next answer
+    → (c : HasComeBehind track halves left framer kept) → left ≡ us ∷ later → StandsForOneMore framer us next
+    → ShowsAtOneMore framer us answer
     → now ≡ last_seen Nothing (c.more ++ report_at (length (track ++ c.come)) answer)
     → HasComeBehind track halves later next now
-one_more track halves left later framer next us answer kept now c is taken last =
+one_more track halves left later framer next us answer kept now c is stands sees last =
     let whole : track ++ (c.come ++ us ∷ []) ≡ (track ++ c.come) ++ us ∷ [] =
     sym (append_assoc track c.come (us ∷ [])) in
     let place : ℕ = length (track ++ c.come) in
     record {
       come = c.come ++ us ∷ [];
       parts = append_assoc c.come (us ∷ []) later ∙ ap (λ (l : List ℕ). c.come ++ l) (sym is) ∙ c.parts;
-      stands = rw whole (taken.stands (track ++ c.come) c.stands);
+      stands = rw whole (stands (track ++ c.come) c.stands);
       more = c.more ++ report_at place answer;
-      sees = ap seen whole ∙ taken.sees (track ++ c.come) c.stands ∙ ap (λ l. l ++ report_at place answer) c.sees
+      sees = ap seen whole ∙ sees (track ++ c.come) c.stands ∙ ap (λ l. l ++ report_at place answer) c.sees
           ∙ append_assoc (seen track) c.more (report_at place answer);
       last = last;
     }
 
 pub sending_begins : SendingBegins
-sending_begins start one left is = record {
-  behind = λ track stands. record {
-    come = [];
-    parts = is;
-    stands = rw (append-nil track) stands;
-    more = [];
-    sees = ap seen (append-nil track) ∙ sym (append-nil (seen track));
-    last = refl;
-  };
+unfolding IsBeingSent
+sending_begins start one left is = λ track stands. record {
+  come = [];
+  parts = is;
+  stands = rw (append-nil track) stands;
+  more = [];
+  sees = ap seen (append-nil track) ∙ sym (append-nil (seen track));
+  last = refl;
 }
 
 pub nothing_is_seen : NothingIsSeen
-nothing_is_seen start framer next one left later us answer kept sending is taken quiet = record {
-  behind = λ track stands.
-      let c = sending.behind track stands in
-      one_more track (sent one.bytes one.timing) left later framer next us answer kept kept c is taken
-      (keeps_old c.more (length (track ++ c.come)) answer kept c.last quiet);
-}
+unfolding IsBeingSent
+nothing_is_seen start framer next one left later us answer kept sending is quiet goes_on shows = λ track stands.
+    let c = sending track stands in
+    one_more track (sent one.bytes one.timing) left later framer next us answer kept kept c is goes_on shows
+    (keeps_old c.more (length (track ++ c.come)) answer kept c.last quiet)
 
 pub something_is_seen : SomethingIsSeen
-something_is_seen start framer next one left later us answer kept sending is taken told = record {
-  behind = λ track stands.
-      let c = sending.behind track stands in
-      one_more track (sent one.bytes one.timing) left later framer next us answer kept answer c is taken
-      (keeps_new c.more (length (track ++ c.come)) answer told);
-}
+unfolding IsBeingSent
+something_is_seen start framer next one left later us answer kept sending is goes_on shows told = λ track stands.
+    let c = sending track stands in
+    one_more track (sent one.bytes one.timing) left later framer next us answer kept answer c is goes_on shows
+    (keeps_new c.more (length (track ++ c.come)) answer told)
 
 sent_all-more : (before : List Sent) (one : Sent)
     → sent_all (before ++ one ∷ []) ≡ sent_all before ++ sent one.bytes one.timing
@@ -110,8 +108,9 @@ all_come before one left come none parts =
     ap (λ l. sent_all before ++ l) taken ∙ sym (sent_all-more before one)
 
 pub frame_is_seen : FrameIsSeen
+unfolding IsBeingSent HasHeardAll
 frame_is_seen start framer one left kept before sending none f heard =
-    let c = sending.behind (sent_all before) heard.1 in
+    let c = sending (sent_all before) heard.1 in
     let frames = frames-more before one heard.0 f in
     let last = seen-more 0 before one in
     let shown : seen (sent_all before) ++ c.more ≡ seen (sent_all before) ++ (last.0, PacketSeen one.bytes) ∷ [] =
@@ -122,8 +121,9 @@ frame_is_seen start framer one left kept before sending none f heard =
     c.last ∙ ap (last_seen Nothing) only
 
 pub frames_are_heard : FramesAreHeard
+unfolding IsBeingSent HasHeardAll
 frames_are_heard start framer one left kept before sending none f heard =
-    let c = sending.behind (sent_all before) heard.1 in (
+    let c = sending (sent_all before) heard.1 in (
       frames-more before one heard.0 f,
       subst (λ track. StandsFor framer track) (all_come before one left c.come none c.parts) c.stands,
     )

@@ -9,13 +9,13 @@ use Rattle.dcc_wire.specs.declared.seen.Seen.TheVariants.{Nothing, Packet as Pac
 use Rattle.dcc_wire.specs.declared.frame.Frame.{Frame}
 use Rattle.dcc_packet.specs.declared.packet.Packet.{Packet}
 use Rattle.dcc_regs.specs.Heard.{heard, hears}
-use Rattle.dcc_regs.specs.Notes.{Note}
+use Rattle.dcc_regs.specs.Notes.{Note, note_of, IsHeardAndTold}
 use Rattle.dcc_regs.specs.Result.{RegisterMap, HasHeard}
 use Rattle.dcc_regs.specs.declared.register.Who.{Who}
 use Rattle.dcc_regs.proofs.InParts.{heard_more, heard_nothing}
 use Rattle.dcc_order.specs.Hearing.{AreSpelled, ArePackets, frames_of}
-use Rattle.dcc_order.specs.ToldTracks.{IsTold, HaveCome, IsTaken, NoHalfHasCome, NoPacketHasCome, PacketIsTold}
-use Rattle.dcc_order.specs.ToldTracks.{PacketIsPassedOver, TrackIsHeard, TrackIsTold}
+use Rattle.dcc_order.specs.ToldTracks.{IsTold, HaveCome, WereHeardAndTold, StandsForOneMore, ShowsAtOneMore, NoHalfHasCome, NoPacketHasCome, PacketIsTold}
+use Rattle.dcc_order.specs.ToldTracks.{PacketIsPassedOver, PacketIsHeardAndTold, TrackIsHeard, TrackIsTold}
 use Rattle.dcc_order.proofs.HearingLemmas.{packets_more, no_packets, one_list_of_packets}
 
 told_more : {L : Type 0} (told : L → Note → L → Type 0) (first more : List Packet) (a b c : L) → IsTold told first a b
@@ -38,17 +38,18 @@ take_all ds n h = grind (arith, common_steps)
 -- one half more, with the packets that it shows
 one_half : {L : Type 0} (told : L → Note → L → Type 0) (track : List ℕ) (n : ℕ) (framer next : Rest) (answer : Seen)
     (shown : List Packet) (who who' who'' : Who) (start now after : RegisterMap) (a b c : L)
-    → HaveCome told (take n track) framer who start who' now a b → n < length track
-    → IsTaken framer (slice_index_or track n 0) next answer → AreSpelled shown (frames_of answer)
+    → WereHeardAndTold told (take n track) framer who start who' now a b → n < length track
+    → StandsForOneMore framer (slice_index_or track n 0) next → ShowsAtOneMore framer (slice_index_or track n 0) answer
+    → AreSpelled shown (frames_of answer)
     → HasHeard shown who' now who'' after → IsTold told (heard who shown) b c
-    → HaveCome told (take (n + 1) track) next who start who'' after a c
-one_half {L} told track n framer next answer shown who who' who'' start now after a b c come in_track taken spelled
+    → WereHeardAndTold told (take (n + 1) track) next who start who'' after a c
+one_half {L} told track n framer next answer shown who who' who'' start now after a b c come in_track stands sees spelled
     hear tell =
-    subst (λ halves. HaveCome told halves next who start who'' after a c) (take_more track n in_track) (record {
-      stands = taken.stands (take n track) come.stands;
+    subst (λ halves. WereHeardAndTold told halves next who start who'' after a c) (take_more track n in_track) (record {
+      stands = stands (take n track) come.stands;
       packets = come.packets ++ shown;
       seen = packets_more (take n track) (take n track ++ slice_index_or track n 0 ∷ []) answer (length (take n track))
-          come.packets shown (taken.sees (take n track) come.stands) come.seen spelled;
+          come.packets shown (sees (take n track) come.stands) come.seen spelled;
       heard_all = heard_more come.heard_all hear;
       told_all =
           let e : heard who (come.packets ++ shown) ≡ heard who come.packets ++ heard who shown =
@@ -63,32 +64,53 @@ hears_as_before who who' who'' asked p is_heard truth e f g h i =
     ap (λ w. hears w p) (sym e ∙ sym f ∙ sym g) ∙ sym h ∙ i
 
 pub no_half_has_come : {L : Type 0} (told : L → Note → L → Type 0) → NoHalfHasCome told
+unfolding HaveCome
 no_half_has_come {L} told framer who start listener stands =
     record { stands = stands; packets = []; seen = no_packets; heard_all = heard_nothing who start; told_all = refl }
 
 pub no_packet_has_come : {L : Type 0} (told : L → Note → L → Type 0) → NoPacketHasCome told
-no_packet_has_come {L} told track n framer next answer who who' start now a b come in_track taken never =
-    one_half told track n framer next answer [] who who' who' start now now a b b come in_track taken
+unfolding HaveCome
+no_packet_has_come {L} told track n framer next answer who who' start now a b come in_track stands sees never =
+    one_half told track n framer next answer [] who who' who' start now now a b b come in_track stands sees
     (none_spelled answer never) (heard_nothing who' now) refl
 
 pub packet_is_told : {L : Type 0} (told : L → Note → L → Type 0) → PacketIsTold told
+unfolding HaveCome
 packet_is_told {L} told track n framer next answer frame p who who' who'' asked start now after is_heard a b c come
-    in_track taken is spelled same stepped asks hear so tell =
+    in_track stands sees is spelled same stepped asks hear so tell =
     let heard_it : hears who p ≡ true =
     hears_as_before who who' who'' asked p is_heard true come.heard_all.same_who same asks hear so in
-    one_half told track n framer next answer (p ∷ []) who who' who'' start now after a b c come in_track taken
+    one_half told track n framer next answer (p ∷ []) who who' who'' start now after a b c come in_track stands sees
     (rw is (ap (λ (f : List ℕ). f ∷ []) spelled)) (record { same_who = same; registers = stepped })
     (rw heard_it (c, tell, refl))
 
 pub packet_is_passed_over : {L : Type 0} (told : L → Note → L → Type 0) → PacketIsPassedOver told
+unfolding HaveCome
 packet_is_passed_over {L} told track n framer next answer frame p who who' who'' asked start now after is_heard a b
-    come in_track taken is spelled same stepped asks hear so =
+    come in_track stands sees is spelled same stepped asks hear so =
     let heard_it : hears who p ≡ false =
     hears_as_before who who' who'' asked p is_heard false come.heard_all.same_who same asks hear so in
-    one_half told track n framer next answer (p ∷ []) who who' who'' start now after a b b come in_track taken
+    one_half told track n framer next answer (p ∷ []) who who' who'' start now after a b b come in_track stands sees
     (rw is (ap (λ (f : List ℕ). f ∷ []) spelled)) (record { same_who = same; registers = stepped }) (rw heard_it refl)
 
+-- what a listener was told of a packet, by whether its decoder hears it
+told_one : {L : Type 0} (told : L → Note → L → Type 0) (who : Who) (p : Packet) (truth : Bool) (b c : L)
+    → hears who p ≡ truth → (truth ≡ true → told b (note_of p) c) → (truth ≡ false → c ≡ b)
+    → IsTold told (heard who (p ∷ [])) b c
+told_one told who p true b c e tells passes = rw e (c, tells refl, refl)
+told_one told who p false b c e tells passes = rw e (passes refl)
+
+pub packet_is_heard_and_told : {L : Type 0} (told : L → Note → L → Type 0) → PacketIsHeardAndTold told
+unfolding HaveCome
+packet_is_heard_and_told {L} told track n framer next answer p who who' who'' start now after a b c takes come is stands
+    sees in_track =
+    let as_before : IsHeardAndTold told p who now who'' after b c =
+    subst (λ (w : Who). IsHeardAndTold told p w now who'' after b c) come.heard_all.same_who takes in
+    one_half told track n framer next answer (p ∷ []) who who' who'' start now after a b c come in_track stands sees
+    (rw is refl) takes.heard (told_one told who p (hears who p) b c refl as_before.tells as_before.passes_over)
+
 pub track_is_heard : {L : Type 0} (told : L → Note → L → Type 0) → TrackIsHeard told
+unfolding HaveCome
 track_is_heard {L} told track n framer who who' start now a b come all = record {
   packets = come.packets;
   seen = subst (λ halves. ArePackets come.packets halves) (take_all track n all) come.seen;
@@ -96,6 +118,7 @@ track_is_heard {L} told track n framer who who' start now a b come all = record 
 }
 
 pub track_is_told : {L : Type 0} (told : L → Note → L → Type 0) → TrackIsTold told
+unfolding HaveCome
 track_is_told {L} told track n framer who who' start now a b packets come all are =
     let same : come.packets ≡ packets =
     one_list_of_packets track come.packets packets

@@ -17,12 +17,16 @@ pub record IsFront (whole given : List Packet) (ended : Bool) : Type 0 where
   pub may : MayFollow ended rest
 
 -- a comparer for this decoder was given the fronts of two lists
-pub record IsInStep (who : Who) (left right : List Packet) (c : Comparison) : Type 0 where
+pub record WasGivenFronts (who : Who) (left right : List Packet) (c : Comparison) : Type 0 where
   pub lists : Lists
   pub stands : StandsFor c lists
   pub who_is : c.who ≡ who
   pub left_front : IsFront left lists.left lists.left_ended
   pub right_front : IsFront right lists.right lists.right_ended
+
+-- the same in one word, which only the laws below look into
+unfoldable pub IsInStep : Who → List Packet → List Packet → Comparison → Type 0
+IsInStep who left right c = WasGivenFronts who left right c
 
 -- the left end comes before the right one, and that before the verdict
 abbrev pub ends_wanted : Wants → ℕ
@@ -38,9 +42,10 @@ most_wanted left right c = 2 * (length left - c.left_given + (length right - c.r
 pub record IsAt (packets : List Packet) (place : ℕ) (item : Option Packet) : Type 0 where
   pub is : item ≡ slice_get packets place
 
--- a comparer becomes this one by an item
-abbrev pub BecomesBy : Comparison → Option Packet → Comparison → Type 0
-BecomesBy c item next = (lists : Lists) → StandsFor c lists → StandsFor next (with_item c.wants item lists)
+-- a comparer becomes this one by an item that it is given
+pub record BecomesBy (c : Comparison) (item : Option Packet) (next : Comparison) : Type 0 where
+  pub same_who : next.who ≡ c.who
+  pub stands : (lists : Lists) → StandsFor c lists → StandsFor next (with_item c.wants item lists)
 
 -- where nothing was given yet
 abbrev pub NothingGivenYet : Type 0
@@ -50,14 +55,14 @@ NothingGivenYet = (who : Who) (left right : List Packet) (c : Comparison) → St
 -- the next packet of the left list, or its end: the lists stay in step
 abbrev pub OneMoreOfLeft : Type 0
 OneMoreOfLeft = (who : Who) (left right : List Packet) (c next : Comparison) (item : Option Packet)
-    → IsInStep who left right c → Left ≡ c.wants → IsAt left c.left_given item → next.who ≡ c.who
-    → BecomesBy c item next → IsInStep who left right next
+    → IsInStep who left right c → Left ≡ c.wants → IsAt left c.left_given item → BecomesBy c item next
+    → IsInStep who left right next
 
 -- likewise of the right one
 abbrev pub OneMoreOfRight : Type 0
 OneMoreOfRight = (who : Who) (left right : List Packet) (c next : Comparison) (item : Option Packet)
-    → IsInStep who left right c → Right ≡ c.wants → IsAt right c.right_given item → next.who ≡ c.who
-    → BecomesBy c item next → IsInStep who left right next
+    → IsInStep who left right c → Right ≡ c.wants → IsAt right c.right_given item → BecomesBy c item next
+    → IsInStep who left right next
 
 -- and less is wanted then
 abbrev pub LessIsWantedBehindLeft : Type 0

@@ -16,3 +16,10 @@ pub mod HeldPlaces
 pub mod Comparisons
 pub mod FrameNumbers
 pub mod Inner
+-- what the clauses of this crate cite from below
+pub use Rattle.dcc_wire.specs.Framing
+pub use Rattle.dcc_wire.specs.Half
+pub use Rattle.dcc_wire.specs.Outcomes
+pub use Rattle.dcc_wire.specs.Runs
+pub use Rattle.dcc_regs.specs.Heard
+pub use Rattle.dcc_regs.specs.Result

@@ -5,10 +5,10 @@ use Rattle.dcc_wire.specs.declared.seen.Seen.TheVariants.{Nothing, Packet as Pac
 use Rattle.dcc_wire.specs.Framing.{Rest, StandsFor, seen}
 use Rattle.dcc_wire.specs.Frames.{IsFrame}
 use Rattle.dcc_wire.specs.Sending.{Sent, sent, sent_all, AllFrames}
-use Rattle.dcc_order.specs.ToldTracks.{IsTaken}
+use Rattle.dcc_order.specs.ToldTracks.{StandsForOneMore, ShowsAtOneMore}
 
 -- a framer has heard the halves of frames that were sent one after the other, and no others
-abbrev pub HasHeardAll : List Sent → Rest → Type 0
+unfoldable pub HasHeardAll : List Sent → Rest → Type 0
 HasHeardAll frames framer = AllFrames frames × StandsFor framer (sent_all frames)
 
 -- the last of what was seen, or what was seen before
@@ -26,9 +26,9 @@ pub record HasComeBehind (track halves left : List ℕ) (framer : Rest) (kept : 
   pub last : kept ≡ last_seen Nothing more
 
 -- a frame is being sent to a framer that was so: this is left of it, and this was the last that was seen in it
-pub record IsBeingSent (start : Rest) (one : Sent) (left : List ℕ) (framer : Rest) (kept : Seen) : Type 0 where
-  pub behind : (track : List ℕ) → StandsFor start track
-      → HasComeBehind track (sent one.bytes one.timing) left framer kept
+unfoldable pub IsBeingSent : Rest → Sent → List ℕ → Rest → Seen → Type 0
+IsBeingSent start one left framer kept =
+    (track : List ℕ) → StandsFor start track → HasComeBehind track (sent one.bytes one.timing) left framer kept
 
 -- where all is left
 abbrev pub SendingBegins : Type 0
@@ -39,14 +39,14 @@ SendingBegins = (start : Rest) (one : Sent) (left : List ℕ) → left ≡ sent 
 abbrev pub NothingIsSeen : Type 0
 NothingIsSeen =
     (start framer next : Rest) (one : Sent) (left later : List ℕ) (us : ℕ) (answer kept : Seen)
-    → IsBeingSent start one left framer kept → left ≡ us ∷ later → IsTaken framer us next answer → answer ≡ Nothing
-    → IsBeingSent start one later next kept
+    → IsBeingSent start one left framer kept → left ≡ us ∷ later → answer ≡ Nothing → StandsForOneMore framer us next
+    → ShowsAtOneMore framer us answer → IsBeingSent start one later next kept
 
 -- behind one that shows something, which is kept
 abbrev pub SomethingIsSeen : Type 0
 SomethingIsSeen =
     (start framer next : Rest) (one : Sent) (left later : List ℕ) (us : ℕ) (answer kept : Seen)
-    → IsBeingSent start one left framer kept → left ≡ us ∷ later → IsTaken framer us next answer
+    → IsBeingSent start one left framer kept → left ≡ us ∷ later → StandsForOneMore framer us next → ShowsAtOneMore framer us answer
     → (answer ≡ Nothing → ⊥) → IsBeingSent start one later next answer
 
 -- at the end, the frame itself was the last that was seen, where the framer has heard whole frames alone

@@ -8,7 +8,7 @@ use Rattle.dcc_packet.specs.declared.packet.Packet.{Packet}
 use Rattle.dcc_packet.specs.Spelling.{spelling}
 use Rattle.dcc_regs.specs.declared.register.Who.{Who}
 use Rattle.dcc_regs.specs.Heard.{heard, hears}
-use Rattle.dcc_regs.specs.Notes.{Note, note_of}
+use Rattle.dcc_regs.specs.Notes.{Note, note_of, IsHeardAndTold}
 use Rattle.dcc_regs.specs.Result.{RegisterMap, HasHeard, step}
 use Rattle.dcc_order.specs.Hearing.{ArePackets, HasHeardHalves}
 
@@ -18,7 +18,7 @@ IsTold told [] old now = now ≡ old
 IsTold {L} told (p ∷ later) old now = (between : L) × told old (note_of p) between × IsTold told later between now
 
 -- these halves have come to a framer, a decoder has heard their packets, and a listener was told those that it hears
-pub record HaveCome {L : Type 0} (told : L → Note → L → Type 0) (halves : List ℕ) (framer : Rest) (who : Who)
+pub record WereHeardAndTold {L : Type 0} (told : L → Note → L → Type 0) (halves : List ℕ) (framer : Rest) (who : Who)
     (start : RegisterMap) (who' : Who) (now : RegisterMap) (listener listener' : L) : Type 0 where
   pub stands : StandsFor framer halves
   pub packets : List Packet
@@ -26,11 +26,21 @@ pub record HaveCome {L : Type 0} (told : L → Note → L → Type 0) (halves : 
   pub heard_all : HasHeard packets who start who' now
   pub told_all : IsTold told (heard who packets) listener listener'
 
--- a framer takes a half, and answers so
-pub record IsTaken (framer : Rest) (us : ℕ) (next : Rest) (answer : Seen) : Type 0 where
-  pub stands : (halves : List ℕ) → StandsFor framer halves → StandsFor next (halves ++ us ∷ [])
-  pub sees : (halves : List ℕ) → StandsFor framer halves
-      → seen (halves ++ us ∷ []) ≡ seen halves ++ report_at (length halves) answer
+-- the same in one word, which only the laws below look into
+unfoldable pub HaveCome : {L : Type 0} → (L → Note → L → Type 0) → List ℕ → Rest → Who → RegisterMap → Who → RegisterMap
+    → L → L → Type 0
+HaveCome told halves framer who start who' now listener listener' =
+    WereHeardAndTold told halves framer who start who' now listener listener'
+
+-- whatever halves a framer stood for, it stands for them with one more
+abbrev pub StandsForOneMore : Rest → ℕ → Rest → Type 0
+StandsForOneMore framer us next = (halves : List ℕ) → StandsFor framer halves → StandsFor next (halves ++ us ∷ [])
+
+-- and this is what the one more shows
+abbrev pub ShowsAtOneMore : Rest → ℕ → Seen → Type 0
+ShowsAtOneMore framer us answer =
+    (halves : List ℕ) → StandsFor framer halves
+    → seen (halves ++ us ∷ []) ≡ seen halves ++ report_at (length halves) answer
 
 -- before the first half
 abbrev pub NoHalfHasCome : {L : Type 0} → (L → Note → L → Type 0) → Type 0
@@ -42,7 +52,7 @@ abbrev pub NoPacketHasCome : {L : Type 0} → (L → Note → L → Type 0) → 
 NoPacketHasCome {L} told =
     (track : List ℕ) (n : ℕ) (framer next : Rest) (answer : Seen) (who who' : Who) (start now : RegisterMap)
     (listener listener' : L) → HaveCome told (take n track) framer who start who' now listener listener'
-    → n < length track → IsTaken framer (slice_index_or track n 0) next answer
+    → n < length track → StandsForOneMore framer (slice_index_or track n 0) next → ShowsAtOneMore framer (slice_index_or track n 0) answer
     → ((frame : Frame) → answer ≡ PacketSeen frame → ⊥)
     → HaveCome told (take (n + 1) track) next who start who' now listener listener'
 
@@ -52,7 +62,7 @@ PacketIsTold {L} told =
     (track : List ℕ) (n : ℕ) (framer next : Rest) (answer : Seen) (frame : Frame) (p : Packet) (who who' who'' asked : Who)
     (start now after : RegisterMap) (is_heard : Bool) (listener listener' listener'' : L)
     → HaveCome told (take n track) framer who start who' now listener listener'
-    → n < length track → IsTaken framer (slice_index_or track n 0) next answer → answer ≡ PacketSeen frame
+    → n < length track → StandsForOneMore framer (slice_index_or track n 0) next → ShowsAtOneMore framer (slice_index_or track n 0) answer → answer ≡ PacketSeen frame
     → spelling p ≡ frame → who'' ≡ who' → after ≡ step who' now p → asked ≡ who'' → is_heard ≡ hears asked p
     → is_heard ≡ true → told listener' (note_of p) listener''
     → HaveCome told (take (n + 1) track) next who start who'' after listener listener''
@@ -63,10 +73,20 @@ PacketIsPassedOver {L} told =
     (track : List ℕ) (n : ℕ) (framer next : Rest) (answer : Seen) (frame : Frame) (p : Packet) (who who' who'' asked : Who)
     (start now after : RegisterMap) (is_heard : Bool) (listener listener' : L)
     → HaveCome told (take n track) framer who start who' now listener listener'
-    → n < length track → IsTaken framer (slice_index_or track n 0) next answer → answer ≡ PacketSeen frame
+    → n < length track → StandsForOneMore framer (slice_index_or track n 0) next → ShowsAtOneMore framer (slice_index_or track n 0) answer → answer ≡ PacketSeen frame
     → spelling p ≡ frame → who'' ≡ who' → after ≡ step who' now p → asked ≡ who'' → is_heard ≡ hears asked p
     → is_heard ≡ false
     → HaveCome told (take (n + 1) track) next who start who'' after listener listener'
+
+-- both at once, where the decoder and its listener take the packet
+abbrev pub PacketIsHeardAndTold : {L : Type 0} → (L → Note → L → Type 0) → Type 0
+PacketIsHeardAndTold {L} told =
+    (track : List ℕ) (n : ℕ) (framer next : Rest) (answer : Seen) (p : Packet) (who who' who'' : Who)
+    (start now after : RegisterMap) (listener listener' listener'' : L)
+    → IsHeardAndTold told p who' now who'' after listener' listener''
+    → HaveCome told (take n track) framer who start who' now listener listener' → answer ≡ PacketSeen (spelling p)
+    → StandsForOneMore framer (slice_index_or track n 0) next → ShowsAtOneMore framer (slice_index_or track n 0) answer
+    → n < length track → HaveCome told (take (n + 1) track) next who start who'' after listener listener''
 
 -- at the end the decoder has heard the track
 abbrev pub TrackIsHeard : {L : Type 0} → (L → Note → L → Type 0) → Type 0

@@ -38,6 +38,7 @@ impl Model for Comparer {
 impl Comparer {
     ghost use Rattle.dcc_order.specs.GivenLists.{Lists, no_lists, with_item, IsVerdictOfAll, most_held};
     ghost use Rattle.dcc_order.specs.Comparisons.{StandsFor};
+    ghost use Rattle.dcc_order.specs.InStep.{BecomesBy};
 
     /// A comparer that was given nothing. It takes no memory.
     pub fn new(alloc: Global, who: Who) -> Comparer
@@ -79,6 +80,8 @@ impl Comparer {
         ensures stands { OnOk result
             ((lists : Lists) → StandsFor self.old lists → StandsFor self.new (with_item self.old.wants item lists)) }
         ensures who { self.new.who ≡ self.old.who }
+        // (In one word, for a loop of one's own: see `laws::lists_in_step`.)
+        ensures becomes { OnOk result (BecomesBy self.old item self.new) }
         ensures unchanged { OnErr result (self.new ≡ self.old) }
         ensures end { item ≡ None → result ≡ Ok tt }
         ensures unheard { IfSome item (λ p. is_heard_by self.old.who p ≡ false → result ≡ Ok tt) }

@@ -9,8 +9,8 @@ ghost use Rattle.dcc_order.specs.InStep.{LessIsWantedBehindLeft, LessIsWantedBeh
 ghost use Rattle.dcc_order.specs.InStep.{OneMoreOfLeft, OneMoreOfRight, PlacesAreCounted, VerdictIsOfBoth, VerdictIsOfTheGiven};
 ghost use Rattle.dcc_order.specs.SendingLaws.{NothingElseIsSeen, SentPacketIsDone, SentPacketsAreHeard};
 ghost use Rattle.dcc_order.specs.SentHalves.{FrameIsSeen, FramesAreHeard, NothingIsSeen, SendingBegins, SomethingIsSeen};
-ghost use Rattle.dcc_order.specs.ToldTracks.{NoHalfHasCome, NoPacketHasCome, PacketIsPassedOver, PacketIsTold};
-ghost use Rattle.dcc_order.specs.ToldTracks.{TrackIsHeard, TrackIsTold};
+ghost use Rattle.dcc_order.specs.ToldTracks.{NoHalfHasCome, NoPacketHasCome, PacketIsHeardAndTold};
+ghost use Rattle.dcc_order.specs.ToldTracks.{PacketIsPassedOver, PacketIsTold, TrackIsHeard, TrackIsTold};
 ghost use Rattle.dcc_order.specs.OneMore.{FinishedBlocksStay, OneMorePacket};
 ghost use Rattle.dcc_order.specs.Laws.{AlikeIsTheVerdict, AlikeListsAgreeAfterEachBlock, AlikeListsLeaveTheSame};
 
@@ -106,6 +106,15 @@ pub fn tracks_are_told<N: Notify>()
     ensures no_packet { NoPacketHasCome N.told }
     ensures packet { PacketIsTold N.told }
     ensures passed_over { PacketIsPassedOver N.told }
+    ensures heard { TrackIsHeard N.told }
+    ensures told { TrackIsTold N.told }
+{}
+
+/// The same for a loop over [`apply_and_announce`](dcc_regs::apply_and_announce), by which a decoder and its listener take a packet.
+pub fn packets_are_told<N: Notify>()
+    ensures begins { NoHalfHasCome N.told }
+    ensures no_packet { NoPacketHasCome N.told }
+    ensures packet { PacketIsHeardAndTold N.told }
     ensures heard { TrackIsHeard N.told }
     ensures told { TrackIsTold N.told }
 {}

@@ -17,20 +17,14 @@ use Rattle.dcc_regs.specs.Heard.{hears}
 use Rattle.dcc_regs.specs.Outputs.{out_set, position_set, aspect_set}
 use Rattle.dcc_regs.specs.Sets.{side}
 use Rattle.dcc_regs.specs.Result.{result_of_heard, step}
-use Rattle.dcc_regs.specs.Board.{BoardContent, board_registers}
+use Rattle.dcc_regs.specs.Board.{BoardContent, TakesPacket, board_registers}
 use Rattle.dcc_regs.specs.Possible.{IsPossible, may_hold}
 use Rattle.dcc_regs.proofs.LocoStep.{set_by, where_there, heard_one}
-
--- d is a board before the packet that it hears, and d' after it
-pub record Obeys (p : Packet) (d d' : BoardContent) : Type 0 where
-  pub outs : (n : ℕ) → n ≤ 7 → d'.outs n ≡ unwrap_or (out_set p n) (d.outs n)
-  pub positions : (n : ℕ) → n ≤ 3 → d'.positions n ≡ unwrap_or (position_set p n) (d.positions n)
-  pub aspects : (n : ℕ) → n ≤ 3 → d'.aspects n ≡ unwrap_or (aspect_set p n) (d.aspects n)
 
 there : (n last : ℕ) → nat_le n last ≡ true → n ≤ last
 there n last t = grind (arith, nat_tests)
 
-at_register : (p : Packet) (d d' : BoardContent) → Obeys p d d' → (r : Register)
+at_register : (p : Packet) (d d' : BoardContent) → TakesPacket p d d' → (r : Register)
     → board_registers d' r ≡ result_of_heard (board_registers d) (p ∷ []) r
 at_register p d d' o (Out n) =
     where_there (nat_le n 7) (Flag (d'.outs n)) (Flag (d.outs n)) (cons_option (option_map Flag (out_set p n)) [])
@@ -50,10 +44,15 @@ at_register p d d' o (StateRegister n) = refl
 at_register p d d' o (CvBit cv place) = refl
 at_register p d d' o PendingRegister = refl
 
-pub step-heard : (who : Who) (p : Packet) (d d' : BoardContent) → hears who p ≡ true → Obeys p d d'
+pub step-heard : (who : Who) (p : Packet) (d d' : BoardContent) → hears who p ≡ true → TakesPacket p d d'
     → board_registers d' ≡ step who (board_registers d) p
 step-heard who p d d' h o =
     fun_ext (at_register p d d' o) ∙ sym (ap (result_of_heard (board_registers d)) (heard_one who p h))
+
+-- whatever answered that the decoder hears it
+pub packet_taken : (who : Who) (p : Packet) (d d' : BoardContent) (is_heard : Bool) → is_heard ≡ hears who p
+    → is_heard ≡ true → TakesPacket p d d' → board_registers d' ≡ step who (board_registers d) p
+packet_taken who p d d' is_heard e is o = step-heard who p d d' (sym e ∙ is) o
 
 byte : (n : ℕ) → n < 256 → nat_le n 255 ≡ true
 byte n h = grind (arith, nat_tests)

@@ -1,9 +1,11 @@
 -- The registers of an accessory decoder and their start values.
-use Rattle.std.specs.Prelude.{ℕ, Bool, false, nat_le, None, Some, if◌then◌else◌}
+use Rattle.std.specs.Prelude.{◌≡◌, ◌≤◌, ℕ, Bool, false, nat_le, None, Some, unwrap_or, if◌then◌else◌}
+use Rattle.dcc_packet.specs.declared.packet.Packet.{Packet}
 use Rattle.dcc_regs.specs.declared.register.Register.TheVariants.{Speed as SpeedRegister, Direction, Function}
 use Rattle.dcc_regs.specs.declared.register.Register.TheVariants.{State as StateRegister, CvBit}
 use Rattle.dcc_regs.specs.declared.register.Register.TheVariants.{Pending as PendingRegister, Out, Position, Aspect}
 use Rattle.dcc_regs.specs.declared.register.Value.TheVariants.{Flag, Number}
+use Rattle.dcc_regs.specs.Outputs.{out_set, position_set, aspect_set}
 use Rattle.dcc_regs.specs.Sets.{side}
 use Rattle.dcc_regs.specs.Result.{RegisterMap}
 
@@ -25,6 +27,12 @@ board_registers d (Function n) = None
 board_registers d (StateRegister n) = None
 board_registers d (CvBit cv place) = None
 board_registers d PendingRegister = None
+
+-- an accessory decoder takes a packet: what the packet sets is as it sets it, and all else is as before
+pub record TakesPacket (p : Packet) (d d' : BoardContent) : Type 0 where
+  pub outs : (n : ℕ) → n ≤ 7 → d'.outs n ≡ unwrap_or (out_set p n) (d.outs n)
+  pub positions : (n : ℕ) → n ≤ 3 → d'.positions n ≡ unwrap_or (position_set p n) (d.positions n)
+  pub aspects : (n : ℕ) → n ≤ 3 → d'.aspects n ≡ unwrap_or (aspect_set p n) (d.aspects n)
 
 -- an accessory decoder just made: all outputs off, all pairs at side 0, all aspects 0
 abbrev pub made : BoardContent

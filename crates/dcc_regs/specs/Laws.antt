@@ -1,16 +1,21 @@
 -- Laws over the definitions.
-use Rattle.std.specs.Prelude.{Some, ◌≡◌, ◌≢◌, ◌⊎◌, true, false, None, List, [], ◌∷◌, ◌++◌, if◌then◌else◌}
+use Rattle.std.specs.Prelude.{Some, ◌≡◌, ◌≢◌, ◌<◌, ◌⊎◌, ℕ, Bool, true, false, nat_le, None, List, [], ◌∷◌, ◌++◌}
+use Rattle.std.specs.Prelude.{if◌then◌else◌}
+use Rattle.dcc_packet.specs.declared.accessory.Board.{Board as OwnBoard}
 use Rattle.dcc_packet.specs.declared.address.Address.{Address}
 use Rattle.dcc_packet.specs.declared.address.Address.TheVariants.{Broadcast}
 use Rattle.dcc_packet.specs.declared.instruction.What.{What}
 use Rattle.dcc_packet.specs.declared.packet.Packet.{Packet}
 use Rattle.dcc_packet.specs.declared.packet.Packet.TheVariants.{Idle, Loco as ToLoco}
 use Rattle.dcc_regs.specs.declared.register.Who.{Who}
+use Rattle.dcc_regs.specs.declared.register.Who.TheVariants.{Board as BoardWho}
 use Rattle.dcc_regs.specs.declared.register.Register.{Register}
 use Rattle.dcc_regs.specs.declared.register.SpeedMode.{SpeedMode}
 use Rattle.dcc_regs.specs.declared.register.Value.{Value}
 use Rattle.dcc_regs.specs.Heard.{hears}
+use Rattle.dcc_regs.specs.Board.{BoardContent, TakesPacket, board_registers}
 use Rattle.dcc_regs.specs.Conflict.{Conflict}
+use Rattle.dcc_regs.specs.Possible.{IsPossible}
 use Rattle.dcc_regs.specs.Sets.{sets}
 use Rattle.dcc_regs.specs.Writes.{is_own_write, writes_cv29}
 use Rattle.dcc_regs.specs.Result.{RegisterMap, HasHeard, result, step}
@@ -32,6 +37,18 @@ abbrev pub OneMorePacketHeard : Type 0
 OneMorePacketHeard =
     (l : List Packet) (p : Packet) (who who' who'' : Who) (start now after : RegisterMap) → HasHeard l who start who' now
     → who'' ≡ who' → after ≡ step who' now p → HasHeard (l ++ p ∷ []) who start who'' after
+
+-- an accessory decoder that takes a packet which it hears has done what the packet says
+abbrev pub BoardsTakePackets : Type 0
+BoardsTakePackets =
+    (who : Who) (p : Packet) (d d' : BoardContent) (is_heard : Bool) → is_heard ≡ hears who p → is_heard ≡ true
+    → TakesPacket p d d' → board_registers d' ≡ step who (board_registers d) p
+
+-- whatever an accessory decoder holds is possible where its aspects are bytes
+abbrev pub BoardsArePossible : Type 0
+BoardsArePossible =
+    (board : OwnBoard) (d : BoardContent) → nat_le board.number 510 ≡ true → ((n : ℕ) → d.aspects n < 256)
+    → IsPossible (BoardWho board) (board_registers d)
 
 -- one packet puts the constants that it sets over what stood there, in a decoder that hears it, and leaves all else
 abbrev pub StepSets : Type 0

@@ -1,5 +1,5 @@
 -- What a listener is told of a packet: one call for each kind of packet.
-use Rattle.std.specs.Prelude.{ℕ, Bool, true, false, Option, Some, None, if◌then◌else◌}
+use Rattle.std.specs.Prelude.{◌≡◌, ℕ, Bool, true, false, Option, Some, None, [], ◌∷◌, if◌then◌else◌}
 use Rattle.dcc_packet.specs.declared.accessory.Board.{Board}
 use Rattle.dcc_packet.specs.declared.accessory.Output.{Output}
 use Rattle.dcc_packet.specs.declared.accessory.SignalAddress.{SignalAddress}
@@ -13,6 +13,9 @@ use Rattle.dcc_packet.specs.declared.instruction.What.TheVariants.{CvWrite, CvVe
 use Rattle.dcc_packet.specs.declared.packet.Packet.{Packet}
 use Rattle.dcc_packet.specs.declared.packet.Packet.TheVariants.{Idle, Loco as ToLoco, Accessory, Signal, Other}
 use Rattle.dcc_packet.specs.declared.packet.OtherFrame.{OtherFrame}
+use Rattle.dcc_regs.specs.declared.register.Who.{Who}
+use Rattle.dcc_regs.specs.Heard.{hears}
+use Rattle.dcc_regs.specs.Result.{RegisterMap, HasHeard}
 
 -- a call, with what it is given
 pub data Note : Type 0 where
@@ -73,3 +76,10 @@ packet_told (CvAccessCall to what) = told_if (is_cv_access what) to what
 packet_told (TurnoutCall board output on) = Some (Accessory board output on)
 packet_told (SignalCall address aspect) = Some (Signal address aspect)
 packet_told (OtherCall frame) = Some (Other frame)
+
+-- a decoder hears a packet, and a listener is told it where it is for this decoder
+pub record IsHeardAndTold {L : Type 0} (told : L → Note → L → Type 0) (p : Packet) (who : Who) (start : RegisterMap)
+  (who' : Who) (now : RegisterMap) (listener listener' : L) : Type 0 where
+    pub heard : HasHeard (p ∷ []) who start who' now
+    pub tells : hears who p ≡ true → told listener (note_of p) listener'
+    pub passes_over : hears who p ≡ false → listener' ≡ listener

@@ -1,5 +1,6 @@
 //! Laws of the definitions, for those who build on decoders.
 
+ghost use Rattle.dcc_regs.specs.Laws.{BoardsArePossible, BoardsTakePackets};
 ghost use Rattle.dcc_regs.specs.Laws.{ConflictIsMutual, IdleIsUnheard, ModeStays, NoConflictWithItself};
 ghost use Rattle.dcc_regs.specs.Laws.{NoOtherCallTells, NoPacketHeard, NotesTellPackets, OneAddress, OneMorePacketHeard};
 ghost use Rattle.dcc_regs.specs.Laws.{PacketsAreDecided, ResultInParts, StepSets, ValuesAreDecided, WritesSetNoPlain};
@@ -18,6 +19,13 @@ pub fn no_packet_heard()
 /// `apply` says of a decoder is what it asks for.
 pub fn one_more_packet_heard()
     ensures { OneMorePacketHeard }
+{}
+
+/// An accessory decoder of one's own, over fields of its own: where its outputs, sides and aspects become what a packet that it hears
+/// sets, its registers are what [`Decoder::apply`](crate::Decoder::apply) asks for; and they are possible where its aspects are bytes.
+pub fn boards_take_packets()
+    ensures step { BoardsTakePackets }
+    ensures possible { BoardsArePossible }
 {}
 
 /// One packet puts the constants that it sets over what stood there, in a decoder that hears it,

@@ -28,7 +28,7 @@ mod speeds;
 mod states;
 mod writes;
 
-pub use applying::apply_all;
+pub use applying::{apply_all, apply_and_announce};
 pub use board::BoardDecoder;
 pub use board_state::BoardState;
 pub use conflicts::{conflict, sets_nothing};
