@@ -3,6 +3,8 @@
 #![tactic(auto)]
 
 mod cab;
+mod chained_reader;
+mod copied_cv;
 mod counted_decoder;
 mod counting_listener;
 mod decoder_loop;

@@ -1,6 +1,6 @@
 -- What one packet does to an accessory decoder.
 use Rattle.std.proofs.Common.{◌≡◌, ℕ, ◌<◌, ◌≤◌, Bool, true, false, [], ◌∷◌, refl, sym, ◌∙◌, ap, arith}
-use Rattle.std.specs.Prelude.{None, Some, unwrap_or, option_map, if◌then◌else◌, nat_le}
+use Rattle.std.specs.Prelude.{None, Some, option_map, if◌then◌else◌, nat_le}
 use Rattle.std.specs.List.{cons_option}
 use Rattle.std.proofs.lemmas.Bool.Decides.{nat_tests}
 use mathlib.Core.Path.{fun_ext}

@@ -21,6 +21,5 @@ pub mod Conflict
 pub mod Notes
 pub mod Laws
 pub mod Inner
-
 -- what the clauses of this crate cite from below
 pub use Rattle.dcc_packet.specs.Cvs

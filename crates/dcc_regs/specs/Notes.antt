@@ -79,7 +79,7 @@ packet_told (OtherCall frame) = Some (Other frame)
 
 -- a decoder hears a packet, and a listener is told it where it is for this decoder
 pub record IsHeardAndTold {L : Type 0} (told : L → Note → L → Type 0) (p : Packet) (who : Who) (start : RegisterMap)
-  (who' : Who) (now : RegisterMap) (listener listener' : L) : Type 0 where
-    pub heard : HasHeard (p ∷ []) who start who' now
-    pub tells : hears who p ≡ true → told listener (note_of p) listener'
-    pub passes_over : hears who p ≡ false → listener' ≡ listener
+    (who' : Who) (now : RegisterMap) (listener listener' : L) : Type 0 where
+  pub heard : HasHeard (p ∷ []) who start who' now
+  pub tells : hears who p ≡ true → told listener (note_of p) listener'
+  pub passes_over : hears who p ≡ false → listener' ≡ listener
