@@ -46,8 +46,8 @@ NothingIsSeen =
 abbrev pub SomethingIsSeen : Type 0
 SomethingIsSeen =
     (start framer next : Rest) (one : Sent) (left later : List ℕ) (us : ℕ) (answer kept : Seen)
-    → IsBeingSent start one left framer kept → left ≡ us ∷ later → StandsForOneMore framer us next → ShowsAtOneMore framer us answer
-    → (answer ≡ Nothing → ⊥) → IsBeingSent start one later next answer
+    → IsBeingSent start one left framer kept → left ≡ us ∷ later → StandsForOneMore framer us next
+    → ShowsAtOneMore framer us answer → (answer ≡ Nothing → ⊥) → IsBeingSent start one later next answer
 
 -- at the end, the frame itself was the last that was seen, where the framer has heard whole frames alone
 abbrev pub FrameIsSeen : Type 0

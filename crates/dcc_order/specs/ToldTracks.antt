@@ -52,7 +52,8 @@ abbrev pub NoPacketHasCome : {L : Type 0} → (L → Note → L → Type 0) → 
 NoPacketHasCome {L} told =
     (track : List ℕ) (n : ℕ) (framer next : Rest) (answer : Seen) (who who' : Who) (start now : RegisterMap)
     (listener listener' : L) → HaveCome told (take n track) framer who start who' now listener listener'
-    → n < length track → StandsForOneMore framer (slice_index_or track n 0) next → ShowsAtOneMore framer (slice_index_or track n 0) answer
+    → n < length track → StandsForOneMore framer (slice_index_or track n 0) next
+    → ShowsAtOneMore framer (slice_index_or track n 0) answer
     → ((frame : Frame) → answer ≡ PacketSeen frame → ⊥)
     → HaveCome told (take (n + 1) track) next who start who' now listener listener'
 
@@ -62,7 +63,8 @@ PacketIsTold {L} told =
     (track : List ℕ) (n : ℕ) (framer next : Rest) (answer : Seen) (frame : Frame) (p : Packet) (who who' who'' asked : Who)
     (start now after : RegisterMap) (is_heard : Bool) (listener listener' listener'' : L)
     → HaveCome told (take n track) framer who start who' now listener listener'
-    → n < length track → StandsForOneMore framer (slice_index_or track n 0) next → ShowsAtOneMore framer (slice_index_or track n 0) answer → answer ≡ PacketSeen frame
+    → n < length track → StandsForOneMore framer (slice_index_or track n 0) next
+    → ShowsAtOneMore framer (slice_index_or track n 0) answer → answer ≡ PacketSeen frame
     → spelling p ≡ frame → who'' ≡ who' → after ≡ step who' now p → asked ≡ who'' → is_heard ≡ hears asked p
     → is_heard ≡ true → told listener' (note_of p) listener''
     → HaveCome told (take (n + 1) track) next who start who'' after listener listener''
@@ -73,7 +75,8 @@ PacketIsPassedOver {L} told =
     (track : List ℕ) (n : ℕ) (framer next : Rest) (answer : Seen) (frame : Frame) (p : Packet) (who who' who'' asked : Who)
     (start now after : RegisterMap) (is_heard : Bool) (listener listener' : L)
     → HaveCome told (take n track) framer who start who' now listener listener'
-    → n < length track → StandsForOneMore framer (slice_index_or track n 0) next → ShowsAtOneMore framer (slice_index_or track n 0) answer → answer ≡ PacketSeen frame
+    → n < length track → StandsForOneMore framer (slice_index_or track n 0) next
+    → ShowsAtOneMore framer (slice_index_or track n 0) answer → answer ≡ PacketSeen frame
     → spelling p ≡ frame → who'' ≡ who' → after ≡ step who' now p → asked ≡ who'' → is_heard ≡ hears asked p
     → is_heard ≡ false
     → HaveCome told (take (n + 1) track) next who start who'' after listener listener'
