@@ -7,7 +7,7 @@ use Rattle.dcc_wire.specs.Half.{class_of}
 use Rattle.dcc_wire.specs.Outcomes.{ones_left}
 use Rattle.dcc_wire.specs.Runs.{rest_after_run}
 
--- the clauses of Framer.push_run, which has them one by one
+-- what Framer.push_run says of a run, behind `history`
 pub record PushesRun (old : Rest) (us n : ℕ) (shown : RunSeen) (new : Rest) : Type 0 where
   pub stands : (durations : List ℕ) → StandsFor old durations → StandsFor new (durations ++ replicate n us)
   pub sees : (durations : List ℕ) → StandsFor old durations
