@@ -35,6 +35,19 @@ pub fn run<R: Source, W: Sink>(
     if let Some(fault) = input.fault() {
         return Err(ToolFault::from(fault));
     }
+    play(decoders, input, writer)
+}
+
+/// Plays the capture, and writes the text.
+fn play<R: Source, W: Sink>(
+    decoders: &mut [Box<dyn Decoder>],
+    input: &mut Input<R>,
+    writer: &mut W,
+) -> Result<(), ToolFault>
+    requires { input.old.fault ≡ None }
+    ensures { Runs (map (λ decoder. (who decoder, registers decoder)) decoders.old) input.old (W.state writer.old) result
+        (map (λ decoder. (who decoder, registers decoder)) decoders.new) input.new (W.state writer.new) }
+{
     let mut framer = Framer::new();
     'runs: loop {
         match half_at_hand(input) {

@@ -40,6 +40,18 @@ pub fn show<R: Source, W: Sink>(
     if let Some(fault) = input.fault() {
         return Err(ToolFault::from(fault));
     }
+    list(input, writer, words)
+}
+
+/// Writes the listing of a capture, up to the first fault.
+fn list<R: Source, W: Sink>(
+    input: &mut Input<R>,
+    writer: &mut W,
+    words: bool,
+) -> Result<(), ToolFault>
+    requires { input.old.fault ≡ None }
+    ensures { Shows words input.old (W.state writer.old) result input.new (W.state writer.new) }
+{
     let most = input.halves_left();
     let mut framer = Framer::new();
     let mut held = HeldLines::new();

@@ -4,7 +4,7 @@ use Rattle.dcc_regs.specs.declared.register.Who.{Who}
 use Rattle.dcc_regs.specs.Result.{RegisterMap}
 use Rattle.dcc_order.specs.Hearing.{HasHeardHalves}
 use Rattle.dcc_listen.proofs.RunLemmas.{Hearing}
-use Rattle.dcc_listen.proofs.run_call.run.Given as goal
+use Rattle.dcc_listen.proofs.run_call.play.Given as goal
 
 abbrev pub invariant-runs : goal.invariant-runs
 invariant-runs g l =

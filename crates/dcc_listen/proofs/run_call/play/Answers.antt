@@ -10,12 +10,12 @@ use Rattle.dcc_io.specs.Items.{Gave}
 use Rattle.dcc_io.proofs.ItemsLemmas.{Gave-none, Gave-append}
 use Rattle.dcc_order.proofs.TrackLemmas.{AllZip-start}
 use Rattle.dcc_listen.proofs.RunLemmas.{AllZip-views, hears_up_to, hears_all, ran, stopped}
-use Rattle.dcc_listen.proofs.run_call.run.Goals as goal
+use Rattle.dcc_listen.proofs.run_call.play.Goals as goal
 
 pub runs-init : goal.runs-init
 runs-init g c = record {
   halves = [];
-  gave = Gave-none captures c.args.input.now (sym c.fault.ensures.fault ∙ c.in_default.is);
+  gave = Gave-none captures c.args.input.now c.requires;
   stands = c.new-framer.ensures;
   decoders =
       AllZip-start
@@ -45,13 +45,13 @@ runs-preserved g c =
           (is.who decoder.value, is.registers decoder.value)) c.args.decoders.now) before.decoders;
     }
 
-pub runs-preserved-in-Some-half_at_hand : goal.runs-preserved-in-Some-half_at_hand
-runs-preserved-in-Some-half_at_hand g c =
+pub runs-preserved-in-Some : goal.runs-preserved-in-Some
+runs-preserved-in-Some g c =
     let before = c.runs.invariant in
     record {
-      halves = before.halves ++ c.in-Some-half_at_hand.us ∷ [];
+      halves = before.halves ++ c.in-Some.us ∷ [];
       gave = Gave-append captures c.args.input.now c.runs.input c.half_at_hand.new.input before.halves
-          (c.in-Some-half_at_hand.us ∷ []) before.gave c.in-Some-half_at_hand.ensures.some.0.items;
+          (c.in-Some.us ∷ []) before.gave c.in-Some.ensures.some.0.items;
       stands = c.hear_half.ensures.stands before.halves before.stands;
       decoders =
           c.hear_half.ensures.since before.halves before.stands
@@ -59,8 +59,8 @@ runs-preserved-in-Some-half_at_hand g c =
           (is.who decoder.value, is.registers decoder.value)) c.args.decoders.now) before.decoders;
     }
 
-pub returns-in_err-run-in-None-clause-runs : goal.returns-in_err-run-in-None-clause-runs
-returns-in_err-run-in-None-clause-runs g c none =
+pub returns-in_err-run-in-None : goal.returns-in_err-run-in-None
+returns-in_err-run-in-None g c =
     let before = c.runs.invariant in
     let halves : List ℕ = before.halves in
     let gave = subst (λ (now : InputState). Gave captures c.args.input.now halves now) (sym c.in-None.ensures.none)
@@ -83,8 +83,8 @@ returns-in_err-run-in-None-clause-runs g c none =
     (c.in_err-run-in-None.ensures.reads
     (ap (λ (state : InputState). state.fault) c.in-None.ensures.none ∙ c.runs.invariant.gave.fault)))
 
-pub returns-clause-runs : goal.returns-clause-runs
-returns-clause-runs g c none =
+pub returns : goal.returns
+returns g c =
     let end = c.in_ok-run-in-None in
     let took = rw (c.in-None-2.is, c.in-None.ensures.none) at
     (end.ensures.reads
@@ -111,8 +111,8 @@ returns-clause-runs g c none =
     before.decoders) took)
     c.in_ok-write_fleet.ensures
 
-pub returns-in_err-write_fleet-clause-runs : goal.returns-in_err-write_fleet-clause-runs
-returns-in_err-write_fleet-clause-runs g c none =
+pub returns-in_err-write_fleet : goal.returns-in_err-write_fleet
+returns-in_err-write_fleet g c =
     let heard = c.in_ok-run-in-None in
     let took = rw (c.in-None-2.is, c.in-None.ensures.none) at
     (heard.ensures.reads
