@@ -1,20 +1,21 @@
-use Rattle.std.proofs.Common.{length, ◌+◌, ◌-◌, sym, subst, ◌∙◌, arith}
+use Rattle.std.proofs.Common.{length, ◌+◌, ◌-◌, arith}
 use Rattle.std.proofs.lemmas.Result.{err_from_is_err_and}
 use Rattle.dcc_wire.specs.declared.run.RunSeen.{RunSeen}
 use Rattle.dcc_io.specs.declared.word.Run.{Run}
-use Rattle.dcc_io.specs.InputState.{InputState}
-use Rattle.dcc_listen.proofs.ShowLemmas.{Showing, Showing-start, Showing-wrote, Showing-run, at_some_half, taken_with}
-use Rattle.dcc_listen.proofs.ShowLemmas.{counted_half, counted_one, answers_one, stops_before_read, stops_at_run}
-use Rattle.dcc_listen.proofs.ShowLemmas.{stops_at_fault, stops_at_end}
+use Rattle.dcc_listen.proofs.ShowLemmas.{Showing-start, Showing-wrote, Showing-run, at_some_half, counted, answers_one}
+use Rattle.dcc_listen.proofs.ShowLemmas.{stops_before_read, stops_at_run, stops_at_fault, stops_at_end}
 use Rattle.dcc_listen.proofs.show_call.list.Goals as goal
 
 pub runs-init : goal.runs-init
-runs-init g c =
-    rw c.new-held.ensures
-    (Showing-start c.args.words c.args.input.now c.new-framer.result (g.W.Sink.state c.args.writer.now)
-    c.requires c.new-framer.ensures)
+runs-init g c = rw c.new-held.ensures (Showing-start c.requires c.new-framer.ensures)
 
 -- a half at hand
+
+pub hold_seen-requires : goal.hold_seen-requires
+hold_seen-requires g c =
+    let one : Run = record { us = c.in-Some.us; n = 1 } in
+    let half = counted one c.runs.invariant c.in-Some.ensures.some.0 c.halves_left-most.ensures c.halves_left.ensures in
+    omega (arith, half)
 
 pub runs-preserved-in-Continue-1 : goal.runs-preserved-in-Continue-1
 runs-preserved-in-Continue-1 g c =
@@ -22,49 +23,22 @@ runs-preserved-in-Continue-1 g c =
     let answer : RunSeen = record { seen = c.push-seen.result; at = 1 } in
     let showing = c.runs.invariant in
     let gave = c.in-Some.ensures.some.0 in
-    let taken = taken_with c.args.words c.args.input.now c.runs.input c.half_at_hand.new.input c.runs.framer c.runs.held
-    _ _ one showing gave in
-    let half = counted_one c.halves_left-most.result c.halves_left.result c.args.input.now.halves
-    c.half_at_hand.new.input.halves (length showing.halves) c.halves_left-most.ensures c.halves_left.ensures
-    taken in
-    let wrote = c.in_ok-hold_seen-in-Some.ensures (length showing.halves + 1 - 1) half in
-    Showing-run c.args.words c.args.input.now c.runs.input c.half_at_hand.new.input c.runs.framer c.push-seen.new.self
-    c.runs.held c.hold_seen.new.held _ _ _
-    one answer showing wrote.0 gave (c.push-seen.ensures.stands showing.halves showing.stands)
-    (answers_one showing.halves one.us c.push-seen.result (c.push-seen.ensures.sees showing.halves showing.stands))
-    wrote.1 wrote.2.0 wrote.2.1
+    let half = counted one showing gave c.halves_left-most.ensures c.halves_left.ensures in
+    let wrote = c.in_ok-hold_seen-in-Some.ensures (length showing.halves + 1 - 1) (omega (arith, half)) in
+    Showing-run one showing gave _ answer (c.push-seen.ensures.stands showing.halves showing.stands)
+    (answers_one showing.halves one.us c.push-seen.result (c.push-seen.ensures.sees showing.halves showing.stands)) wrote.1 wrote.2.0 wrote.2.1
 
-pub hold_seen-requires : goal.hold_seen-requires
-hold_seen-requires g c =
-    let one : Run = record { us = c.in-Some.us; n = 1 } in
-    let showing = c.runs.invariant in
-    let taken = taken_with c.args.words c.args.input.now c.runs.input c.half_at_hand.new.input c.runs.framer c.runs.held
-    _ _ one showing c.in-Some.ensures.some.0 in
-    let half = counted_one c.halves_left-most.result c.halves_left.result c.args.input.now.halves
-    c.half_at_hand.new.input.halves (length showing.halves) c.halves_left-most.ensures c.halves_left.ensures
-    taken in
-    omega (arith, half)
-
-pub returns-in_err-hold_seen-in-Some
-    : goal.returns-in_err-hold_seen-in-Some
+pub returns-in_err-hold_seen-in-Some : goal.returns-in_err-hold_seen-in-Some
 returns-in_err-hold_seen-in-Some g c =
-    let p = err_from_is_err_and c.from_residual.result
-    c.from_residual.ensures.1 in
+    let p = err_from_is_err_and c.from_residual.result c.from_residual.ensures.1 in
     let one : Run = record { us = c.in-Some.us; n = 1 } in
     let answer : RunSeen = record { seen = c.push-seen.result; at = 1 } in
     let showing = c.runs.invariant in
     let gave = c.in-Some.ensures.some.0 in
-    let taken = taken_with c.args.words c.args.input.now c.runs.input c.half_at_hand.new.input c.runs.framer c.runs.held
-    _ _ one showing gave in
-    let half = counted_one c.halves_left-most.result c.halves_left.result c.args.input.now.halves
-    c.half_at_hand.new.input.halves (length showing.halves) c.halves_left-most.ensures c.halves_left.ensures
-    taken in
-    let wrote = c.in_err-hold_seen-in-Some.ensures (length showing.halves + 1 - 1) half in
-    rw (p.1, p.2)
-    (stops_at_run c.args.words c.args.input.now c.runs.input c.half_at_hand.new.input c.runs.framer c.runs.held _ _ _
-    one answer showing wrote.0 gave
-    (answers_one showing.halves one.us c.push-seen.result (c.push-seen.ensures.sees showing.halves showing.stands))
-    wrote.1 wrote.2.0 wrote.2.1)
+    let half = counted one showing gave c.halves_left-most.ensures c.halves_left.ensures in
+    let wrote = c.in_err-hold_seen-in-Some.ensures (length showing.halves + 1 - 1) (omega (arith, half)) in
+    rw (p.1, p.2) (stops_at_run one showing gave _ answer
+    (answers_one showing.halves one.us c.push-seen.result (c.push-seen.ensures.sees showing.halves showing.stands)) wrote.1 wrote.2.0 wrote.2.1)
 
 -- a word that is no half at hand
 
@@ -72,20 +46,13 @@ pub runs-preserved : goal.runs-preserved
 runs-preserved g c =
     let took = rw (c.in-Ok-Some.is, c.in-Ok-Some.field-0-is, c.in-None.ensures.none) at
     c.in_ok-run-in-None.ensures in
-    let gave = took.0.0 in
     let within = at_some_half c.in-Ok-Some.run' c.push_run-shown.result took.0.1 c.push_run-shown.ensures.nothing
     c.push_run-shown.ensures.something in
-    let showing = Showing-wrote c.args.words c.args.input.now c.runs.input c.runs.framer c.runs.held c.next_run.new.held
-    _ _ _ c.runs.invariant took.1 took.2 in
-    let taken = taken_with c.args.words c.args.input.now c.runs.input c.next_run.new.input c.runs.framer
-    c.next_run.new.held _ _ c.in-Ok-Some.run' showing gave in
-    let half = counted_half c.halves_left-most.result c.halves_left-in-Ok-Some.result c.args.input.now.halves
-    c.next_run.new.input.halves c.in-Ok-Some.run'.n c.push_run-shown.result.at (length showing.halves)
-    c.halves_left-most.ensures c.halves_left-in-Ok-Some.ensures taken within.0 in
-    let wrote = c.in_ok-hold_seen-in-Ok-Some.ensures (length showing.halves + c.push_run-shown.result.at - 1) half in
-    Showing-run c.args.words c.args.input.now c.runs.input c.next_run.new.input c.runs.framer c.push_run-shown.new.self
-    c.next_run.new.held c.hold_seen-in-Ok-Some.new.held _ _ _
-    c.in-Ok-Some.run' c.push_run-shown.result showing wrote.0 gave
+    let showing = Showing-wrote c.runs.invariant took.1 took.2 in
+    let half = counted c.in-Ok-Some.run' showing took.0.0 c.halves_left-most.ensures c.halves_left-in-Ok-Some.ensures in
+    let wrote = c.in_ok-hold_seen-in-Ok-Some.ensures (length showing.halves + c.push_run-shown.result.at - 1)
+    (omega (arith, half, within)) in
+    Showing-run c.in-Ok-Some.run' showing took.0.0 _ c.push_run-shown.result
     (c.push_run-shown.ensures.stands showing.halves showing.stands)
     (c.push_run-shown.ensures.sees showing.halves showing.stands) wrote.1 wrote.2.0 wrote.2.1
 
@@ -95,50 +62,30 @@ returns-in_err-hold_seen-in-Ok-Some g c =
     c.from_residual-in_err-hold_seen-in-Ok-Some.ensures.1 in
     let took = rw (c.in-Ok-Some.is, c.in-Ok-Some.field-0-is, c.in-None.ensures.none) at
     c.in_ok-run-in-None.ensures in
-    let gave = took.0.0 in
     let within = at_some_half c.in-Ok-Some.run' c.push_run-shown.result took.0.1 c.push_run-shown.ensures.nothing
     c.push_run-shown.ensures.something in
-    let showing = Showing-wrote c.args.words c.args.input.now c.runs.input c.runs.framer c.runs.held c.next_run.new.held
-    _ _ _ c.runs.invariant took.1 took.2 in
-    let taken = taken_with c.args.words c.args.input.now c.runs.input c.next_run.new.input c.runs.framer
-    c.next_run.new.held _ _ c.in-Ok-Some.run' showing gave in
-    let half = counted_half c.halves_left-most.result c.halves_left-in-Ok-Some.result c.args.input.now.halves
-    c.next_run.new.input.halves c.in-Ok-Some.run'.n c.push_run-shown.result.at (length showing.halves)
-    c.halves_left-most.ensures c.halves_left-in-Ok-Some.ensures taken within.0 in
-    let wrote = c.in_err-hold_seen-in-Ok-Some.ensures (length showing.halves + c.push_run-shown.result.at - 1) half in
-    rw (p.1, p.2)
-    (stops_at_run c.args.words c.args.input.now c.runs.input c.next_run.new.input c.runs.framer c.next_run.new.held
-    _ _ _ c.in-Ok-Some.run' c.push_run-shown.result showing wrote.0 gave
+    let showing = Showing-wrote c.runs.invariant took.1 took.2 in
+    let half = counted c.in-Ok-Some.run' showing took.0.0 c.halves_left-most.ensures c.halves_left-in-Ok-Some.ensures in
+    let wrote = c.in_err-hold_seen-in-Ok-Some.ensures (length showing.halves + c.push_run-shown.result.at - 1)
+    (omega (arith, half, within)) in
+    rw (p.1, p.2) (stops_at_run c.in-Ok-Some.run' showing took.0.0 _ c.push_run-shown.result
     (c.push_run-shown.ensures.sees showing.halves showing.stands) wrote.1 wrote.2.0 wrote.2.1)
 
 pub returns-in-Ok-None : goal.returns-in-Ok-None
 returns-in-Ok-None g c =
     let took = rw (c.in-Ok-None.is, c.in-Ok-None.field-0-is, c.in-None.ensures.none) at
     c.in_ok-run-in-None.ensures in
-    let showing = Showing-wrote c.args.words c.args.input.now c.runs.input c.runs.framer c.runs.held c.next_run.new.held
-    _ _ _ c.runs.invariant took.1 took.2 in
-    stops_at_end c.args.words c.args.input.now c.runs.input c.next_run.new.input c.runs.framer c.next_run.new.held _ _ _
-    c.write_rest.result showing took.0 c.write_rest.ensures
+    stops_at_end (Showing-wrote c.runs.invariant took.1 took.2) took.0 c.write_rest.ensures
 
 pub returns-in-Err : goal.returns-in-Err
 returns-in-Err g c =
-    let before = subst (λ (now : InputState). Showing c.args.words c.args.input.now now c.runs.framer c.runs.held
-    (g.W.Sink.state c.args.writer.now) (g.W.Sink.state c.runs.writer))
-    (sym c.in-None.ensures.none) c.runs.invariant in
-    let took = rw c.in-Err.is at c.in_ok-run-in-None.ensures in
-    let showing = Showing-wrote c.args.words c.args.input.now c.half_at_hand.new.input c.runs.framer c.runs.held
-    c.next_run.new.held _ _ _ before took.1 took.2 in
+    let took = rw (c.in-None.ensures.none, c.in-Err.is) at c.in_ok-run-in-None.ensures in
     let rest = rw c.from.ensures at c.write_rest-in-Err.ensures in
-    stops_at_fault c.args.words c.args.input.now c.half_at_hand.new.input c.next_run.new.input c.runs.framer
-    c.next_run.new.held _ _ _ c.in-Err.fault
-    c.write_rest-in-Err.result showing took.0 rest
+    stops_at_fault (Showing-wrote c.runs.invariant took.1 took.2) _ c.in-Err.fault took.0 rest
 
 pub returns-in_err-run-in-None : goal.returns-in_err-run-in-None
 returns-in_err-run-in-None g c =
     let p = err_from_is_err_and c.from_residual-in_err-run-in-None.result
     c.from_residual-in_err-run-in-None.ensures.1 in
     let failed = rw c.in-None.ensures.none at c.in_err-run-in-None.ensures in
-    rw (p.1, p.2)
-    (rw failed.0
-    (stops_before_read c.args.words c.args.input.now c.runs.input c.runs.framer c.runs.held _ _ _
-    c.runs.invariant failed.1 failed.2))
+    rw (p.1, p.2, failed.0) (stops_before_read c.runs.invariant failed.1 failed.2)
