@@ -31,98 +31,74 @@ pub record Encoding (how : Encode) (start now : InputState) (held : List ℕ) (b
   pub holds : Holds before after (encoding how frames) held
   pub failures : after.failures ≡ before.failures
 
-pub Encoding-start : (how : Encode) (input : InputState) (state : WriterState) → input.fault ≡ None
-    → Encoding how input input [] state state
-Encoding-start how input state fault =
-    record { frames = []; gave = Gave-none packet_lines input fault; holds = Holds-same state []; failures = refl }
-
--- some of what was held was written
-pub Encoding-wrote : (how : Encode) (start now : InputState) (held left : List ℕ) (before after then : WriterState)
-    → Encoding how start now held before after → Holds after then held left → then.failures ≡ after.failures
-    → Encoding how start now left before then
-Encoding-wrote how start now held left before after then so_far wrote same = record {
-  frames = so_far.frames;
-  gave = so_far.gave;
-  holds = Holds-wrote before after then (encoding how so_far.frames) held left so_far.holds wrote;
-  failures = same ∙ so_far.failures;
-}
-
 encoding-append : (how : Encode) (xs ys : List (List ℕ)) → encoding how (xs ++ ys) ≡ encoding how xs ++ encoding how ys
 encoding-append how xs ys = flat_map-append (frame_line how) xs ys
 
 encoding-one : (how : Encode) (frames : List (List ℕ)) (frame : List ℕ)
     → encoding how (frames ++ frame ∷ []) ≡ encoding how frames ++ frame_line how frame
-encoding-one how frames frame =
-    encoding-append how frames (frame ∷ [])
-    ∙ ap (λ (bytes : List ℕ). encoding how frames ++ bytes) (append-nil (frame_line how frame))
+encoding-one how frames frame = rw (encoding-append, append-nil) refl
 
-pub Encoding-packet : (how : Encode) (start now new : InputState) (held left : List ℕ)
-    (before after then : WriterState) (packet : Packet)
-    → Encoding how start now held before after → AnswersPacket now (Ok (Some packet)) new
-    → Holds after then (held ++ frame_line how (spelling packet)) left → then.failures ≡ after.failures
-    → Encoding how start new left before then
-Encoding-packet how start now new held left before after then packet so_far answer holds same =
-    record {
-      frames = so_far.frames ++ spelling packet ∷ [];
-      gave = Gave-append packet_lines start now new so_far.frames (spelling packet ∷ []) so_far.gave answer.0;
-      holds = subst (λ (bytes : List ℕ). Holds before then bytes left)
-          (sym (encoding-one how so_far.frames (spelling packet)))
-          (Holds-append before after then (encoding how so_far.frames) held (frame_line how (spelling packet)) left
-          so_far.holds holds);
-      failures = same ∙ so_far.failures;
-    }
-
--- a front of one line more is a front of all that is written
-front_of_all : (how : Encode) (start now : InputState) (frames : List (List ℕ)) (before after : WriterState)
-    → Gave packet_lines start frames now → AppendsFront before after (encoding how frames)
-    → IfSome start.text (λ text. AppendsFront before after (encoding how (frames_in start text).said))
-front_of_all how start now frames before after gave wrote = go start.text now.text gave.text
+-- a front of one line more is a front of all that is written, where the write failed
+stopped : (how : Encode) {start now : InputState} (frames : List (List ℕ)) {before : WriterState} (after : WriterState)
+    {then : WriterState} → Gave packet_lines start frames now → AppendsFront before then (encoding how frames)
+    → after.failures ≡ before.failures → HasRisen after.failures then.failures
+    → EncodesText how start before (Err Write) now then
+stopped how {start} {now} frames {before} after {then} gave wrote same risen =
+    ((go start.text now.text gave.text, gave.fault, gave.failures), rw same at risen)
   where
     go : (whole rest : Option (List ℕ))
         → IfSome whole (λ text. IsSomeAnd rest (λ more. Gives packet_lines start frames now text more))
-        → IfSome whole (λ text. AppendsFront before after (encoding how (frames_in start text).said))
+        → IfSome whole (λ text. AppendsFront before then (encoding how (frames_in start text).said))
     go None rest gives = tt
     go (Some text) None gives = absurd gives
     go (Some text) (Some rest) gives =
-        let later = (frames_in now rest).said in
-        let lines : encoding how (frames_in start text).said ≡ encoding how frames ++ encoding how later =
-        ap (λ (items : Items (List ℕ)). encoding how items.said)
-        (in_whole packet_lines start now frames text rest gives)
-        ∙ encoding-append how frames later in
-        subst (λ (bytes : List ℕ). AppendsFront before after bytes) (sym lines)
-        (AppendsFront-more before after (encoding how frames) (encoding how later) wrote)
+        rw (in_whole packet_lines start now frames text rest gives, encoding-append how frames)
+        (AppendsFront-more before then (encoding how frames) _ wrote)
 
--- a write failed where a line was to be held
-pub stops_at_write : (how : Encode) (start now new : InputState) (held : List ℕ) (before after then : WriterState)
-    (packet : Packet) → Encoding how start now held before after → AnswersPacket now (Ok (Some packet)) new
-    → AppendsFront after then (held ++ frame_line how (spelling packet))
-    → HasRisen after.failures then.failures → EncodesText how start before (Err Write) new then
-stops_at_write how start now new held before after then packet so_far answer wrote risen =
-    let all = Gave-append packet_lines start now new so_far.frames (spelling packet ∷ []) so_far.gave answer.0 in
-    let front = subst (λ (bytes : List ℕ). AppendsFront before then bytes) (sym (encoding-one how so_far.frames (spelling packet)))
-    (Holds-fails_with before after then (encoding how so_far.frames) held (frame_line how (spelling packet))
-    so_far.holds wrote) in (
-      (
-        front_of_all how start new (so_far.frames ++ spelling packet ∷ []) before then all front,
-        all.fault,
-        all.failures,
-      ),
-      subst (λ (n : ℕ). HasRisen n then.failures) so_far.failures risen,
-    )
+module _ {how : Encode} {start : InputState} {before : WriterState} where
+  pub Encoding-start : start.fault ≡ None → Encoding how start start [] before before
+  Encoding-start fault =
+      record { frames = []; gave = Gave-none packet_lines start fault; holds = Holds-same before []; failures = refl }
 
--- a write of what was held failed
-pub stops_before_read : (how : Encode) (start now : InputState) (held : List ℕ) (before after then : WriterState)
-    → Encoding how start now held before after → AppendsFront after then held
-    → HasRisen after.failures then.failures → EncodesText how start before (Err Write) now then
-stops_before_read how start now held before after then so_far wrote risen = (
-  (
-    front_of_all how start now so_far.frames before then so_far.gave
-        (Holds-fails before after then (encoding how so_far.frames) held so_far.holds wrote),
-    so_far.gave.fault,
-    so_far.gave.failures,
-  ),
-  subst (λ (n : ℕ). HasRisen n then.failures) so_far.failures risen,
-)
+  module _ {now : InputState} {held : List ℕ} {after : WriterState} (so_far : Encoding how start now held before after)
+    where
+      -- some of what was held was written
+      pub Encoding-wrote : {left : List ℕ} {then : WriterState} → Holds after then held left
+          → then.failures ≡ after.failures → Encoding how start now left before then
+      Encoding-wrote wrote same = record {
+        frames = so_far.frames;
+        gave = so_far.gave;
+        holds = Holds-wrote _ _ _ _ _ _ so_far.holds wrote;
+        failures = same ∙ so_far.failures;
+      }
+
+      pub Encoding-packet : {new : InputState} {left : List ℕ} {then : WriterState} (packet : Packet)
+          → AnswersPacket now (Ok (Some packet)) new → Holds after then (held ++ frame_line how (spelling packet)) left
+          → then.failures ≡ after.failures → Encoding how start new left before then
+      Encoding-packet {new} packet answer holds same =
+          record {
+            frames = so_far.frames ++ spelling packet ∷ [];
+            gave = Gave-append packet_lines start now new so_far.frames (spelling packet ∷ []) so_far.gave answer.0;
+            holds = rw (encoding-one how so_far.frames (spelling packet))
+                (Holds-append _ _ _ _ _ _ _ so_far.holds holds);
+            failures = same ∙ so_far.failures;
+          }
+
+      -- a write failed where a line was to be held
+      pub stops_at_write : (new : InputState) {then : WriterState} (packet : Packet)
+          → AnswersPacket now (Ok (Some packet)) new → AppendsFront after then (held ++ frame_line how (spelling packet))
+          → HasRisen after.failures then.failures → EncodesText how start before (Err Write) new then
+      stops_at_write new {then} packet answer wrote risen =
+          stopped how (so_far.frames ++ spelling packet ∷ []) after
+          (Gave-append packet_lines start now new so_far.frames (spelling packet ∷ []) so_far.gave answer.0)
+          (rw (encoding-one how so_far.frames (spelling packet)) (Holds-fails_with _ _ _ _ _ _ so_far.holds wrote))
+          so_far.failures risen
+
+      -- a write of what was held failed
+      pub stops_before_read : {then : WriterState} → AppendsFront after then held → HasRisen after.failures then.failures
+          → EncodesText how start before (Err Write) now then
+      stops_before_read wrote risen =
+          stopped how so_far.frames after so_far.gave (Holds-fails _ _ _ _ _ so_far.holds wrote) so_far.failures risen
 
 -- the input has ended, and what was held was written
 pub encodes_all : (how : Encode) (start now new : InputState) (held left : List ℕ) (before after then : WriterState)

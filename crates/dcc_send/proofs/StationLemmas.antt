@@ -32,7 +32,7 @@ use Rattle.dcc_io.proofs.HeldLemmas.{Holds-same, Holds-wrote, Holds-append, Hold
 use Rattle.dcc_io.proofs.ItemsLemmas.{Gave-none, Gave-append, in_whole}
 use Rattle.dcc_send.proofs.LinesLemmas.{writes_all, writes_up_to}
 
-pub AnswersAll-append : (how : Encode) (s between new : Sending) (xs ys : List Asked) (first rest : List ℕ)
+AnswersAll-append : (how : Encode) (s between new : Sending) (xs ys : List Asked) (first rest : List ℕ)
     → AnswersAll how s xs first between → AnswersAll how between ys rest new
     → AnswersAll how s (xs ++ ys) (first ++ rest) new
 AnswersAll-append how s between new [] ys first rest a b =
@@ -46,114 +46,74 @@ AnswersAll-append how s between new (x ∷ xs) ys first rest a b = (
   AnswersAll-append how a.0 between new xs ys a.2 rest a.5 b,
 )
 
--- one answer
-pub AnswersAll-one : (how : Encode) (s new : Sending) (item : Asked) (bytes : List ℕ) → Answers how s item bytes new
-    → AnswersAll how s (item ∷ []) bytes new
-AnswersAll-one how s new item bytes a = (new, bytes, [], sym (append-nil bytes), a, (refl, refl))
+module _ {how : Encode} where
+  -- nothing was asked
+  pub HoldsAnswers-none : {s : Sending} {state : WriterState} {held : List ℕ}
+      → HoldsAnswers how s [] s state state held held
+  HoldsAnswers-none {state = state} {held = held} =
+      record { bytes = []; answers = (refl, refl); holds = rw append-nil (Holds-same state held) }
 
-WroteFront-more : (how : Encode) (s : Sending) (xs ys : List Asked) (before after : WriterState)
-    → WroteFront how s before after xs → WroteFront how s before after (xs ++ ys)
-WroteFront-more how s xs ys before after a = record {
-  first = a.first;
-  later = a.later ++ ys;
-  whole = ap (λ (items : List Asked). items ++ ys) a.whole ∙ append_assoc a.first a.later ys;
-  bytes = a.bytes;
-  new = a.new;
-  answers = a.answers;
-  written = a.written;
-}
+  module _ {s between : Sending} {xs : List Asked} {before after then : WriterState} {held mid : List ℕ}
+      (a : HoldsAnswers how s xs between before after held mid) where
+    pub HoldsAnswers-append : {new : Sending} {ys : List Asked} {left : List ℕ}
+        → HoldsAnswers how between ys new after then mid left
+        → HoldsAnswers how s (xs ++ ys) new before then held left
+    HoldsAnswers-append {new} {ys} b = record {
+      bytes = a.bytes ++ b.bytes;
+      answers = AnswersAll-append how s between new xs ys a.bytes b.bytes a.answers b.answers;
+      holds = rw (← append_assoc held a.bytes b.bytes) (Holds-append _ _ _ _ _ _ _ a.holds b.holds);
+    }
 
--- nothing was asked
-pub HoldsAnswers-none : (how : Encode) (s : Sending) (state : WriterState) (held : List ℕ)
-    → HoldsAnswers how s [] s state state held held
-HoldsAnswers-none how s state held = record {
-  bytes = [];
-  answers = (refl, refl);
-  holds = subst (λ (bytes : List ℕ). Holds state state bytes held) (sym (append-nil held))
-      (Holds-same state held);
-}
+    -- a write failed at a later answer
+    HeldFront-append : {ys : List Asked} → HeldFront how between ys after then mid
+        → HeldFront how s (xs ++ ys) before then held
+    HeldFront-append b = record {
+      first = xs ++ b.first;
+      later = b.later;
+      whole = ap (λ (items : List Asked). xs ++ items) b.whole ∙ sym (append_assoc xs b.first b.later);
+      bytes = a.bytes ++ b.bytes;
+      new = b.new;
+      answers = AnswersAll-append how s between b.new xs b.first a.bytes b.bytes a.answers b.answers;
+      written = rw (← append_assoc held a.bytes b.bytes) (Holds-fails_with _ _ _ _ _ _ a.holds b.written);
+    }
 
-pub HoldsAnswers-append : (how : Encode) (s between new : Sending) (xs ys : List Asked)
-    (before after then : WriterState) (held mid left : List ℕ)
-    → HoldsAnswers how s xs between before after held mid → HoldsAnswers how between ys new after then mid left
-    → HoldsAnswers how s (xs ++ ys) new before then held left
-HoldsAnswers-append how s between new xs ys before after then held mid left a b = record {
-  bytes = a.bytes ++ b.bytes;
-  answers = AnswersAll-append how s between new xs ys a.bytes b.bytes a.answers b.answers;
-  holds = subst (λ (bytes : List ℕ). Holds before then bytes left) (append_assoc held a.bytes b.bytes)
-      (Holds-append before after then (held ++ a.bytes) mid b.bytes left a.holds b.holds);
-}
+  HeldFront-more : {s : Sending} {xs : List Asked} (ys : List Asked) {before after : WriterState} {held : List ℕ}
+      → HeldFront how s xs before after held → HeldFront how s (xs ++ ys) before after held
+  HeldFront-more ys a = record {
+    first = a.first;
+    later = a.later ++ ys;
+    whole = ap (λ (items : List Asked). items ++ ys) a.whole ∙ append_assoc a.first a.later ys;
+    bytes = a.bytes;
+    new = a.new;
+    answers = a.answers;
+    written = a.written;
+  }
 
--- some of what was held was written
-HoldsAnswers-wrote : (how : Encode) (s new : Sending) (items : List Asked) (before after then : WriterState)
-    (held mid left : List ℕ)
-    → HoldsAnswers how s items new before after held mid → Holds after then mid left
-    → HoldsAnswers how s items new before then held left
-HoldsAnswers-wrote how s new items before after then held mid left a wrote = record {
-  bytes = a.bytes;
-  answers = a.answers;
-  holds = Holds-wrote before after then (held ++ a.bytes) mid left a.holds wrote;
-}
-
--- a write failed at a later answer
-HeldFront-append : (how : Encode) (s between : Sending) (xs ys : List Asked) (before after then : WriterState)
-    (held mid : List ℕ)
-    → HoldsAnswers how s xs between before after held mid → HeldFront how between ys after then mid
-    → HeldFront how s (xs ++ ys) before then held
-HeldFront-append how s between xs ys before after then held mid a b = record {
-  first = xs ++ b.first;
-  later = b.later;
-  whole = ap (λ (items : List Asked). xs ++ items) b.whole ∙ sym (append_assoc xs b.first b.later);
-  bytes = a.bytes ++ b.bytes;
-  new = b.new;
-  answers = AnswersAll-append how s between b.new xs b.first a.bytes b.bytes a.answers b.answers;
-  written = subst (λ (bytes : List ℕ). AppendsFront before then bytes) (append_assoc held a.bytes b.bytes)
-      (Holds-fails_with before after then (held ++ a.bytes) mid b.bytes a.holds b.written);
-}
-
-HeldFront-more : (how : Encode) (s : Sending) (xs ys : List Asked) (before after : WriterState) (held : List ℕ)
-    → HeldFront how s xs before after held → HeldFront how s (xs ++ ys) before after held
-HeldFront-more how s xs ys before after held a = record {
-  first = a.first;
-  later = a.later ++ ys;
-  whole = ap (λ (items : List Asked). items ++ ys) a.whole ∙ append_assoc a.first a.later ys;
-  bytes = a.bytes;
-  new = a.new;
-  answers = a.answers;
-  written = a.written;
-}
-
--- a front of the answers to items that were read is one of the answers to all
-front_of_all : (how : Encode) (s : Sending) (start now : InputState) (items : List Asked)
-    (before after : WriterState) → Gave station_lines start items now → WroteFront how s before after items
-    → IfSome start.text (λ text. WroteFront how s before after (items_in station_words start text).said)
-front_of_all how s start now items before after gave wrote = go start.text now.text gave.text
+-- A front of the answers to items that were read, of which nothing was held at the start, is one of the answers to all, where a
+-- write failed.
+stopped : (how : Encode) (s : Sending) {start now : InputState} (items : List Asked) {before : WriterState}
+    (after : WriterState) {then : WriterState} → Gave station_lines start items now
+    → HeldFront how s items before then [] → after.failures ≡ before.failures
+    → HasRisen after.failures then.failures → StationText how s start before (Err Write) now then
+stopped how s {start} {now} items {before} after {then} gave front same risen =
+    ((go start.text now.text gave.text, gave.fault, gave.failures), rw same at risen)
   where
     go : (whole rest : Option (List ℕ))
         → IfSome whole (λ text. IsSomeAnd rest (λ more. Gives station_lines start items now text more))
-        → IfSome whole (λ text. WroteFront how s before after (items_in station_words start text).said)
+        → IfSome whole (λ text. WroteFront how s before then (items_in station_words start text).said)
     go None rest gives = tt
     go (Some text) None gives = absurd gives
     go (Some text) (Some rest) gives =
-        let later = (items_in station_words now rest).said in
-        let all : (items_in station_words start text).said ≡ items ++ later =
-        ap (λ (n : Items Asked). n.said) (in_whole station_lines start now items text rest gives) in
-        subst (λ (n : List Asked). WroteFront how s before after n) (sym all)
-        (WroteFront-more how s items later before after wrote)
-
--- where nothing was held at the start
-wrote_front : (how : Encode) (s : Sending) (items : List Asked) (before after : WriterState)
-    → HeldFront how s items before after [] → WroteFront how s before after items
-wrote_front how s items before after front =
-    record {
-      first = front.first;
-      later = front.later;
-      whole = front.whole;
-      bytes = front.bytes;
-      new = front.new;
-      answers = front.answers;
-      written = front.written;
-    }
+        let all = HeldFront-more (items_in station_words now rest).said front in
+        rw (in_whole station_lines start now items text rest gives) (record {
+          first = all.first;
+          later = all.later;
+          whole = all.whole;
+          bytes = all.bytes;
+          new = all.new;
+          answers = all.answers;
+          written = all.written;
+        })
 
 -- so far these items were read, and what is answered to them written or held
 pub record Answering (how : Encode) (s t : Sending) (start now : InputState) (held : List ℕ)
@@ -163,85 +123,62 @@ pub record Answering (how : Encode) (s t : Sending) (start now : InputState) (he
   pub holds : HoldsAnswers how s items t before after [] held
   pub failures : after.failures ≡ before.failures
 
-pub Answering-start : (how : Encode) (s : Sending) (input : InputState) (state : WriterState)
-    → input.fault ≡ None
-    → Answering how s s input input [] state state
-Answering-start how s input state fault =
-    record {
-      items = [];
-      gave = Gave-none station_lines input fault;
-      holds = HoldsAnswers-none how s state [];
-      failures = refl;
-    }
+module _ {how : Encode} {s : Sending} {start : InputState} {before : WriterState} where
+  pub Answering-start : start.fault ≡ None → Answering how s s start start [] before before
+  Answering-start fault =
+      record { items = []; gave = Gave-none station_lines start fault; holds = HoldsAnswers-none; failures = refl }
 
-pub Answering-wrote : (how : Encode) (s t : Sending) (start now : InputState) (held left : List ℕ)
-    (before after then : WriterState)
-    → Answering how s t start now held before after → Holds after then held left → then.failures ≡ after.failures
-    → Answering how s t start now left before then
-Answering-wrote how s t start now held left before after then so_far wrote same = record {
-  items = so_far.items;
-  gave = so_far.gave;
-  holds = HoldsAnswers-wrote how s t so_far.items before after then [] held left so_far.holds wrote;
-  failures = same ∙ so_far.failures;
-}
-
-pub Answering-line : (how : Encode) (s t new : Sending) (start now next : InputState) (held left : List ℕ)
-    (before after then : WriterState) (line : StationLine)
-    → Answering how s t start now held before after
-    → AnswersSaid station_words asked_by now (Ok (Some line)) next
-    → HoldsAnswers how t (asked_by line) new after then held left → then.failures ≡ after.failures
-    → Answering how s new start next left before then
-Answering-line how s t new start now next held left before after then line so_far answer holds same =
-    record {
-      items = so_far.items ++ asked_by line;
-      gave = Gave-append station_lines start now next so_far.items (asked_by line) so_far.gave answer.0;
-      holds = HoldsAnswers-append how s t new so_far.items (asked_by line) before after then [] held left so_far.holds
-          holds;
+  module _ {t : Sending} {now : InputState} {held : List ℕ} {after : WriterState}
+      (so_far : Answering how s t start now held before after) where
+    -- some of what was held was written
+    pub Answering-wrote : {left : List ℕ} {then : WriterState} → Holds after then held left
+        → then.failures ≡ after.failures → Answering how s t start now left before then
+    Answering-wrote wrote same = record {
+      items = so_far.items;
+      gave = so_far.gave;
+      holds = record {
+        bytes = so_far.holds.bytes;
+        answers = so_far.holds.answers;
+        holds = Holds-wrote _ _ _ _ _ _ so_far.holds.holds wrote;
+      };
       failures = same ∙ so_far.failures;
     }
 
--- a write failed where answers were to be held
-pub stops_at_write : (how : Encode) (s t : Sending) (start now next : InputState) (held : List ℕ)
-    (before after then : WriterState) (line : StationLine)
-    → Answering how s t start now held before after
-    → AnswersSaid station_words asked_by now (Ok (Some line)) next
-    → HeldFront how t (asked_by line) after then held → HasRisen after.failures then.failures
-    → StationText how s start before (Err Write) next then
-stops_at_write how s t start now next held before after then line so_far answer wrote risen =
-    let all = Gave-append station_lines start now next so_far.items (asked_by line) so_far.gave answer.0 in
-    let front = wrote_front how s (so_far.items ++ asked_by line) before
-    then (HeldFront-append how s t so_far.items (asked_by line) before after then [] held so_far.holds wrote) in (
-      (
-        front_of_all how s start next (so_far.items ++ asked_by line) before then all front,
-        all.fault,
-        all.failures,
-      ),
-      subst (λ (n : ℕ). HasRisen n then.failures) so_far.failures risen,
-    )
+    pub Answering-line : {new : Sending} {next : InputState} {left : List ℕ} {then : WriterState} (line : StationLine)
+        → AnswersSaid station_words asked_by now (Ok (Some line)) next
+        → HoldsAnswers how t (asked_by line) new after then held left → then.failures ≡ after.failures
+        → Answering how s new start next left before then
+    Answering-line {next = next} line answer holds same =
+        record {
+          items = so_far.items ++ asked_by line;
+          gave = Gave-append station_lines start now next so_far.items (asked_by line) so_far.gave answer.0;
+          holds = HoldsAnswers-append so_far.holds holds;
+          failures = same ∙ so_far.failures;
+        }
 
--- a write of what was held failed
-pub stops_before_read : (how : Encode) (s t : Sending) (start now : InputState) (held : List ℕ)
-    (before after then : WriterState)
-    → Answering how s t start now held before after → AppendsFront after then held
-    → HasRisen after.failures then.failures
-    → StationText how s start before (Err Write) now then
-stops_before_read how s t start now held before after then so_far wrote risen =
-    let front : WroteFront how s before then so_far.items = record {
-      first = so_far.items;
-      later = [];
-      whole = sym (append-nil so_far.items);
-      bytes = so_far.holds.bytes;
-      new = t;
-      answers = so_far.holds.answers;
-      written = Holds-fails before after then so_far.holds.bytes held so_far.holds.holds wrote;
-    } in (
-      (
-        front_of_all how s start now so_far.items before then so_far.gave front,
-        so_far.gave.fault,
-        so_far.gave.failures,
-      ),
-      subst (λ (n : ℕ). HasRisen n then.failures) so_far.failures risen,
-    )
+    -- a write failed where answers were to be held
+    pub stops_at_write : (next : InputState) {then : WriterState} (line : StationLine)
+        → AnswersSaid station_words asked_by now (Ok (Some line)) next
+        → HeldFront how t (asked_by line) after then held → HasRisen after.failures then.failures
+        → StationText how s start before (Err Write) next then
+    stops_at_write next line answer wrote risen =
+        stopped how s (so_far.items ++ asked_by line) after
+        (Gave-append station_lines start now next so_far.items (asked_by line) so_far.gave answer.0)
+        (HeldFront-append so_far.holds wrote) so_far.failures risen
+
+    -- a write of what was held failed
+    pub stops_before_read : {then : WriterState} → AppendsFront after then held → HasRisen after.failures then.failures
+        → StationText how s start before (Err Write) now then
+    stops_before_read wrote risen =
+        stopped how s so_far.items after so_far.gave (record {
+          first = so_far.items;
+          later = [];
+          whole = sym (append-nil so_far.items);
+          bytes = so_far.holds.bytes;
+          new = t;
+          answers = so_far.holds.answers;
+          written = Holds-fails _ _ _ _ _ so_far.holds.holds wrote;
+        }) so_far.failures risen
 
 -- what was held was written
 all_answered : (how : Encode) (s t : Sending) (start now : InputState) (held left : List ℕ)
@@ -283,9 +220,7 @@ pub HoldsAnswers-next : (how : Encode) (s between new : Sending) (n : ℕ) (befo
     → HoldsAnswers how between (Next ∷ []) new after then mid left
     → HoldsAnswers how s (replicate (n + 1) Next) new before then held left
 HoldsAnswers-next how s between new n before after then held mid left a b =
-    subst (λ (items : List Asked). HoldsAnswers how s items new before then held left)
-    (replicate-append-replicate n 1 Next)
-    (HoldsAnswers-append how s between new (replicate n Next) (Next ∷ []) before after then held mid left a b)
+    rw (← replicate-append-replicate n 1 Next) (HoldsAnswers-append a b)
 
 -- a write failed within the packets to be sent
 pub stops_sending : (how : Encode) (s between : Sending) (n count : ℕ) (before after then : WriterState)
@@ -294,38 +229,30 @@ pub stops_sending : (how : Encode) (s between : Sending) (n count : ℕ) (before
     → HeldFront how between (Next ∷ []) after then mid → HasRisen after.failures then.failures
     → HeldFront how s (replicate count Next) before then held × HasRisen before.failures then.failures
 stops_sending how s between n count before after then held mid within a same b risen =
-    let front = HeldFront-append how s between (replicate n Next) (Next ∷ []) before after then held mid a b in
+    let total : count ≡ n + 1 + (count - (n + 1)) = omega (arith, within) in
     let whole : replicate count Next ≡ (replicate n Next ++ Next ∷ []) ++ replicate (count - (n + 1)) Next =
-    (let total : count ≡ n + 1 + (count - (n + 1)) = omega (arith, within) in
-    ap (λ (m : ℕ). replicate m Next) total
-    ∙ sym (replicate-append-replicate (n + 1) (count - (n + 1)) Next)
+    ap (λ (m : ℕ). replicate m Next) total ∙ sym (replicate-append-replicate (n + 1) (count - (n + 1)) Next)
     ∙ ap (λ (items : List Asked). items ++ replicate (count - (n + 1)) Next)
-    (sym (replicate-append-replicate n 1 Next))) in (
-      subst (λ (items : List Asked). HeldFront how s items before then held) (sym whole)
-          (HeldFront-more how s (replicate n Next ++ Next ∷ []) (replicate (count - (n + 1)) Next) before then held
-          front),
-      subst (λ (m : ℕ). HasRisen m then.failures) same risen,
-    )
+    (sym (replicate-append-replicate n 1 Next)) in
+    (rw whole (HeldFront-more (replicate (count - (n + 1)) Next) (HeldFront-append a b)), rw same at risen)
 
 -- one answer was held, or a write failed
 pub holds_answer : (how : Encode) (s new : Sending) (item : Asked) (bytes : List ℕ) (before after : WriterState)
     (held left : List ℕ) (result : Result (Unit {0}) Failed)
     → Answers how s item bytes new → HoldsOrFails before (held ++ bytes) result left after
     → HoldsAnswersOrFails how s (item ∷ []) before held result new left after
-holds_answer how s new item bytes before after held left (Ok done) a holds =
-    (record { bytes = bytes; answers = AnswersAll-one how s new item bytes a; holds = holds.0 }, holds.1)
-holds_answer how s new item bytes before after held left (Err failed) a wrote = (
-  record {
-    first = item ∷ [];
-    later = [];
-    whole = refl;
-    bytes = bytes;
-    new = new;
-    answers = AnswersAll-one how s new item bytes a;
-    written = wrote.0;
-  },
-  wrote.1,
-)
+holds_answer how s new item bytes before after held left result a holds = go result holds
+  where
+    one : AnswersAll how s (item ∷ []) bytes new
+    one = (new, bytes, [], sym (append-nil bytes), a, (refl, refl))
+
+    go : (result : Result (Unit {0}) Failed) → HoldsOrFails before (held ++ bytes) result left after
+        → HoldsAnswersOrFails how s (item ∷ []) before held result new left after
+    go (Ok done) holds = (record { bytes = bytes; answers = one; holds = holds.0 }, holds.1)
+    go (Err failed) wrote = (
+      record { first = item ∷ []; later = []; whole = refl; bytes = bytes; new = new; answers = one; written = wrote.0 },
+      wrote.1,
+    )
 
 -- how a command was refused
 abbrev pub refused_by : Result (Unit {0}) (Refused × Packet) → Option Refused
@@ -360,16 +287,10 @@ refused_is s packet result not_sendable full back = go (is_sendable packet) (eqb
 pub answers_accepted : (how : Encode) (s new : Sending) (packet : Packet) (state : WriterState)
     (held : List ℕ) → None ≡ refusal s packet → new ≡ with_command s packet
     → HoldsAnswersOrFails how s (Command (spelling packet) ∷ []) state held (Ok tt) new held state
-answers_accepted how s new packet state held none is = (
-  record {
-    bytes = [];
-    answers = AnswersAll-one how s new (Command (spelling packet)) []
-        (packet, refl, ap command_line none, is ∙ ap (λ (r : Option Refused). after_command s packet r) none);
-    holds = subst (λ (bytes : List ℕ). Holds state state bytes held) (sym (append-nil held))
-        (Holds-same state held);
-  },
-  refl,
-)
+answers_accepted how s new packet state held none is =
+    holds_answer how s new (Command (spelling packet)) [] state state held held (Ok tt)
+    (packet, refl, ap command_line none, is ∙ ap (λ (r : Option Refused). after_command s packet r) none)
+    (rw append-nil (Holds-same state held), refl)
 
 -- a command that is refused
 pub answers_refused : (how : Encode) (s new : Sending) (packet : Packet) (refused : Refused)

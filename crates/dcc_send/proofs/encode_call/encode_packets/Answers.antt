@@ -5,19 +5,13 @@ use Rattle.dcc_send.proofs.EncodeLemmas.{stops_before_read, encodes_up_to}
 use Rattle.dcc_send.proofs.encode_call.encode_packets.Goals as goal
 
 pub packets-init : goal.packets-init
-packets-init g c =
-    rw c.new-held.ensures
-    (Encoding-start c.args.how c.args.input.now (g.W.Sink.state c.args.writer.now) (sym c.fault.ensures.fault
-    ∙ c.in_default.is))
+packets-init g c = rw c.new-held.ensures (Encoding-start (sym c.fault.ensures.fault ∙ c.in_default.is))
 
 pub packets-preserved : goal.packets-preserved
 packets-preserved g c =
     let took = rw (rw c.in_ok-packet.is at c.branch-packet.ensures, c.in-Some-2.is) at c.in_ok-next_packet.ensures in
     let held = rw c.frame.ensures.spelled at c.in_ok-hold_frame-in-Some-2.ensures in
-    let so_far = Encoding-wrote c.args.how c.args.input.now c.packets.input c.packets.held c.next_packet.new.held _ _ _
-    c.packets.invariant took.1 took.2 in
-    Encoding-packet c.args.how c.args.input.now c.packets.input c.next_packet.new.input c.next_packet.new.held
-    c.hold_frame.new.held _ _ _ c.in-Some-2.packet so_far took.0 held.0 held.1
+    Encoding-packet (Encoding-wrote c.packets.invariant took.1 took.2) c.in-Some-2.packet took.0 held.0 held.1
 
 pub returns-in_err-hold_frame-in-Some-2-clause-encodes : goal.returns-in_err-hold_frame-in-Some-2-clause-encodes
 returns-in_err-hold_frame-in-Some-2-clause-encodes g c fault =
@@ -25,19 +19,14 @@ returns-in_err-hold_frame-in-Some-2-clause-encodes g c fault =
     c.from_residual-in_err-hold_frame-in-Some-2.ensures.1 in
     let took = rw (rw c.in_ok-packet.is at c.branch-packet.ensures, c.in-Some-2.is) at c.in_ok-next_packet.ensures in
     let failed = rw c.frame.ensures.spelled at c.in_err-hold_frame-in-Some-2.ensures in
-    let so_far = Encoding-wrote c.args.how c.args.input.now c.packets.input c.packets.held c.next_packet.new.held _ _ _
-    c.packets.invariant took.1 took.2 in
-    rw (p.1, p.2)
-    (stops_at_write c.args.how c.args.input.now c.packets.input c.next_packet.new.input c.next_packet.new.held _ _ _
-    c.in-Some-2.packet so_far took.0 failed.0 failed.1)
+    rw (p.1, p.2) (stops_at_write (Encoding-wrote c.packets.invariant took.1 took.2) _ c.in-Some-2.packet took.0 failed.0
+    failed.1)
 
 pub returns-in_err-next_packet-clause-encodes : goal.returns-in_err-next_packet-clause-encodes
 returns-in_err-next_packet-clause-encodes g c fault =
     let p = err_from_is_err_and c.from_residual.result c.from_residual.ensures.1 in
     let failed = c.in_err-next_packet.ensures in
-    rw (p.1, p.2, failed.0)
-    (stops_before_read c.args.how c.args.input.now c.packets.input c.packets.held _ _ _ c.packets.invariant
-    failed.1 failed.2)
+    rw (p.1, p.2, failed.0) (stops_before_read c.packets.invariant failed.1 failed.2)
 
 pub returns-in_err-packet-clause-encodes : goal.returns-in_err-packet-clause-encodes
 returns-in_err-packet-clause-encodes g c fault =

@@ -5,39 +5,28 @@ use Rattle.dcc_send.proofs.StationLemmas.{stops_before_read, answers_up_to}
 use Rattle.dcc_send.proofs.station_encoding.encode_by_station.Goals as goal
 
 pub lines-init : goal.lines-init
-lines-init g c =
-    rw c.new-held.ensures
-    (Answering-start c.args.how c.args.station.now c.args.input.now (g.W.Sink.state c.args.writer.now)
-    (sym c.fault.ensures.fault ∙ c.in_default.is))
+lines-init g c = rw c.new-held.ensures (Answering-start (sym c.fault.ensures.fault ∙ c.in_default.is))
 
 pub lines-preserved : goal.lines-preserved
 lines-preserved g c =
     let took = rw (rw c.in_ok-line.is at c.branch-line.ensures, c.in-Some-2.is) at c.in_ok-next_line.ensures in
-    let so_far = Answering-wrote c.args.how c.args.station.now c.lines.station c.args.input.now c.lines.input
-    c.lines.held c.next_line.new.held _ _ _ c.lines.invariant took.1 took.2 in
-    Answering-line c.args.how c.args.station.now c.lines.station c.answer.new.station c.args.input.now c.lines.input
-    c.next_line.new.input c.next_line.new.held c.answer.new.held _ _ _
-    c.in-Some-2.line so_far took.0 c.in_ok-answer-in-Some-2.ensures.0 c.in_ok-answer-in-Some-2.ensures.1
+    let held = c.in_ok-answer-in-Some-2.ensures in
+    Answering-line (Answering-wrote c.lines.invariant took.1 took.2) c.in-Some-2.line took.0 held.0 held.1
 
 pub returns-in_err-answer-in-Some-2-clause-answers : goal.returns-in_err-answer-in-Some-2-clause-answers
 returns-in_err-answer-in-Some-2-clause-answers g c fault =
     let p = err_from_is_err_and c.from_residual-in_err-answer-in-Some-2.result
     c.from_residual-in_err-answer-in-Some-2.ensures.1 in
     let took = rw (rw c.in_ok-line.is at c.branch-line.ensures, c.in-Some-2.is) at c.in_ok-next_line.ensures in
-    let so_far = Answering-wrote c.args.how c.args.station.now c.lines.station c.args.input.now c.lines.input
-    c.lines.held c.next_line.new.held _ _ _ c.lines.invariant took.1 took.2 in
-    rw (p.1, p.2)
-    (stops_at_write c.args.how c.args.station.now c.lines.station c.args.input.now c.lines.input c.next_line.new.input
-    c.next_line.new.held _ _ _
-    c.in-Some-2.line so_far took.0 c.in_err-answer-in-Some-2.ensures.0 c.in_err-answer-in-Some-2.ensures.1)
+    let failed = c.in_err-answer-in-Some-2.ensures in
+    rw (p.1, p.2) (stops_at_write (Answering-wrote c.lines.invariant took.1 took.2) _ c.in-Some-2.line took.0 failed.0
+    failed.1)
 
 pub returns-in_err-next_line-clause-answers : goal.returns-in_err-next_line-clause-answers
 returns-in_err-next_line-clause-answers g c fault =
     let p = err_from_is_err_and c.from_residual.result c.from_residual.ensures.1 in
     let failed = c.in_err-next_line.ensures in
-    rw (p.1, p.2, failed.0)
-    (stops_before_read c.args.how c.args.station.now c.lines.station c.args.input.now c.lines.input c.lines.held _ _ _
-    c.lines.invariant failed.1 failed.2)
+    rw (p.1, p.2, failed.0) (stops_before_read c.lines.invariant failed.1 failed.2)
 
 pub returns-in_err-line-clause-answers : goal.returns-in_err-line-clause-answers
 returns-in_err-line-clause-answers g c fault =

@@ -5,7 +5,7 @@ use Rattle.dcc_send.proofs.station_encoding.send.Goals as goal
 
 pub loop-init : goal.loop-init
 loop-init g c =
-    (HoldsAnswers-none c.args.how c.args.station.now (g.W.Sink.state c.args.writer.now) c.args.held.now, refl)
+    (HoldsAnswers-none, refl)
 
 pub loop-preserved : goal.loop-preserved
 loop-preserved g c = (
