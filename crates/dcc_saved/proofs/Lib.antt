@@ -1,9 +1,9 @@
 pub mod BitsLemmas
-pub mod PendingLemmas
 pub mod ReadLemmas
 pub mod DecoderTextLemmas
 mod BlankLines
 pub mod RowsLemmas
+pub mod CvLines
 pub mod FleetLemmas
 pub mod LinesBack
 pub mod RulesBack

@@ -1,165 +1,146 @@
--- The pending write is read again.
-use Rattle.std.proofs.Common.{◌≡◌, ℕ, ◌<◌, ◌≤◌, Bool, true, false, ◌&&◌, List, [], ◌∷◌, ◌++◌, length, codes, Option}
-use Rattle.std.proofs.Common.{None, Some, Ok, bytes_eq, fold, bit_xor, ◌^◌, refl, ap, arith}
-use Rattle.std.proofs.lemmas.Bool.{leb-true}
+-- A frame is read as the packet that it spells where that may be pending, and so a pending write is read again.
+use Rattle.std.proofs.Common.{◌≡◌, ℕ, ◌+◌, ◌-◌, ◌*◌, ◌/◌, ◌%◌, ◌<◌, List, [], ◌∷◌, ◌++◌, Bool, true, false, eqb, ◌&&◌}
+use Rattle.std.proofs.Common.{length, drop, codes, bytes_eq, Option, None, Some, Result, Ok, Err, refl, sym, ap}
+use Rattle.std.proofs.Common.{◌∙◌, append_assoc, if◌then◌else◌, arith}
+use Rattle.std.proofs.Math.Seq.{drop-append_seam}
+use Rattle.std.proofs.lemmas.Bool.{and_parts, leb-true}
 use Rattle.std.proofs.lemmas.Slice.Eq.{bytes_eq-Decides}
-use Rattle.std.proofs.lemmas.List.{length-append}
-use Rattle.hex.specs.Hex.{encode_lower, lower_digits, IsBytes}
+use Rattle.hex.specs.Hex.{encode_lower, lower_digits}
 use Rattle.hex.proofs.HexLemmas.{length-encode_with}
-use Rattle.std.proofs.lemmas.Nat.{xor_of_8}
-use Rattle.dcc_wire.proofs.ByteLemmas.{AllBytes-index}
-use Rattle.dcc_packet.specs.declared.address.ShortAddress.{ShortAddress}
-use Rattle.dcc_packet.specs.declared.address.LongAddress.{LongAddress}
-use Rattle.dcc_wire.specs.Frames.{IsFrame, AllBytes, xor_of, with_error_byte}
-use Rattle.dcc_wire.proofs.ErrorByte.{xor_of-with_error_byte}
+use Rattle.dcc_wire.specs.Frames.{IsFrame, xor_of}
 use Rattle.dcc_packet.specs.declared.address.Address.{Address}
-use Rattle.dcc_packet.specs.declared.address.Address.TheVariants.{Broadcast, Short, Long}
+use Rattle.dcc_packet.specs.declared.address.Address.TheVariants.{Short, Long}
+use Rattle.dcc_packet.specs.declared.cv.BitPlace.{BitPlace}
+use Rattle.dcc_packet.specs.declared.cv.CvNumber.{CvNumber}
+use Rattle.dcc_packet.specs.declared.fault.PacketFault.{PacketFault}
+use Rattle.dcc_packet.specs.declared.fault.PacketFault.TheVariants as faults
 use Rattle.dcc_packet.specs.declared.instruction.What.{What}
-use Rattle.dcc_packet.specs.declared.instruction.What.TheVariants.{Reset, Speed28, Speed128, Functions, BinaryState}
-use Rattle.dcc_packet.specs.declared.instruction.What.TheVariants.{CvWrite, CvVerify, CvBitWrite, CvBitVerify}
+use Rattle.dcc_packet.specs.declared.instruction.What.TheVariants.{CvWrite, CvBitWrite}
 use Rattle.dcc_packet.specs.declared.packet.Packet.{Packet}
-use Rattle.dcc_packet.specs.declared.packet.Packet.TheVariants.{Idle, Loco, Accessory, Signal, Other}
-use Rattle.dcc_packet.specs.Rows.{bit, loco_bytes}
-use Rattle.dcc_packet.specs.Spelling.{spelling}
+use Rattle.dcc_packet.specs.declared.packet.Packet.TheVariants.{Loco}
+use Rattle.dcc_packet.specs.Rows.{bit, address_bytes, instruction_bytes, loco_bytes}
+use Rattle.dcc_packet.specs.Spelling.{spelling, ValueFits}
+use Rattle.dcc_packet.specs.Values.{cv_of, place_of}
+use Rattle.dcc_packet.proofs.FrameSpellings.{spellings_are_frames}
+use Rattle.dcc_packet.proofs.OneSpelling.{one_packet}
+use Rattle.dcc_packet.proofs.SameAddresses.{one_short, one_long}
+use Rattle.dcc_packet.proofs.UpTo.{up_to_ok, from_one_to_ok}
 use Rattle.dcc_packet.proofs.WordsBack.{hex_back}
-use Rattle.dcc_regs.specs.declared.register.Who.TheVariants.{Loco as LocoWho}
-use Rattle.dcc_regs.specs.Heard.{hears}
-use Rattle.dcc_regs.specs.Loco.{writes_byte, is_byte_write, is_pending_for}
+use Rattle.dcc_regs.specs.Heard.{is_for}
+use Rattle.dcc_regs.specs.Loco.{writes_byte, is_pending_for}
 use Rattle.dcc_regs.specs.Writes.{is_cv_write, is_own_write}
-use Rattle.dcc_saved.specs.DecoderLines.{pending_word, pending_line}
+use Rattle.dcc_saved.specs.DecoderLines.{pending_line}
 use Rattle.dcc_saved.specs.FleetText.{pending_text}
-use Rattle.dcc_saved.proofs.PendingLemmas.{is_pending_write}
+use Rattle.dcc_saved.specs.PendingWrite.{cv_named, write_in, with_frame, pending_write}
 
 pub all_three : (a b c : Bool) → (a && b && c) ≡ true → (a ≡ true) × (b ≡ true) × (c ≡ true)
 all_three true true true h = (refl, refl, refl)
-all_three true true false h = cc
-all_three true false c h = cc
-all_three false b c h = cc
+all_three a b c h = cc
+
+-- the CV, the place and the bit are read from the bytes of a write
+cv_back : (kind : ℕ) (cv : CvNumber) (last : List ℕ) → kind % 4 ≡ 0
+    → cv_of (cv_named ((kind + (cv.number - 1) / 256) ∷ ((cv.number - 1) % 256) ∷ last)) ≡ Ok cv
+cv_back kind cv last is =
+    let n : 256 * ((kind + (cv.number - 1) / 256) % 4) + (cv.number - 1) % 256 + 1 ≡ cv.number =
+    omega (arith, cv.in_range) in
+    rw n (from_one_to_ok 1024 cv.number faults.CvNumber (λ h. record { number = cv.number; in_range = h }) cv.in_range)
+
+place_back : (one : Bool) (place : BitPlace) → place_of ((0xF0 + 8 * bit one + place.place) % 8) ≡ Ok place
+place_back one place =
+    let n : (0xF0 + 8 * bit one + place.place) % 8 ≡ place.place = omega (arith, place.in_range) in
+    rw n (up_to_ok 7 place.place faults.BitPlace (λ h. record { place = place.place; in_range = h }) place.in_range)
+
+bit_back : (one : Bool) (place : BitPlace) → eqb ((0xF0 + 8 * bit one + place.place) / 8 % 2) 1 ≡ one
+bit_back true place = grind (arith, place.in_range)
+bit_back false place = grind (arith, place.in_range)
+
+write_back : (to : Address) (what : What) (error : List ℕ) → is_cv_write what ≡ true
+    → write_in to (instruction_bytes what ++ error) ≡ Ok (Loco to what)
+write_back to (CvWrite cv value) error h =
+    let kind : eqb ((0xEC + (cv.number - 1) / 256) / 4) 59 ≡ true = grind (arith, cv.in_range) in
+    rw (kind, cv_back 0xEC cv (value ∷ error) refl) refl
+write_back to (CvBitWrite cv place one) error h =
+    let kind : eqb ((0xE8 + (cv.number - 1) / 256) / 4) 59 ≡ false = grind (arith, cv.in_range) in
+    let cv_is = cv_back 0xE8 cv ((0xF0 + 8 * bit one + place.place) ∷ error) refl in
+    rw (kind, cv_is, place_back one place, bit_back one place) refl
+write_back to what error h = cc
+
+value_fits : (what : What) → is_cv_write what ≡ true → writes_byte what ≡ true → ValueFits what
+value_fits (CvWrite cv value) h byte = omega (arith, leb-true value 255 byte)
+value_fits (CvBitWrite cv place one) h byte = tt
+value_fits what h byte = cc
+
+-- an own write is heard by the decoder with that address
+own_to : (to : Address) (active : Option Address) (what : What) → is_own_write (Loco to what) ≡ true
+    → is_for active to ≡ true → (active ≡ Some to) × (is_cv_write what ≡ true)
+own_to (Short to) (Some (Short own)) what h heard = (ap Some ((one_short own to).0 heard), h)
+own_to (Long to) (Some (Long own)) what h heard = (ap Some ((one_long own to).0 heard), h)
+own_to to active what h heard = cc
+
+-- what is known of a packet that may be pending
+pub record IsWrite (active : Option Address) (p : Packet) : Type 0 where
+  pub frame : IsFrame (spelling p)
+  pub read : pending_write active (spelling p) ≡ Ok p
+
+read_back : (to : Address) (what : What) → is_cv_write what ≡ true → is_pending_for (Some to) (Some (Loco to what)) ≡ true
+    → pending_write (Some to) (spelling (Loco to what)) ≡ Ok (Loco to what)
+unfolding pending_write
+read_back to what write h =
+    let error : List ℕ = xor_of (loco_bytes to what) ∷ [] in
+    let bytes : drop (length (address_bytes to)) (spelling (Loco to what)) ≡ instruction_bytes what ++ error =
+    ap (drop (length (address_bytes to))) (append_assoc (address_bytes to) (instruction_bytes what) error)
+    ∙ drop-append_seam (address_bytes to) (instruction_bytes what ++ error) in
+    ap (with_frame (Some to) (spelling (Loco to what))) (ap (write_in to) bytes ∙ write_back to what error write)
+    ∙ rw ((bytes_eq-Decides (spelling (Loco to what)) (spelling (Loco to what))).1 refl, h) refl
+
+pub IsWrite-pending : (active : Option Address) (p : Packet) → is_pending_for active (Some p) ≡ true → IsWrite active p
+IsWrite-pending active (Loco to what) h =
+    let parts = all_three (is_own_write (Loco to what)) (writes_byte what) (is_for active to) h in
+    let own = own_to to active what parts.0 parts.2 in
+    record {
+      frame = spellings_are_frames (Loco to what) (value_fits what own.1 parts.1);
+      read = rw own.0 (read_back to what own.1 (rw own.0 at h));
+    }
+IsWrite-pending active p h = cc
+
+-- a frame is read as the packet that it spells, where that may be pending
+pub pending_write_is : (active : Option Address) (p : Packet)
+    → pending_write active (spelling p) ≡ (if is_pending_for active (Some p) then Ok p else Err faults.State)
+unfolding pending_write
+pending_write_is active p = go active (is_pending_for active (Some p)) refl
+  where
+    told : (to : Address) (q : Packet) (b : Bool) → is_pending_for (Some to) (Some p) ≡ false
+        → (bytes_eq (spelling q) (spelling p) && is_pending_for (Some to) (Some q)) ≡ b
+        → with_frame (Some to) (spelling p) (Ok q) ≡ Err faults.State
+    told to q false other is = rw is refl
+    told to q true other is =
+        let parts = and_parts (bytes_eq (spelling q) (spelling p)) (is_pending_for (Some to) (Some q)) is in
+        let one : q ≡ p = one_packet q p ((bytes_eq-Decides (spelling q) (spelling p)).0 parts.0) in
+        let clash : true ≡ false = sym parts.1 ∙ ap (λ (x : Packet). is_pending_for (Some to) (Some x)) one ∙ other in
+        cc
+
+    none : (to : Address) (read : Result Packet PacketFault) → is_pending_for (Some to) (Some p) ≡ false
+        → with_frame (Some to) (spelling p) read ≡ Err faults.State
+    none to (Err fault) other = refl
+    none to (Ok q) other = told to q _ other refl
+
+    go : (own : Option Address) (b : Bool) → is_pending_for own (Some p) ≡ b
+        → pending_write own (spelling p) ≡ (if b then Ok p else Err faults.State)
+    go own true is = (IsWrite-pending own p is).read
+    go None false is = refl
+    go (Some to) false is = none to (write_in to (drop (length (address_bytes to)) (spelling p))) is
 
 -- a word of another length
-not_none : (word : List ℕ) → 4 < length word → bytes_eq word (codes "none") ≡ false
-not_none word long = go (bytes_eq word (codes "none")) refl
-  where
-    go : (b : Bool) → bytes_eq word (codes "none") ≡ b → b ≡ false
-    go false is = refl
-    go true is =
-        let n : length word ≡ 4 = ap length ((bytes_eq-Decides word (codes "none")).0 is) in absurd
-        (omega (arith, long, n))
-
--- what a packet that may be pending spells
-pub record IsWrite (p : Packet) : Type 0 where
-  pub frame : IsFrame (spelling p)
-  pub bytes : IsBytes (spelling p)
-
-write_back : (active : Option Address) (p : Packet) → IsWrite p → is_pending_for active (Some p) ≡ true
-    → pending_word active (encode_lower (spelling p)) ≡ Ok (Some p)
-write_back active p writes h =
-    let parts = all_three (is_own_write p) (is_byte_write p) (hears (LocoWho active) p) h in
-    let own : (is_own_write p && hears (LocoWho active) p) ≡ true = rw (parts.0, parts.2) refl in
-    let long : 4 < length (encode_lower (spelling p)) =
-    omega (arith, length-encode_with lower_digits (spelling p), writes.frame.least) in
-    rw (
-      not_none (encode_lower (spelling p)) long,
-      hex_back (spelling p) writes.bytes writes.frame,
-      is_pending_write active (spelling p) p refl own,
-    ) refl
-
-bit_small : (b : Bool) → bit b ≤ 1
-bit_small true = omega arith
-bit_small false = omega arith
-
-xor_small : (acc : ℕ) (bytes : List ℕ) → acc < 2 ^ 8 → AllBytes bytes → fold bit_xor acc bytes < 256
-unfolding AllBytes
-xor_small acc [] h all = omega (arith, h)
-xor_small acc (b ∷ bs) h all = xor_small (bit_xor acc b) bs (xor_of_8 acc b h (omega (arith, all.0))) all.1
-
-all_with : (bytes : List ℕ) (e : ℕ) → AllBytes bytes → e < 256 → AllBytes (bytes ++ e ∷ [])
-unfolding AllBytes
-all_with [] e all h = (h, tt)
-all_with (b ∷ bs) e all h = (all.0, all_with bs e all.1 h)
-
--- bytes and their error byte
-frame_of_bytes : (bytes : List ℕ) → 2 ≤ length bytes → length bytes ≤ 5 → AllBytes bytes
-    → IsFrame (with_error_byte bytes)
-frame_of_bytes bytes least most all = record {
-  least = omega (arith, least, length-append bytes (xor_of bytes ∷ []));
-  most = omega (arith, most, length-append bytes (xor_of bytes ∷ []));
-  error_byte = xor_of-with_error_byte bytes;
-  each = AllBytes-index (with_error_byte bytes)
-      (all_with bytes (xor_of bytes) all (xor_small 0 bytes (omega arith) all));
-}
-
-write_is : (to : Address) (what : What) → IsFrame (with_error_byte (loco_bytes to what)) → IsWrite (Loco to what)
-write_is to what frame = record { frame = frame; bytes = frame.each }
-
-short_write : (a : ShortAddress) (what : What) → is_cv_write what ≡ true → writes_byte what ≡ true
-    → IsWrite (Loco (Short a) what)
-unfolding AllBytes
-short_write a (CvWrite cv value) h byte =
-    let range = cv.in_range in
-    let own = a.in_range in
-    let small = leb-true value 255 byte in
-    write_is (Short a) (CvWrite cv value)
-    (frame_of_bytes (loco_bytes (Short a) (CvWrite cv value)) (omega arith) (omega arith)
-    (omega arith, (omega arith, (omega arith, (omega arith, tt)))))
-short_write a (CvBitWrite cv place one) h byte =
-    let range = cv.in_range in
-    let own = a.in_range in
-    let low = place.in_range in
-    let flag = bit_small one in
-    write_is (Short a) (CvBitWrite cv place one)
-    (frame_of_bytes (loco_bytes (Short a) (CvBitWrite cv place one)) (omega arith) (omega arith)
-    (omega arith, (omega arith, (omega arith, (omega arith, tt)))))
-short_write a Reset h byte = cc
-short_write a (Speed28 forward bits) h byte = cc
-short_write a (Speed128 forward bits) h byte = cc
-short_write a (Functions bits) h byte = cc
-short_write a (BinaryState number on) h byte = cc
-short_write a (CvVerify cv value) h byte = cc
-short_write a (CvBitVerify cv place one) h byte = cc
-
-long_write : (a : LongAddress) (what : What) → is_cv_write what ≡ true → writes_byte what ≡ true
-    → IsWrite (Loco (Long a) what)
-unfolding AllBytes
-long_write a (CvWrite cv value) h byte =
-    let range = cv.in_range in
-    let own = a.in_range in
-    let small = leb-true value 255 byte in
-    write_is (Long a) (CvWrite cv value)
-    (frame_of_bytes (loco_bytes (Long a) (CvWrite cv value)) (omega arith) (omega arith)
-    (omega arith, (omega arith, (omega arith, (omega arith, (omega arith, tt))))))
-long_write a (CvBitWrite cv place one) h byte =
-    let range = cv.in_range in
-    let own = a.in_range in
-    let low = place.in_range in
-    let flag = bit_small one in
-    write_is (Long a) (CvBitWrite cv place one)
-    (frame_of_bytes (loco_bytes (Long a) (CvBitWrite cv place one)) (omega arith) (omega arith)
-    (omega arith, (omega arith, (omega arith, (omega arith, (omega arith, tt))))))
-long_write a Reset h byte = cc
-long_write a (Speed28 forward bits) h byte = cc
-long_write a (Speed128 forward bits) h byte = cc
-long_write a (Functions bits) h byte = cc
-long_write a (BinaryState number on) h byte = cc
-long_write a (CvVerify cv value) h byte = cc
-long_write a (CvBitVerify cv place one) h byte = cc
-
-own_write_is : (p : Packet) → is_own_write p ≡ true → is_byte_write p ≡ true → IsWrite p
-own_write_is Idle h byte = cc
-own_write_is (Loco Broadcast what) h byte = cc
-own_write_is (Loco (Short a) what) h byte = short_write a what h byte
-own_write_is (Loco (Long a) what) h byte = long_write a what h byte
-own_write_is (Accessory board output on) h byte = cc
-own_write_is (Signal address aspect) h byte = cc
-own_write_is (Other frame) h byte = cc
-
-pub IsWrite-pending : (active : Option Address) (p : Packet) → is_pending_for active (Some p) ≡ true → IsWrite p
-IsWrite-pending active p h =
-    let parts = all_three (is_own_write p) (is_byte_write p) (hears (LocoWho active) p) h in own_write_is p parts.0
-    parts.1
+not_none : (word : List ℕ) → 4 < length word → (b : Bool) → bytes_eq word (codes "none") ≡ b → b ≡ false
+not_none word long false is = refl
+not_none word long true is = absurd (omega (arith, long, ap length ((bytes_eq-Decides word (codes "none")).0 is)))
 
 pub pending_back : (active : Option Address) (pending : Option Packet) → is_pending_for active pending ≡ true
     → pending_line active (codes "pending" ∷ pending_text pending ∷ []) ≡ Ok pending
 unfolding pending_line
 pending_back active None h = refl
-pending_back active (Some p) h = rw (write_back active p (IsWrite-pending active p h) h) refl
+pending_back active (Some p) h =
+    let write = IsWrite-pending active p h in
+    let word : List ℕ = encode_lower (spelling p) in
+    let long : 4 < length word = omega (arith, length-encode_with lower_digits (spelling p), write.frame.least) in
+    rw (not_none word long _ refl, hex_back (spelling p) write.frame.each write.frame, write.read) refl

@@ -1,8 +1,7 @@
 -- The CV write that a decoder text shows as pending (RCN-214).
-use Rattle.std.specs.Prelude.{ℕ, ◌+◌, ◌*◌, ◌/◌, ◌%◌, ◌==◌, List, Option, None, Some, Result, Ok, Err, length, drop}
+use Rattle.std.specs.Prelude.{ℕ, ◌+◌, ◌*◌, ◌/◌, ◌%◌, ◌==◌, ◌&&◌, List, Option, None, Some, Result, Ok, Err, length, drop}
 use Rattle.std.specs.Prelude.{slice_index, bytes_eq, if◌then◌else◌}
 use Rattle.dcc_packet.specs.declared.address.Address.{Address}
-use Rattle.dcc_packet.specs.declared.address.Address.TheVariants.{Broadcast, Short, Long}
 use Rattle.dcc_packet.specs.declared.instruction.What.TheVariants.{CvWrite, CvBitWrite}
 use Rattle.dcc_packet.specs.declared.packet.Packet.{Packet}
 use Rattle.dcc_packet.specs.declared.packet.Packet.TheVariants.{Loco}
@@ -12,6 +11,7 @@ use Rattle.dcc_packet.specs.Rows.{address_bytes}
 use Rattle.dcc_packet.specs.Spelling.{spelling}
 use Rattle.dcc_packet.specs.Values.{cv_of, place_of}
 use Rattle.dcc_packet.specs.LineWords.{◌>>=◌}
+use Rattle.dcc_regs.specs.Loco.{is_pending_for}
 
 -- the number of the CV in the first two bytes of an instruction: KKKKKKVV VVVVVVVV is the number less 1
 abbrev pub cv_named : List ℕ → ℕ
@@ -34,18 +34,13 @@ bit_write to bytes = do
 abbrev pub write_in : Address → List ℕ → Result Packet PacketFault
 write_in to bytes = if slice_index bytes 0 / 4 == 59 then byte_write to bytes else bit_write to bytes
 
--- the packet, where it has this frame
-abbrev pub with_frame : List ℕ → Result Packet PacketFault → Result Packet PacketFault
-with_frame frame (Ok packet) = if bytes_eq (spelling packet) frame then Ok packet else Err faults.State
-with_frame frame (Err fault) = Err faults.State
-
--- the CV write to this address that has this frame
-abbrev pub write_to : Address → List ℕ → Result Packet PacketFault
-write_to to frame = with_frame frame (write_in to (drop (length (address_bytes to)) frame))
+-- the packet, where it has this frame and may be pending in a decoder with this address
+abbrev pub with_frame : Option Address → List ℕ → Result Packet PacketFault → Result Packet PacketFault
+with_frame active frame (Ok packet) =
+    if bytes_eq (spelling packet) frame && is_pending_for active (Some packet) then Ok packet else Err faults.State
+with_frame active frame (Err fault) = Err faults.State
 
 -- the CV write with this frame that may be pending in a decoder with this address
 unfoldable pub pending_write : Option Address → List ℕ → Result Packet PacketFault
 pending_write None frame = Err faults.State
-pending_write (Some Broadcast) frame = Err faults.State
-pending_write (Some (Short to)) frame = write_to (Short to) frame
-pending_write (Some (Long to)) frame = write_to (Long to) frame
+pending_write (Some to) frame = with_frame (Some to) frame (write_in to (drop (length (address_bytes to)) frame))

@@ -1,8 +1,9 @@
 //! The lines that are written for a decoder.
-ghost use Rattle.std.specs.Prelude.{◌≡◌, ◌+◌, ◌≤◌, ◌++◌, ◌∷◌, codes, length, if◌then◌else◌};
+ghost use Rattle.std.specs.Prelude.{◌≡◌, ◌+◌, ◌≤◌, ◌++◌, ◌∷◌, [], codes, length, if◌then◌else◌};
 ghost use Rattle.arrayvec.specs.ArrayVec.{array_vec_len};
 ghost use Rattle.dcc_regs.specs.Loco.{holds_one as is_on_value};
 ghost use Rattle.dcc_io.specs.Spaced.{behind_space};
+ghost use Rattle.dcc_saved.specs.Numbered.{register_of};
 ghost use Rattle.dcc_saved.specs.FleetText.{speed_held, forward_held, pending_held, number_held, numbers_below};
 ghost use Rattle.dcc_saved.specs.FleetText.{pending_text, cv_line, loco_address_line};
 ghost use Rattle.dcc_saved.specs.FleetText.{written_speed, written_numbers, written_pending};
@@ -103,6 +104,7 @@ fn append_speed_line(rows: &mut Rows, decoder: &dyn Decoder)
     );
 }
 
+#[tactic(auto, using(crate::proofs::RowsLemmas::numbers_none, crate::proofs::RowsLemmas::numbers_next))]
 fn append_numbers(rows: &mut Rows, numbered: Numbered, decoder: &dyn Decoder)
     requires { array_vec_len rows.old + 1415 ≤ 4096 }
     ensures items { rows.new.items ≡ rows.old.items ++ written_numbers numbered (registers decoder.now) }
@@ -110,11 +112,22 @@ fn append_numbers(rows: &mut Rows, numbered: Numbered, decoder: &dyn Decoder)
 {
     append(rows, numbered.name());
     for n in 0..numbered.end() {
-        if is_on(decoder.get(numbered.register(n))) {
-            append_number(rows, u32::from(n));
-        }
+        append_where_on(rows, numbered, n, decoder);
     }
     append(rows, b"\n");
+}
+
+/// Adds a space and the number, where its register is on.
+fn append_where_on(rows: &mut Rows, numbered: Numbered, n: u8, decoder: &dyn Decoder)
+    requires { array_vec_len rows.old + 11 ≤ 4096 }
+    ensures items { rows.new.items
+        ≡ rows.old.items
+        ++ (if is_on_value (registers decoder.now (register_of numbered n)) then behind_space n else []) }
+    ensures len { array_vec_len rows.new ≤ array_vec_len rows.old + 11 }
+{
+    if is_on(decoder.get(numbered.register(n))) {
+        append_number(rows, u32::from(n));
+    }
 }
 
 fn append_address_line(rows: &mut Rows, address: &Option<Address>)

@@ -266,6 +266,7 @@ fn is_write_for(active: &Option<Address>, packet: &Packet) -> bool
 }
 
 /// The CV write with this frame that may be pending in a decoder with this address.
+#[tactic(auto, using(crate::proofs::PendingBack::pending_write_is))]
 fn pending_write(active: &Option<Address>, frame: &Frame) -> Result<Packet, PacketFault>
     ensures is { result ≡ pending_write active.now frame.now }
     ensures possible { IfOk result (λ packet. is_pending_for active.now (Some packet) ≡ true) }

@@ -1,8 +1,8 @@
 //! The decoder text of a fleet.
-ghost use Rattle.std.specs.Prelude.{◌≡◌, map};
+ghost use Rattle.std.specs.Prelude.{◌≡◌, ◌==◌, [], map, if◌then◌else◌};
 ghost use Rattle.dcc_regs.specs.Loco.{cv_held};
 ghost use Rattle.dcc_io.specs.WrittenBytes.{Writes};
-ghost use Rattle.dcc_saved.specs.FleetText.{cvs_text, written_decoder, fleet_text};
+ghost use Rattle.dcc_saved.specs.FleetText.{cv_line, cvs_text, written_decoder, fleet_text};
 
 use crate::decoder_rows::{board_rows, cv_line, loco_front};
 use dcc_io::{Failed, Sink, write_all};
@@ -44,10 +44,17 @@ fn write_cvs<W: Sink>(decoder: &dyn Decoder, writer: &mut W) -> Result<(), Faile
         (W.state writer.new) }
 {
     for n in 0..1024u16 {
-        let value = decoder.cv_byte(n + 1);
-        if value != 0 {
-            write_all(writer, cv_line(n + 1, value).as_slice())?;
-        }
+        write_cv(n + 1, decoder.cv_byte(n + 1), writer)?;
     }
     Ok(())
+}
+
+/// Writes the line of a CV, where it is not 0.
+fn write_cv<W: Sink>(cv: u16, value: u8, writer: &mut W) -> Result<(), Failed>
+    ensures { Writes (W.state writer.old) (if value == 0 then [] else cv_line cv value) result (W.state writer.new) }
+{
+    if value == 0 {
+        return Ok(());
+    }
+    write_all(writer, cv_line(cv, value).as_slice())
 }
