@@ -1,9 +1,9 @@
 -- A frame is read as the packet that it spells where that may be pending, and so a pending write is read again.
 use Rattle.std.proofs.Common.{◌≡◌, ℕ, ◌+◌, ◌-◌, ◌*◌, ◌/◌, ◌%◌, ◌<◌, List, [], ◌∷◌, ◌++◌, Bool, true, false, eqb, ◌&&◌}
-use Rattle.std.proofs.Common.{length, drop, codes, bytes_eq, Option, None, Some, Result, Ok, Err, refl, sym, ap}
+use Rattle.std.proofs.Common.{length, drop, codes, bytes_eq, Option, None, Some, Result, Ok, Err, refl, ap}
 use Rattle.std.proofs.Common.{◌∙◌, append_assoc, if◌then◌else◌, arith}
 use Rattle.std.proofs.Math.Seq.{drop-append_seam}
-use Rattle.std.proofs.lemmas.Bool.{and_parts, leb-true}
+use Rattle.std.proofs.lemmas.Bool.{and_parts, false_from_ne_true, leb-true}
 use Rattle.std.proofs.lemmas.Slice.Eq.{bytes_eq-Decides}
 use Rattle.hex.specs.Hex.{encode_lower, lower_digits}
 use Rattle.hex.proofs.HexLemmas.{length-encode_with}
@@ -103,37 +103,33 @@ IsWrite-pending active (Loco to what) h =
     }
 IsWrite-pending active p h = cc
 
+-- another packet has another frame
+other_frame : (active : Option Address) (p : Packet) (read : Result Packet PacketFault)
+    → is_pending_for active (Some p) ≡ false → with_frame active (spelling p) read ≡ Err faults.State
+other_frame active p (Err fault) other = refl
+other_frame active p (Ok q) other =
+    let none = false_from_ne_true (bytes_eq (spelling q) (spelling p) && is_pending_for active (Some q))
+    (λ h. let parts = and_parts (bytes_eq (spelling q) (spelling p)) (is_pending_for active (Some q)) h in
+    let one = one_packet q p ((bytes_eq-Decides (spelling q) (spelling p)).0 parts.0) in
+    let own = rw one at parts.1 in cc) in
+    rw none refl
+
 -- a frame is read as the packet that it spells, where that may be pending
 pub pending_write_is : (active : Option Address) (p : Packet)
     → pending_write active (spelling p) ≡ (if is_pending_for active (Some p) then Ok p else Err faults.State)
 unfolding pending_write
 pending_write_is active p = go active (is_pending_for active (Some p)) refl
   where
-    told : (to : Address) (q : Packet) (b : Bool) → is_pending_for (Some to) (Some p) ≡ false
-        → (bytes_eq (spelling q) (spelling p) && is_pending_for (Some to) (Some q)) ≡ b
-        → with_frame (Some to) (spelling p) (Ok q) ≡ Err faults.State
-    told to q false other is = rw is refl
-    told to q true other is =
-        let parts = and_parts (bytes_eq (spelling q) (spelling p)) (is_pending_for (Some to) (Some q)) is in
-        let one : q ≡ p = one_packet q p ((bytes_eq-Decides (spelling q) (spelling p)).0 parts.0) in
-        let clash : true ≡ false = sym parts.1 ∙ ap (λ (x : Packet). is_pending_for (Some to) (Some x)) one ∙ other in
-        cc
-
-    none : (to : Address) (read : Result Packet PacketFault) → is_pending_for (Some to) (Some p) ≡ false
-        → with_frame (Some to) (spelling p) read ≡ Err faults.State
-    none to (Err fault) other = refl
-    none to (Ok q) other = told to q _ other refl
-
     go : (own : Option Address) (b : Bool) → is_pending_for own (Some p) ≡ b
         → pending_write own (spelling p) ≡ (if b then Ok p else Err faults.State)
     go own true is = (IsWrite-pending own p is).read
     go None false is = refl
-    go (Some to) false is = none to (write_in to (drop (length (address_bytes to)) (spelling p))) is
+    go (Some to) false is = other_frame (Some to) p _ is
 
--- a word of another length
-not_none : (word : List ℕ) → 4 < length word → (b : Bool) → bytes_eq word (codes "none") ≡ b → b ≡ false
-not_none word long false is = refl
-not_none word long true is = absurd (omega (arith, long, ap length ((bytes_eq-Decides word (codes "none")).0 is)))
+not_none : (word : List ℕ) → 4 < length word → bytes_eq word (codes "none") ≡ false
+not_none word long =
+    false_from_ne_true (bytes_eq word (codes "none"))
+    (λ h. omega (arith, long, ap length ((bytes_eq-Decides word (codes "none")).0 h)))
 
 pub pending_back : (active : Option Address) (pending : Option Packet) → is_pending_for active pending ≡ true
     → pending_line active (codes "pending" ∷ pending_text pending ∷ []) ≡ Ok pending
@@ -143,4 +139,4 @@ pending_back active (Some p) h =
     let write = IsWrite-pending active p h in
     let word : List ℕ = encode_lower (spelling p) in
     let long : 4 < length word = omega (arith, length-encode_with lower_digits (spelling p), write.frame.least) in
-    rw (not_none word long _ refl, hex_back (spelling p) write.frame.each write.frame, write.read) refl
+    rw (not_none word long, hex_back (spelling p) write.frame.each write.frame, write.read) refl
