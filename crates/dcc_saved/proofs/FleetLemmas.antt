@@ -1,6 +1,6 @@
 -- A text that is written piece by piece.
-use Rattle.std.proofs.Common.{◌≡◌, ℕ, suc, ◌+◌, ◌<◌, ◌≤◌, List, [], ◌++◌, length, map, drop, slice_index_or, codes, Result}
-use Rattle.std.proofs.Common.{Ok, Err, refl, sym, ◌∙◌, append_assoc, add-one}
+use Rattle.std.proofs.Common.{zero, suc, ◌≡◌, ℕ, eqb, if◌then◌else◌, ◌+◌, ◌<◌, ◌≤◌, List, [], ◌++◌, length, map, drop, slice_index_or, codes, Result}
+use Rattle.std.proofs.Common.{Ok, Err, refl, sym, ◌∙◌, append_assoc, add-one, arith}
 use Rattle.std.proofs.lemmas.List.{append-nil, drop_all}
 use Rattle.std.proofs.Math.Seq.{drop-cons}
 use Rattle.std.specs.List.{flat_map}
@@ -11,7 +11,7 @@ use Rattle.dcc_io.specs.WrittenBytes.{Writes}
 use Rattle.dcc_io.proofs.WrittenLemmas.{Appends-none, Appends-append, front_behind, AppendsFront-more}
 use Rattle.dcc_regs.specs.declared.register.Who.{Who}
 use Rattle.dcc_regs.specs.Result.{RegisterMap}
-use Rattle.dcc_saved.specs.FleetText.{text_of, fleet_text}
+use Rattle.dcc_saved.specs.FleetText.{cv_line, cvs_text, text_of, fleet_text}
 
 -- of this text all but the rest was written
 pub record Wrote (before : WriterState) (whole rest : List ℕ) (now : WriterState) : Type 0 where
@@ -57,6 +57,29 @@ Writes-last after xs (Ok done) so_far is next =
     Wrote-all after (Wrote-more xs so_far (is ∙ sym (append-nil xs)) next) refl
 Writes-last after xs (Err failed) so_far is next =
     Writes-stopped after xs [] (Err failed) failed refl so_far (is ∙ sym (append-nil xs)) next
+
+-- the lines of CVs: a CV that is not 0 has one
+abbrev line_or_none : (ℕ → ℕ) → ℕ → List ℕ
+line_or_none cvs n = if eqb (cvs n) 0 then [] else cv_line n (cvs n)
+
+pub cvs_none : (cvs : ℕ → ℕ) → cvs_text cvs 0 ≡ []
+unfolding cvs_text
+cvs_none cvs = refl
+
+pub cvs_next : (cvs : ℕ → ℕ) (n : ℕ) → cvs_text cvs (n + 1) ≡ cvs_text cvs n ++ line_or_none cvs (n + 1)
+unfolding cvs_text
+cvs_next cvs n = rw add-one refl
+
+-- what stands behind the line of a CV
+pub cvs_later : (cvs : ℕ → ℕ) (n c last : ℕ) → last ≡ n + 1 + c
+    → (later : List ℕ) × (cvs_text cvs last ≡ cvs_text cvs n ++ (line_or_none cvs (n + 1) ++ later))
+unfolding cvs_text
+cvs_later cvs n zero last is =
+    let next : last ≡ n + 1 = omega arith in ([], rw (next, cvs_next, append-nil (line_or_none cvs (n + 1))) refl)
+cvs_later cvs n (suc c) last is =
+    let next : last ≡ suc (n + 1 + c) = omega arith in
+    let front = cvs_later cvs n c (n + 1 + c) refl in
+    (front.0 ++ line_or_none cvs (suc (n + 1 + c)), rw (next, front.1) (simp append_assoc))
 
 -- the texts of the decoders from one on, and the line behind them
 module _ {A : Type 0} (view : A → Who × RegisterMap) where

@@ -3,7 +3,6 @@ pub mod ReadLemmas
 pub mod DecoderTextLemmas
 mod BlankLines
 pub mod RowsLemmas
-pub mod CvLines
 pub mod FleetLemmas
 pub mod LinesBack
 pub mod RulesBack
