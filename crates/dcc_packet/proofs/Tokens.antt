@@ -1,9 +1,10 @@
 -- Which words stand in lines.
-use Rattle.std.proofs.Common.{◌≡◌, ℕ, ◌<◌, ◌≤◌, Bool, true, false, List, [], ◌∷◌, length, codes, refl, arith}
+use Rattle.std.proofs.Common.{◌≡◌, ℕ, ◌<◌, ◌≤◌, Bool, true, false, nat_le, ◌&&◌, List, [], ◌∷◌, length, codes, refl}
+use Rattle.std.proofs.Common.{arith}
 use Rattle.std.specs.Char.{is_ascii_digit}
 use Rattle.std.specs.Fmt.{decimal}
 use Rattle.std.specs.List.{list_all}
-use Rattle.std.proofs.lemmas.Bool.{and_parts}
+use Rattle.std.proofs.lemmas.Bool.{and_parts, leb-true}
 use Rattle.std.proofs.lemmas.Bool.Decides.{nat_tests}
 use Rattle.std.proofs.lemmas.Fmt.{decimal_is_IsNumeral}
 use Rattle.dcc_packet.specs.Words.{Word}
@@ -26,6 +27,18 @@ use Rattle.hex.proofs.HexLemmas.{length-encode_with}
 
 pub keyword_token : (word : Word) → 0 < length word → list_all is_plain word ≡ true → length word ≤ 12 → IsToken word
 keyword_token word some plain few = record { some = some; plain = plain; short = few }
+
+-- a word that is written out
+pub literal_token : (word : Word) → (nat_le 1 (length word) && (nat_le (length word) 12 && list_all is_plain word)) ≡ true
+    → IsToken word
+literal_token word h =
+    let least = and_parts (nat_le 1 (length word)) (nat_le (length word) 12 && list_all is_plain word) h in
+    let most = and_parts (nat_le (length word) 12) (list_all is_plain word) least.1 in
+    record {
+      some = leb-true 1 (length word) least.0;
+      plain = most.1;
+      short = leb-true (length word) 12 most.0;
+    }
 
 plain_digit : (c : ℕ) → is_ascii_digit c ≡ true → is_plain c ≡ true
 plain_digit c h = grind (arith, nat_tests)

@@ -1,91 +1,43 @@
 -- The same for accessory decoders.
-use Rattle.std.proofs.Common.{zero, suc, ◌≡◌, ℕ, ◌<◌, ◌≤◌, Bool, true, false, eqb, nat_le, List, [], ◌∷◌, get_or}
-use Rattle.std.proofs.Common.{Option, None, Some, if◌then◌else◌, refl, sym, ap, ◌∙◌, arith}
+use Rattle.std.proofs.Common.{zero, suc, ◌≡◌, ℕ, ◌≤◌, ◌<◌, Bool, true, false, not, ◌&&◌, eqb, nat_le, List, [], ◌∷◌}
+use Rattle.std.proofs.Common.{get_or, Option, None, Some, if◌then◌else◌, refl, ap, arith}
+use Rattle.std.specs.Fmt.{decimal}
 use Rattle.std.proofs.lemmas.Bool.{and_parts, leb-true}
+use Rattle.std.proofs.lemmas.Fmt.{decimal_digit}
 use Rattle.dcc_packet.specs.declared.accessory.Board.{Board}
-use Rattle.dcc_packet.proofs.WrittenWords.{not_true}
+use Rattle.dcc_packet.specs.Bits.{is_one}
+use Rattle.dcc_packet.specs.Written.{state_word}
 use Rattle.dcc_regs.specs.declared.board_state.BoardState.{BoardState}
-use Rattle.dcc_regs.specs.declared.register.Register.{Register}
 use Rattle.dcc_regs.specs.declared.register.Register.TheVariants as registers
 use Rattle.dcc_regs.specs.declared.register.Value.{Value}
 use Rattle.dcc_regs.specs.declared.register.Value.TheVariants as values
 use Rattle.dcc_regs.specs.declared.register.Who.TheVariants as who
-use Rattle.dcc_packet.specs.Bits.{is_one}
 use Rattle.dcc_regs.specs.Board.{board_registers}
 use Rattle.dcc_regs.specs.BoardState.{content as board_content}
 use Rattle.dcc_regs.specs.Loco.{holds_one}
-use Rattle.dcc_regs.specs.Possible.{may_hold, IsPossible}
+use Rattle.dcc_regs.specs.Possible.{IsPossible}
 use Rattle.dcc_regs.specs.Result.{RegisterMap}
 use Rattle.dcc_saved.specs.FleetText.{number_held}
 use Rattle.dcc_saved.specs.ReadBack.{SameRegisters}
-use Rattle.dcc_saved.proofs.MapsBack.{flag_or_none, same_flags}
-use Rattle.dcc_saved.proofs.RowsBack.{side_number}
+use Rattle.dcc_saved.proofs.MapsBack.{flag_is, none_is}
 
-abbrev board_may : Board → Register → Option Value → Bool
-board_may own r held = may_hold (who.Board own) r held
+-- what a register may hold that is a number up to this one if it is there
+abbrev may_be_number : Bool → ℕ → Option Value → Bool
+may_be_number there most None = not there
+may_be_number there most (Some (values.Number k)) = there && nat_le k most
+may_be_number there most (Some other) = false
 
-abbrev number_or_none : Bool → ℕ → Option Value
-number_or_none there n = if there then Some (values.Number n) else None
+number_is : (there : Bool) (most k : ℕ) (v : Option Value) → may_be_number there most v ≡ true
+    → (there ≡ true → k ≡ number_held v) → (if there then Some (values.Number k) else None) ≡ v
+number_is true most k (Some (values.Number n)) h same = ap (λ j. Some (values.Number j)) (same refl)
+number_is false most k None h same = refl
+number_is false most k (Some (values.Number n)) h same = cc
+number_is there most k v h same = cc
 
-same_numbers : (there : Bool) (one other : ℕ) → (there ≡ true → one ≡ other)
-    → number_or_none there one ≡ number_or_none there other
-same_numbers true one other same = ap (λ n. Some (values.Number n)) (same refl)
-same_numbers false one other same = refl
-
-out_is : (own : Board) (n : ℕ) (v : Option Value) → board_may own (registers.Out n) v ≡ true
-    → v ≡ flag_or_none (nat_le n 7) (holds_one v)
-out_is own n None h = rw (not_true (nat_le n 7) h) refl
-out_is own n (Some (values.Speed s)) h = cc
-out_is own n (Some (values.Forward s)) h = cc
-out_is own n (Some (values.Flag true)) h = rw h refl
-out_is own n (Some (values.Flag false)) h = rw h refl
-out_is own n (Some (values.Number s)) h = cc
-out_is own n (Some (values.Pending s)) h = cc
-
-position_is : (own : Board) (n : ℕ) (v : Option Value) → board_may own (registers.Position n) v ≡ true
-    → (v ≡ number_or_none (nat_le n 3) (number_held v)) × (number_held v ≤ 1)
-position_is own n None h = (rw (not_true (nat_le n 3) h) refl, omega arith)
-position_is own n (Some (values.Speed s)) h = cc
-position_is own n (Some (values.Forward s)) h = cc
-position_is own n (Some (values.Flag s)) h = cc
-position_is own n (Some (values.Number k)) h =
-    let parts = and_parts (nat_le n 3) (nat_le k 1) h in (rw parts.0 refl, leb-true k 1 parts.1)
-position_is own n (Some (values.Pending s)) h = cc
-
-aspect_is : (own : Board) (n : ℕ) (v : Option Value) → board_may own (registers.Aspect n) v ≡ true
-    → (v ≡ number_or_none (nat_le n 3) (number_held v)) × (number_held v ≤ 255)
-aspect_is own n None h = (rw (not_true (nat_le n 3) h) refl, omega arith)
-aspect_is own n (Some (values.Speed s)) h = cc
-aspect_is own n (Some (values.Forward s)) h = cc
-aspect_is own n (Some (values.Flag s)) h = cc
-aspect_is own n (Some (values.Number k)) h =
-    let parts = and_parts (nat_le n 3) (nat_le k 255) h in (rw parts.0 refl, leb-true k 255 parts.1)
-aspect_is own n (Some (values.Pending s)) h = cc
-
-no_speed : (own : Board) (v : Option Value) → board_may own registers.Speed v ≡ true → v ≡ None
-no_speed own None h = refl
-no_speed own (Some x) h = cc
-
-no_direction : (own : Board) (v : Option Value) → board_may own registers.Direction v ≡ true → v ≡ None
-no_direction own None h = refl
-no_direction own (Some x) h = cc
-
-no_function : (own : Board) (n : ℕ) (v : Option Value) → board_may own (registers.Function n) v ≡ true → v ≡ None
-no_function own n None h = refl
-no_function own n (Some x) h = cc
-
-no_state : (own : Board) (n : ℕ) (v : Option Value) → board_may own (registers.State n) v ≡ true → v ≡ None
-no_state own n None h = refl
-no_state own n (Some x) h = cc
-
-no_cv_bit : (own : Board) (cv place : ℕ) (v : Option Value) → board_may own (registers.CvBit cv place) v ≡ true
-    → v ≡ None
-no_cv_bit own cv place None h = refl
-no_cv_bit own cv place (Some x) h = cc
-
-no_pending : (own : Board) (v : Option Value) → board_may own registers.Pending v ≡ true → v ≡ None
-no_pending own None h = refl
-no_pending own (Some x) h = cc
+number_small : (there : Bool) (most : ℕ) (v : Option Value) → may_be_number there most v ≡ true → number_held v ≤ most
+number_small there most None h = omega arith
+number_small there most (Some (values.Number k)) h = leb-true k most (and_parts there (nat_le k most) h).1
+number_small there most v h = cc
 
 -- the first four of a row
 abbrev pub four_of : {A : Type 0} → (ℕ → A) → List A
@@ -99,57 +51,57 @@ four_at f (suc (suc (suc zero))) d h = refl
 four_at f (suc (suc (suc (suc n)))) d h = absurd (omega (arith, h))
 
 -- the sides and aspects that the lines say
-abbrev pub sides_of : RegisterMap → ℕ → Bool
-sides_of m n = eqb (number_held (m (registers.Position n))) 1
-
 abbrev pub positions_of : RegisterMap → ℕ → ℕ
 positions_of m n = number_held (m (registers.Position n))
 
+abbrev pub sides_of : RegisterMap → ℕ → Bool
+sides_of m n = eqb (positions_of m n) 1
+
 abbrev pub aspects_of : RegisterMap → ℕ → ℕ
 aspects_of m n = number_held (m (registers.Aspect n))
-
-side_is : (k : ℕ) → k ≤ 1 → k ≡ side_number (eqb k 1)
-side_is zero h = refl
-side_is (suc zero) h = refl
-side_is (suc (suc k)) h = absurd (omega (arith, h))
 
 abbrev pub board_state : Board → RegisterMap → ℕ → BoardState
 board_state board m outs =
     record { board = board; outs = outs; positions = four_of (sides_of m); aspects = four_of (aspects_of m) }
 
-module _ (board : Board) (m : RegisterMap) (possible : IsPossible (who.Board board) m) where
-  pub sides_are : (k : ℕ) → k ≤ 3 → positions_of m k ≡ side_number (sides_of m k)
-  sides_are k few =
-      side_is (positions_of m k)
-      (position_is board k (m (registers.Position k)) (possible.registers (registers.Position k))).1
+-- a side as a number, and as a word
+side_is : (k : ℕ) → k ≤ 1 → ((if eqb k 1 then 1 else 0) ≡ k) × (decimal k ≡ state_word (eqb k 1))
+side_is zero h = (refl, decimal_digit 0 (omega arith))
+side_is (suc zero) h = (refl, decimal_digit 1 (omega arith))
+side_is (suc (suc k)) h = absurd (omega (arith, h))
 
-  pub aspects_small : (k : ℕ) → k ≤ 3 → aspects_of m k < 256
-  aspects_small k few =
-      omega (arith, (aspect_is board k (m (registers.Aspect k)) (possible.registers (registers.Aspect k))).1)
+module _ (board : Board) (m : RegisterMap) (possible : IsPossible (who.Board board) m) where
+  side_at : (n : ℕ)
+      → ((if sides_of m n then 1 else 0) ≡ positions_of m n) × (decimal (positions_of m n) ≡ state_word (sides_of m n))
+  side_at n =
+      side_is (positions_of m n)
+      (number_small (nat_le n 3) 1 (m (registers.Position n)) (possible.registers (registers.Position n)))
+
+  pub side_words : (n : ℕ) → decimal (positions_of m n) ≡ state_word (sides_of m n)
+  side_words n = (side_at n).1
+
+  pub aspects_small : (n : ℕ) → aspects_of m n < 256
+  aspects_small n =
+      omega (arith, number_small (nat_le n 3) 255 (m (registers.Aspect n)) (possible.registers (registers.Aspect n)))
 
   pub same_board : (outs : ℕ) → ((j : ℕ) → j < 8 → is_one outs j ≡ holds_one (m (registers.Out j)))
       → SameRegisters (board_registers (board_content (board_state board m outs))) m
   same_board outs bits (registers.Out n) =
-      same_flags (nat_le n 7) (is_one outs n) (holds_one (m (registers.Out n)))
+      flag_is (nat_le n 7) (is_one outs n) (m (registers.Out n)) (possible.registers (registers.Out n))
       (λ there. bits n (omega (arith, leb-true n 7 there)))
-      ∙ sym (out_is board n (m (registers.Out n)) (possible.registers (registers.Out n)))
   same_board outs bits (registers.Position n) =
-      same_numbers (nat_le n 3) (side_number (get_or (four_of (sides_of m)) n false)) (positions_of m n)
-      (λ there. let few = leb-true n 3 there in ap side_number (four_at (sides_of m) n false few)
-      ∙ sym (sides_are n few))
-      ∙ sym (position_is board n (m (registers.Position n)) (possible.registers (registers.Position n))).0
+      number_is (nat_le n 3) 1 (if get_or (four_of (sides_of m)) n false then 1 else 0) (m (registers.Position n))
+      (possible.registers (registers.Position n))
+      (λ there. rw (four_at (sides_of m) n false (leb-true n 3 there)) (side_at n).0)
   same_board outs bits (registers.Aspect n) =
-      same_numbers (nat_le n 3) (get_or (four_of (aspects_of m)) n 0) (aspects_of m n)
-      (λ there. four_at (aspects_of m) n 0 (leb-true n 3 there))
-      ∙ sym (aspect_is board n (m (registers.Aspect n)) (possible.registers (registers.Aspect n))).0
-  same_board outs bits registers.Speed = sym (no_speed board (m registers.Speed) (possible.registers registers.Speed))
-  same_board outs bits registers.Direction =
-      sym (no_direction board (m registers.Direction) (possible.registers registers.Direction))
+      number_is (nat_le n 3) 255 (get_or (four_of (aspects_of m)) n 0) (m (registers.Aspect n))
+      (possible.registers (registers.Aspect n)) (λ there. four_at (aspects_of m) n 0 (leb-true n 3 there))
+  same_board outs bits registers.Speed = none_is (m registers.Speed) (possible.registers registers.Speed)
+  same_board outs bits registers.Direction = none_is (m registers.Direction) (possible.registers registers.Direction)
+  same_board outs bits registers.Pending = none_is (m registers.Pending) (possible.registers registers.Pending)
   same_board outs bits (registers.Function n) =
-      sym (no_function board n (m (registers.Function n)) (possible.registers (registers.Function n)))
+      none_is (m (registers.Function n)) (possible.registers (registers.Function n))
   same_board outs bits (registers.State n) =
-      sym (no_state board n (m (registers.State n)) (possible.registers (registers.State n)))
+      none_is (m (registers.State n)) (possible.registers (registers.State n))
   same_board outs bits (registers.CvBit cv place) =
-      sym (no_cv_bit board cv place (m (registers.CvBit cv place)) (possible.registers (registers.CvBit cv place)))
-  same_board outs bits registers.Pending =
-      sym (no_pending board (m registers.Pending) (possible.registers registers.Pending))
+      none_is (m (registers.CvBit cv place)) (possible.registers (registers.CvBit cv place))

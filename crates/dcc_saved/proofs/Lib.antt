@@ -9,10 +9,8 @@ pub mod RulesBack
 pub mod NumbersBack
 pub mod PendingBack
 pub mod CvsBack
-pub mod TokensBack
 pub mod RowsBack
 pub mod MapsBack
 pub mod BoardMapsBack
-pub mod LinesKept
 pub mod DecodersBack
 pub mod ReadBackLaws

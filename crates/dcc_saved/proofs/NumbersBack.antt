@@ -1,101 +1,29 @@
--- Ascending numbers are read again.
-use Rattle.std.proofs.Common.{zero, suc, ◌≡◌, ℕ, ◌+◌, ◌*◌, ◌/◌, ◌^◌, ◌<◌, ◌≤◌, Bool, true, false, eqb, nat_lt, List}
-use Rattle.std.proofs.Common.{[], ◌∷◌, ◌++◌, length, map, Ok, if◌then◌else◌, refl, sym, ap, ◌∙◌, arith, append_assoc}
+-- The numbers that are on stand in one line, ascending, and are read again as the bits of a number.
+use Rattle.std.proofs.Common.{zero, suc, ◌≡◌, ℕ, ◌+◌, ◌-◌, ◌*◌, ◌/◌, ◌^◌, ◌<◌, ◌≤◌, Bool, true, false, nat_lt, List}
+use Rattle.std.proofs.Common.{[], ◌∷◌, ◌++◌, length, codes, Ok, if◌then◌else◌, inl, inr, refl, sym, ap, ◌∙◌, arith, append_assoc}
 use Rattle.std.proofs.Common.{length-append}
 use native.Mathlib.Nat.{pow-succ'}
 use Rattle.std.specs.Fmt.{decimal}
 use Rattle.std.specs.Int.{bit_at}
-use Rattle.std.proofs.lemmas.Bool.{le-ltb, ltb-true}
+use Rattle.std.specs.List.{AllByRecursion}
+use Rattle.std.proofs.lemmas.Bool.{le-ltb, cases_lt}
 use Rattle.std.proofs.lemmas.Fmt.{length-decimal-le}
 use Rattle.std.proofs.lemmas.Nat.Bits.{bit_at_lowest, bit_at-suc}
 use Rattle.std.proofs.lemmas.List.{append-nil}
-use Rattle.dcc_packet.specs.Written.{spaced_words}
-use Rattle.dcc_packet.proofs.WordsBack.{small_number-decimal, output_back}
 use Rattle.dcc_packet.specs.Bits.{is_one}
+use Rattle.dcc_packet.specs.Fields.{IsToken}
+use Rattle.dcc_packet.specs.Words.{Word}
+use Rattle.dcc_packet.specs.Written.{spaced_words}
+use Rattle.dcc_packet.proofs.Tokens.{decimal_token, literal_token}
+use Rattle.dcc_packet.proofs.WordsBack.{small_number-decimal, output_back}
+use Rattle.dcc_io.specs.Spaced.{behind_space}
 use Rattle.dcc_saved.specs.declared.decoder_line.Numbered.{Numbered}
 use Rattle.dcc_saved.specs.declared.decoder_line.Numbered.TheVariants as kinds
-use Rattle.dcc_saved.specs.Numbered.{end_of}
-use Rattle.dcc_saved.specs.DecoderLines.{number_of, numbers_from}
+use Rattle.dcc_saved.specs.Numbered.{name_of, end_of}
+use Rattle.dcc_saved.specs.DecoderLines.{keyword, number_of, numbers_from, numbers_line}
 use Rattle.dcc_saved.specs.FleetText.{numbers_below}
-use Rattle.dcc_io.specs.Spaced.{behind_space}
-
--- the numbers from this one on that are on, of so many
-abbrev pub ons : (ℕ → Bool) → ℕ → ℕ → List ℕ
-ons on k zero = []
-ons on k (suc c) = if on k then k ∷ ons on (suc k) c else ons on (suc k) c
-
-abbrev pub on_words : (ℕ → Bool) → ℕ → ℕ → List (List ℕ)
-on_words on k c = map decimal (ons on k c)
-
--- the sum of their bits, this being the bit of the first
-abbrev pub value_of : (ℕ → Bool) → ℕ → ℕ → ℕ → ℕ
-value_of on k zero p = 0
-value_of on k (suc c) p = if on k then p + value_of on (suc k) c (2 * p) else value_of on (suc k) c (2 * p)
-
-later : (k c : ℕ) → k + suc c ≡ suc k + c
-later k c = omega arith
-
-numbers_split : (on : ℕ → Bool) (k c : ℕ)
-    → numbers_below on (k + c) ≡ numbers_below on k ++ spaced_words (on_words on k c)
-unfolding numbers_below
-numbers_split on k zero = ap (numbers_below on) (none k) ∙ sym (append-nil (numbers_below on k))
-  where
-    none : (n : ℕ) → n + 0 ≡ n
-    none n = omega arith
-numbers_split on k (suc c) = ap (numbers_below on) (later k c) ∙ numbers_split on (suc k) c ∙ go (on k) refl
-  where
-    go : (b : Bool) → on k ≡ b
-        → numbers_below on (suc k) ++ spaced_words (on_words on (suc k) c) ≡ numbers_below on k
-        ++ spaced_words (on_words on k (suc c))
-    go true is = rw is (append_assoc (numbers_below on k) (behind_space k) (spaced_words (on_words on (suc k) c)))
-    go false is =
-        rw is (ap (λ (bytes : List ℕ). bytes ++ spaced_words (on_words on (suc k) c)) (append-nil (numbers_below on k)))
-
-pub numbers_are : (on : ℕ → Bool) (c : ℕ) → numbers_below on c ≡ spaced_words (on_words on 0 c)
-unfolding numbers_below
-numbers_are on c = ap (numbers_below on) (from_none c) ∙ numbers_split on 0 c
-  where
-    from_none : (n : ℕ) → n ≡ 0 + n
-    from_none n = omega arith
-
--- a space and the digits of a number below 1000, as many as it can have
-abbrev width : ℕ → ℕ
-width k = if nat_lt k 100 then 3 else 4
-
-abbrev widths : ℕ → ℕ → ℕ
-widths k zero = 0
-widths k (suc c) = width k + widths (suc k) c
-
-digits_fit : (k : ℕ) → k < 1000 → 1 + length (decimal k) ≤ width k
-digits_fit k few = go (nat_lt k 100) refl
-  where
-    go : (b : Bool) → nat_lt k 100 ≡ b → 1 + length (decimal k) ≤ (if b then 3 else 4)
-    go true is =
-        let small = ltb-true k 100 is in
-        let two = length-decimal-le 2 k (omega arith) (omega arith) (omega (arith, small)) in omega (arith, two)
-    go false is =
-        let three = length-decimal-le 3 k (omega arith) (omega arith) (omega (arith, few)) in omega (arith, three)
-
-ons_fit : (on : ℕ → Bool) (k c : ℕ) → k + c ≤ 1000 → length (spaced_words (on_words on k c)) ≤ widths k c
-ons_fit on k zero h = omega arith
-ons_fit on k (suc c) h = go (ons_fit on (suc k) c (omega (arith, h))) (on k) refl
-  where
-    go : length (spaced_words (on_words on (suc k) c)) ≤ widths (suc k) c → (b : Bool) → on k ≡ b
-        → length (spaced_words (on_words on k (suc c))) ≤ widths k (suc c)
-    go rest true is =
-        rw is (omega (
-          arith,
-          rest,
-          digits_fit k (omega (arith, h)),
-          length-append (decimal k) (spaced_words (on_words on (suc k) c)),
-        ))
-    go rest false is = rw is (omega (arith, rest))
-
--- the numbers of a kind stand in one line
-pub row_short : (kind : Numbered) (on : ℕ → Bool) → length (spaced_words (on_words on 0 (end_of kind))) ≤ 412
-row_short kinds.Function on = let fit = ons_fit on 0 69 (omega arith) in omega (arith, fit)
-row_short kinds.State on = ons_fit on 0 128 (omega arith)
-row_short kinds.Out on = let fit = ons_fit on 0 8 (omega arith) in omega (arith, fit)
+use Rattle.dcc_saved.specs.TextReader.{line_by}
+use Rattle.dcc_saved.proofs.LinesBack.{Reads, line_reads}
 
 -- there is no state 0
 abbrev pub IsSoundRow : Numbered → (ℕ → Bool) → Type 0
@@ -118,65 +46,124 @@ number_back kinds.State on sound n within is =
 number_back kinds.Out on sound n within is =
     rw (output_back (record { number = n; in_range = omega (arith, within) })) refl
 
--- the value is read
-pub ons_are : (kind : Numbered) (on : ℕ → Bool) → IsSoundRow kind on → (least k c : ℕ) → least ≤ k → k + c ≤ end_of kind
-    → numbers_from kind least (on_words on k c) ≡ Ok (value_of on k c (2 ^ k))
-ons_are kind on sound least k zero h few = refl
-ons_are kind on sound least k (suc c) h few =
-    go (ons_are kind on sound (k + 1) (suc k) c (omega arith) (omega (arith, few)))
-    (ons_are kind on sound least (suc k) c (omega (arith, h)) (omega (arith, few))) (on k) refl
+-- the keyword of a kind, and how many numbers there can be
+kind_is : (kind : Numbered)
+    → IsToken (name_of kind) × (keyword (name_of kind) (name_of kind) ≡ Ok tt) × (end_of kind ≤ 128)
+kind_is kinds.Function = (literal_token (codes "on") refl, refl, omega arith)
+kind_is kinds.State = (literal_token (codes "states") refl, refl, omega arith)
+kind_is kinds.Out = (literal_token (codes "out") refl, refl, omega arith)
+
+-- the lowest bit of a number, and those above it
+lowest : (b : Bool) (v : ℕ) → is_one ((if b then 1 else 0) + 2 * v) 0 ≡ b
+lowest true v = let odd : bit_at (1 + 2 * v) 0 ≡ 1 = omega (arith, bit_at_lowest (1 + 2 * v)) in rw odd refl
+lowest false v = let even : bit_at (0 + 2 * v) 0 ≡ 0 = omega (arith, bit_at_lowest (0 + 2 * v)) in rw even refl
+
+above : (b : Bool) (v j : ℕ) → is_one ((if b then 1 else 0) + 2 * v) (suc j) ≡ is_one v j
+above true v j = let half : (1 + 2 * v) / 2 ≡ v = omega arith in rw (bit_at-suc (1 + 2 * v) j, half) refl
+above false v j = let half : (0 + 2 * v) / 2 ≡ v = omega arith in rw (bit_at-suc (0 + 2 * v) j, half) refl
+
+-- the numbers of a kind from this one on: the words of those that are on, and the bits that they are read as
+record Row (kind : Numbered) (on : ℕ → Bool) (n : ℕ) : Type 0 where
+  words : List Word
+  value : ℕ
+  written : numbers_below on (end_of kind) ≡ numbers_below on n ++ spaced_words words
+  tokens : AllByRecursion IsToken words
+  reads : (least : ℕ) → least ≤ n → numbers_from kind least words ≡ Ok (2 ^ n * value)
+  bits : (i j : ℕ) → i ≡ n + j → i < end_of kind → is_one value j ≡ on i
+
+row_end : (kind : Numbered) (on : ℕ → Bool) → Row kind on (end_of kind)
+row_end kind on = record {
+  words = [];
+  value = 0;
+  written = sym (append-nil (numbers_below on (end_of kind)));
+  tokens = tt;
+  reads = λ least h. ap Ok (omega arith);
+  bits = λ i j is within. absurd (omega (arith, is, within));
+}
+
+-- a number more
+row_before : (kind : Numbered) (on : ℕ → Bool) → IsSoundRow kind on → (n : ℕ) → n < end_of kind → Row kind on (suc n)
+    → Row kind on n
+unfolding numbers_below
+row_before kind on sound n within row = go (on n) refl
   where
-    twice : value_of on (suc k) c (2 ^ suc k) ≡ value_of on (suc k) c (2 * 2 ^ k)
-    twice = ap (value_of on (suc k) c) (pow-succ' 2 k)
+    twice : 2 ^ suc n ≡ 2 * 2 ^ n
+    twice = pow-succ' 2 n
 
-    go : numbers_from kind (k + 1) (on_words on (suc k) c) ≡ Ok (value_of on (suc k) c (2 ^ suc k))
-        → numbers_from kind least (on_words on (suc k) c) ≡ Ok (value_of on (suc k) c (2 ^ suc k))
-        → (b : Bool) → on k ≡ b → numbers_from kind least (on_words on k (suc c)) ≡ Ok (value_of on k (suc c) (2 ^ k))
-    go behind same true is =
-        let ordered : nat_lt k least ≡ false = le-ltb k least h in
-        rw (is, number_back kind on sound k (omega (arith, few)) is, ordered, behind) (ap (λ n. Ok (2 ^ k + n)) twice)
-    go behind same false is = rw is (same ∙ ap Ok twice)
+    bits : (b : Bool) → on n ≡ b → (i j : ℕ) → i ≡ n + j → i < end_of kind
+        → is_one ((if b then 1 else 0) + 2 * row.value) j ≡ on i
+    bits b is i zero at_i few = let same : i ≡ n = omega (arith, at_i) in rw same (lowest b row.value ∙ sym is)
+    bits b is i (suc j) at_i few = above b row.value j ∙ row.bits i j (omega (arith, at_i)) few
 
-twice_value : (on : ℕ → Bool) (k c p : ℕ) → value_of on k c (2 * p) ≡ 2 * value_of on k c p
-twice_value on k zero p = refl
-twice_value on k (suc c) p = go (on k) (twice_value on (suc k) c (2 * p))
+    go : (b : Bool) → on n ≡ b → Row kind on n
+    go true is = record {
+      words = decimal n ∷ row.words;
+      value = 1 + 2 * row.value;
+      written = row.written ∙ rw is (append_assoc (numbers_below on n) (behind_space n) (spaced_words row.words));
+      tokens = (decimal_token n (let few = (kind_is kind).2 in omega (arith, within, few)), row.tokens);
+      reads = λ least h.
+          rw (
+            number_back kind on sound n within is,
+            le-ltb n least h,
+            row.reads (n + 1) (omega arith),
+            twice,
+          ) (ap Ok (omega arith));
+      bits = bits true is;
+    }
+    go false is = record {
+      words = row.words;
+      value = 0 + 2 * row.value;
+      written = row.written ∙ rw is (append_assoc (numbers_below on n) [] (spaced_words row.words));
+      tokens = row.tokens;
+      reads = λ least h. rw (row.reads least (omega (arith, h)), twice) (ap Ok (omega arith));
+      bits = bits false is;
+    }
+
+rows : (kind : Numbered) (on : ℕ → Bool) → IsSoundRow kind on → (n : ℕ) → n ≤ end_of kind → Row kind on n
+    → Row kind on 0
+rows kind on sound zero few row = row
+rows kind on sound (suc n) few row =
+    rows kind on sound n (omega (arith, few)) (row_before kind on sound n few row)
+
+-- numbers have two digits up to 99, and three behind that
+row_short : (on : ℕ → Bool) (n : ℕ) → n ≤ 128 → length (numbers_below on n) ≤ 3 * n + (n - 100)
+unfolding numbers_below
+row_short on zero few = omega arith
+row_short on (suc n) few = go (on n) (row_short on n (omega (arith, few)))
   where
-    go : (b : Bool) → value_of on (suc k) c (2 * (2 * p)) ≡ 2 * value_of on (suc k) c (2 * p)
-        → (if b then 2 * p + value_of on (suc k) c (2 * (2 * p)) else value_of on (suc k) c (2 * (2 * p)))
-        ≡ 2 * (if b then p + value_of on (suc k) c (2 * p) else value_of on (suc k) c (2 * p))
-    go true is = omega (arith, is)
-    go false is = omega (arith, is)
+    go : (b : Bool) → length (numbers_below on n) ≤ 3 * n + (n - 100)
+        → length (numbers_below on n ++ (if b then behind_space n else [])) ≤ 3 * suc n + (suc n - 100)
+    go true so_far = rw (length-append (numbers_below on n) (behind_space n)) (elim (cases_lt n 100) [
+      | inl small ↦
+          let two = length-decimal-le 2 n (omega arith) (omega (arith, small)) (omega (arith, small)) in
+          omega (arith, so_far, two)
+      | inr ge ↦
+          let three = length-decimal-le 3 n (omega arith) (omega (arith, few)) (omega (arith, few)) in
+          omega (arith, so_far, three, ge)
+    ])
+    go false so_far = omega (arith, so_far, length-append (numbers_below on n) [])
 
--- bit j of it is number k + j
-pub value_bits : (on : ℕ → Bool) (k c j : ℕ) → j < c → is_one (value_of on k c 1) j ≡ on (k + j)
-value_bits on k zero j h = absurd (omega (arith, h))
-value_bits on k (suc c) zero h = first (on k) refl
-  where
-    none : (n : ℕ) → n ≡ n + 0
-    none n = omega arith
+-- a line of numbers that are on
+pub record ReadsBits (kind : Numbered) (on : ℕ → Bool) : Type 0 where
+  pub value : ℕ
+  pub reads : Reads (line_by (numbers_line kind)) ((name_of kind ++ numbers_below on (end_of kind)) ++ codes "\n") value
+  pub bits : (j : ℕ) → j < end_of kind → is_one value j ≡ on j
 
-    v : ℕ
-    v = value_of on (suc k) c 2
-
-    odd : bit_at (1 + v) 0 ≡ 1
-    odd = omega (arith, bit_at_lowest (1 + v), twice_value on (suc k) c 1)
-
-    even : bit_at v 0 ≡ 0
-    even = omega (arith, bit_at_lowest v, twice_value on (suc k) c 1)
-
-    first : (b : Bool) → on k ≡ b → is_one (value_of on k (suc c) 1) 0 ≡ on (k + 0)
-    first true is =
-        ap (λ (b : Bool). eqb (bit_at (if b then 1 + v else v) 0) 1) is ∙ ap (λ n. eqb n 1) odd ∙ sym is
-        ∙ ap on (none k)
-    first false is =
-        ap (λ (b : Bool). eqb (bit_at (if b then 1 + v else v) 0) 1) is ∙ ap (λ n. eqb n 1) even ∙ sym is
-        ∙ ap on (none k)
-value_bits on k (suc c) (suc j) h =
-    ap (λ n. eqb n 1)
-    (bit_at-suc (value_of on k (suc c) 1) j ∙ ap (λ n. bit_at n j) (half (on k) (twice_value on (suc k) c 1)))
-    ∙ value_bits on (suc k) c j (omega (arith, h)) ∙ ap on (sym (later k j))
-  where
-    half : (b : Bool) → value_of on (suc k) c 2 ≡ 2 * value_of on (suc k) c 1
-        → (if b then 1 + value_of on (suc k) c 2 else value_of on (suc k) c 2) / 2 ≡ value_of on (suc k) c 1
-    half true is = omega (arith, is)
-    half false is = omega (arith, is)
+pub numbers_read : (kind : Numbered) (on : ℕ → Bool) → IsSoundRow kind on → ReadsBits kind on
+unfolding numbers_below numbers_line
+numbers_read kind on sound =
+    let (token, named, few) = kind_is kind in
+    let row = rows kind on sound (end_of kind) (omega arith) (row_end kind on) in
+    record {
+      value = row.value;
+      reads = rw row.written (line_reads (numbers_line kind) row.value (name_of kind) row.words token row.tokens
+          (omega (
+            arith,
+            ap length row.written,
+            row_short on (end_of kind) few,
+            token.short,
+            length-append (name_of kind) (spaced_words row.words),
+          ))
+          (rw (named, row.reads 0 (omega arith)) (ap Ok (omega arith))));
+      bits = λ j within. row.bits j j (omega arith) within;
+    }
