@@ -34,7 +34,6 @@ use Rattle.dcc_packet.proofs.LineFieldsBack.{accessory_is_back, signal_line_is_b
 use Rattle.dcc_packet.proofs.WordsBack.{address_back, hex_back}
 use Rattle.std.specs.List.{AllByRecursion}
 use Rattle.std.proofs.Common.{codes, arith}
-use Rattle.dcc_packet.specs.Words.{Word}
 use Rattle.dcc_packet.specs.Fields.{IsToken}
 use Rattle.dcc_packet.specs.LineFields.{speed28_fields, speed128_fields, functions_field, state_fields, cv_value_fields}
 use Rattle.dcc_packet.specs.LineFields.{cv_bit_fields}
@@ -128,58 +127,41 @@ said_back (Accessory b o on) h = ap spelling_or_fault (accessory_back b o on)
 said_back (Signal s a) h = ap spelling_or_fault (signal_line_back s a h)
 said_back (Other o) h = frame_back o.frame h o.valid
 
-cv_tokens : (access : Word) (ws : List Word) → IsToken access → AllByRecursion IsToken ws
-    → AllByRecursion IsToken (codes "cv" ∷ access ∷ ws)
-cv_tokens access ws token tokens = (keyword_token (codes "cv") (omega arith) refl (omega arith), (token, tokens))
-
 -- the words of an instruction may stand in a line
 instruction_tokens : (what : What) → ValueFits what → AllByRecursion IsToken (instruction_words what)
-instruction_tokens Reset h = (keyword_token (codes "reset") (omega arith) refl (omega arith), tt)
-instruction_tokens (Speed28 f b) h = (
-  keyword_token (codes "speed28") (omega arith) refl (omega arith),
-  speed28_line_is_back.tokens (record { forward = f }, b) (tt, tt),
-)
-instruction_tokens (Speed128 f b) h = (
-  keyword_token (codes "speed128") (omega arith) refl (omega arith),
-  speed128_line_is_back.tokens (record { forward = f }, b) (tt, tt),
-)
-instruction_tokens (Functions f) h =
-    (keyword_token (codes "functions") (omega arith) refl (omega arith), functions_are_back.tokens f tt)
-instruction_tokens (BinaryState n on) h = (
-  keyword_token (codes "state") (omega arith) refl (omega arith),
-  state_line_is_back.tokens (n, record { on = on }) (tt, tt),
-)
+instruction_tokens Reset h = (keyword_token (codes "reset") refl, tt)
+instruction_tokens (Speed28 f b) h =
+    (keyword_token (codes "speed28") refl, speed28_line_is_back.tokens (record { forward = f }, b) (tt, tt))
+instruction_tokens (Speed128 f b) h =
+    (keyword_token (codes "speed128") refl, speed128_line_is_back.tokens (record { forward = f }, b) (tt, tt))
+instruction_tokens (Functions f) h = (keyword_token (codes "functions") refl, functions_are_back.tokens f tt)
+instruction_tokens (BinaryState n on) h =
+    (keyword_token (codes "state") refl, state_line_is_back.tokens (n, record { on = on }) (tt, tt))
 instruction_tokens (CvWrite c v) h =
-    cv_tokens (codes "write") (cv_value_fields.written (c, v)) (keyword_token (codes "write") (omega arith) refl (omega arith))
-    (cv_value_is_back.tokens (c, v) (tt, h))
+    (keyword_token (codes "cv") refl, (keyword_token (codes "write") refl, cv_value_is_back.tokens (c, v) (tt, h)))
 instruction_tokens (CvVerify c v) h =
-    cv_tokens (codes "verify") (cv_value_fields.written (c, v)) (keyword_token (codes "verify") (omega arith) refl (omega arith))
-    (cv_value_is_back.tokens (c, v) (tt, h))
+    (keyword_token (codes "cv") refl, (keyword_token (codes "verify") refl, cv_value_is_back.tokens (c, v) (tt, h)))
 instruction_tokens (CvBitWrite c p b) h =
-    cv_tokens (codes "bitwrite") (cv_bit_fields.written (c, (p, record { one = b })))
-    (keyword_token (codes "bitwrite") (omega arith) refl (omega arith))
-    (cv_bit_is_back.tokens (c, (p, record { one = b })) (tt, (tt, tt)))
+    let tokens = cv_bit_is_back.tokens (c, (p, record { one = b })) (tt, (tt, tt)) in
+    (keyword_token (codes "cv") refl, (keyword_token (codes "bitwrite") refl, tokens))
 instruction_tokens (CvBitVerify c p b) h =
-    cv_tokens (codes "bitverify") (cv_bit_fields.written (c, (p, record { one = b })))
-    (keyword_token (codes "bitverify") (omega arith) refl (omega arith))
-    (cv_bit_is_back.tokens (c, (p, record { one = b })) (tt, (tt, tt)))
+    let tokens = cv_bit_is_back.tokens (c, (p, record { one = b })) (tt, (tt, tt)) in
+    (keyword_token (codes "cv") refl, (keyword_token (codes "bitverify") refl, tokens))
 
 -- the words of a written line are those that were written
 written_are_words : (p : Packet) → BytesFit p → words (written_line p) ≡ written_words p
-written_are_words Idle h = words_spaced (codes "idle") [] (keyword_token (codes "idle") (omega arith) refl (omega arith)) tt
+written_are_words Idle h = words_spaced (codes "idle") [] (keyword_token (codes "idle") refl) tt
 written_are_words (Loco to what) h =
-    words_spaced (codes "loco") (address_word to ∷ instruction_words what)
-    (keyword_token (codes "loco") (omega arith) refl (omega arith)) (address_word_token to, instruction_tokens what h)
+    words_spaced (codes "loco") (address_word to ∷ instruction_words what) (keyword_token (codes "loco") refl)
+    (address_word_token to, instruction_tokens what h)
 written_are_words (Accessory b o on) h =
     words_spaced (codes "accessory") (accessory_fields.written (b, (o, record { on = on })))
-    (keyword_token (codes "accessory") (omega arith) refl (omega arith))
-    (accessory_is_back.tokens (b, (o, record { on = on })) (tt, (tt, tt)))
+    (keyword_token (codes "accessory") refl) (accessory_is_back.tokens (b, (o, record { on = on })) (tt, (tt, tt)))
 written_are_words (Signal s a) h =
-    words_spaced (codes "signal") (signal_fields.written (s, a))
-    (keyword_token (codes "signal") (omega arith) refl (omega arith)) (signal_line_is_back.tokens (s, a) (tt, h))
+    words_spaced (codes "signal") (signal_fields.written (s, a)) (keyword_token (codes "signal") refl)
+    (signal_line_is_back.tokens (s, a) (tt, h))
 written_are_words (Other o) h =
-    words_spaced (codes "frame") (encode_lower o.frame ∷ [])
-    (keyword_token (codes "frame") (omega arith) refl (omega arith))
+    words_spaced (codes "frame") (encode_lower o.frame ∷ []) (keyword_token (codes "frame") refl)
     (hex_token o.frame (omega (arith, o.valid.least)) (omega (arith, o.valid.most)), tt)
 
 -- a written line says its packet

@@ -25,13 +25,10 @@ use Rattle.std.proofs.lemmas.List.Elements.{All-cons, All-nil}
 use Rattle.hex.specs.Hex.{encode_lower, encode_with, lower_digits}
 use Rattle.hex.proofs.HexLemmas.{length-encode_with}
 
-pub keyword_token : (word : Word) → 0 < length word → list_all is_plain word ≡ true → length word ≤ 12 → IsToken word
-keyword_token word some plain few = record { some = some; plain = plain; short = few }
-
 -- a word that is written out
-pub literal_token : (word : Word) → (nat_le 1 (length word) && (nat_le (length word) 12 && list_all is_plain word)) ≡ true
+pub keyword_token : (word : Word) → (nat_le 1 (length word) && (nat_le (length word) 12 && list_all is_plain word)) ≡ true
     → IsToken word
-literal_token word h =
+keyword_token word h =
     let least = and_parts (nat_le 1 (length word)) (nat_le (length word) 12 && list_all is_plain word) h in
     let most = and_parts (nat_le (length word) 12) (list_all is_plain word) least.1 in
     record {
@@ -59,16 +56,16 @@ decimal_token n h =
     }
 
 pub direction_token : (forward : Bool) → IsToken (direction_word forward)
-direction_token true = keyword_token (codes "f") (omega arith) refl (omega arith)
-direction_token false = keyword_token (codes "r") (omega arith) refl (omega arith)
+direction_token true = keyword_token (codes "f") refl
+direction_token false = keyword_token (codes "r") refl
 
 pub state_token : (one : Bool) → IsToken (state_word one)
-state_token true = keyword_token (codes "1") (omega arith) refl (omega arith)
-state_token false = keyword_token (codes "0") (omega arith) refl (omega arith)
+state_token true = keyword_token (codes "1") refl
+state_token false = keyword_token (codes "0") refl
 
 pub switch_token : (on : Bool) → IsToken (switch_word on)
-switch_token true = keyword_token (codes "on") (omega arith) refl (omega arith)
-switch_token false = keyword_token (codes "off") (omega arith) refl (omega arith)
+switch_token true = keyword_token (codes "on") refl
+switch_token false = keyword_token (codes "off") refl
 
 -- a letter and a number
 behind_letter : (letter n : ℕ) → is_plain letter ≡ true → n < 65536 → IsToken (letter ∷ decimal n)
@@ -81,21 +78,21 @@ behind_letter letter n plain h =
     }
 
 pub address_word_token : (to : Address) → IsToken (address_word to)
-address_word_token Broadcast = keyword_token (codes "all") (omega arith) refl (omega arith)
+address_word_token Broadcast = keyword_token (codes "all") refl
 address_word_token (Short s) = behind_letter 115 s.number refl (let range = s.in_range in omega (arith, range))
 address_word_token (Long l) = behind_letter 108 l.number refl (let range = l.in_range in omega (arith, range))
 
 pub group_token : (g : Group) → IsToken (group_word g)
-group_token F0 = keyword_token (codes "0") (omega arith) refl (omega arith)
-group_token F5 = keyword_token (codes "5") (omega arith) refl (omega arith)
-group_token F9 = keyword_token (codes "9") (omega arith) refl (omega arith)
-group_token F13 = keyword_token (codes "13") (omega arith) refl (omega arith)
-group_token F21 = keyword_token (codes "21") (omega arith) refl (omega arith)
-group_token F29 = keyword_token (codes "29") (omega arith) refl (omega arith)
-group_token F37 = keyword_token (codes "37") (omega arith) refl (omega arith)
-group_token F45 = keyword_token (codes "45") (omega arith) refl (omega arith)
-group_token F53 = keyword_token (codes "53") (omega arith) refl (omega arith)
-group_token F61 = keyword_token (codes "61") (omega arith) refl (omega arith)
+group_token F0 = keyword_token (codes "0") refl
+group_token F5 = keyword_token (codes "5") refl
+group_token F9 = keyword_token (codes "9") refl
+group_token F13 = keyword_token (codes "13") refl
+group_token F21 = keyword_token (codes "21") refl
+group_token F29 = keyword_token (codes "29") refl
+group_token F37 = keyword_token (codes "37") refl
+group_token F45 = keyword_token (codes "45") refl
+group_token F53 = keyword_token (codes "53") refl
+group_token F61 = keyword_token (codes "61") refl
 
 all_from_test : (word : List ℕ) → list_all is_plain word ≡ true → All (λ b. is_plain b ≡ true) word
 all_from_test [] h = All-nil (λ b. is_plain b ≡ true)

@@ -27,12 +27,12 @@ may_be_number there most None = not there
 may_be_number there most (Some (values.Number k)) = there && nat_le k most
 may_be_number there most (Some other) = false
 
-number_is : (there : Bool) (most k : ℕ) (v : Option Value) → may_be_number there most v ≡ true
+number_is : (there : Bool) (most k : ℕ) {v : Option Value} → may_be_number there most v ≡ true
     → (there ≡ true → k ≡ number_held v) → (if there then Some (values.Number k) else None) ≡ v
-number_is true most k (Some (values.Number n)) h same = ap (λ j. Some (values.Number j)) (same refl)
-number_is false most k None h same = refl
-number_is false most k (Some (values.Number n)) h same = cc
-number_is there most k v h same = cc
+number_is true most k {v = Some (values.Number n)} h same = ap (λ j. Some (values.Number j)) (same refl)
+number_is false most k {v = None} h same = refl
+number_is false most k {v = Some (values.Number n)} h same = cc
+number_is there most k h same = cc
 
 number_small : (there : Bool) (most : ℕ) (v : Option Value) → may_be_number there most v ≡ true → number_held v ≤ most
 number_small there most None h = omega arith
@@ -87,21 +87,15 @@ module _ (board : Board) (m : RegisterMap) (possible : IsPossible (who.Board boa
   pub same_board : (outs : ℕ) → ((j : ℕ) → j < 8 → is_one outs j ≡ holds_one (m (registers.Out j)))
       → SameRegisters (board_registers (board_content (board_state board m outs))) m
   same_board outs bits (registers.Out n) =
-      flag_is (nat_le n 7) (is_one outs n) (m (registers.Out n)) (possible.registers (registers.Out n))
-      (λ there. bits n (omega (arith, leb-true n 7 there)))
+      flag_is _ _ (possible.registers (registers.Out n)) (λ there. bits n (omega (arith, leb-true n 7 there)))
   same_board outs bits (registers.Position n) =
-      number_is (nat_le n 3) 1 (if get_or (four_of (sides_of m)) n false then 1 else 0) (m (registers.Position n))
-      (possible.registers (registers.Position n))
+      number_is _ 1 _ (possible.registers (registers.Position n))
       (λ there. rw (four_at (sides_of m) n false (leb-true n 3 there)) (side_at n).0)
   same_board outs bits (registers.Aspect n) =
-      number_is (nat_le n 3) 255 (get_or (four_of (aspects_of m)) n 0) (m (registers.Aspect n))
-      (possible.registers (registers.Aspect n)) (λ there. four_at (aspects_of m) n 0 (leb-true n 3 there))
-  same_board outs bits registers.Speed = none_is (m registers.Speed) (possible.registers registers.Speed)
-  same_board outs bits registers.Direction = none_is (m registers.Direction) (possible.registers registers.Direction)
-  same_board outs bits registers.Pending = none_is (m registers.Pending) (possible.registers registers.Pending)
-  same_board outs bits (registers.Function n) =
-      none_is (m (registers.Function n)) (possible.registers (registers.Function n))
-  same_board outs bits (registers.State n) =
-      none_is (m (registers.State n)) (possible.registers (registers.State n))
-  same_board outs bits (registers.CvBit cv place) =
-      none_is (m (registers.CvBit cv place)) (possible.registers (registers.CvBit cv place))
+      number_is _ 255 _ (possible.registers (registers.Aspect n)) (λ there. four_at (aspects_of m) n 0 (leb-true n 3 there))
+  same_board outs bits registers.Speed = none_is (possible.registers registers.Speed)
+  same_board outs bits registers.Direction = none_is (possible.registers registers.Direction)
+  same_board outs bits registers.Pending = none_is (possible.registers registers.Pending)
+  same_board outs bits (registers.Function n) = none_is (possible.registers (registers.Function n))
+  same_board outs bits (registers.State n) = none_is (possible.registers (registers.State n))
+  same_board outs bits (registers.CvBit cv place) = none_is (possible.registers (registers.CvBit cv place))

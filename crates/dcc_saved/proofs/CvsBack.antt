@@ -7,7 +7,7 @@ use Rattle.std.proofs.lemmas.Bool.{eqb-true, cases_lt}
 use Rattle.std.proofs.lemmas.Grind.{get_or-set_at}
 use Rattle.std.proofs.lemmas.List.{get_or-replicate, get_or-set_other, set-get_or, length-set, length-replicate}
 use Rattle.dcc_packet.specs.declared.cv.CvNumber.{CvNumber}
-use Rattle.dcc_packet.proofs.Tokens.{decimal_token, literal_token}
+use Rattle.dcc_packet.proofs.Tokens.{decimal_token, keyword_token}
 use Rattle.dcc_saved.specs.declared.decoder_line.Head.{Head}
 use Rattle.dcc_saved.specs.declared.decoder_line.LocoLine.TheVariants as behind
 use Rattle.dcc_saved.specs.DecoderLines.{loco_line}
@@ -71,7 +71,7 @@ module _ (cvs : ℕ → ℕ) where
         let cv : CvNumber = record { number = suc n; in_range = (omega arith, omega (arith, few)) } in
         Reads-then (line_by (loco_line least)) (behind_loco_line (cvs_from most) (so_far n))
         (few_read (loco_line least) (behind.Cv cv (cvs (suc n))) (codes "cv")
-        (decimal (suc n) ∷ decimal (cvs (suc n)) ∷ []) (literal_token (codes "cv") refl)
+        (decimal (suc n) ∷ decimal (cvs (suc n)) ∷ []) (keyword_token (codes "cv") refl)
         (decimal_token (suc n) (omega (arith, few)), (decimal_token (cvs (suc n)) (omega (arith, small (suc n))), tt))
         (omega arith) (cv_line_back least cv (cvs (suc n)) ascends (small (suc n))))
         (after most (suc n + 1) (omega (arith, room)) (omega arith))

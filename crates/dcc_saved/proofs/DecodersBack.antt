@@ -8,7 +8,7 @@ use Rattle.dcc_packet.specs.declared.address.Address.{Address}
 use Rattle.dcc_packet.specs.Fields.{IsToken}
 use Rattle.dcc_packet.specs.Words.{Word, is_word}
 use Rattle.dcc_packet.proofs.BitLemmas.{byte_of-lt}
-use Rattle.dcc_packet.proofs.Tokens.{literal_token, decimal_token}
+use Rattle.dcc_packet.proofs.Tokens.{keyword_token, decimal_token}
 use Rattle.dcc_regs.specs.declared.register.Register.TheVariants as registers
 use Rattle.dcc_regs.specs.declared.register.Who.{Who}
 use Rattle.dcc_regs.specs.declared.register.Who.TheVariants as who
@@ -66,15 +66,15 @@ head_text (decoder ∷ fleet) = first_line_of decoder
 
 pub fleet_head : (fleet : List (Who × RegisterMap)) → AllByRecursion IsPossibleDecoder fleet
     → IsHead (head_text fleet) (head_of fleet)
-fleet_head [] possible = is_head (codes "end") [] heads.End (literal_token (codes "end") refl) tt (omega arith) refl refl
+fleet_head [] possible = is_head (codes "end") [] heads.End (keyword_token (codes "end") refl) tt (omega arith) refl refl
 fleet_head ((who.Loco address, m) ∷ fleet) possible =
     is_head (codes "loco") (own_address_word address ∷ []) (heads.Decoder (who.Loco address))
-    (literal_token (codes "loco") refl) (address_token address, tt) (omega arith) refl
+    (keyword_token (codes "loco") refl) (address_token address, tt) (omega arith) refl
     (rw (own_address_back address possible.0.decoder) refl)
 fleet_head ((who.Board board, m) ∷ fleet) possible =
     let range = board.in_range in
     is_head (codes "board") (decimal board.number ∷ []) (heads.Decoder (who.Board board))
-    (literal_token (codes "board") refl) (decimal_token board.number (omega (arith, range)), tt) (omega arith) refl
+    (keyword_token (codes "board") refl) (decimal_token board.number (omega (arith, range)), tt) (omega arith) refl
     (rw (own_board_back board possible.0.decoder) refl)
 
 -- the lines of a decoder behind its first
@@ -94,12 +94,12 @@ regroup : (s f b p c h : List ℕ)
     → ((s ++ (f ++ (b ++ p))) ++ c) ++ h ≡ s ++ (f ++ (b ++ (p ++ (c ++ h))))
 regroup s f b p c h = simp append_assoc refl
 
-loco_read : (address : Option Address) (m : RegisterMap) (line : List ℕ) (head : Head)
-    → IsPossible (who.Loco address) m → IsHead line head → ReadsDecoder (who.Loco address, m) line head
-unfolding loco_lines
-loco_read address m line head possible is =
-    let speed = speed_is address (m registers.Speed) (possible.registers registers.Speed) in
-    let pending = pending_is address (m registers.Pending) (possible.registers registers.Pending) in
+pub decoder_read : (decoder : Who × RegisterMap) (line : List ℕ) (head : Head) → IsPossibleDecoder decoder
+    → IsHead line head → ReadsDecoder decoder line head
+unfolding loco_lines board_lines
+decoder_read (who.Loco address, m) line head possible is =
+    let speed = speed_is address {v = m registers.Speed} (possible.registers registers.Speed) in
+    let pending = pending_is address {v = m registers.Pending} (possible.registers registers.Pending) in
     let functions = numbers_read kinds.Function (λ n. holds_one (m (registers.Function n))) (λ is. absurd cc) in
     let states = numbers_read kinds.State (λ n. holds_one (m (registers.State n)))
     (λ is. no_state_0 address (m (registers.State 0)) (possible.registers (registers.State 0))) in
@@ -119,11 +119,7 @@ loco_read address m line head possible is =
         same_loco address m possible functions.value functions.bits states.value states.bits cvs.given cvs.each,
       );
     }
-
-board_read : (board : Board) (m : RegisterMap) (line : List ℕ) (head : Head) → IsPossible (who.Board board) m
-    → IsHead line head → ReadsDecoder (who.Board board, m) line head
-unfolding board_lines
-board_read board m line head possible is =
+decoder_read (who.Board board, m) line head possible is =
     let outs = numbers_read kinds.Out (λ n. holds_one (m (registers.Out n))) (λ is. absurd cc) in
     record {
       state = saved.Board (board_state board m outs.value);
@@ -137,8 +133,3 @@ board_read board m line head possible is =
           (Reads-last _ _ is.first (λ text. refl)))));
       saves = (refl, same_board board m possible outs.value outs.bits);
     }
-
-pub decoder_read : (decoder : Who × RegisterMap) (line : List ℕ) (head : Head) → IsPossibleDecoder decoder
-    → IsHead line head → ReadsDecoder decoder line head
-decoder_read (who.Loco address, m) line head possible is = loco_read address m line head possible is
-decoder_read (who.Board board, m) line head possible is = board_read board m line head possible is

@@ -30,37 +30,37 @@ may_be_none None = true
 may_be_none (Some x) = false
 
 -- it holds what was read for it
-pub flag_is : (there one : Bool) (v : Option Value) → may_be_flag there v ≡ true → (there ≡ true → one ≡ holds_one v)
+pub flag_is : (there one : Bool) {v : Option Value} → may_be_flag there v ≡ true → (there ≡ true → one ≡ holds_one v)
     → (if there then Some (values.Flag one) else None) ≡ v
-flag_is true one (Some (values.Flag true)) h same = ap (λ (b : Bool). Some (values.Flag b)) (same refl)
-flag_is true one (Some (values.Flag false)) h same = ap (λ (b : Bool). Some (values.Flag b)) (same refl)
-flag_is false one None h same = refl
-flag_is false one (Some (values.Flag on)) h same = cc
-flag_is there one v h same = cc
+flag_is true one {v = Some (values.Flag true)} h same = ap (λ (b : Bool). Some (values.Flag b)) (same refl)
+flag_is true one {v = Some (values.Flag false)} h same = ap (λ (b : Bool). Some (values.Flag b)) (same refl)
+flag_is false one {v = None} h same = refl
+flag_is false one {v = Some (values.Flag on)} h same = cc
+flag_is there one h same = cc
 
-pub none_is : (v : Option Value) → may_be_none v ≡ true → None ≡ v
-none_is None h = refl
-none_is (Some x) h = cc
+pub none_is : {v : Option Value} → may_be_none v ≡ true → None ≡ v
+none_is {v = None} h = refl
+none_is {v = Some x} h = cc
 
-pub speed_is : (active : Option Address) (v : Option Value) → may_hold (who.Loco active) registers.Speed v ≡ true
+pub speed_is : (active : Option Address) {v : Option Value} → may_hold (who.Loco active) registers.Speed v ≡ true
     → (Some (values.Speed (speed_held v)) ≡ v) × (is_speed (speed_held v) ≡ true)
-speed_is active (Some (values.Speed s)) h = (refl, h)
-speed_is active v h = cc
+speed_is active {v = Some (values.Speed s)} h = (refl, h)
+speed_is active h = cc
 
-direction_is : (active : Option Address) (v : Option Value) → may_hold (who.Loco active) registers.Direction v ≡ true
+direction_is : (active : Option Address) {v : Option Value} → may_hold (who.Loco active) registers.Direction v ≡ true
     → Some (values.Forward (forward_held v)) ≡ v
-direction_is active (Some (values.Forward s)) h = refl
-direction_is active v h = cc
+direction_is active {v = Some (values.Forward s)} h = refl
+direction_is active h = cc
 
-pub pending_is : (active : Option Address) (v : Option Value) → may_hold (who.Loco active) registers.Pending v ≡ true
+pub pending_is : (active : Option Address) {v : Option Value} → may_hold (who.Loco active) registers.Pending v ≡ true
     → (Some (values.Pending (pending_held v)) ≡ v) × (is_pending_for active (pending_held v) ≡ true)
-pending_is active (Some (values.Pending s)) h = (refl, h)
-pending_is active v h = cc
+pending_is active {v = Some (values.Pending s)} h = (refl, h)
+pending_is active h = cc
 
 -- there is no state 0
 pub no_state_0 : (active : Option Address) (v : Option Value) → may_hold (who.Loco active) (registers.State 0) v ≡ true
     → holds_one v ≡ false
-no_state_0 active v h = ap holds_one (sym (flag_is false false v h (λ there. cc)))
+no_state_0 active v h = ap holds_one (sym (flag_is false false h (λ there. cc)))
 
 -- what a locomotive decoder's lines save
 abbrev pub loco_state : Option Address → RegisterMap → ℕ → ℕ → List ℕ → LocoState
@@ -95,18 +95,14 @@ module _ (address : Option Address) (m : RegisterMap) (possible : IsPossible (wh
       ∙ is_one-byte_of (λ k. holds_one (m (registers.CvBit cv k))) place (leb-true place 7 parts.2)
 
   pub same_loco : SameRegisters (loco_registers (loco_content (loco_state address m functions states cvs))) m
-  same_loco registers.Speed = (speed_is address (m registers.Speed) (possible.registers registers.Speed)).0
-  same_loco registers.Direction = direction_is address (m registers.Direction) (possible.registers registers.Direction)
-  same_loco registers.Pending = (pending_is address (m registers.Pending) (possible.registers registers.Pending)).0
+  same_loco registers.Speed = (speed_is address (possible.registers registers.Speed)).0
+  same_loco registers.Direction = direction_is address (possible.registers registers.Direction)
+  same_loco registers.Pending = (pending_is address (possible.registers registers.Pending)).0
   same_loco (registers.Function n) =
-      flag_is (is_function n) (is_one functions n) (m (registers.Function n)) (possible.registers (registers.Function n))
-      (λ there. bits n (omega (arith, leb-true n 68 there)))
-  same_loco (registers.State n) =
-      flag_is (is_binary_state n) (is_one states n) (m (registers.State n)) (possible.registers (registers.State n))
-      (same_state n)
+      flag_is _ _ (possible.registers (registers.Function n)) (λ there. bits n (omega (arith, leb-true n 68 there)))
+  same_loco (registers.State n) = flag_is _ _ (possible.registers (registers.State n)) (same_state n)
   same_loco (registers.CvBit cv place) =
-      flag_is (is_cv_bit cv place) (is_one (slice_index cvs (cv - 1)) place) (m (registers.CvBit cv place))
-      (possible.registers (registers.CvBit cv place)) (same_cv_bit cv place)
-  same_loco (registers.Out n) = none_is (m (registers.Out n)) (possible.registers (registers.Out n))
-  same_loco (registers.Position n) = none_is (m (registers.Position n)) (possible.registers (registers.Position n))
-  same_loco (registers.Aspect n) = none_is (m (registers.Aspect n)) (possible.registers (registers.Aspect n))
+      flag_is _ _ (possible.registers (registers.CvBit cv place)) (same_cv_bit cv place)
+  same_loco (registers.Out n) = none_is (possible.registers (registers.Out n))
+  same_loco (registers.Position n) = none_is (possible.registers (registers.Position n))
+  same_loco (registers.Aspect n) = none_is (possible.registers (registers.Aspect n))

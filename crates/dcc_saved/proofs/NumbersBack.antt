@@ -14,7 +14,7 @@ use Rattle.dcc_packet.specs.Bits.{is_one}
 use Rattle.dcc_packet.specs.Fields.{IsToken}
 use Rattle.dcc_packet.specs.Words.{Word}
 use Rattle.dcc_packet.specs.Written.{spaced_words}
-use Rattle.dcc_packet.proofs.Tokens.{decimal_token, literal_token}
+use Rattle.dcc_packet.proofs.Tokens.{decimal_token, keyword_token}
 use Rattle.dcc_packet.proofs.WordsBack.{small_number-decimal, output_back}
 use Rattle.dcc_io.specs.Spaced.{behind_space}
 use Rattle.dcc_saved.specs.declared.decoder_line.Numbered.{Numbered}
@@ -33,25 +33,23 @@ IsSoundRow kind on = kind ≡ kinds.State → on 0 ≡ false
 number_back : (kind : Numbered) (on : ℕ → Bool) → IsSoundRow kind on → (n : ℕ) → n < end_of kind → on n ≡ true
     → number_of kind (decimal n) ≡ Ok n
 number_back kinds.Function on sound n within is =
-    let range : nat_lt 68 n ≡ false = le-ltb 68 n (omega (arith, within)) in
-    rw (small_number-decimal n (omega (arith, within)), range) refl
-number_back kinds.State on sound n within is =
-    let first : nat_lt n 1 ≡ false = le-ltb n 1 (some n is) in
-    let range : nat_lt 127 n ≡ false = le-ltb 127 n (omega (arith, within)) in
-    rw (small_number-decimal n (omega (arith, within)), first, range) refl
-  where
-    some : (n : ℕ) → on n ≡ true → 1 ≤ n
-    some zero is = let clash : true ≡ false = sym is ∙ sound refl in absurd cc
-    some (suc n) is = omega arith
+    rw (small_number-decimal n (omega (arith, within)), le-ltb 68 n (omega (arith, within))) refl
+number_back kinds.State on sound zero within is = let none = sound refl in cc
+number_back kinds.State on sound (suc n) within is =
+    rw (
+      small_number-decimal (suc n) (omega (arith, within)),
+      le-ltb (suc n) 1 (omega arith),
+      le-ltb 127 (suc n) (omega (arith, within)),
+    ) refl
 number_back kinds.Out on sound n within is =
     rw (output_back (record { number = n; in_range = omega (arith, within) })) refl
 
 -- the keyword of a kind, and how many numbers there can be
 kind_is : (kind : Numbered)
     → IsToken (name_of kind) × (keyword (name_of kind) (name_of kind) ≡ Ok tt) × (end_of kind ≤ 128)
-kind_is kinds.Function = (literal_token (codes "on") refl, refl, omega arith)
-kind_is kinds.State = (literal_token (codes "states") refl, refl, omega arith)
-kind_is kinds.Out = (literal_token (codes "out") refl, refl, omega arith)
+kind_is kinds.Function = (keyword_token (codes "on") refl, refl, omega arith)
+kind_is kinds.State = (keyword_token (codes "states") refl, refl, omega arith)
+kind_is kinds.Out = (keyword_token (codes "out") refl, refl, omega arith)
 
 -- the lowest bit of a number, and those above it
 lowest : (b : Bool) (v : ℕ) → is_one ((if b then 1 else 0) + 2 * v) 0 ≡ b
@@ -62,12 +60,20 @@ above : (b : Bool) (v j : ℕ) → is_one ((if b then 1 else 0) + 2 * v) (suc j)
 above true v j = let half : (1 + 2 * v) / 2 ≡ v = omega arith in rw (bit_at-suc (1 + 2 * v) j, half) refl
 above false v j = let half : (0 + 2 * v) / 2 ≡ v = omega arith in rw (bit_at-suc (0 + 2 * v) j, half) refl
 
+-- two digits up to 99, and three behind that
+digits : (n : ℕ) → n < 128 → length (decimal n) + (n - 100) ≤ 2 + (suc n - 100)
+digits n few = elim (cases_lt n 100) [
+  | inl small ↦ omega (arith, length-decimal-le 2 n (omega arith) (omega (arith, small)) (omega (arith, small)))
+  | inr ge ↦ omega (arith, ge, length-decimal-le 3 n (omega arith) (omega (arith, few)) (omega (arith, few)))
+]
+
 -- the numbers of a kind from this one on: the words of those that are on, and the bits that they are read as
 record Row (kind : Numbered) (on : ℕ → Bool) (n : ℕ) : Type 0 where
   words : List Word
   value : ℕ
   written : numbers_below on (end_of kind) ≡ numbers_below on n ++ spaced_words words
   tokens : AllByRecursion IsToken words
+  short : length (spaced_words words) + 3 * n + (n - 100) ≤ 412
   reads : (least : ℕ) → least ≤ n → numbers_from kind least words ≡ Ok (2 ^ n * value)
   bits : (i j : ℕ) → i ≡ n + j → i < end_of kind → is_one value j ≡ on i
 
@@ -77,6 +83,7 @@ row_end kind on = record {
   value = 0;
   written = sym (append-nil (numbers_below on (end_of kind)));
   tokens = tt;
+  short = omega (arith, (kind_is kind).2);
   reads = λ least h. ap Ok (omega arith);
   bits = λ i j is within. absurd (omega (arith, is, within));
 }
@@ -87,8 +94,8 @@ row_before : (kind : Numbered) (on : ℕ → Bool) → IsSoundRow kind on → (n
 unfolding numbers_below
 row_before kind on sound n within row = go (on n) refl
   where
-    twice : 2 ^ suc n ≡ 2 * 2 ^ n
-    twice = pow-succ' 2 n
+    few : n < 128
+    few = omega (arith, within, (kind_is kind).2)
 
     bits : (b : Bool) → on n ≡ b → (i j : ℕ) → i ≡ n + j → i < end_of kind
         → is_one ((if b then 1 else 0) + 2 * row.value) j ≡ on i
@@ -100,13 +107,14 @@ row_before kind on sound n within row = go (on n) refl
       words = decimal n ∷ row.words;
       value = 1 + 2 * row.value;
       written = row.written ∙ rw is (append_assoc (numbers_below on n) (behind_space n) (spaced_words row.words));
-      tokens = (decimal_token n (let few = (kind_is kind).2 in omega (arith, within, few)), row.tokens);
+      tokens = (decimal_token n (omega (arith, few)), row.tokens);
+      short = omega (arith, row.short, digits n few, length-append (decimal n) (spaced_words row.words));
       reads = λ least h.
           rw (
             number_back kind on sound n within is,
             le-ltb n least h,
             row.reads (n + 1) (omega arith),
-            twice,
+            pow-succ' 2 n,
           ) (ap Ok (omega arith));
       bits = bits true is;
     }
@@ -115,7 +123,8 @@ row_before kind on sound n within row = go (on n) refl
       value = 0 + 2 * row.value;
       written = row.written ∙ rw is (append_assoc (numbers_below on n) [] (spaced_words row.words));
       tokens = row.tokens;
-      reads = λ least h. rw (row.reads least (omega (arith, h)), twice) (ap Ok (omega arith));
+      short = omega (arith, row.short);
+      reads = λ least h. rw (row.reads least (omega (arith, h)), pow-succ' 2 n) (ap Ok (omega arith));
       bits = bits false is;
     }
 
@@ -124,24 +133,6 @@ rows : (kind : Numbered) (on : ℕ → Bool) → IsSoundRow kind on → (n : ℕ
 rows kind on sound zero few row = row
 rows kind on sound (suc n) few row =
     rows kind on sound n (omega (arith, few)) (row_before kind on sound n few row)
-
--- numbers have two digits up to 99, and three behind that
-row_short : (on : ℕ → Bool) (n : ℕ) → n ≤ 128 → length (numbers_below on n) ≤ 3 * n + (n - 100)
-unfolding numbers_below
-row_short on zero few = omega arith
-row_short on (suc n) few = go (on n) (row_short on n (omega (arith, few)))
-  where
-    go : (b : Bool) → length (numbers_below on n) ≤ 3 * n + (n - 100)
-        → length (numbers_below on n ++ (if b then behind_space n else [])) ≤ 3 * suc n + (suc n - 100)
-    go true so_far = rw (length-append (numbers_below on n) (behind_space n)) (elim (cases_lt n 100) [
-      | inl small ↦
-          let two = length-decimal-le 2 n (omega arith) (omega (arith, small)) (omega (arith, small)) in
-          omega (arith, so_far, two)
-      | inr ge ↦
-          let three = length-decimal-le 3 n (omega arith) (omega (arith, few)) (omega (arith, few)) in
-          omega (arith, so_far, three, ge)
-    ])
-    go false so_far = omega (arith, so_far, length-append (numbers_below on n) [])
 
 -- a line of numbers that are on
 pub record ReadsBits (kind : Numbered) (on : ℕ → Bool) : Type 0 where
@@ -157,13 +148,7 @@ numbers_read kind on sound =
     record {
       value = row.value;
       reads = rw row.written (line_reads (numbers_line kind) row.value (name_of kind) row.words token row.tokens
-          (omega (
-            arith,
-            ap length row.written,
-            row_short on (end_of kind) few,
-            token.short,
-            length-append (name_of kind) (spaced_words row.words),
-          ))
+          (omega (arith, row.short, token.short, length-append (name_of kind) (spaced_words row.words)))
           (rw (named, row.reads 0 (omega arith)) (ap Ok (omega arith))));
       bits = λ j within. row.bits j j (omega arith) within;
     }

@@ -3,7 +3,7 @@ use Rattle.std.proofs.Common.{zero, suc, ◌≡◌, ℕ, ◌+◌, ◌≤◌, Lis
 use Rattle.std.proofs.Common.{append_assoc}
 use Rattle.std.specs.List.{flat_map, AllByRecursion}
 use Rattle.std.proofs.lemmas.List.{append-nil}
-use Rattle.dcc_packet.proofs.Tokens.{literal_token}
+use Rattle.dcc_packet.proofs.Tokens.{keyword_token}
 use Rattle.dcc_regs.specs.declared.register.Who.{Who}
 use Rattle.dcc_regs.specs.declared.register.Who.TheVariants as who
 use Rattle.dcc_regs.specs.Loco.{cv_held}
@@ -70,7 +70,7 @@ pub fleets_read_back : FleetsAreReadBack
 unfolding decoder_text
 fleets_read_back fleet line rest few possible =
     let version = few_read version_line versions.Two (codes "dcc-decoders") (codes "2" ∷ [])
-    (literal_token (codes "dcc-decoders") refl) (literal_token (codes "2") refl, tt) (omega arith) refl in
+    (keyword_token (codes "dcc-decoders") refl) (keyword_token (codes "2") refl, tt) (omega arith) refl in
     let all = decoders_read fleet 64 [] few possible in
     let reads : Reads decoder_text (fleet_text fleet) all.states = rw (fleet_is fleet)
     (Reads-then _ _ version (Reads-then _ _ (fleet_head fleet possible).first all.reads)) in

@@ -1,6 +1,6 @@
 -- Each line of a decoder is read again.
 use Rattle.std.proofs.Common.{◌≡◌, ℕ, ◌<◌, ◌≤◌, Bool, true, [], ◌∷◌, ◌++◌, length, codes, Option, None, Some, Ok}
-use Rattle.std.proofs.Common.{refl, arith}
+use Rattle.std.proofs.Common.{refl, arith, length-append}
 use Rattle.std.specs.Fmt.{decimal}
 use Rattle.std.proofs.lemmas.List.{append-nil}
 use Rattle.dcc_packet.specs.declared.address.Address.{Address}
@@ -13,7 +13,7 @@ use Rattle.dcc_packet.specs.Words.{Word}
 use Rattle.dcc_packet.specs.Written.{direction_word, state_word}
 use Rattle.dcc_packet.proofs.FieldsBack.{both_back}
 use Rattle.dcc_packet.proofs.LineFieldsBack.{direction_is_back, bit_is_back, small_is_back}
-use Rattle.dcc_packet.proofs.Tokens.{hex_token, literal_token}
+use Rattle.dcc_packet.proofs.Tokens.{hex_token, keyword_token}
 use Rattle.dcc_regs.specs.declared.register.Speed.{Speed}
 use Rattle.dcc_regs.specs.declared.register.Speed.TheVariants.{Stop, Emergency, Step14, Step28, Step126}
 use Rattle.dcc_regs.specs.Loco.{is_speed, is_pending_for}
@@ -23,7 +23,7 @@ use Rattle.dcc_saved.specs.FleetText.{line_text, pending_text, first_four}
 use Rattle.dcc_saved.specs.TextReader.{line_by}
 use Rattle.dcc_saved.proofs.LinesBack.{Reads, few_read}
 use Rattle.dcc_saved.proofs.PendingBack.{IsWrite-pending, pending_back}
-use Rattle.dcc_saved.proofs.RulesBack.{speed_is_back, keyed_back, four_back}
+use Rattle.dcc_saved.proofs.RulesBack.{speed_back, speed_is_back, keyed_back, four_back}
 
 -- a line of a keyword and a few fields
 pub fields_read : {A : Type 0} (name : Word) (field : FieldOf A) → keyword name name ≡ Ok tt → IsReadBack field → (x : A)
@@ -33,13 +33,6 @@ fields_read name field is back x fits token few =
     few_read (keyed name field) x name (field.written x) token (back.tokens x fits) few
     (keyed_back name field is back x fits)
 
-few_words : (speed : Speed) (word : Word) → length (speed_words speed ++ word ∷ []) ≤ 38
-few_words Stop word = omega arith
-few_words Emergency word = omega arith
-few_words (Step14 n) word = omega arith
-few_words (Step28 n) word = omega arith
-few_words (Step126 n) word = omega arith
-
 pub speed_read : (speed : Speed) (forward : Bool) → is_speed speed ≡ true
     → Reads (line_by speed_line)
     (line_text (codes "speed") (both speed_field direction_field) (record { speed = speed }, record { forward = forward }))
@@ -47,12 +40,12 @@ pub speed_read : (speed : Speed) (forward : Bool) → is_speed speed ≡ true
 speed_read speed forward h =
     fields_read (codes "speed") (both speed_field direction_field) refl
     (both_back speed_field direction_field speed_is_back direction_is_back)
-    (record { speed = speed }, record { forward = forward }) (h, tt) (literal_token (codes "speed") refl)
-    (few_words speed (direction_word forward))
+    (record { speed = speed }, record { forward = forward }) (h, tt) (keyword_token (codes "speed") refl)
+    (omega (arith, (speed_back speed h).2, length-append (speed_words speed) (direction_word forward ∷ [])))
 
 pending_token : (active : Option Address) (pending : Option Packet) → is_pending_for active pending ≡ true
     → IsToken (pending_text pending)
-pending_token active None h = literal_token (codes "none") refl
+pending_token active None h = keyword_token (codes "none") refl
 pending_token active (Some p) h =
     let frame = (IsWrite-pending active p h).frame in
     hex_token (spelling p) (omega (arith, frame.least)) (omega (arith, frame.most))
@@ -62,7 +55,7 @@ pub pending_read : (active : Option Address) (pending : Option Packet) → is_pe
 pending_read active pending h =
     rw (← (append-nil (pending_text pending)))
     (few_read (pending_line active) pending (codes "pending") (pending_text pending ∷ [])
-    (literal_token (codes "pending") refl) (pending_token active pending h, tt) (omega arith)
+    (keyword_token (codes "pending") refl) (pending_token active pending h, tt) (omega arith)
     (pending_back active pending h))
 
 pub aspects_read : (numbers : ℕ → ℕ) → ((k : ℕ) → numbers k < 256)
@@ -70,7 +63,7 @@ pub aspects_read : (numbers : ℕ → ℕ) → ((k : ℕ) → numbers k < 256)
     (first_four numbers)
 aspects_read numbers small =
     fields_read (codes "aspect") (four small_field) refl (four_back small_field small_is_back) (first_four numbers)
-    (small 0, (small 1, (small 2, small 3))) (literal_token (codes "aspect") refl) (omega arith)
+    (small 0, (small 1, (small 2, small 3))) (keyword_token (codes "aspect") refl) (omega arith)
 
 abbrev pub first_sides : (ℕ → Bool) → Four Bit
 first_sides sides =
@@ -82,4 +75,4 @@ pub positions_read : (numbers : ℕ → ℕ) (sides : ℕ → Bool) → ((k : �
 positions_read numbers sides are =
     rw (are 0, are 1, are 2, are 3)
     (fields_read (codes "position") (four bit_field) refl (four_back bit_field bit_is_back) (first_sides sides)
-    (tt, (tt, (tt, tt))) (literal_token (codes "position") refl) (omega arith))
+    (tt, (tt, (tt, tt))) (keyword_token (codes "position") refl) (omega arith))

@@ -1,6 +1,6 @@
 -- The words that are written for a decoder are read again.
 use Rattle.std.proofs.Common.{◌≡◌, ℕ, ◌<◌, ◌≤◌, true, false, ◌&&◌, eqb, nat_le, List, [], ◌∷◌, ◌++◌, codes}
-use Rattle.std.proofs.Common.{Option, None, Some, Ok, refl, arith}
+use Rattle.std.proofs.Common.{length, Option, None, Some, Ok, refl, arith}
 use Rattle.std.specs.Fmt.{decimal}
 use Rattle.std.specs.List.{AllByRecursion}
 use Rattle.std.proofs.lemmas.Bool.{and_parts, le-ltb, leb-true}
@@ -12,7 +12,7 @@ use Rattle.dcc_packet.specs.declared.address.Address.TheVariants.{Broadcast, Sho
 use Rattle.dcc_packet.specs.Fields.{FieldOf, both, IsToken, IsReadBack}
 use Rattle.dcc_packet.specs.Words.{Word}
 use Rattle.dcc_packet.proofs.FieldsBack.{one_word_back, both_back, whole_back}
-use Rattle.dcc_packet.proofs.Tokens.{address_word_token, literal_token, decimal_token}
+use Rattle.dcc_packet.proofs.Tokens.{address_word_token, keyword_token, decimal_token}
 use Rattle.dcc_packet.proofs.WordsBack.{small_number-decimal, address_back, cv_back, board_back}
 use Rattle.dcc_regs.specs.declared.register.Speed.{Speed}
 use Rattle.dcc_regs.specs.declared.register.Speed.TheVariants.{Stop, Emergency, Step14, Step28, Step126}
@@ -30,14 +30,14 @@ version_back versions.One = refl
 version_back versions.Two = refl
 
 version_token : (version : Version) → IsToken (version_word version)
-version_token versions.One = literal_token (codes "1") refl
-version_token versions.Two = literal_token (codes "2") refl
+version_token versions.One = keyword_token (codes "1") refl
+version_token versions.Two = keyword_token (codes "2") refl
 
 pub version_is_back : IsReadBack version_field
 version_is_back = one_word_back version_number version_word version_back version_token
 
 pub address_token : (address : Option Address) → IsToken (own_address_word address)
-address_token None = literal_token (codes "none") refl
+address_token None = keyword_token (codes "none") refl
 address_token (Some address) = address_word_token address
 
 pub own_address_back : (a : Option Address) → is_active a ≡ true → own_address (own_address_word a) ≡ Ok a
@@ -76,29 +76,27 @@ step_back last n small h =
       decimal_token n (omega arith),
     )
 
--- the words of a speed
-record SpeedIsBack (speed : Speed) : Type 0 where
-  back : (rest : List Word) → speed_of (speed_words speed ++ rest) ≡ Ok (speed, rest)
-  tokens : AllByRecursion IsToken (speed_words speed)
-
-speed_back : (speed : Speed) → is_speed speed ≡ true → SpeedIsBack speed
-speed_back Stop h = record { back = λ rest. refl; tokens = (literal_token (codes "stop") refl, tt) }
-speed_back Emergency h = record { back = λ rest. refl; tokens = (literal_token (codes "emergency") refl, tt) }
+-- the one or two words of a speed
+pub speed_back : (speed : Speed) → is_speed speed ≡ true
+    → ((rest : List Word) → speed_of (speed_words speed ++ rest) ≡ Ok (speed, rest))
+    × AllByRecursion IsToken (speed_words speed) × (length (speed_words speed) ≤ 2)
+speed_back Stop h = (λ rest. refl, (keyword_token (codes "stop") refl, tt), omega arith)
+speed_back Emergency h = (λ rest. refl, (keyword_token (codes "emergency") refl, tt), omega arith)
 speed_back (Step14 n) h =
     let step = step_back 14 n (omega arith) h in
-    record { back = λ rest. rw step.0 refl; tokens = (literal_token (codes "14") refl, (step.1, tt)) }
+    (λ rest. rw step.0 refl, (keyword_token (codes "14") refl, (step.1, tt)), omega arith)
 speed_back (Step28 n) h =
     let step = step_back 28 n (omega arith) h in
-    record { back = λ rest. rw step.0 refl; tokens = (literal_token (codes "28") refl, (step.1, tt)) }
+    (λ rest. rw step.0 refl, (keyword_token (codes "28") refl, (step.1, tt)), omega arith)
 speed_back (Step126 n) h =
     let step = step_back 126 n (omega arith) h in
-    record { back = λ rest. rw step.0 refl; tokens = (literal_token (codes "126") refl, (step.1, tt)) }
+    (λ rest. rw step.0 refl, (keyword_token (codes "126") refl, (step.1, tt)), omega arith)
 
 pub speed_is_back : IsReadBack speed_field
 speed_is_back =
     record {
-      back = λ saved rest h. rw ((speed_back saved.speed h).back rest) refl;
-      tokens = λ saved h. (speed_back saved.speed h).tokens;
+      back = λ saved rest h. rw ((speed_back saved.speed h).0 rest) refl;
+      tokens = λ saved h. (speed_back saved.speed h).1;
     }
 
 -- a line of a keyword and fields
