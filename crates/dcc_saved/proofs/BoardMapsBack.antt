@@ -71,14 +71,11 @@ side_is (suc zero) h = (refl, decimal_digit 1 (omega arith))
 side_is (suc (suc k)) h = absurd (omega (arith, h))
 
 module _ (board : Board) (m : RegisterMap) (possible : IsPossible (who.Board board) m) where
-  side_at : (n : ℕ)
+  pub side_at : (n : ℕ)
       → ((if sides_of m n then 1 else 0) ≡ positions_of m n) × (decimal (positions_of m n) ≡ state_word (sides_of m n))
   side_at n =
       side_is (positions_of m n)
       (number_small (nat_le n 3) 1 (m (registers.Position n)) (possible.registers (registers.Position n)))
-
-  pub side_words : (n : ℕ) → decimal (positions_of m n) ≡ state_word (sides_of m n)
-  side_words n = (side_at n).1
 
   pub aspects_small : (n : ℕ) → aspects_of m n < 256
   aspects_small n =

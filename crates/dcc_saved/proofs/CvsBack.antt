@@ -11,7 +11,7 @@ use Rattle.dcc_packet.proofs.Tokens.{decimal_token, keyword_token}
 use Rattle.dcc_saved.specs.declared.decoder_line.Head.{Head}
 use Rattle.dcc_saved.specs.declared.decoder_line.LocoLine.TheVariants as behind
 use Rattle.dcc_saved.specs.DecoderLines.{loco_line}
-use Rattle.dcc_saved.specs.DecoderText.{behind_loco_line, cvs_from, cvs_lines}
+use Rattle.dcc_saved.specs.DecoderText.{cvs_from, cvs_lines}
 use Rattle.dcc_saved.specs.FleetText.{cv_line, cvs_text}
 use Rattle.dcc_saved.specs.TextReader.{line_by}
 use Rattle.dcc_saved.proofs.LinesBack.{Reads, Reads-then, Reads-last, few_read}
@@ -69,10 +69,10 @@ module _ (cvs : ℕ → ℕ) where
     one_line n text few after false is zero least room ascends = absurd (omega (arith, few, room))
     one_line n text few after false is (suc most) least room ascends =
         let cv : CvNumber = record { number = suc n; in_range = (omega arith, omega (arith, few)) } in
-        Reads-then (line_by (loco_line least)) (behind_loco_line (cvs_from most) (so_far n))
-        (few_read (loco_line least) (behind.Cv cv (cvs (suc n))) (codes "cv")
-        (decimal (suc n) ∷ decimal (cvs (suc n)) ∷ []) (keyword_token (codes "cv") refl)
-        (decimal_token (suc n) (omega (arith, few)), (decimal_token (cvs (suc n)) (omega (arith, small (suc n))), tt))
+        let number = decimal_token (suc n) (omega (arith, few)) in
+        let value = decimal_token (cvs (suc n)) (omega (arith, small (suc n))) in
+        Reads-then _ _ (few_read (loco_line least) (behind.Cv cv (cvs (suc n))) (codes "cv")
+        (decimal (suc n) ∷ decimal (cvs (suc n)) ∷ []) (keyword_token (codes "cv") refl, (number, (value, tt)))
         (omega arith) (cv_line_back least cv (cvs (suc n)) ascends (small (suc n))))
         (after most (suc n + 1) (omega (arith, room)) (omega arith))
 
@@ -104,5 +104,4 @@ cvs_read cvs small bytes head ends = record {
         → Reads (cvs_from most least (so_far cvs 1024)) bytes (so_far cvs 1024, head)
     last zero least room ascends = absurd (omega (arith, room))
     last (suc most) least room ascends =
-        Reads-last (line_by (loco_line least)) (behind_loco_line (cvs_from most) (so_far cvs 1024)) (ends least)
-        (λ text. refl)
+        Reads-last _ _ (ends least) (λ text. refl)

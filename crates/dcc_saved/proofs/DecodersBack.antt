@@ -1,10 +1,7 @@
 -- Decoders are read again, each behind its first line and up to the first line of the next.
-use Rattle.std.proofs.Common.{◌≡◌, ℕ, ◌≤◌, false, List, [], ◌∷◌, ◌++◌, length, codes, Option, Ok, refl, arith}
-use Rattle.std.proofs.Common.{append_assoc}
+use Rattle.std.proofs.Common.{◌≡◌, ℕ, ◌≤◌, false, List, [], ◌∷◌, ◌++◌, length, codes, Ok, refl, arith}
 use Rattle.std.specs.Fmt.{decimal}
 use Rattle.std.specs.List.{AllByRecursion}
-use Rattle.dcc_packet.specs.declared.accessory.Board.{Board}
-use Rattle.dcc_packet.specs.declared.address.Address.{Address}
 use Rattle.dcc_packet.specs.Fields.{IsToken}
 use Rattle.dcc_packet.specs.Words.{Word, is_word}
 use Rattle.dcc_packet.proofs.BitLemmas.{byte_of-lt}
@@ -13,7 +10,6 @@ use Rattle.dcc_regs.specs.declared.register.Register.TheVariants as registers
 use Rattle.dcc_regs.specs.declared.register.Who.{Who}
 use Rattle.dcc_regs.specs.declared.register.Who.TheVariants as who
 use Rattle.dcc_regs.specs.Loco.{holds_one, cv_held}
-use Rattle.dcc_regs.specs.Possible.{IsPossible}
 use Rattle.dcc_regs.specs.Result.{RegisterMap}
 use Rattle.dcc_saved.specs.declared.saved.Saved.{Saved}
 use Rattle.dcc_saved.specs.declared.saved.Saved.TheVariants as saved
@@ -29,7 +25,7 @@ use Rattle.dcc_saved.specs.FleetText.{board_line, written_speed, written_numbers
 use Rattle.dcc_saved.specs.FleetText.{written_aspects}
 use Rattle.dcc_saved.specs.ReadBack.{Saves, IsPossibleDecoder}
 use Rattle.dcc_saved.specs.TextReader.{line_by}
-use Rattle.dcc_saved.proofs.BoardMapsBack.{sides_of, positions_of, aspects_of, board_state, side_words, aspects_small}
+use Rattle.dcc_saved.proofs.BoardMapsBack.{sides_of, positions_of, aspects_of, board_state, side_at, aspects_small}
 use Rattle.dcc_saved.proofs.BoardMapsBack.{same_board}
 use Rattle.dcc_saved.proofs.CvsBack.{cvs_read}
 use Rattle.dcc_saved.proofs.LinesBack.{Reads, Reads-then, Reads-last, few_read}
@@ -43,12 +39,12 @@ pub record IsHead (line : List ℕ) (head : Head) : Type 0 where
   pub first : Reads (line_by head_line) line head
   pub behind_cvs : (least : ℕ) → Reads (line_by (loco_line least)) line (behind.Head head)
 
-is_head : (word : Word) (ws : List Word) (head : Head) → IsToken word → AllByRecursion IsToken ws → length ws ≤ 38
+is_head : (word : Word) (ws : List Word) (head : Head) → AllByRecursion IsToken (word ∷ ws) → length ws ≤ 38
     → is_word word (codes "cv") ≡ false → head_after word ws ≡ Ok head → IsHead (line_of (word ∷ ws)) head
 unfolding head_line loco_line
-is_head word ws head token tokens few other says = record {
-  first = few_read head_line head word ws token tokens few says;
-  behind_cvs = λ least. few_read (loco_line least) (behind.Head head) word ws token tokens few (rw (other, says) refl);
+is_head word ws head tokens few other says = record {
+  first = few_read head_line head word ws tokens few says;
+  behind_cvs = λ least. few_read (loco_line least) (behind.Head head) word ws tokens few (rw (other, says) refl);
 }
 
 -- the first line of a fleet behind the version, and what it says
@@ -66,33 +62,29 @@ head_text (decoder ∷ fleet) = first_line_of decoder
 
 pub fleet_head : (fleet : List (Who × RegisterMap)) → AllByRecursion IsPossibleDecoder fleet
     → IsHead (head_text fleet) (head_of fleet)
-fleet_head [] possible = is_head (codes "end") [] heads.End (keyword_token (codes "end") refl) tt (omega arith) refl refl
+fleet_head [] possible = is_head (codes "end") [] heads.End (keyword_token (codes "end") refl, tt) (omega arith) refl refl
 fleet_head ((who.Loco address, m) ∷ fleet) possible =
     is_head (codes "loco") (own_address_word address ∷ []) (heads.Decoder (who.Loco address))
-    (keyword_token (codes "loco") refl) (address_token address, tt) (omega arith) refl
+    (keyword_token (codes "loco") refl, (address_token address, tt)) (omega arith) refl
     (rw (own_address_back address possible.0.decoder) refl)
 fleet_head ((who.Board board, m) ∷ fleet) possible =
-    let range = board.in_range in
+    let number = decimal_token board.number (let range = board.in_range in omega (arith, range)) in
     is_head (codes "board") (decimal board.number ∷ []) (heads.Decoder (who.Board board))
-    (keyword_token (codes "board") refl) (decimal_token board.number (omega (arith, range)), tt) (omega arith) refl
+    (keyword_token (codes "board") refl, (number, tt)) (omega arith) refl
     (rw (own_board_back board possible.0.decoder) refl)
 
--- the lines of a decoder behind its first
-abbrev pub lines_of : Who × RegisterMap → List ℕ
-lines_of (who.Loco address, m) =
-    (written_speed m ++ (written_numbers kinds.Function m ++ (written_numbers kinds.State m ++ written_pending m)))
-    ++ cvs_text (cv_held m) 1024
-lines_of (who.Board board, m) = written_numbers kinds.Out m ++ (written_positions m ++ written_aspects m)
+-- the lines of a decoder behind its first, and the line behind them
+abbrev pub lines_to : Who × RegisterMap → List ℕ → List ℕ
+lines_to (who.Loco address, m) line =
+    written_speed m
+    ++ (written_numbers kinds.Function m ++ (written_numbers kinds.State m ++ (written_pending m ++ (cvs_text (cv_held m) 1024 ++ line))))
+lines_to (who.Board board, m) line = written_numbers kinds.Out m ++ (written_positions m ++ (written_aspects m ++ line))
 
 -- a decoder that its lines save, and the first line behind them
 pub record ReadsDecoder (decoder : Who × RegisterMap) (line : List ℕ) (head : Head) : Type 0 where
   pub state : Saved
-  pub reads : Reads (decoder_lines versions.Two decoder.0) (lines_of decoder ++ line) (state, head)
+  pub reads : Reads (decoder_lines versions.Two decoder.0) (lines_to decoder line) (state, head)
   pub saves : Saves state decoder
-
-regroup : (s f b p c h : List ℕ)
-    → ((s ++ (f ++ (b ++ p))) ++ c) ++ h ≡ s ++ (f ++ (b ++ (p ++ (c ++ h))))
-regroup s f b p c h = simp append_assoc refl
 
 pub decoder_read : (decoder : Who × RegisterMap) (line : List ℕ) (head : Head) → IsPossibleDecoder decoder
     → IsHead line head → ReadsDecoder decoder line head
@@ -100,36 +92,31 @@ unfolding loco_lines board_lines
 decoder_read (who.Loco address, m) line head possible is =
     let speed = speed_is address {v = m registers.Speed} (possible.registers registers.Speed) in
     let pending = pending_is address {v = m registers.Pending} (possible.registers registers.Pending) in
-    let functions = numbers_read kinds.Function (λ n. holds_one (m (registers.Function n))) (λ is. absurd cc) in
-    let states = numbers_read kinds.State (λ n. holds_one (m (registers.State n)))
+    let functions = numbers_read kinds.Function m (λ is. absurd cc) in
+    let states = numbers_read kinds.State m
     (λ is. no_state_0 address (m (registers.State 0)) (possible.registers (registers.State 0))) in
     let cvs = cvs_read (cv_held m) (λ cv. byte_of-lt (λ place. holds_one (m (registers.CvBit cv place)))) line head
     is.behind_cvs in
     record {
       state = saved.Loco (loco_state address m functions.value states.value cvs.given);
       reads =
-          rw (regroup (written_speed m) (written_numbers kinds.Function m) (written_numbers kinds.State m)
-          (written_pending m) (cvs_text (cv_held m) 1024) line)
-          (Reads-then _ _ (speed_read (speed_held (m registers.Speed)) (forward_held (m registers.Direction)) speed.1)
+          Reads-then _ _ (speed_read (speed_held (m registers.Speed)) (forward_held (m registers.Direction)) speed.1)
           (Reads-then _ _ functions.reads (Reads-then _ _ states.reads
           (Reads-then _ _ (pending_read address (pending_held (m registers.Pending)) pending.1)
-          (Reads-last _ _ cvs.reads (λ text. refl))))));
+          (Reads-last _ _ cvs.reads (λ text. refl)))));
       saves = (
         refl,
         same_loco address m possible functions.value functions.bits states.value states.bits cvs.given cvs.each,
       );
     }
 decoder_read (who.Board board, m) line head possible is =
-    let outs = numbers_read kinds.Out (λ n. holds_one (m (registers.Out n))) (λ is. absurd cc) in
+    let outs = numbers_read kinds.Out m (λ is. absurd cc) in
     record {
       state = saved.Board (board_state board m outs.value);
       reads =
-          rw (
-            append_assoc (written_numbers kinds.Out m) (written_positions m ++ written_aspects m) line,
-            append_assoc (written_positions m) (written_aspects m) line,
-          ) (Reads-then _ _ outs.reads
-          (Reads-then _ _ (positions_read (positions_of m) (sides_of m) (side_words board m possible))
+          Reads-then _ _ outs.reads
+          (Reads-then _ _ (positions_read (positions_of m) (sides_of m) (λ n. (side_at board m possible n).1))
           (Reads-then _ _ (aspects_read (aspects_of m) (aspects_small board m possible))
-          (Reads-last _ _ is.first (λ text. refl)))));
+          (Reads-last _ _ is.first (λ text. refl))));
       saves = (refl, same_board board m possible outs.value outs.bits);
     }

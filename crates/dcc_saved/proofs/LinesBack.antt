@@ -4,7 +4,6 @@ use Rattle.std.proofs.Common.{codes, Some, Result, Ok, if◌then◌else◌, refl
 use Rattle.std.specs.Char.{is_ascii}
 use Rattle.std.specs.List.{list_all, AllByRecursion}
 use Rattle.std.proofs.lemmas.Bool.{and_parts, le-leb}
-use Rattle.std.proofs.lemmas.List.Folds.{list_all-append}
 use Rattle.dcc_packet.specs.declared.fault.PacketFault.{PacketFault}
 use Rattle.dcc_packet.specs.Fields.{is_plain, IsToken}
 use Rattle.dcc_packet.specs.Words.{Word, is_separator}
@@ -51,25 +50,6 @@ pub Reads-last : {A B : Type 0} (first : Reader A) (next : A → Reader B) {a : 
 Reads-last first next {a = a} one ends =
     record { gives = λ n more. rw (one.gives n more) (ends (at (n + line_feeds a) more)) }
 
--- a byte that may stand in a line
-abbrev is_in_line : ℕ → Bool
-is_in_line b = is_ascii b && not (eqb b 10)
-
-word_in_line : (word : Word) → list_all is_plain word ≡ true → list_all is_in_line word ≡ true
-word_in_line [] h = refl
-word_in_line (b ∷ bs) h =
-    let parts = and_parts (is_plain b) (list_all is_plain bs) h in
-    let byte = and_parts (is_ascii b) (not (is_separator b) && not (eqb b 10)) parts.0 in
-    rw (byte.0, (and_parts (not (is_separator b)) (not (eqb b 10)) byte.1).1, word_in_line bs parts.1) refl
-
-in_line : (word : Word) (ws : List Word) → IsToken word → AllByRecursion IsToken ws
-    → list_all is_in_line (word ++ spaced_words ws) ≡ true
-in_line word [] token tokens =
-    rw (list_all-append is_in_line word [], word_in_line word token.plain) refl
-in_line word (next ∷ ws) token tokens =
-    rw (list_all-append is_in_line word (spaced_words (next ∷ ws)), word_in_line word token.plain)
-    (in_line next ws tokens.0 tokens.1)
-
 -- a line that is ended by a line feed, whatever text stands behind it
 record Ends (line : List ℕ) : Type 0 where
   ascii : list_all is_ascii line ≡ true
@@ -77,27 +57,34 @@ record Ends (line : List ℕ) : Type 0 where
   first : (rest : List ℕ) → first_line (line ++ 10 ∷ rest) ≡ line
   behind : (rest : List ℕ) → behind_line (line ++ 10 ∷ rest) ≡ Some rest
 
-line_ends : (line : List ℕ) → list_all is_in_line line ≡ true → Ends line
-line_ends [] h = record { ascii = refl; feeds = refl; first = λ rest. refl; behind = λ rest. refl }
-line_ends (b ∷ bs) h =
-    let parts = and_parts (is_in_line b) (list_all is_in_line bs) h in
-    let byte = and_parts (is_ascii b) (not (eqb b 10)) parts.0 in
-    let other = not_true (eqb b 10) byte.1 in
-    let more = line_ends bs parts.1 in
-    record {
-      ascii = rw byte.0 more.ascii;
-      feeds = rw other more.feeds;
-      first = λ rest. rw other (ap (λ (xs : List ℕ). b ∷ xs) (more.first rest));
-      behind = λ rest. rw other (more.behind rest);
-    }
+Ends-byte : (b : ℕ) (line : List ℕ) → is_ascii b ≡ true → eqb b 10 ≡ false → Ends line → Ends (b ∷ line)
+Ends-byte b line ascii other ends = record {
+  ascii = rw ascii ends.ascii;
+  feeds = rw other ends.feeds;
+  first = λ rest. rw other (ap (λ (xs : List ℕ). b ∷ xs) (ends.first rest));
+  behind = λ rest. rw other (ends.behind rest);
+}
+
+Ends-word : (word : Word) (line : List ℕ) → list_all is_plain word ≡ true → Ends line → Ends (word ++ line)
+Ends-word [] line h ends = ends
+Ends-word (b ∷ bs) line h ends =
+    let parts = and_parts (is_plain b) (list_all is_plain bs) h in
+    let byte = and_parts (is_ascii b) (not (is_separator b) && not (eqb b 10)) parts.0 in
+    let other = not_true (eqb b 10) (and_parts (not (is_separator b)) (not (eqb b 10)) byte.1).1 in
+    Ends-byte b (bs ++ line) byte.0 other (Ends-word bs line parts.1 ends)
+
+Ends-spaced : (ws : List Word) → AllByRecursion IsToken ws → Ends (spaced_words ws)
+Ends-spaced [] h = record { ascii = refl; feeds = refl; first = λ rest. refl; behind = λ rest. refl }
+Ends-spaced (w ∷ ws) h =
+    Ends-byte 32 (w ++ spaced_words ws) refl refl (Ends-word w (spaced_words ws) h.0.plain (Ends-spaced ws h.1))
 
 -- a line of words, of which its rule gives this value
 pub line_reads : {A : Type 0} (rule : List Word → Result A PacketFault) (x : A) (word : Word) (ws : List Word)
-    → IsToken word → AllByRecursion IsToken ws → length (word ++ spaced_words ws) ≤ 512 → rule (word ∷ ws) ≡ Ok x
+    → AllByRecursion IsToken (word ∷ ws) → length (word ++ spaced_words ws) ≤ 512 → rule (word ∷ ws) ≡ Ok x
     → Reads (line_by rule) (line_of (word ∷ ws)) x
-line_reads rule x word ws token tokens short says =
+line_reads rule x word ws tokens short says =
     let line : List ℕ = word ++ spaced_words ws in
-    let ends = line_ends line (in_line word ws token tokens) in
+    let ends = Ends-word word (spaced_words ws) tokens.0.plain (Ends-spaced ws tokens.1) in
     record {
       gives = λ n more.
           rw (
@@ -106,7 +93,7 @@ line_reads rule x word ws token tokens short says =
             ends.behind more,
             le-leb (length line) 512 short,
             ends.ascii,
-            words_spaced word ws token tokens,
+            words_spaced word ws tokens.0 tokens.1,
             says,
             ends.feeds,
           ) refl;
@@ -118,8 +105,8 @@ spaced_short (w ∷ ws) h = omega (arith, h.0.short, spaced_short ws h.1, length
 
 -- a line of a few words
 pub few_read : {A : Type 0} (rule : List Word → Result A PacketFault) (x : A) (word : Word) (ws : List Word)
-    → IsToken word → AllByRecursion IsToken ws → length ws ≤ 38 → rule (word ∷ ws) ≡ Ok x
+    → AllByRecursion IsToken (word ∷ ws) → length ws ≤ 38 → rule (word ∷ ws) ≡ Ok x
     → Reads (line_by rule) (line_of (word ∷ ws)) x
-few_read rule x word ws token tokens few says =
-    line_reads rule x word ws token tokens
-    (omega (arith, token.short, spaced_short ws tokens, length-append word (spaced_words ws))) says
+few_read rule x word ws tokens few says =
+    line_reads rule x word ws tokens
+    (omega (arith, tokens.0.short, spaced_short ws tokens.1, length-append word (spaced_words ws))) says

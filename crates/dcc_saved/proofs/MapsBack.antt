@@ -10,7 +10,7 @@ use Rattle.dcc_regs.specs.declared.register.Register.TheVariants as registers
 use Rattle.dcc_regs.specs.declared.register.Value.{Value}
 use Rattle.dcc_regs.specs.declared.register.Value.TheVariants as values
 use Rattle.dcc_regs.specs.declared.register.Who.TheVariants as who
-use Rattle.dcc_regs.specs.Loco.{is_function, is_cv_bit, is_speed, is_pending_for, holds_one, cv_held, loco_registers}
+use Rattle.dcc_regs.specs.Loco.{is_cv_bit, is_speed, is_pending_for, holds_one, cv_held, loco_registers}
 use Rattle.dcc_regs.specs.States.{is_binary_state}
 use Rattle.dcc_regs.specs.LocoState.{content as loco_content}
 use Rattle.dcc_regs.specs.Possible.{may_hold, IsPossible}

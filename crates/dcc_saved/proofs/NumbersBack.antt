@@ -1,5 +1,5 @@
 -- The numbers that are on stand in one line, ascending, and are read again as the bits of a number.
-use Rattle.std.proofs.Common.{zero, suc, ◌≡◌, ℕ, ◌+◌, ◌-◌, ◌*◌, ◌/◌, ◌^◌, ◌<◌, ◌≤◌, Bool, true, false, nat_lt, List}
+use Rattle.std.proofs.Common.{zero, suc, ◌≡◌, ℕ, ◌+◌, ◌-◌, ◌*◌, ◌/◌, ◌^◌, ◌<◌, ◌≤◌, Bool, true, false, List}
 use Rattle.std.proofs.Common.{[], ◌∷◌, ◌++◌, length, codes, Ok, if◌then◌else◌, inl, inr, refl, sym, ap, ◌∙◌, arith, append_assoc}
 use Rattle.std.proofs.Common.{length-append}
 use native.Mathlib.Nat.{pow-succ'}
@@ -19,9 +19,11 @@ use Rattle.dcc_packet.proofs.WordsBack.{small_number-decimal, output_back}
 use Rattle.dcc_io.specs.Spaced.{behind_space}
 use Rattle.dcc_saved.specs.declared.decoder_line.Numbered.{Numbered}
 use Rattle.dcc_saved.specs.declared.decoder_line.Numbered.TheVariants as kinds
-use Rattle.dcc_saved.specs.Numbered.{name_of, end_of}
+use Rattle.dcc_saved.specs.Numbered.{name_of, end_of, register_of}
 use Rattle.dcc_saved.specs.DecoderLines.{keyword, number_of, numbers_from, numbers_line}
-use Rattle.dcc_saved.specs.FleetText.{numbers_below}
+use Rattle.dcc_regs.specs.Loco.{holds_one}
+use Rattle.dcc_regs.specs.Result.{RegisterMap}
+use Rattle.dcc_saved.specs.FleetText.{numbers_below, written_numbers}
 use Rattle.dcc_saved.specs.TextReader.{line_by}
 use Rattle.dcc_saved.proofs.LinesBack.{Reads, line_reads}
 
@@ -134,20 +136,24 @@ rows kind on sound zero few row = row
 rows kind on sound (suc n) few row =
     rows kind on sound n (omega (arith, few)) (row_before kind on sound n few row)
 
--- a line of numbers that are on
-pub record ReadsBits (kind : Numbered) (on : ℕ → Bool) : Type 0 where
-  pub value : ℕ
-  pub reads : Reads (line_by (numbers_line kind)) ((name_of kind ++ numbers_below on (end_of kind)) ++ codes "\n") value
-  pub bits : (j : ℕ) → j < end_of kind → is_one value j ≡ on j
+-- the registers of a kind that are on
+abbrev pub on_of : Numbered → RegisterMap → ℕ → Bool
+on_of kind m n = holds_one (m (register_of kind n))
 
-pub numbers_read : (kind : Numbered) (on : ℕ → Bool) → IsSoundRow kind on → ReadsBits kind on
+-- the line that tells which are on
+pub record ReadsBits (kind : Numbered) (m : RegisterMap) : Type 0 where
+  pub value : ℕ
+  pub reads : Reads (line_by (numbers_line kind)) (written_numbers kind m) value
+  pub bits : (j : ℕ) → j < end_of kind → is_one value j ≡ on_of kind m j
+
+pub numbers_read : (kind : Numbered) (m : RegisterMap) → IsSoundRow kind (on_of kind m) → ReadsBits kind m
 unfolding numbers_below numbers_line
-numbers_read kind on sound =
+numbers_read kind m sound =
     let (token, named, few) = kind_is kind in
-    let row = rows kind on sound (end_of kind) (omega arith) (row_end kind on) in
+    let row = rows kind (on_of kind m) sound (end_of kind) (omega arith) (row_end kind (on_of kind m)) in
     record {
       value = row.value;
-      reads = rw row.written (line_reads (numbers_line kind) row.value (name_of kind) row.words token row.tokens
+      reads = rw row.written (line_reads (numbers_line kind) row.value (name_of kind) row.words (token, row.tokens)
           (omega (arith, row.short, token.short, length-append (name_of kind) (spaced_words row.words)))
           (rw (named, row.reads 0 (omega arith)) (ap Ok (omega arith))));
       bits = λ j within. row.bits j j (omega arith) within;

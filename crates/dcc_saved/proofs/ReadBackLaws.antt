@@ -14,33 +14,39 @@ use Rattle.dcc_saved.specs.DecoderLines.{version_line}
 use Rattle.dcc_saved.specs.DecoderText.{decoders_from, decoder_text}
 use Rattle.dcc_saved.specs.declared.decoder_line.Numbered.TheVariants as kinds
 use Rattle.dcc_saved.specs.FleetText.{cvs_text, text_of, fleet_text, loco_address_line, written_speed, written_numbers}
-use Rattle.dcc_saved.specs.FleetText.{written_pending}
+use Rattle.dcc_saved.specs.FleetText.{written_pending, board_line, written_positions, written_aspects}
 use Rattle.dcc_saved.specs.ReadBack.{line_feeds, SavesEach, IsPossibleDecoder, FleetsAreReadBack}
 use Rattle.dcc_saved.specs.TextReader.{done}
-use Rattle.dcc_saved.proofs.DecodersBack.{head_of, head_text, first_line_of, lines_of, fleet_head, decoder_read}
+use Rattle.dcc_saved.proofs.DecodersBack.{head_of, head_text, first_line_of, lines_to, fleet_head, decoder_read}
 use Rattle.dcc_saved.proofs.LinesBack.{at, Reads, Reads-then, few_read}
 
 -- the lines of a fleet behind the first line of its first decoder
 abbrev rest_of : List (Who × RegisterMap) → List ℕ
 rest_of [] = []
-rest_of (decoder ∷ fleet) = (lines_of decoder ++ head_text fleet) ++ rest_of fleet
+rest_of (decoder ∷ fleet) = lines_to decoder (head_text fleet) ++ rest_of fleet
 
-text_is : (decoder : Who × RegisterMap) → text_of decoder ≡ first_line_of decoder ++ lines_of decoder
-text_is (who.Loco address, m) =
-    append_assoc (loco_address_line address)
-    (written_speed m ++ (written_numbers kinds.Function m ++ (written_numbers kinds.State m ++ written_pending m)))
-    (cvs_text (cv_held m) 1024)
-text_is (who.Board board, m) = refl
+-- a decoder's text, the first line behind it and what follows that
+text_is : (decoder : Who × RegisterMap) (line rest : List ℕ)
+    → text_of decoder ++ (line ++ rest) ≡ first_line_of decoder ++ (lines_to decoder line ++ rest)
+text_is (who.Loco address, m) line rest =
+    regroup (loco_address_line address) (written_speed m) (written_numbers kinds.Function m)
+    (written_numbers kinds.State m) (written_pending m) (cvs_text (cv_held m) 1024)
+  where
+    regroup : (h s f b p c : List ℕ) → ((h ++ (s ++ (f ++ (b ++ p)))) ++ c) ++ (line ++ rest)
+        ≡ h ++ ((s ++ (f ++ (b ++ (p ++ (c ++ line))))) ++ rest)
+    regroup h s f b p c = simp append_assoc refl
+text_is (who.Board board, m) line rest =
+    regroup (board_line board) (written_numbers kinds.Out m) (written_positions m) (written_aspects m)
+  where
+    regroup : (h o p a : List ℕ) → (h ++ (o ++ (p ++ a))) ++ (line ++ rest) ≡ h ++ ((o ++ (p ++ (a ++ line))) ++ rest)
+    regroup h o p a = simp append_assoc refl
 
 fleet_is : (fleet : List (Who × RegisterMap))
     → flat_map text_of fleet ++ codes "end\n" ≡ head_text fleet ++ rest_of fleet
 fleet_is [] = refl
 fleet_is (decoder ∷ fleet) =
-    rw (
-      append_assoc (text_of decoder) (flat_map text_of fleet) (codes "end\n"),
-      fleet_is fleet,
-      text_is decoder,
-    ) (simp append_assoc refl)
+    rw (append_assoc (text_of decoder) (flat_map text_of fleet) (codes "end\n"), fleet_is fleet)
+    (text_is decoder (head_text fleet) (rest_of fleet))
 
 -- the decoders from here on
 record ReadsDecoders (fleet : List (Who × RegisterMap)) (room : ℕ) (before : List Saved) : Type 0 where
@@ -70,7 +76,7 @@ pub fleets_read_back : FleetsAreReadBack
 unfolding decoder_text
 fleets_read_back fleet line rest few possible =
     let version = few_read version_line versions.Two (codes "dcc-decoders") (codes "2" ∷ [])
-    (keyword_token (codes "dcc-decoders") refl) (keyword_token (codes "2") refl, tt) (omega arith) refl in
+    (keyword_token (codes "dcc-decoders") refl, (keyword_token (codes "2") refl, tt)) (omega arith) refl in
     let all = decoders_read fleet 64 [] few possible in
     let reads : Reads decoder_text (fleet_text fleet) all.states = rw (fleet_is fleet)
     (Reads-then _ _ version (Reads-then _ _ (fleet_head fleet possible).first all.reads)) in

@@ -15,7 +15,6 @@ use Rattle.dcc_packet.proofs.FieldsBack.{both_back}
 use Rattle.dcc_packet.proofs.LineFieldsBack.{direction_is_back, bit_is_back, small_is_back}
 use Rattle.dcc_packet.proofs.Tokens.{hex_token, keyword_token}
 use Rattle.dcc_regs.specs.declared.register.Speed.{Speed}
-use Rattle.dcc_regs.specs.declared.register.Speed.TheVariants.{Stop, Emergency, Step14, Step28, Step126}
 use Rattle.dcc_regs.specs.Loco.{is_speed, is_pending_for}
 use Rattle.dcc_saved.specs.DecoderLines.{keyword, keyed, Four, four, speed_words, speed_field, speed_line, pending_line}
 use Rattle.dcc_saved.specs.DecoderLines.{positions_line, aspects_line}
@@ -30,7 +29,7 @@ pub fields_read : {A : Type 0} (name : Word) (field : FieldOf A) → keyword nam
     → field.Fits x → IsToken name → length (field.written x) ≤ 38
     → Reads (line_by (keyed name field)) (line_text name field x) x
 fields_read name field is back x fits token few =
-    few_read (keyed name field) x name (field.written x) token (back.tokens x fits) few
+    few_read (keyed name field) x name (field.written x) (token, back.tokens x fits) few
     (keyed_back name field is back x fits)
 
 pub speed_read : (speed : Speed) (forward : Bool) → is_speed speed ≡ true
@@ -55,7 +54,7 @@ pub pending_read : (active : Option Address) (pending : Option Packet) → is_pe
 pending_read active pending h =
     rw (← (append-nil (pending_text pending)))
     (few_read (pending_line active) pending (codes "pending") (pending_text pending ∷ [])
-    (keyword_token (codes "pending") refl) (pending_token active pending h, tt) (omega arith)
+    (keyword_token (codes "pending") refl, (pending_token active pending h, tt)) (omega arith)
     (pending_back active pending h))
 
 pub aspects_read : (numbers : ℕ → ℕ) → ((k : ℕ) → numbers k < 256)
