@@ -5,7 +5,6 @@ use Rattle.std.specs.Fmt.{decimal}
 use Rattle.std.proofs.lemmas.Bool.{and_parts, leb-true}
 use Rattle.std.proofs.lemmas.Fmt.{decimal_digit}
 use Rattle.dcc_packet.specs.declared.accessory.Board.{Board}
-use Rattle.dcc_packet.specs.Bits.{is_one}
 use Rattle.dcc_packet.specs.Written.{state_word}
 use Rattle.dcc_regs.specs.declared.board_state.BoardState.{BoardState}
 use Rattle.dcc_regs.specs.declared.register.Register.TheVariants as registers
@@ -14,11 +13,12 @@ use Rattle.dcc_regs.specs.declared.register.Value.TheVariants as values
 use Rattle.dcc_regs.specs.declared.register.Who.TheVariants as who
 use Rattle.dcc_regs.specs.Board.{board_registers}
 use Rattle.dcc_regs.specs.BoardState.{content as board_content}
-use Rattle.dcc_regs.specs.Loco.{holds_one}
 use Rattle.dcc_regs.specs.Possible.{IsPossible}
 use Rattle.dcc_regs.specs.Result.{RegisterMap}
+use Rattle.dcc_saved.specs.declared.decoder_line.Numbered.TheVariants as kinds
 use Rattle.dcc_saved.specs.FleetText.{number_held}
 use Rattle.dcc_saved.specs.ReadBack.{SameRegisters}
+use Rattle.dcc_saved.proofs.NumbersBack.{ReadsBits}
 use Rattle.dcc_saved.proofs.MapsBack.{flag_is, none_is}
 
 -- what a register may hold that is a number up to this one if it is there
@@ -60,10 +60,6 @@ sides_of m n = eqb (positions_of m n) 1
 abbrev pub aspects_of : RegisterMap → ℕ → ℕ
 aspects_of m n = number_held (m (registers.Aspect n))
 
-abbrev pub board_state : Board → RegisterMap → ℕ → BoardState
-board_state board m outs =
-    record { board = board; outs = outs; positions = four_of (sides_of m); aspects = four_of (aspects_of m) }
-
 -- a side as a number, and as a word
 side_is : (k : ℕ) → k ≤ 1 → ((if eqb k 1 then 1 else 0) ≡ k) × (decimal k ≡ state_word (eqb k 1))
 side_is zero h = (refl, decimal_digit 0 (omega arith))
@@ -81,18 +77,28 @@ module _ (board : Board) (m : RegisterMap) (possible : IsPossible (who.Board boa
   aspects_small n =
       omega (arith, number_small (nat_le n 3) 255 (m (registers.Aspect n)) (possible.registers (registers.Aspect n)))
 
-  pub same_board : (outs : ℕ) → ((j : ℕ) → j < 8 → is_one outs j ≡ holds_one (m (registers.Out j)))
-      → SameRegisters (board_registers (board_content (board_state board m outs))) m
-  same_board outs bits (registers.Out n) =
-      flag_is _ _ (possible.registers (registers.Out n)) (λ there. bits n (omega (arith, leb-true n 7 there)))
-  same_board outs bits (registers.Position n) =
-      number_is _ 1 _ (possible.registers (registers.Position n))
-      (λ there. rw (four_at (sides_of m) n false (leb-true n 3 there)) (side_at n).0)
-  same_board outs bits (registers.Aspect n) =
-      number_is _ 255 _ (possible.registers (registers.Aspect n)) (λ there. four_at (aspects_of m) n 0 (leb-true n 3 there))
-  same_board outs bits registers.Speed = none_is (possible.registers registers.Speed)
-  same_board outs bits registers.Direction = none_is (possible.registers registers.Direction)
-  same_board outs bits registers.Pending = none_is (possible.registers registers.Pending)
-  same_board outs bits (registers.Function n) = none_is (possible.registers (registers.Function n))
-  same_board outs bits (registers.State n) = none_is (possible.registers (registers.State n))
-  same_board outs bits (registers.CvBit cv place) = none_is (possible.registers (registers.CvBit cv place))
+  module _ (outs : ReadsBits kinds.Out m) where
+    abbrev pub board_state : BoardState
+    board_state = record {
+      board = board;
+      outs = outs.value;
+      positions = four_of (sides_of m);
+      aspects = four_of (aspects_of m);
+    }
+
+    pub same_board : SameRegisters (board_registers (board_content board_state)) m
+    same_board (registers.Out n) =
+        flag_is (nat_le n 7) _ (possible.registers (registers.Out n))
+        (λ there. outs.bits n (omega (arith, leb-true n 7 there)))
+    same_board (registers.Position n) =
+        number_is (nat_le n 3) 1 _ (possible.registers (registers.Position n))
+        (λ there. rw (four_at (sides_of m) n false (leb-true n 3 there)) (side_at n).0)
+    same_board (registers.Aspect n) =
+        number_is (nat_le n 3) 255 _ (possible.registers (registers.Aspect n))
+        (λ there. four_at (aspects_of m) n 0 (leb-true n 3 there))
+    same_board registers.Speed = none_is (possible.registers registers.Speed)
+    same_board registers.Direction = none_is (possible.registers registers.Direction)
+    same_board registers.Pending = none_is (possible.registers registers.Pending)
+    same_board (registers.Function n) = none_is (possible.registers (registers.Function n))
+    same_board (registers.State n) = none_is (possible.registers (registers.State n))
+    same_board (registers.CvBit cv place) = none_is (possible.registers (registers.CvBit cv place))

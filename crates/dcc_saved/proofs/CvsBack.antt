@@ -1,12 +1,13 @@
 -- The lines of CVs are read again, with the line behind them.
 use Rattle.std.proofs.Common.{zero, suc, ◌≡◌, ℕ, ◌+◌, ◌-◌, ◌<◌, ◌≤◌, Bool, true, false, eqb, List, [], ◌∷◌, ◌++◌}
-use Rattle.std.proofs.Common.{length, codes, replicate, slice_index, slice_set, if◌then◌else◌, inl, inr, refl, sym, ap}
+use Rattle.std.proofs.Common.{length, codes, replicate, slice_set, if◌then◌else◌, inl, inr, refl, sym, ap}
 use Rattle.std.proofs.Common.{◌∙◌, arith, append_assoc}
 use Rattle.std.specs.Fmt.{decimal}
 use Rattle.std.proofs.lemmas.Bool.{eqb-true, cases_lt}
 use Rattle.std.proofs.lemmas.Grind.{get_or-set_at}
 use Rattle.std.proofs.lemmas.List.{get_or-replicate, get_or-set_other, set-get_or, length-set, length-replicate}
 use Rattle.dcc_packet.specs.declared.cv.CvNumber.{CvNumber}
+use Rattle.dcc_packet.specs.Cvs.{cv_in}
 use Rattle.dcc_packet.proofs.Tokens.{decimal_token, keyword_token}
 use Rattle.dcc_saved.specs.declared.decoder_line.Head.{Head}
 use Rattle.dcc_saved.specs.declared.decoder_line.LocoLine.TheVariants as behind
@@ -29,31 +30,29 @@ module _ (cvs : ℕ → ℕ) where
   whole (suc n) = length-set (so_far n) (suc n - 1) (cvs (suc n)) ∙ whole n
 
   -- the CVs up to this one are given, and the others are 0
-  given : (n i : ℕ) → n ≤ 1024 → i < n → slice_index (so_far n) i ≡ cvs (suc i)
+  given : (n cv : ℕ) → n ≤ 1024 → 1 ≤ cv → cv ≤ n → cv_in (so_far n) cv ≡ cvs cv
   unfolding so_far
-  given zero i few within = absurd (omega (arith, within))
-  given (suc n) i few within = elim (cases_lt i n) [
-    | inl lt ↦ get_or-set_other (so_far n) (suc n - 1) i (cvs (suc n)) 0 (λ e. omega (arith, e, lt))
-        ∙ given n i (omega (arith, few)) lt
-    | inr ge ↦ let same : suc i ≡ suc n = omega (arith, within, ge) in
-        get_or-set_at (so_far n) (suc n - 1) i (cvs (suc n)) 0 (omega (arith, within, ge))
-        (omega (arith, whole n, few))
-        ∙ ap cvs (sym same)
+  given zero cv few some within = absurd (omega (arith, some, within))
+  given (suc n) cv few some within = elim (cases_lt n cv) [
+    | inl last ↦ let same : cv ≡ suc n = omega (arith, within, last) in
+        get_or-set_at (so_far n) (suc n - 1) (cv - 1) (cvs (suc n)) 0 (omega (arith, same))
+        (omega (arith, whole n, few)) ∙ ap cvs (sym same)
+    | inr ge ↦ get_or-set_other (so_far n) (suc n - 1) (cv - 1) (cvs (suc n)) 0 (λ e. omega (arith, e, some, ge))
+        ∙ given n cv (omega (arith, few)) some ge
   ]
 
-  none : (n i : ℕ) → n ≤ i → i < 1024 → slice_index (so_far n) i ≡ 0
+  none : (n cv : ℕ) → n < cv → cv ≤ 1024 → cv_in (so_far n) cv ≡ 0
   unfolding so_far
-  none zero i past few = get_or-replicate 1024 i 0 0 few
-  none (suc n) i past few =
-      get_or-set_other (so_far n) (suc n - 1) i (cvs (suc n)) 0 (λ e. omega (arith, e, past))
-      ∙ none n i (omega (arith, past)) few
+  none zero cv past few = get_or-replicate 1024 (cv - 1) 0 0 (omega (arith, past, few))
+  none (suc n) cv past few =
+      get_or-set_other (so_far n) (suc n - 1) (cv - 1) (cvs (suc n)) 0 (λ e. omega (arith, e, past))
+      ∙ none n cv (omega (arith, past)) few
 
   -- a CV that is 0 needs no line
   same_list : (n : ℕ) → n < 1024 → cvs (suc n) ≡ 0 → so_far (suc n) ≡ so_far n
   unfolding so_far
   same_list n few is =
-      let place : suc n - 1 ≡ n = omega arith in
-      rw (place, is, ← (none n n (omega arith) few)) (set-get_or (so_far n) n 0)
+      rw (is, ← (none n (suc n) (omega arith) few)) (set-get_or (so_far n) (suc n - 1) 0)
 
   module _ (small : (n : ℕ) → cvs n < 256) (read : List ℕ × Head) where
     -- what stands behind the lines up to this CV is read so
@@ -89,7 +88,7 @@ module _ (cvs : ℕ → ℕ) where
 pub record ReadsCvs (cvs : ℕ → ℕ) (bytes : List ℕ) (head : Head) : Type 0 where
   pub given : List ℕ
   pub reads : Reads cvs_lines (cvs_text cvs 1024 ++ bytes) (given, head)
-  pub each : (i : ℕ) → i < 1024 → slice_index given i ≡ cvs (suc i)
+  pub each : (cv : ℕ) → 1 ≤ cv → cv ≤ 1024 → cv_in given cv ≡ cvs cv
 
 pub cvs_read : (cvs : ℕ → ℕ) → ((n : ℕ) → cvs n < 256) → (bytes : List ℕ) (head : Head)
     → ((least : ℕ) → Reads (line_by (loco_line least)) bytes (behind.Head head)) → ReadsCvs cvs bytes head
@@ -97,7 +96,7 @@ unfolding cvs_lines
 cvs_read cvs small bytes head ends = record {
   given = so_far cvs 1024;
   reads = all_lines cvs small (so_far cvs 1024, head) 1024 bytes (omega arith) last;
-  each = λ i within. given cvs 1024 i (omega arith) within;
+  each = λ cv some within. given cvs 1024 cv (omega arith) some within;
 }
   where
     last : (most least : ℕ) → 1024 < most + 1024 → least ≤ suc 1024

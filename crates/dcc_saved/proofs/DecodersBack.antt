@@ -93,30 +93,26 @@ decoder_read (who.Loco address, m) line head possible is =
     let speed = speed_is address {v = m registers.Speed} (possible.registers registers.Speed) in
     let pending = pending_is address {v = m registers.Pending} (possible.registers registers.Pending) in
     let functions = numbers_read kinds.Function m (λ is. absurd cc) in
-    let states = numbers_read kinds.State m
-    (λ is. no_state_0 address (m (registers.State 0)) (possible.registers (registers.State 0))) in
+    let states = numbers_read kinds.State m (λ is. no_state_0 address m possible) in
     let cvs = cvs_read (cv_held m) (λ cv. byte_of-lt (λ place. holds_one (m (registers.CvBit cv place)))) line head
     is.behind_cvs in
     record {
-      state = saved.Loco (loco_state address m functions.value states.value cvs.given);
+      state = saved.Loco (loco_state address m possible functions states cvs);
       reads =
           Reads-then _ _ (speed_read (speed_held (m registers.Speed)) (forward_held (m registers.Direction)) speed.1)
           (Reads-then _ _ functions.reads (Reads-then _ _ states.reads
           (Reads-then _ _ (pending_read address (pending_held (m registers.Pending)) pending.1)
           (Reads-last _ _ cvs.reads (λ text. refl)))));
-      saves = (
-        refl,
-        same_loco address m possible functions.value functions.bits states.value states.bits cvs.given cvs.each,
-      );
+      saves = (refl, same_loco address m possible functions states cvs);
     }
 decoder_read (who.Board board, m) line head possible is =
     let outs = numbers_read kinds.Out m (λ is. absurd cc) in
     record {
-      state = saved.Board (board_state board m outs.value);
+      state = saved.Board (board_state board m possible outs);
       reads =
           Reads-then _ _ outs.reads
           (Reads-then _ _ (positions_read (positions_of m) (sides_of m) (λ n. (side_at board m possible n).1))
           (Reads-then _ _ (aspects_read (aspects_of m) (aspects_small board m possible))
           (Reads-last _ _ is.first (λ text. refl))));
-      saves = (refl, same_board board m possible outs.value outs.bits);
+      saves = (refl, same_board board m possible outs);
     }

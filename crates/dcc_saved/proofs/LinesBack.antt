@@ -1,9 +1,10 @@
 -- A line that was written is read again by its rule, wherever it stands.
-use Rattle.std.proofs.Common.{◌≡◌, ℕ, ◌+◌, ◌*◌, ◌≤◌, Bool, true, false, not, ◌&&◌, eqb, List, [], ◌∷◌, ◌++◌, length}
-use Rattle.std.proofs.Common.{codes, Some, Result, Ok, if◌then◌else◌, refl, ap, arith, length-append, append_assoc}
+use Rattle.std.proofs.Common.{◌≡◌, ℕ, ◌+◌, ◌*◌, ◌≤◌, true, false, not, ◌&&◌, eqb, List, [], ◌∷◌, ◌++◌, length}
+use Rattle.std.proofs.Common.{codes, Some, Result, Ok, refl, ap, arith, length-append, append_assoc}
 use Rattle.std.specs.Char.{is_ascii}
 use Rattle.std.specs.List.{list_all, AllByRecursion}
 use Rattle.std.proofs.lemmas.Bool.{and_parts, le-leb}
+use Rattle.std.proofs.lemmas.Bool.Decides.{nat_tests}
 use Rattle.dcc_packet.specs.declared.fault.PacketFault.{PacketFault}
 use Rattle.dcc_packet.specs.Fields.{is_plain, IsToken}
 use Rattle.dcc_packet.specs.Words.{Word, is_separator}
@@ -23,13 +24,7 @@ pub record Reads {A : Type 0} (read : Reader A) (bytes : List ℕ) (x : A) : Typ
 
 feeds-append : (xs ys : List ℕ) → line_feeds (xs ++ ys) ≡ line_feeds xs + line_feeds ys
 feeds-append [] ys = omega arith
-feeds-append (x ∷ xs) ys = go (eqb x 10) (feeds-append xs ys)
-  where
-    go : (b : Bool) → line_feeds (xs ++ ys) ≡ line_feeds xs + line_feeds ys
-        → (if b then 1 + line_feeds (xs ++ ys) else line_feeds (xs ++ ys))
-        ≡ (if b then 1 + line_feeds xs else line_feeds xs) + line_feeds ys
-    go true h = omega (arith, h)
-    go false h = h
+feeds-append (x ∷ xs) ys = grind (arith, nat_tests, feeds-append xs ys)
 
 -- a reader and the one behind it
 pub Reads-then : {A B : Type 0} (first : Reader A) (next : A → Reader B) {a b : List ℕ} {x : A} {y : B}

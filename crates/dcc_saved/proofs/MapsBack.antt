@@ -1,22 +1,27 @@
 -- A map that is possible is that of what its lines say.
-use Rattle.std.proofs.Common.{suc, ◌≡◌, ℕ, ◌-◌, ◌<◌, Bool, true, false, not, nat_le, List, slice_index}
+use Rattle.std.proofs.Common.{◌≡◌, ℕ, Bool, true, false, not, nat_le, List}
 use Rattle.std.proofs.Common.{Option, None, Some, if◌then◌else◌, refl, sym, ap, ◌∙◌, arith}
 use Rattle.std.proofs.lemmas.Bool.{and_parts, leb-true}
 use Rattle.dcc_packet.specs.declared.address.Address.{Address}
 use Rattle.dcc_packet.specs.Bits.{is_one}
+use Rattle.dcc_packet.specs.Cvs.{cv_in}
 use Rattle.dcc_packet.proofs.BitLemmas.{is_one-byte_of}
 use Rattle.dcc_regs.specs.declared.loco_state.LocoState.{LocoState}
 use Rattle.dcc_regs.specs.declared.register.Register.TheVariants as registers
 use Rattle.dcc_regs.specs.declared.register.Value.{Value}
 use Rattle.dcc_regs.specs.declared.register.Value.TheVariants as values
 use Rattle.dcc_regs.specs.declared.register.Who.TheVariants as who
-use Rattle.dcc_regs.specs.Loco.{is_cv_bit, is_speed, is_pending_for, holds_one, cv_held, loco_registers}
+use Rattle.dcc_regs.specs.Loco.{is_function, is_cv_bit, is_speed, is_pending_for, holds_one, cv_held, loco_registers}
 use Rattle.dcc_regs.specs.States.{is_binary_state}
 use Rattle.dcc_regs.specs.LocoState.{content as loco_content}
 use Rattle.dcc_regs.specs.Possible.{may_hold, IsPossible}
 use Rattle.dcc_regs.specs.Result.{RegisterMap}
+use Rattle.dcc_saved.specs.declared.decoder_line.Head.{Head}
+use Rattle.dcc_saved.specs.declared.decoder_line.Numbered.TheVariants as kinds
 use Rattle.dcc_saved.specs.FleetText.{speed_held, forward_held, pending_held}
 use Rattle.dcc_saved.specs.ReadBack.{SameRegisters}
+use Rattle.dcc_saved.proofs.CvsBack.{ReadsCvs}
+use Rattle.dcc_saved.proofs.NumbersBack.{ReadsBits}
 use Rattle.dcc_saved.proofs.PendingBack.{all_three}
 
 -- what a register may hold that is a flag if it is there, and one that never is
@@ -58,49 +63,43 @@ pending_is active {v = Some (values.Pending s)} h = (refl, h)
 pending_is active h = cc
 
 -- there is no state 0
-pub no_state_0 : (active : Option Address) (v : Option Value) → may_hold (who.Loco active) (registers.State 0) v ≡ true
-    → holds_one v ≡ false
-no_state_0 active v h = ap holds_one (sym (flag_is false false h (λ there. cc)))
+pub no_state_0 : (address : Option Address) (m : RegisterMap) → IsPossible (who.Loco address) m
+    → holds_one (m (registers.State 0)) ≡ false
+no_state_0 address m possible =
+    ap holds_one (sym (flag_is false false (possible.registers (registers.State 0)) (λ there. cc)))
 
--- what a locomotive decoder's lines save
-abbrev pub loco_state : Option Address → RegisterMap → ℕ → ℕ → List ℕ → LocoState
-loco_state address m functions states cvs =
-    record {
-      address = address;
-      speed = speed_held (m registers.Speed);
-      forward = forward_held (m registers.Direction);
-      functions = functions;
-      states = states;
-      pending = pending_held (m registers.Pending);
-      cvs = cvs;
-    }
-
-module _ (address : Option Address) (m : RegisterMap) (possible : IsPossible (who.Loco address) m) (functions : ℕ)
-    (bits : (j : ℕ) → j < 69 → is_one functions j ≡ holds_one (m (registers.Function j)))
-    (states : ℕ) (states_bits : (j : ℕ) → j < 128 → is_one states j ≡ holds_one (m (registers.State j)))
-    (cvs : List ℕ) (each : (i : ℕ) → i < 1024 → slice_index cvs i ≡ cv_held m (suc i)) where
-  same_state : (n : ℕ) → is_binary_state n ≡ true → is_one states n ≡ holds_one (m (registers.State n))
-  same_state n there =
-      let most = leb-true n 127 (and_parts (nat_le 1 n) (nat_le n 127) there).1 in
-      states_bits n (omega (arith, most))
+module _ (address : Option Address) (m : RegisterMap) (possible : IsPossible (who.Loco address) m)
+    (functions : ReadsBits kinds.Function m) (states : ReadsBits kinds.State m) {line : List ℕ} {head : Head}
+    (cvs : ReadsCvs (cv_held m) line head) where
+  -- what a locomotive decoder's lines save
+  abbrev pub loco_state : LocoState
+  loco_state = record {
+    address = address;
+    speed = speed_held (m registers.Speed);
+    forward = forward_held (m registers.Direction);
+    functions = functions.value;
+    states = states.value;
+    pending = pending_held (m registers.Pending);
+    cvs = cvs.given;
+  }
 
   same_cv_bit : (cv place : ℕ) → is_cv_bit cv place ≡ true
-      → is_one (slice_index cvs (cv - 1)) place ≡ holds_one (m (registers.CvBit cv place))
+      → is_one (cv_in cvs.given cv) place ≡ holds_one (m (registers.CvBit cv place))
   same_cv_bit cv place there =
       let parts = all_three (nat_le 1 cv) (nat_le cv 1024) (nat_le place 7) there in
-      let low = leb-true 1 cv parts.0 in
-      let high = leb-true cv 1024 parts.1 in
-      let next : suc (cv - 1) ≡ cv = omega (arith, low) in
-      ap (λ n. is_one n place) (each (cv - 1) (omega (arith, low, high)) ∙ ap (cv_held m) next)
+      ap (λ n. is_one n place) (cvs.each cv (leb-true 1 cv parts.0) (leb-true cv 1024 parts.1))
       ∙ is_one-byte_of (λ k. holds_one (m (registers.CvBit cv k))) place (leb-true place 7 parts.2)
 
-  pub same_loco : SameRegisters (loco_registers (loco_content (loco_state address m functions states cvs))) m
+  pub same_loco : SameRegisters (loco_registers (loco_content loco_state)) m
   same_loco registers.Speed = (speed_is address (possible.registers registers.Speed)).0
   same_loco registers.Direction = direction_is address (possible.registers registers.Direction)
   same_loco registers.Pending = (pending_is address (possible.registers registers.Pending)).0
   same_loco (registers.Function n) =
-      flag_is _ _ (possible.registers (registers.Function n)) (λ there. bits n (omega (arith, leb-true n 68 there)))
-  same_loco (registers.State n) = flag_is _ _ (possible.registers (registers.State n)) (same_state n)
+      flag_is (is_function n) _ (possible.registers (registers.Function n))
+      (λ there. functions.bits n (omega (arith, leb-true n 68 there)))
+  same_loco (registers.State n) =
+      flag_is (is_binary_state n) _ (possible.registers (registers.State n))
+      (λ there. states.bits n (omega (arith, leb-true n 127 (and_parts (nat_le 1 n) (nat_le n 127) there).1)))
   same_loco (registers.CvBit cv place) =
       flag_is _ _ (possible.registers (registers.CvBit cv place)) (same_cv_bit cv place)
   same_loco (registers.Out n) = none_is (possible.registers (registers.Out n))
