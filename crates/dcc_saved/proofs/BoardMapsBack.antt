@@ -2,7 +2,7 @@
 use Rattle.std.proofs.Common.{zero, suc, ◌≡◌, ℕ, ◌≤◌, ◌<◌, Bool, true, false, not, ◌&&◌, eqb, nat_le, List, [], ◌∷◌}
 use Rattle.std.proofs.Common.{get_or, Option, None, Some, if◌then◌else◌, refl, ap, arith}
 use Rattle.std.specs.Fmt.{decimal}
-use Rattle.std.proofs.lemmas.Bool.{and_parts, leb-true}
+use Rattle.std.proofs.lemmas.Bool.{leb-true}
 use Rattle.std.proofs.lemmas.Fmt.{decimal_digit}
 use Rattle.dcc_packet.specs.declared.accessory.Board.{Board}
 use Rattle.dcc_packet.specs.Written.{state_word}
@@ -27,28 +27,25 @@ may_be_number there most None = not there
 may_be_number there most (Some (values.Number k)) = there && nat_le k most
 may_be_number there most (Some other) = false
 
-number_is : (there : Bool) (most k : ℕ) {v : Option Value} → may_be_number there most v ≡ true
-    → (there ≡ true → k ≡ number_held v) → (if there then Some (values.Number k) else None) ≡ v
-number_is true most k {v = Some (values.Number n)} h same = ap (λ j. Some (values.Number j)) (same refl)
-number_is false most k {v = None} h same = refl
-number_is false most k {v = Some (values.Number n)} h same = cc
-number_is there most k h same = cc
-
-number_small : (there : Bool) (most : ℕ) (v : Option Value) → may_be_number there most v ≡ true → number_held v ≤ most
-number_small there most None h = omega arith
-number_small there most (Some (values.Number k)) h = leb-true k most (and_parts there (nat_le k most) h).1
-number_small there most v h = cc
+number_is : (there : Bool) (most : ℕ) {v : Option Value} → may_be_number there most v ≡ true
+    → (number_held v ≤ most)
+    × ((k : ℕ) → (there ≡ true → k ≡ number_held v) → (if there then Some (values.Number k) else None) ≡ v)
+number_is true most {v = Some (values.Number n)} h =
+    (leb-true n most h, λ k same. ap (λ j. Some (values.Number j)) (same refl))
+number_is false most {v = None} h = (omega arith, λ k same. refl)
+number_is false most {v = Some (values.Number n)} h = cc
+number_is there most h = cc
 
 -- the first four of a row
 abbrev pub four_of : {A : Type 0} → (ℕ → A) → List A
 four_of f = f 0 ∷ f 1 ∷ f 2 ∷ f 3 ∷ []
 
-four_at : {A : Type 0} (f : ℕ → A) (n : ℕ) (d : A) → n ≤ 3 → get_or (four_of f) n d ≡ f n
+four_at : {A : Type 0} (f : ℕ → A) (n : ℕ) (d : A) → nat_le n 3 ≡ true → get_or (four_of f) n d ≡ f n
 four_at f zero d h = refl
 four_at f (suc zero) d h = refl
 four_at f (suc (suc zero)) d h = refl
 four_at f (suc (suc (suc zero))) d h = refl
-four_at f (suc (suc (suc (suc n)))) d h = absurd (omega (arith, h))
+four_at f (suc (suc (suc (suc n)))) d h = absurd (omega (arith, leb-true (suc (suc (suc (suc n)))) 3 h))
 
 -- the sides and aspects that the lines say
 abbrev pub positions_of : RegisterMap → ℕ → ℕ
@@ -71,11 +68,12 @@ module _ (board : Board) (m : RegisterMap) (possible : IsPossible (who.Board boa
       → ((if sides_of m n then 1 else 0) ≡ positions_of m n) × (decimal (positions_of m n) ≡ state_word (sides_of m n))
   side_at n =
       side_is (positions_of m n)
-      (number_small (nat_le n 3) 1 (m (registers.Position n)) (possible.registers (registers.Position n)))
+      (number_is (nat_le n 3) 1 {v = m (registers.Position n)} (possible.registers (registers.Position n))).0
 
   pub aspects_small : (n : ℕ) → aspects_of m n < 256
   aspects_small n =
-      omega (arith, number_small (nat_le n 3) 255 (m (registers.Aspect n)) (possible.registers (registers.Aspect n)))
+      let small = (number_is (nat_le n 3) 255 {v = m (registers.Aspect n)} (possible.registers (registers.Aspect n))).0 in
+      omega (arith, small)
 
   module _ (outs : ReadsBits kinds.Out m) where
     abbrev pub board_state : BoardState
@@ -91,11 +89,10 @@ module _ (board : Board) (m : RegisterMap) (possible : IsPossible (who.Board boa
         flag_is (nat_le n 7) _ (possible.registers (registers.Out n))
         (λ there. outs.bits n (omega (arith, leb-true n 7 there)))
     same_board (registers.Position n) =
-        number_is (nat_le n 3) 1 _ (possible.registers (registers.Position n))
-        (λ there. rw (four_at (sides_of m) n false (leb-true n 3 there)) (side_at n).0)
+        (number_is (nat_le n 3) 1 (possible.registers (registers.Position n))).1 _
+        (λ there. rw (four_at (sides_of m) n false there) (side_at n).0)
     same_board (registers.Aspect n) =
-        number_is (nat_le n 3) 255 _ (possible.registers (registers.Aspect n))
-        (λ there. four_at (aspects_of m) n 0 (leb-true n 3 there))
+        (number_is (nat_le n 3) 255 (possible.registers (registers.Aspect n))).1 _ (four_at (aspects_of m) n 0)
     same_board registers.Speed = none_is (possible.registers registers.Speed)
     same_board registers.Direction = none_is (possible.registers registers.Direction)
     same_board registers.Pending = none_is (possible.registers registers.Pending)

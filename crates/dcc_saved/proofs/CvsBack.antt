@@ -58,7 +58,7 @@ module _ (cvs : ℕ → ℕ) where
     -- what stands behind the lines up to this CV is read so
     abbrev Behind : ℕ → List ℕ → Type 0
     Behind n text =
-        (most least : ℕ) → 1024 < most + n → least ≤ suc n → Reads (cvs_from most least (so_far n)) text read
+        (most least : ℕ) → 1024 ≤ most + n → least ≤ suc n → Reads (cvs_from (suc most) least (so_far n)) text read
 
     one_line : (n : ℕ) (text : List ℕ) → n < 1024 → Behind (suc n) text → (b : Bool) → eqb (cvs (suc n)) 0 ≡ b
         → Behind n ((if b then [] else cv_line (suc n) (cvs (suc n))) ++ text)
@@ -78,11 +78,10 @@ module _ (cvs : ℕ → ℕ) where
     all_lines : (n : ℕ) (text : List ℕ) → n ≤ 1024 → Behind n text
         → Reads (cvs_from 1025 1 (replicate 1024 0)) (cvs_text cvs n ++ text) read
     unfolding cvs_text so_far
-    all_lines zero text few after = after 1025 1 (omega arith) (omega arith)
+    all_lines zero text few after = after 1024 1 (omega arith) (omega arith)
     all_lines (suc n) text few after =
-        rw (append_assoc (cvs_text cvs n) (if eqb (cvs (suc n)) 0 then [] else cv_line (suc n) (cvs (suc n))) text)
-        (all_lines n ((if eqb (cvs (suc n)) 0 then [] else cv_line (suc n) (cvs (suc n))) ++ text) (omega (arith, few))
-        (one_line n text few after (eqb (cvs (suc n)) 0) refl))
+        rw append_assoc
+        (all_lines n _ (omega (arith, few)) (one_line n text few after (eqb (cvs (suc n)) 0) refl))
 
 -- all CVs, and the line behind them
 pub record ReadsCvs (cvs : ℕ → ℕ) (bytes : List ℕ) (head : Head) : Type 0 where
@@ -95,12 +94,7 @@ pub cvs_read : (cvs : ℕ → ℕ) → ((n : ℕ) → cvs n < 256) → (bytes : 
 unfolding cvs_lines
 cvs_read cvs small bytes head ends = record {
   given = so_far cvs 1024;
-  reads = all_lines cvs small (so_far cvs 1024, head) 1024 bytes (omega arith) last;
+  reads = all_lines cvs small (so_far cvs 1024, head) 1024 bytes (omega arith)
+      (λ most least room ascends. Reads-last _ _ (ends least) (λ text. refl));
   each = λ cv some within. given cvs 1024 cv (omega arith) some within;
 }
-  where
-    last : (most least : ℕ) → 1024 < most + 1024 → least ≤ suc 1024
-        → Reads (cvs_from most least (so_far cvs 1024)) bytes (so_far cvs 1024, head)
-    last zero least room ascends = absurd (omega (arith, room))
-    last (suc most) least room ascends =
-        Reads-last _ _ (ends least) (λ text. refl)

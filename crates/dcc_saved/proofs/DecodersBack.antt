@@ -1,5 +1,6 @@
 -- Decoders are read again, each behind its first line and up to the first line of the next.
 use Rattle.std.proofs.Common.{◌≡◌, ℕ, ◌≤◌, false, List, [], ◌∷◌, ◌++◌, length, codes, Ok, refl, arith}
+use Rattle.std.proofs.Common.{append_assoc}
 use Rattle.std.specs.Fmt.{decimal}
 use Rattle.std.specs.List.{AllByRecursion}
 use Rattle.dcc_packet.specs.Fields.{IsToken}
@@ -22,7 +23,7 @@ use Rattle.dcc_saved.specs.DecoderLines.{head_after, head_line, loco_line, own_a
 use Rattle.dcc_saved.specs.DecoderText.{decoder_lines, loco_lines, board_lines}
 use Rattle.dcc_saved.specs.FleetText.{cvs_text, line_of, speed_held, forward_held, pending_held, loco_address_line}
 use Rattle.dcc_saved.specs.FleetText.{board_line, written_speed, written_numbers, written_pending, written_positions}
-use Rattle.dcc_saved.specs.FleetText.{written_aspects}
+use Rattle.dcc_saved.specs.FleetText.{written_aspects, text_of}
 use Rattle.dcc_saved.specs.ReadBack.{Saves, IsPossibleDecoder}
 use Rattle.dcc_saved.specs.TextReader.{line_by}
 use Rattle.dcc_saved.proofs.BoardMapsBack.{sides_of, positions_of, aspects_of, board_state, side_at, aspects_small}
@@ -79,6 +80,22 @@ lines_to (who.Loco address, m) line =
     written_speed m
     ++ (written_numbers kinds.Function m ++ (written_numbers kinds.State m ++ (written_pending m ++ (cvs_text (cv_held m) 1024 ++ line))))
 lines_to (who.Board board, m) line = written_numbers kinds.Out m ++ (written_positions m ++ (written_aspects m ++ line))
+
+-- a decoder's text, the first line behind it and what follows that
+pub text_is : (decoder : Who × RegisterMap) (line rest : List ℕ)
+    → text_of decoder ++ (line ++ rest) ≡ first_line_of decoder ++ (lines_to decoder line ++ rest)
+text_is (who.Loco address, m) line rest =
+    regroup (loco_address_line address) (written_speed m) (written_numbers kinds.Function m)
+    (written_numbers kinds.State m) (written_pending m) (cvs_text (cv_held m) 1024)
+  where
+    regroup : (h s f b p c : List ℕ) → ((h ++ (s ++ (f ++ (b ++ p)))) ++ c) ++ (line ++ rest)
+        ≡ h ++ ((s ++ (f ++ (b ++ (p ++ (c ++ line))))) ++ rest)
+    regroup h s f b p c = simp append_assoc refl
+text_is (who.Board board, m) line rest =
+    regroup (board_line board) (written_numbers kinds.Out m) (written_positions m) (written_aspects m)
+  where
+    regroup : (h o p a : List ℕ) → (h ++ (o ++ (p ++ a))) ++ (line ++ rest) ≡ h ++ ((o ++ (p ++ (a ++ line))) ++ rest)
+    regroup h o p a = simp append_assoc refl
 
 -- a decoder that its lines save, and the first line behind them
 pub record ReadsDecoder (decoder : Who × RegisterMap) (line : List ℕ) (head : Head) : Type 0 where

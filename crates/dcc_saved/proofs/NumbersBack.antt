@@ -27,25 +27,6 @@ use Rattle.dcc_saved.specs.FleetText.{numbers_below, written_numbers}
 use Rattle.dcc_saved.specs.TextReader.{line_by}
 use Rattle.dcc_saved.proofs.LinesBack.{Reads, line_reads}
 
--- there is no state 0
-abbrev pub IsSoundRow : Numbered → (ℕ → Bool) → Type 0
-IsSoundRow kind on = kind ≡ kinds.State → on 0 ≡ false
-
--- a number that is on is read
-number_back : (kind : Numbered) (on : ℕ → Bool) → IsSoundRow kind on → (n : ℕ) → n < end_of kind → on n ≡ true
-    → number_of kind (decimal n) ≡ Ok n
-number_back kinds.Function on sound n within is =
-    rw (small_number-decimal n (omega (arith, within)), le-ltb 68 n (omega (arith, within))) refl
-number_back kinds.State on sound zero within is = let none = sound refl in cc
-number_back kinds.State on sound (suc n) within is =
-    rw (
-      small_number-decimal (suc n) (omega (arith, within)),
-      le-ltb (suc n) 1 (omega arith),
-      le-ltb 127 (suc n) (omega (arith, within)),
-    ) refl
-number_back kinds.Out on sound n within is =
-    rw (output_back (record { number = n; in_range = omega (arith, within) })) refl
-
 -- the keyword of a kind, and how many numbers there can be
 kind_is : (kind : Numbered)
     → IsToken (name_of kind) × (keyword (name_of kind) (name_of kind) ≡ Ok tt) × (end_of kind ≤ 128)
@@ -69,76 +50,89 @@ digits n few = elim (cases_lt n 100) [
   | inr ge ↦ omega (arith, ge, length-decimal-le 3 n (omega arith) (omega (arith, few)) (omega (arith, few)))
 ]
 
--- the numbers of a kind from this one on: the words of those that are on, and the bits that they are read as
-record Row (kind : Numbered) (on : ℕ → Bool) (n : ℕ) : Type 0 where
-  words : List Word
-  value : ℕ
-  written : numbers_below on (end_of kind) ≡ numbers_below on n ++ spaced_words words
-  tokens : AllByRecursion IsToken words
-  short : length (spaced_words words) + 3 * n + (n - 100) ≤ 412
-  reads : (least : ℕ) → least ≤ n → numbers_from kind least words ≡ Ok (2 ^ n * value)
-  bits : (i j : ℕ) → i ≡ n + j → i < end_of kind → is_one value j ≡ on i
-
-row_end : (kind : Numbered) (on : ℕ → Bool) → Row kind on (end_of kind)
-row_end kind on = record {
-  words = [];
-  value = 0;
-  written = sym (append-nil (numbers_below on (end_of kind)));
-  tokens = tt;
-  short = omega (arith, (kind_is kind).2);
-  reads = λ least h. ap Ok (omega arith);
-  bits = λ i j is within. absurd (omega (arith, is, within));
-}
-
--- a number more
-row_before : (kind : Numbered) (on : ℕ → Bool) → IsSoundRow kind on → (n : ℕ) → n < end_of kind → Row kind on (suc n)
-    → Row kind on n
-unfolding numbers_below
-row_before kind on sound n within row = go (on n) refl
-  where
-    few : n < 128
-    few = omega (arith, within, (kind_is kind).2)
-
-    bits : (b : Bool) → on n ≡ b → (i j : ℕ) → i ≡ n + j → i < end_of kind
-        → is_one ((if b then 1 else 0) + 2 * row.value) j ≡ on i
-    bits b is i zero at_i few = let same : i ≡ n = omega (arith, at_i) in rw same (lowest b row.value ∙ sym is)
-    bits b is i (suc j) at_i few = above b row.value j ∙ row.bits i j (omega (arith, at_i)) few
-
-    go : (b : Bool) → on n ≡ b → Row kind on n
-    go true is = record {
-      words = decimal n ∷ row.words;
-      value = 1 + 2 * row.value;
-      written = row.written ∙ rw is (append_assoc (numbers_below on n) (behind_space n) (spaced_words row.words));
-      tokens = (decimal_token n (omega (arith, few)), row.tokens);
-      short = omega (arith, row.short, digits n few, length-append (decimal n) (spaced_words row.words));
-      reads = λ least h.
-          rw (
-            number_back kind on sound n within is,
-            le-ltb n least h,
-            row.reads (n + 1) (omega arith),
-            pow-succ' 2 n,
-          ) (ap Ok (omega arith));
-      bits = bits true is;
-    }
-    go false is = record {
-      words = row.words;
-      value = 0 + 2 * row.value;
-      written = row.written ∙ rw is (append_assoc (numbers_below on n) [] (spaced_words row.words));
-      tokens = row.tokens;
-      short = omega (arith, row.short);
-      reads = λ least h. rw (row.reads least (omega (arith, h)), pow-succ' 2 n) (ap Ok (omega arith));
-      bits = bits false is;
-    }
-
-rows : (kind : Numbered) (on : ℕ → Bool) → IsSoundRow kind on → (n : ℕ) → n ≤ end_of kind → Row kind on n
-    → Row kind on 0
-rows kind on sound zero few row = row
-rows kind on sound (suc n) few row =
-    rows kind on sound n (omega (arith, few)) (row_before kind on sound n few row)
-
 -- the registers of a kind that are on
 abbrev pub on_of : Numbered → RegisterMap → ℕ → Bool
 on_of kind m n = holds_one (m (register_of kind n))
+
+-- there is no state 0
+abbrev pub NoState0 : Numbered → (ℕ → Bool) → Type 0
+NoState0 kind on = kind ≡ kinds.State → on 0 ≡ false
+
+-- a number that is on is read
+number_back : (kind : Numbered) (on : ℕ → Bool) → NoState0 kind on → (n : ℕ) → n < end_of kind → on n ≡ true
+    → number_of kind (decimal n) ≡ Ok n
+number_back kinds.Function on sound n within is =
+    rw (small_number-decimal n (omega (arith, within)), le-ltb 68 n (omega (arith, within))) refl
+number_back kinds.State on sound zero within is = let none = sound refl in cc
+number_back kinds.State on sound (suc n) within is =
+    rw (
+      small_number-decimal (suc n) (omega (arith, within)),
+      le-ltb (suc n) 1 (omega arith),
+      le-ltb 127 (suc n) (omega (arith, within)),
+    ) refl
+number_back kinds.Out on sound n within is =
+    rw (output_back (record { number = n; in_range = omega (arith, within) })) refl
+
+module _ (kind : Numbered) (on : ℕ → Bool) (sound : NoState0 kind on) where
+  -- the numbers from this one on: the words of those that are on, and the bits that they are read as
+  record Row (n : ℕ) : Type 0 where
+    words : List Word
+    value : ℕ
+    written : numbers_below on (end_of kind) ≡ numbers_below on n ++ spaced_words words
+    tokens : AllByRecursion IsToken words
+    short : length (spaced_words words) + 3 * n + (n - 100) ≤ 412
+    reads : (least : ℕ) → least ≤ n → numbers_from kind least words ≡ Ok (2 ^ n * value)
+    bits : (i j : ℕ) → i ≡ n + j → i < end_of kind → is_one value j ≡ on i
+
+  row_end : Row (end_of kind)
+  row_end = record {
+    words = [];
+    value = 0;
+    written = sym (append-nil (numbers_below on (end_of kind)));
+    tokens = tt;
+    short = omega (arith, (kind_is kind).2);
+    reads = λ least h. ap Ok (omega arith);
+    bits = λ i j is within. absurd (omega (arith, is, within));
+  }
+
+  -- a number more
+  row_before : (n : ℕ) → n < end_of kind → Row (suc n) → Row n
+  unfolding numbers_below
+  row_before n within row = go (on n) refl
+    where
+      few : n < 128
+      few = omega (arith, within, (kind_is kind).2)
+
+      bits : (b : Bool) → on n ≡ b → (i j : ℕ) → i ≡ n + j → i < end_of kind
+          → is_one ((if b then 1 else 0) + 2 * row.value) j ≡ on i
+      bits b is i zero at_i few = let same : i ≡ n = omega (arith, at_i) in rw same (lowest b row.value ∙ sym is)
+      bits b is i (suc j) at_i few = above b row.value j ∙ row.bits i j (omega (arith, at_i)) few
+
+      go : (b : Bool) → on n ≡ b → Row n
+      go true is = record {
+        words = decimal n ∷ row.words;
+        value = 1 + 2 * row.value;
+        written = row.written ∙ rw is (append_assoc (numbers_below on n) (behind_space n) (spaced_words row.words));
+        tokens = (decimal_token n (omega (arith, few)), row.tokens);
+        short = omega (arith, row.short, digits n few, length-append (decimal n) (spaced_words row.words));
+        reads = λ least h.
+            rw (number_back kind on sound n within is, le-ltb n least h, row.reads (n + 1) (omega arith), pow-succ' 2 n)
+            (ap Ok (omega arith));
+        bits = bits true is;
+      }
+      go false is = record {
+        words = row.words;
+        value = 0 + 2 * row.value;
+        written = row.written ∙ rw is (append_assoc (numbers_below on n) [] (spaced_words row.words));
+        tokens = row.tokens;
+        short = omega (arith, row.short);
+        reads = λ least h. rw (row.reads least (omega (arith, h)), pow-succ' 2 n) (ap Ok (omega arith));
+        bits = bits false is;
+      }
+
+  rows : (n : ℕ) → n ≤ end_of kind → Row n → Row 0
+  rows zero few row = row
+  rows (suc n) few row = rows n (omega (arith, few)) (row_before n few row)
 
 -- the line that tells which are on
 pub record ReadsBits (kind : Numbered) (m : RegisterMap) : Type 0 where
@@ -146,11 +140,11 @@ pub record ReadsBits (kind : Numbered) (m : RegisterMap) : Type 0 where
   pub reads : Reads (line_by (numbers_line kind)) (written_numbers kind m) value
   pub bits : (j : ℕ) → j < end_of kind → is_one value j ≡ on_of kind m j
 
-pub numbers_read : (kind : Numbered) (m : RegisterMap) → IsSoundRow kind (on_of kind m) → ReadsBits kind m
+pub numbers_read : (kind : Numbered) (m : RegisterMap) → NoState0 kind (on_of kind m) → ReadsBits kind m
 unfolding numbers_below numbers_line
 numbers_read kind m sound =
     let (token, named, few) = kind_is kind in
-    let row = rows kind (on_of kind m) sound (end_of kind) (omega arith) (row_end kind (on_of kind m)) in
+    let row = rows kind (on_of kind m) sound (end_of kind) (omega arith) (row_end kind (on_of kind m) sound) in
     record {
       value = row.value;
       reads = rw row.written (line_reads (numbers_line kind) row.value (name_of kind) row.words (token, row.tokens)

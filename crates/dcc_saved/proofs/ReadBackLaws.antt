@@ -5,41 +5,21 @@ use Rattle.std.specs.List.{flat_map, AllByRecursion}
 use Rattle.std.proofs.lemmas.List.{append-nil}
 use Rattle.dcc_packet.proofs.Tokens.{keyword_token}
 use Rattle.dcc_regs.specs.declared.register.Who.{Who}
-use Rattle.dcc_regs.specs.declared.register.Who.TheVariants as who
-use Rattle.dcc_regs.specs.Loco.{cv_held}
 use Rattle.dcc_regs.specs.Result.{RegisterMap}
 use Rattle.dcc_saved.specs.declared.saved.Saved.{Saved}
 use Rattle.dcc_saved.specs.declared.decoder_line.Version.TheVariants as versions
 use Rattle.dcc_saved.specs.DecoderLines.{version_line}
 use Rattle.dcc_saved.specs.DecoderText.{decoders_from, decoder_text}
-use Rattle.dcc_saved.specs.declared.decoder_line.Numbered.TheVariants as kinds
-use Rattle.dcc_saved.specs.FleetText.{cvs_text, text_of, fleet_text, loco_address_line, written_speed, written_numbers}
-use Rattle.dcc_saved.specs.FleetText.{written_pending, board_line, written_positions, written_aspects}
+use Rattle.dcc_saved.specs.FleetText.{text_of, fleet_text}
 use Rattle.dcc_saved.specs.ReadBack.{line_feeds, SavesEach, IsPossibleDecoder, FleetsAreReadBack}
 use Rattle.dcc_saved.specs.TextReader.{done}
-use Rattle.dcc_saved.proofs.DecodersBack.{head_of, head_text, first_line_of, lines_to, fleet_head, decoder_read}
+use Rattle.dcc_saved.proofs.DecodersBack.{head_of, head_text, lines_to, text_is, fleet_head, decoder_read}
 use Rattle.dcc_saved.proofs.LinesBack.{at, Reads, Reads-then, few_read}
 
 -- the lines of a fleet behind the first line of its first decoder
 abbrev rest_of : List (Who × RegisterMap) → List ℕ
 rest_of [] = []
 rest_of (decoder ∷ fleet) = lines_to decoder (head_text fleet) ++ rest_of fleet
-
--- a decoder's text, the first line behind it and what follows that
-text_is : (decoder : Who × RegisterMap) (line rest : List ℕ)
-    → text_of decoder ++ (line ++ rest) ≡ first_line_of decoder ++ (lines_to decoder line ++ rest)
-text_is (who.Loco address, m) line rest =
-    regroup (loco_address_line address) (written_speed m) (written_numbers kinds.Function m)
-    (written_numbers kinds.State m) (written_pending m) (cvs_text (cv_held m) 1024)
-  where
-    regroup : (h s f b p c : List ℕ) → ((h ++ (s ++ (f ++ (b ++ p)))) ++ c) ++ (line ++ rest)
-        ≡ h ++ ((s ++ (f ++ (b ++ (p ++ (c ++ line))))) ++ rest)
-    regroup h s f b p c = simp append_assoc refl
-text_is (who.Board board, m) line rest =
-    regroup (board_line board) (written_numbers kinds.Out m) (written_positions m) (written_aspects m)
-  where
-    regroup : (h o p a : List ℕ) → (h ++ (o ++ (p ++ a))) ++ (line ++ rest) ≡ h ++ ((o ++ (p ++ (a ++ line))) ++ rest)
-    regroup h o p a = simp append_assoc refl
 
 fleet_is : (fleet : List (Who × RegisterMap))
     → flat_map text_of fleet ++ codes "end\n" ≡ head_text fleet ++ rest_of fleet
