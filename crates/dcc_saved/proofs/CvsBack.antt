@@ -80,7 +80,7 @@ module _ (cvs : ℕ → ℕ) where
     unfolding cvs_text so_far
     all_lines zero text few after = after 1024 1 (omega arith) (omega arith)
     all_lines (suc n) text few after =
-        rw append_assoc
+        rw (append_assoc (cvs_text cvs n))
         (all_lines n _ (omega (arith, few)) (one_line n text few after (eqb (cvs (suc n)) 0) refl))
 
 -- all CVs, and the line behind them

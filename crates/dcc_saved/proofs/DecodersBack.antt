@@ -26,8 +26,7 @@ use Rattle.dcc_saved.specs.FleetText.{board_line, written_speed, written_numbers
 use Rattle.dcc_saved.specs.FleetText.{written_aspects, text_of}
 use Rattle.dcc_saved.specs.ReadBack.{Saves, IsPossibleDecoder}
 use Rattle.dcc_saved.specs.TextReader.{line_by}
-use Rattle.dcc_saved.proofs.BoardMapsBack.{sides_of, positions_of, aspects_of, board_state, side_at, aspects_small}
-use Rattle.dcc_saved.proofs.BoardMapsBack.{same_board}
+use Rattle.dcc_saved.proofs.MapsBack.{sides_of, positions_of, aspects_of, board_state, side_at, aspects_small, same_board}
 use Rattle.dcc_saved.proofs.CvsBack.{cvs_read}
 use Rattle.dcc_saved.proofs.LinesBack.{Reads, Reads-then, Reads-last, few_read}
 use Rattle.dcc_saved.proofs.MapsBack.{speed_is, pending_is, no_state_0, loco_state, same_loco}

@@ -11,6 +11,5 @@ pub mod PendingBack
 pub mod CvsBack
 pub mod RowsBack
 pub mod MapsBack
-pub mod BoardMapsBack
 pub mod DecodersBack
 pub mod ReadBackLaws
