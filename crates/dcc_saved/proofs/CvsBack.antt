@@ -3,12 +3,13 @@ use Rattle.std.proofs.Common.{zero, suc, ◌≡◌, ℕ, ◌+◌, ◌-◌, ◌<�
 use Rattle.std.proofs.Common.{length, codes, replicate, slice_set, if◌then◌else◌, inl, inr, refl, sym, ap}
 use Rattle.std.proofs.Common.{◌∙◌, arith, append_assoc}
 use Rattle.std.specs.Fmt.{decimal}
-use Rattle.std.proofs.lemmas.Bool.{eqb-true, cases_lt}
+use Rattle.std.proofs.lemmas.Bool.{eqb-true, le-ltb, cases_lt}
 use Rattle.std.proofs.lemmas.Grind.{get_or-set_at}
 use Rattle.std.proofs.lemmas.List.{get_or-replicate, get_or-set_other, set-get_or, length-set, length-replicate}
 use Rattle.dcc_packet.specs.declared.cv.CvNumber.{CvNumber}
 use Rattle.dcc_packet.specs.Cvs.{cv_in}
 use Rattle.dcc_packet.proofs.Tokens.{decimal_token, keyword_token}
+use Rattle.dcc_packet.proofs.WordsBack.{cv_back, small_number-decimal}
 use Rattle.dcc_saved.specs.declared.decoder_line.Head.{Head}
 use Rattle.dcc_saved.specs.declared.decoder_line.LocoLine.TheVariants as behind
 use Rattle.dcc_saved.specs.DecoderLines.{loco_line}
@@ -16,7 +17,6 @@ use Rattle.dcc_saved.specs.DecoderText.{cvs_from, cvs_lines}
 use Rattle.dcc_saved.specs.FleetText.{cv_line, cvs_text}
 use Rattle.dcc_saved.specs.TextReader.{line_by}
 use Rattle.dcc_saved.proofs.LinesBack.{Reads, Reads-then, Reads-last, few_read}
-use Rattle.dcc_saved.proofs.RulesBack.{cv_line_back}
 
 module _ (cvs : ℕ → ℕ) where
   -- the list behind the lines up to this CV
@@ -62,9 +62,10 @@ module _ (cvs : ℕ → ℕ) where
 
     one_line : (n : ℕ) (text : List ℕ) → n < 1024 → Behind (suc n) text → (b : Bool) → eqb (cvs (suc n)) 0 ≡ b
         → Behind n ((if b then [] else cv_line (suc n) (cvs (suc n))) ++ text)
-    unfolding so_far
+    unfolding so_far loco_line
     one_line n text few after true is most least room ascends =
-        rw (same_list n few (eqb-true (cvs (suc n)) 0 is)) at (after most least (omega (arith, room)) (omega (arith, ascends)))
+        let same = same_list n few (eqb-true (cvs (suc n)) 0 is) in
+        rw same at (after most least (omega (arith, room)) (omega (arith, ascends)))
     one_line n text few after false is zero least room ascends = absurd (omega (arith, few, room))
     one_line n text few after false is (suc most) least room ascends =
         let cv : CvNumber = record { number = suc n; in_range = (omega arith, omega (arith, few)) } in
@@ -72,7 +73,7 @@ module _ (cvs : ℕ → ℕ) where
         let value = decimal_token (cvs (suc n)) (omega (arith, small (suc n))) in
         Reads-then _ _ (few_read (loco_line least) (behind.Cv cv (cvs (suc n))) (codes "cv")
         (decimal (suc n) ∷ decimal (cvs (suc n)) ∷ []) (keyword_token (codes "cv") refl, (number, (value, tt)))
-        (omega arith) (cv_line_back least cv (cvs (suc n)) ascends (small (suc n))))
+        (omega arith) (rw (cv_back cv, le-ltb (suc n) least ascends, small_number-decimal (cvs (suc n)) (small (suc n))) refl))
         (after most (suc n + 1) (omega (arith, room)) (omega arith))
 
     all_lines : (n : ℕ) (text : List ℕ) → n ≤ 1024 → Behind n text

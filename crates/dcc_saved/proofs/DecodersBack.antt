@@ -21,18 +21,18 @@ use Rattle.dcc_saved.specs.declared.decoder_line.Numbered.TheVariants as kinds
 use Rattle.dcc_saved.specs.declared.decoder_line.Version.TheVariants as versions
 use Rattle.dcc_saved.specs.DecoderLines.{head_after, head_line, loco_line, own_address_word}
 use Rattle.dcc_saved.specs.DecoderText.{decoder_lines, loco_lines, board_lines}
-use Rattle.dcc_saved.specs.FleetText.{cvs_text, line_of, speed_held, forward_held, pending_held, loco_address_line}
+use Rattle.dcc_saved.specs.FleetText.{cvs_text, line_of, loco_address_line}
 use Rattle.dcc_saved.specs.FleetText.{board_line, written_speed, written_numbers, written_pending, written_positions}
 use Rattle.dcc_saved.specs.FleetText.{written_aspects, text_of}
 use Rattle.dcc_saved.specs.ReadBack.{Saves, IsPossibleDecoder}
 use Rattle.dcc_saved.specs.TextReader.{line_by}
-use Rattle.dcc_saved.proofs.MapsBack.{sides_of, positions_of, aspects_of, board_state, side_at, aspects_small, same_board}
 use Rattle.dcc_saved.proofs.CvsBack.{cvs_read}
 use Rattle.dcc_saved.proofs.LinesBack.{Reads, Reads-then, Reads-last, few_read}
 use Rattle.dcc_saved.proofs.MapsBack.{speed_is, pending_is, no_state_0, loco_state, same_loco}
+use Rattle.dcc_saved.proofs.MapsBack.{side_at, aspects_small, board_state, same_board}
 use Rattle.dcc_saved.proofs.NumbersBack.{numbers_read}
 use Rattle.dcc_saved.proofs.RowsBack.{speed_read, pending_read, positions_read, aspects_read}
-use Rattle.dcc_saved.proofs.RulesBack.{address_token, own_address_back, own_board_back}
+use Rattle.dcc_saved.proofs.RulesBack.{own_address_back, own_board_back}
 
 -- a line that says what follows the decoder before it
 pub record IsHead (line : List ℕ) (head : Head) : Type 0 where
@@ -62,11 +62,12 @@ head_text (decoder ∷ fleet) = first_line_of decoder
 
 pub fleet_head : (fleet : List (Who × RegisterMap)) → AllByRecursion IsPossibleDecoder fleet
     → IsHead (head_text fleet) (head_of fleet)
-fleet_head [] possible = is_head (codes "end") [] heads.End (keyword_token (codes "end") refl, tt) (omega arith) refl refl
+fleet_head [] possible =
+    is_head (codes "end") [] heads.End (keyword_token (codes "end") refl, tt) (omega arith) refl refl
 fleet_head ((who.Loco address, m) ∷ fleet) possible =
+    let own = own_address_back address possible.0.decoder in
     is_head (codes "loco") (own_address_word address ∷ []) (heads.Decoder (who.Loco address))
-    (keyword_token (codes "loco") refl, (address_token address, tt)) (omega arith) refl
-    (rw (own_address_back address possible.0.decoder) refl)
+    (keyword_token (codes "loco") refl, (own.1, tt)) (omega arith) refl (rw own.0 refl)
 fleet_head ((who.Board board, m) ∷ fleet) possible =
     let number = decimal_token board.number (let range = board.in_range in omega (arith, range)) in
     is_head (codes "board") (decimal board.number ∷ []) (heads.Decoder (who.Board board))
@@ -76,8 +77,8 @@ fleet_head ((who.Board board, m) ∷ fleet) possible =
 -- the lines of a decoder behind its first, and the line behind them
 abbrev pub lines_to : Who × RegisterMap → List ℕ → List ℕ
 lines_to (who.Loco address, m) line =
-    written_speed m
-    ++ (written_numbers kinds.Function m ++ (written_numbers kinds.State m ++ (written_pending m ++ (cvs_text (cv_held m) 1024 ++ line))))
+    written_speed m ++ (written_numbers kinds.Function m ++ (written_numbers kinds.State m
+    ++ (written_pending m ++ (cvs_text (cv_held m) 1024 ++ line))))
 lines_to (who.Board board, m) line = written_numbers kinds.Out m ++ (written_positions m ++ (written_aspects m ++ line))
 
 -- a decoder's text, the first line behind it and what follows that
@@ -115,9 +116,9 @@ decoder_read (who.Loco address, m) line head possible is =
     record {
       state = saved.Loco (loco_state address m possible functions states cvs);
       reads =
-          Reads-then _ _ (speed_read (speed_held (m registers.Speed)) (forward_held (m registers.Direction)) speed.1)
+          Reads-then _ _ (speed_read _ speed.1)
           (Reads-then _ _ functions.reads (Reads-then _ _ states.reads
-          (Reads-then _ _ (pending_read address (pending_held (m registers.Pending)) pending.1)
+          (Reads-then _ _ (pending_read address _ pending.1)
           (Reads-last _ _ cvs.reads (λ text. refl)))));
       saves = (refl, same_loco address m possible functions states cvs);
     }
@@ -127,8 +128,8 @@ decoder_read (who.Board board, m) line head possible is =
       state = saved.Board (board_state board m possible outs);
       reads =
           Reads-then _ _ outs.reads
-          (Reads-then _ _ (positions_read (positions_of m) (sides_of m) (λ n. (side_at board m possible n).1))
-          (Reads-then _ _ (aspects_read (aspects_of m) (aspects_small board m possible))
+          (Reads-then _ _ (positions_read _ _ (λ n. (side_at board m possible n).1))
+          (Reads-then _ _ (aspects_read _ (aspects_small board m possible))
           (Reads-last _ _ is.first (λ text. refl))));
       saves = (refl, same_board board m possible outs);
     }

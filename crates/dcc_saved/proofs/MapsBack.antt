@@ -164,8 +164,8 @@ module _ (board : Board) (m : RegisterMap) (possible : IsPossible (who.Board boa
 
   pub aspects_small : (n : ℕ) → aspects_of m n < 256
   aspects_small n =
-      let small = (number_is (nat_le n 3) 255 {v = m (registers.Aspect n)} (possible.registers (registers.Aspect n))).0 in
-      omega (arith, small)
+      let held = number_is (nat_le n 3) 255 {v = m (registers.Aspect n)} (possible.registers (registers.Aspect n)) in
+      omega (arith, held.0)
 
   module _ (outs : ReadsBits kinds.Out m) where
     abbrev pub board_state : BoardState

@@ -5,42 +5,40 @@ use Rattle.std.specs.Fmt.{decimal}
 use Rattle.std.proofs.lemmas.List.{append-nil}
 use Rattle.dcc_packet.specs.declared.address.Address.{Address}
 use Rattle.dcc_packet.specs.declared.fields.Bit.{Bit}
+use Rattle.dcc_packet.specs.declared.fields.Direction.{Direction}
 use Rattle.dcc_packet.specs.declared.packet.Packet.{Packet}
 use Rattle.dcc_packet.specs.Fields.{FieldOf, both, IsToken, IsReadBack}
 use Rattle.dcc_packet.specs.LineFields.{direction_field, bit_field, small_field}
 use Rattle.dcc_packet.specs.Spelling.{spelling}
 use Rattle.dcc_packet.specs.Words.{Word}
-use Rattle.dcc_packet.specs.Written.{direction_word, state_word}
-use Rattle.dcc_packet.proofs.FieldsBack.{both_back}
+use Rattle.dcc_packet.specs.Written.{state_word}
+use Rattle.dcc_packet.proofs.FieldsBack.{both_back, whole_back}
 use Rattle.dcc_packet.proofs.LineFieldsBack.{direction_is_back, bit_is_back, small_is_back}
 use Rattle.dcc_packet.proofs.Tokens.{hex_token, keyword_token}
-use Rattle.dcc_regs.specs.declared.register.Speed.{Speed}
 use Rattle.dcc_regs.specs.Loco.{is_speed, is_pending_for}
+use Rattle.dcc_saved.specs.declared.decoder_fields.SavedSpeed.{SavedSpeed}
 use Rattle.dcc_saved.specs.DecoderLines.{keyword, keyed, Four, four, speed_words, speed_field, speed_line, pending_line}
 use Rattle.dcc_saved.specs.DecoderLines.{positions_line, aspects_line}
 use Rattle.dcc_saved.specs.FleetText.{line_text, pending_text, first_four}
 use Rattle.dcc_saved.specs.TextReader.{line_by}
 use Rattle.dcc_saved.proofs.LinesBack.{Reads, few_read}
 use Rattle.dcc_saved.proofs.PendingBack.{IsWrite-pending, pending_back}
-use Rattle.dcc_saved.proofs.RulesBack.{speed_back, speed_is_back, keyed_back, four_back}
+use Rattle.dcc_saved.proofs.RulesBack.{speed_back, speed_is_back, four_back}
 
 -- a line of a keyword and a few fields
-pub fields_read : {A : Type 0} (name : Word) (field : FieldOf A) → keyword name name ≡ Ok tt → IsReadBack field → (x : A)
-    → field.Fits x → IsToken name → length (field.written x) ≤ 38
+pub fields_read : {A : Type 0} (name : Word) (field : FieldOf A) → keyword name name ≡ Ok tt → IsReadBack field
+    → (x : A) → field.Fits x → IsToken name → length (field.written x) ≤ 38
     → Reads (line_by (keyed name field)) (line_text name field x) x
 fields_read name field is back x fits token few =
     few_read (keyed name field) x name (field.written x) (token, back.tokens x fits) few
-    (keyed_back name field is back x fits)
+    (rw (is, whole_back field back x fits) refl)
 
-pub speed_read : (speed : Speed) (forward : Bool) → is_speed speed ≡ true
-    → Reads (line_by speed_line)
-    (line_text (codes "speed") (both speed_field direction_field) (record { speed = speed }, record { forward = forward }))
-    (record { speed = speed }, record { forward = forward })
-speed_read speed forward h =
+pub speed_read : (x : SavedSpeed × Direction) → is_speed x.0.speed ≡ true
+    → Reads (line_by speed_line) (line_text (codes "speed") (both speed_field direction_field) x) x
+speed_read x h =
     fields_read (codes "speed") (both speed_field direction_field) refl
-    (both_back speed_field direction_field speed_is_back direction_is_back)
-    (record { speed = speed }, record { forward = forward }) (h, tt) (keyword_token (codes "speed") refl)
-    (omega (arith, (speed_back speed h).2, length-append (speed_words speed) (direction_word forward ∷ [])))
+    (both_back speed_field direction_field speed_is_back direction_is_back) x (h, tt) (keyword_token (codes "speed") refl)
+    (omega (arith, (speed_back x.0.speed h).2, length-append (speed_words x.0.speed) (direction_field.written x.1)))
 
 pending_token : (active : Option Address) (pending : Option Packet) → is_pending_for active pending ≡ true
     → IsToken (pending_text pending)

@@ -6,51 +6,44 @@ use Rattle.std.specs.List.{AllByRecursion}
 use Rattle.std.proofs.lemmas.Bool.{and_parts, le-ltb, leb-true}
 use Rattle.std.proofs.lemmas.Bool.Decides.{nat_tests}
 use Rattle.dcc_packet.specs.declared.accessory.Board.{Board}
-use Rattle.dcc_packet.specs.declared.cv.CvNumber.{CvNumber}
 use Rattle.dcc_packet.specs.declared.address.Address.{Address}
 use Rattle.dcc_packet.specs.declared.address.Address.TheVariants.{Broadcast, Short, Long}
 use Rattle.dcc_packet.specs.Fields.{FieldOf, both, IsToken, IsReadBack}
 use Rattle.dcc_packet.specs.Words.{Word}
-use Rattle.dcc_packet.proofs.FieldsBack.{one_word_back, both_back, whole_back}
+use Rattle.dcc_packet.proofs.FieldsBack.{one_word_back, both_back}
 use Rattle.dcc_packet.proofs.Tokens.{address_word_token, keyword_token, decimal_token}
-use Rattle.dcc_packet.proofs.WordsBack.{small_number-decimal, address_back, cv_back, board_back}
+use Rattle.dcc_packet.proofs.WordsBack.{small_number-decimal, address_back, board_back}
 use Rattle.dcc_regs.specs.declared.register.Speed.{Speed}
 use Rattle.dcc_regs.specs.declared.register.Speed.TheVariants.{Stop, Emergency, Step14, Step28, Step126}
 use Rattle.dcc_regs.specs.Addresses.{is_active}
 use Rattle.dcc_regs.specs.Loco.{is_speed}
-use Rattle.dcc_saved.specs.declared.decoder_line.LocoLine.TheVariants as behind
 use Rattle.dcc_saved.specs.declared.decoder_line.Version.{Version}
 use Rattle.dcc_saved.specs.declared.decoder_line.Version.TheVariants as versions
 use Rattle.dcc_saved.specs.DecoderLines.{version_number, version_word, version_field, own_address, own_board}
-use Rattle.dcc_saved.specs.DecoderLines.{own_address_word, own_address_field, step_up_to, speed_of, speed_words}
-use Rattle.dcc_saved.specs.DecoderLines.{speed_field, keyword, keyed, four, loco_line}
+use Rattle.dcc_saved.specs.DecoderLines.{own_address_word, own_address_field, speed_step, speed_of, speed_words}
+use Rattle.dcc_saved.specs.DecoderLines.{speed_field, four}
 
-version_back : (version : Version) → version_number (version_word version) ≡ Ok version
-version_back versions.One = refl
-version_back versions.Two = refl
-
-version_token : (version : Version) → IsToken (version_word version)
-version_token versions.One = keyword_token (codes "1") refl
-version_token versions.Two = keyword_token (codes "2") refl
+version_back : (version : Version)
+    → (version_number (version_word version) ≡ Ok version) × IsToken (version_word version)
+version_back versions.One = (refl, keyword_token (codes "1") refl)
+version_back versions.Two = (refl, keyword_token (codes "2") refl)
 
 pub version_is_back : IsReadBack version_field
-version_is_back = one_word_back version_number version_word version_back version_token
+version_is_back =
+    one_word_back version_number version_word (λ version. (version_back version).0) (λ version. (version_back version).1)
 
-pub address_token : (address : Option Address) → IsToken (own_address_word address)
-address_token None = keyword_token (codes "none") refl
-address_token (Some address) = address_word_token address
-
-pub own_address_back : (a : Option Address) → is_active a ≡ true → own_address (own_address_word a) ≡ Ok a
-own_address_back None h = refl
+pub own_address_back : (a : Option Address) → is_active a ≡ true
+    → (own_address (own_address_word a) ≡ Ok a) × IsToken (own_address_word a)
+own_address_back None h = (refl, keyword_token (codes "none") refl)
 own_address_back (Some Broadcast) h = cc
-own_address_back (Some (Short s)) h = rw (address_back (Short s)) refl
-own_address_back (Some (Long l)) h = rw (address_back (Long l)) refl
+own_address_back (Some (Short s)) h = (rw (address_back (Short s)) refl, address_word_token (Short s))
+own_address_back (Some (Long l)) h = (rw (address_back (Long l)) refl, address_word_token (Long l))
 
 pub own_address_is_back : IsReadBack own_address_field
 own_address_is_back =
     record {
-      back = λ own rest h. rw (own_address_back own.address h) refl;
-      tokens = λ own h. (address_token own.address, tt);
+      back = λ own rest h. rw (own_address_back own.address h).0 refl;
+      tokens = λ own h. ((own_address_back own.address h).1, tt);
     }
 
 pub own_board_back : (b : Board) → nat_le b.number 510 ≡ true → own_board (decimal b.number) ≡ Ok b
@@ -59,21 +52,18 @@ own_board_back b h =
     let other : eqb b.number 511 ≡ false = grind (arith, nat_tests) in
     rw (board_back b, other) refl
 
-pub cv_line_back : (least : ℕ) (cv : CvNumber) (value : ℕ) → least ≤ cv.number → value < 256
-    → loco_line least (codes "cv" ∷ decimal cv.number ∷ decimal value ∷ []) ≡ Ok (behind.Cv cv value)
-unfolding loco_line
-cv_line_back least cv value ascends small =
-    rw (cv_back cv, le-ltb cv.number least ascends, small_number-decimal value small) refl
-
--- a speed step
-step_back : (last n : ℕ) → last < 256 → (nat_le 1 n && nat_le n last) ≡ true
-    → (step_up_to last (decimal n) ≡ Ok n) × IsToken (decimal n)
-step_back last n small h =
+-- the words of a speed that has a step
+step_back : (name : Word) (step : ℕ → Speed) (last n : ℕ) → last < 256 → IsToken name
+    → (nat_le 1 n && nat_le n last) ≡ true
+    → ((rest : List Word) → speed_step step last (decimal n ∷ rest) ≡ Ok (step n, rest))
+    × AllByRecursion IsToken (name ∷ decimal n ∷ []) × (2 ≤ 2)
+step_back name step last n small token h =
     let parts = and_parts (nat_le 1 n) (nat_le n last) h in
     let least = leb-true 1 n parts.0 in
     let most = leb-true n last parts.1 in (
-      rw (small_number-decimal n (omega arith), le-ltb n 1 least, le-ltb last n most) refl,
-      decimal_token n (omega arith),
+      λ rest. rw (small_number-decimal n (omega arith), le-ltb n 1 least, le-ltb last n most) refl,
+      (token, (decimal_token n (omega arith), tt)),
+      omega arith,
     )
 
 -- the one or two words of a speed
@@ -82,15 +72,10 @@ pub speed_back : (speed : Speed) → is_speed speed ≡ true
     × AllByRecursion IsToken (speed_words speed) × (length (speed_words speed) ≤ 2)
 speed_back Stop h = (λ rest. refl, (keyword_token (codes "stop") refl, tt), omega arith)
 speed_back Emergency h = (λ rest. refl, (keyword_token (codes "emergency") refl, tt), omega arith)
-speed_back (Step14 n) h =
-    let step = step_back 14 n (omega arith) h in
-    (λ rest. rw step.0 refl, (keyword_token (codes "14") refl, (step.1, tt)), omega arith)
-speed_back (Step28 n) h =
-    let step = step_back 28 n (omega arith) h in
-    (λ rest. rw step.0 refl, (keyword_token (codes "28") refl, (step.1, tt)), omega arith)
+speed_back (Step14 n) h = step_back (codes "14") (λ k. Step14 k) 14 n (omega arith) (keyword_token (codes "14") refl) h
+speed_back (Step28 n) h = step_back (codes "28") (λ k. Step28 k) 28 n (omega arith) (keyword_token (codes "28") refl) h
 speed_back (Step126 n) h =
-    let step = step_back 126 n (omega arith) h in
-    (λ rest. rw step.0 refl, (keyword_token (codes "126") refl, (step.1, tt)), omega arith)
+    step_back (codes "126") (λ k. Step126 k) 126 n (omega arith) (keyword_token (codes "126") refl) h
 
 pub speed_is_back : IsReadBack speed_field
 speed_is_back =
@@ -98,11 +83,6 @@ speed_is_back =
       back = λ saved rest h. rw ((speed_back saved.speed h).0 rest) refl;
       tokens = λ saved h. (speed_back saved.speed h).1;
     }
-
--- a line of a keyword and fields
-pub keyed_back : {A : Type 0} (name : Word) (field : FieldOf A) → keyword name name ≡ Ok tt → IsReadBack field → (x : A)
-    → field.Fits x → keyed name field (name ∷ field.written x) ≡ Ok x
-keyed_back name field is back x fits = rw (is, whole_back field back x fits) refl
 
 pub four_back : {A : Type 0} (field : FieldOf A) → IsReadBack field → IsReadBack (four field)
 four_back field back =
