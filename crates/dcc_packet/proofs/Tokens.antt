@@ -26,16 +26,12 @@ use Rattle.hex.specs.Hex.{encode_lower, encode_with, lower_digits}
 use Rattle.hex.proofs.HexLemmas.{length-encode_with}
 
 -- a word that is written out
-pub keyword_token : (word : Word) → (nat_le 1 (length word) && (nat_le (length word) 12 && list_all is_plain word)) ≡ true
+pub keyword_token : (word : Word) → (nat_le 1 (length word) && nat_le (length word) 12 && list_all is_plain word) ≡ true
     → IsToken word
 keyword_token word h =
-    let least = and_parts (nat_le 1 (length word)) (nat_le (length word) 12 && list_all is_plain word) h in
-    let most = and_parts (nat_le (length word) 12) (list_all is_plain word) least.1 in
-    record {
-      some = leb-true 1 (length word) least.0;
-      plain = most.1;
-      short = leb-true (length word) 12 most.0;
-    }
+    let all = and_parts (nat_le 1 (length word) && nat_le (length word) 12) (list_all is_plain word) h in
+    let size = and_parts (nat_le 1 (length word)) (nat_le (length word) 12) all.0 in
+    record { some = leb-true 1 (length word) size.0; plain = all.1; short = leb-true (length word) 12 size.1 }
 
 plain_digit : (c : ℕ) → is_ascii_digit c ≡ true → is_plain c ≡ true
 plain_digit c h = grind (arith, nat_tests)

@@ -69,11 +69,12 @@ module _ (cvs : ℕ → ℕ) where
     one_line n text few after false is zero least room ascends = absurd (omega (arith, few, room))
     one_line n text few after false is (suc most) least room ascends =
         let cv : CvNumber = record { number = suc n; in_range = (omega arith, omega (arith, few)) } in
+        let x : ℕ = cvs (suc n) in
         let number = decimal_token (suc n) (omega (arith, few)) in
-        let value = decimal_token (cvs (suc n)) (omega (arith, small (suc n))) in
-        Reads-then _ _ (few_read (loco_line least) (behind.Cv cv (cvs (suc n))) (codes "cv")
-        (decimal (suc n) ∷ decimal (cvs (suc n)) ∷ []) (keyword_token (codes "cv") refl, (number, (value, tt)))
-        (omega arith) (rw (cv_back cv, le-ltb (suc n) least ascends, small_number-decimal (cvs (suc n)) (small (suc n))) refl))
+        let value = decimal_token x (omega (arith, small (suc n))) in
+        Reads-then _ (few_read (loco_line least) (behind.Cv cv x) (codes "cv") (decimal (suc n) ∷ decimal x ∷ [])
+        (keyword_token (codes "cv") refl, (number, (value, tt))) (omega arith)
+        (rw (cv_back cv, le-ltb (suc n) least ascends, small_number-decimal x (small (suc n))) refl))
         (after most (suc n + 1) (omega (arith, room)) (omega arith))
 
     all_lines : (n : ℕ) (text : List ℕ) → n ≤ 1024 → Behind n text
@@ -96,6 +97,6 @@ unfolding cvs_lines
 cvs_read cvs small bytes head ends = record {
   given = so_far cvs 1024;
   reads = all_lines cvs small (so_far cvs 1024, head) 1024 bytes (omega arith)
-      (λ most least room ascends. Reads-last _ _ (ends least) (λ text. refl));
+      (λ most least room ascends. Reads-last _ (ends least) (λ text. refl));
   each = λ cv some within. given cvs 1024 cv (omega arith) some within;
 }

@@ -1,43 +1,43 @@
--- Decoders are read again, each behind its first line and up to the first line of the next.
-use Rattle.std.proofs.Common.{◌≡◌, ℕ, ◌≤◌, false, List, [], ◌∷◌, ◌++◌, length, codes, Ok, refl, arith}
-use Rattle.std.proofs.Common.{append_assoc}
+-- Decoders are read again, each behind its first line and up to the first line of the next, and so are fleets.
+use Rattle.std.proofs.Common.{◌≡◌, ℕ, ◌≤◌, false, List, [], ◌∷◌, ◌++◌, length, codes, Ok, refl, arith, append_assoc}
+use Rattle.std.proofs.Common.{zero, suc, ◌+◌, ap}
 use Rattle.std.specs.Fmt.{decimal}
-use Rattle.std.specs.List.{AllByRecursion}
+use Rattle.std.specs.List.{AllByRecursion, flat_map}
+use Rattle.std.proofs.lemmas.List.{append-nil}
 use Rattle.dcc_packet.specs.Fields.{IsToken}
 use Rattle.dcc_packet.specs.Words.{Word, is_word}
 use Rattle.dcc_packet.proofs.BitLemmas.{byte_of-lt}
 use Rattle.dcc_packet.proofs.Tokens.{keyword_token, decimal_token}
-use Rattle.dcc_regs.specs.declared.register.Register.TheVariants as registers
 use Rattle.dcc_regs.specs.declared.register.Who.{Who}
+use Rattle.dcc_regs.specs.declared.register.Register.TheVariants as registers
 use Rattle.dcc_regs.specs.declared.register.Who.TheVariants as who
 use Rattle.dcc_regs.specs.Loco.{holds_one, cv_held}
 use Rattle.dcc_regs.specs.Result.{RegisterMap}
 use Rattle.dcc_saved.specs.declared.saved.Saved.{Saved}
-use Rattle.dcc_saved.specs.declared.saved.Saved.TheVariants as saved
 use Rattle.dcc_saved.specs.declared.decoder_line.Head.{Head}
+use Rattle.dcc_saved.specs.declared.saved.Saved.TheVariants as saved
 use Rattle.dcc_saved.specs.declared.decoder_line.Head.TheVariants as heads
 use Rattle.dcc_saved.specs.declared.decoder_line.LocoLine.TheVariants as behind
 use Rattle.dcc_saved.specs.declared.decoder_line.Numbered.TheVariants as kinds
 use Rattle.dcc_saved.specs.declared.decoder_line.Version.TheVariants as versions
-use Rattle.dcc_saved.specs.DecoderLines.{head_after, head_line, loco_line, own_address_word}
-use Rattle.dcc_saved.specs.DecoderText.{decoder_lines, loco_lines, board_lines}
-use Rattle.dcc_saved.specs.FleetText.{cvs_text, line_of, loco_address_line}
-use Rattle.dcc_saved.specs.FleetText.{board_line, written_speed, written_numbers, written_pending, written_positions}
-use Rattle.dcc_saved.specs.FleetText.{written_aspects, text_of}
-use Rattle.dcc_saved.specs.ReadBack.{Saves, IsPossibleDecoder}
-use Rattle.dcc_saved.specs.TextReader.{line_by}
+use Rattle.dcc_saved.specs.DecoderLines.{head_after, head_line, loco_line, own_address_word, version_line}
+use Rattle.dcc_saved.specs.DecoderText.{decoder_lines, loco_lines, board_lines, decoders_from, decoder_text}
+use Rattle.dcc_saved.specs.FleetText.{cvs_text, line_of, loco_address_line, board_line, written_speed, written_numbers}
+use Rattle.dcc_saved.specs.FleetText.{written_pending, written_positions, written_aspects, text_of, fleet_text}
+use Rattle.dcc_saved.specs.ReadBack.{Saves, IsPossibleDecoder, line_feeds, SavesEach, FleetsAreReadBack}
+use Rattle.dcc_saved.specs.TextReader.{line_by, done}
 use Rattle.dcc_saved.proofs.CvsBack.{cvs_read}
-use Rattle.dcc_saved.proofs.LinesBack.{Reads, Reads-then, Reads-last, few_read}
-use Rattle.dcc_saved.proofs.MapsBack.{speed_is, pending_is, no_state_0, loco_state, same_loco}
-use Rattle.dcc_saved.proofs.MapsBack.{side_at, aspects_small, board_state, same_board}
+use Rattle.dcc_saved.proofs.LinesBack.{Reads, Reads-then, Reads-last, few_read, at}
+use Rattle.dcc_saved.proofs.MapsBack.{speed_is, pending_is, no_state_0, loco_state, same_loco, side_at, aspects_small}
+use Rattle.dcc_saved.proofs.MapsBack.{board_state, same_board}
 use Rattle.dcc_saved.proofs.NumbersBack.{numbers_read}
 use Rattle.dcc_saved.proofs.RowsBack.{speed_read, pending_read, positions_read, aspects_read}
 use Rattle.dcc_saved.proofs.RulesBack.{own_address_back, own_board_back}
 
 -- a line that says what follows the decoder before it
-pub record IsHead (line : List ℕ) (head : Head) : Type 0 where
-  pub first : Reads (line_by head_line) line head
-  pub behind_cvs : (least : ℕ) → Reads (line_by (loco_line least)) line (behind.Head head)
+record IsHead (line : List ℕ) (head : Head) : Type 0 where
+  first : Reads (line_by head_line) line head
+  behind_cvs : (least : ℕ) → Reads (line_by (loco_line least)) line (behind.Head head)
 
 is_head : (word : Word) (ws : List Word) (head : Head) → AllByRecursion IsToken (word ∷ ws) → length ws ≤ 38
     → is_word word (codes "cv") ≡ false → head_after word ws ≡ Ok head → IsHead (line_of (word ∷ ws)) head
@@ -48,19 +48,19 @@ is_head word ws head tokens few other says = record {
 }
 
 -- the first line of a fleet behind the version, and what it says
-abbrev pub head_of : List (Who × RegisterMap) → Head
+abbrev head_of : List (Who × RegisterMap) → Head
 head_of [] = heads.End
 head_of (decoder ∷ fleet) = heads.Decoder decoder.0
 
-abbrev pub first_line_of : Who × RegisterMap → List ℕ
+abbrev first_line_of : Who × RegisterMap → List ℕ
 first_line_of (who.Loco address, m) = loco_address_line address
 first_line_of (who.Board board, m) = board_line board
 
-abbrev pub head_text : List (Who × RegisterMap) → List ℕ
+abbrev head_text : List (Who × RegisterMap) → List ℕ
 head_text [] = codes "end\n"
 head_text (decoder ∷ fleet) = first_line_of decoder
 
-pub fleet_head : (fleet : List (Who × RegisterMap)) → AllByRecursion IsPossibleDecoder fleet
+fleet_head : (fleet : List (Who × RegisterMap)) → AllByRecursion IsPossibleDecoder fleet
     → IsHead (head_text fleet) (head_of fleet)
 fleet_head [] possible =
     is_head (codes "end") [] heads.End (keyword_token (codes "end") refl, tt) (omega arith) refl refl
@@ -75,14 +75,14 @@ fleet_head ((who.Board board, m) ∷ fleet) possible =
     (rw (own_board_back board possible.0.decoder) refl)
 
 -- the lines of a decoder behind its first, and the line behind them
-abbrev pub lines_to : Who × RegisterMap → List ℕ → List ℕ
+abbrev lines_to : Who × RegisterMap → List ℕ → List ℕ
 lines_to (who.Loco address, m) line =
     written_speed m ++ (written_numbers kinds.Function m ++ (written_numbers kinds.State m
     ++ (written_pending m ++ (cvs_text (cv_held m) 1024 ++ line))))
 lines_to (who.Board board, m) line = written_numbers kinds.Out m ++ (written_positions m ++ (written_aspects m ++ line))
 
 -- a decoder's text, the first line behind it and what follows that
-pub text_is : (decoder : Who × RegisterMap) (line rest : List ℕ)
+text_is : (decoder : Who × RegisterMap) (line rest : List ℕ)
     → text_of decoder ++ (line ++ rest) ≡ first_line_of decoder ++ (lines_to decoder line ++ rest)
 text_is (who.Loco address, m) line rest =
     regroup (loco_address_line address) (written_speed m) (written_numbers kinds.Function m)
@@ -98,12 +98,12 @@ text_is (who.Board board, m) line rest =
     regroup h o p a = simp append_assoc refl
 
 -- a decoder that its lines save, and the first line behind them
-pub record ReadsDecoder (decoder : Who × RegisterMap) (line : List ℕ) (head : Head) : Type 0 where
-  pub state : Saved
-  pub reads : Reads (decoder_lines versions.Two decoder.0) (lines_to decoder line) (state, head)
-  pub saves : Saves state decoder
+record ReadsDecoder (decoder : Who × RegisterMap) (line : List ℕ) (head : Head) : Type 0 where
+  state : Saved
+  reads : Reads (decoder_lines versions.Two decoder.0) (lines_to decoder line) (state, head)
+  saves : Saves state decoder
 
-pub decoder_read : (decoder : Who × RegisterMap) (line : List ℕ) (head : Head) → IsPossibleDecoder decoder
+decoder_read : (decoder : Who × RegisterMap) (line : List ℕ) (head : Head) → IsPossibleDecoder decoder
     → IsHead line head → ReadsDecoder decoder line head
 unfolding loco_lines board_lines
 decoder_read (who.Loco address, m) line head possible is =
@@ -116,10 +116,10 @@ decoder_read (who.Loco address, m) line head possible is =
     record {
       state = saved.Loco (loco_state address m possible functions states cvs);
       reads =
-          Reads-then _ _ (speed_read _ speed.1)
-          (Reads-then _ _ functions.reads (Reads-then _ _ states.reads
-          (Reads-then _ _ (pending_read address _ pending.1)
-          (Reads-last _ _ cvs.reads (λ text. refl)))));
+          Reads-then _ (speed_read _ speed.1)
+          (Reads-then _ functions.reads (Reads-then _ states.reads
+          (Reads-then _ (pending_read address _ pending.1)
+          (Reads-last _ cvs.reads (λ text. refl)))));
       saves = (refl, same_loco address m possible functions states cvs);
     }
 decoder_read (who.Board board, m) line head possible is =
@@ -127,9 +127,61 @@ decoder_read (who.Board board, m) line head possible is =
     record {
       state = saved.Board (board_state board m possible outs);
       reads =
-          Reads-then _ _ outs.reads
-          (Reads-then _ _ (positions_read _ _ (λ n. (side_at board m possible n).1))
-          (Reads-then _ _ (aspects_read _ (aspects_small board m possible))
-          (Reads-last _ _ is.first (λ text. refl))));
+          Reads-then _ outs.reads
+          (Reads-then _ (positions_read _ _ (λ n. (side_at board m possible n).1))
+          (Reads-then _ (aspects_read _ (aspects_small board m possible))
+          (Reads-last _ is.first (λ text. refl))));
       saves = (refl, same_board board m possible outs);
+    }
+
+-- the lines of a fleet behind the first line of its first decoder
+abbrev rest_of : List (Who × RegisterMap) → List ℕ
+rest_of [] = []
+rest_of (decoder ∷ fleet) = lines_to decoder (head_text fleet) ++ rest_of fleet
+
+fleet_is : (fleet : List (Who × RegisterMap))
+    → flat_map text_of fleet ++ codes "end\n" ≡ head_text fleet ++ rest_of fleet
+fleet_is [] = refl
+fleet_is (decoder ∷ fleet) =
+    rw (append_assoc (text_of decoder) (flat_map text_of fleet) (codes "end\n"), fleet_is fleet)
+    (text_is decoder (head_text fleet) (rest_of fleet))
+
+-- the decoders from here on
+record ReadsDecoders (fleet : List (Who × RegisterMap)) (room : ℕ) (before : List Saved) : Type 0 where
+  states : List Saved
+  reads : Reads (decoders_from versions.Two room before (head_of fleet)) (rest_of fleet) (before ++ states)
+  saves : SavesEach states fleet
+
+no_more : (before : List Saved) → Reads (done before) [] (before ++ [])
+no_more before =
+    record { gives = λ n more. rw (append-nil before) (ap (λ k. Ok (before, at k more)) (omega arith)) }
+
+decoders_read : (fleet : List (Who × RegisterMap)) (room : ℕ) (before : List Saved) → length fleet ≤ room
+    → AllByRecursion IsPossibleDecoder fleet → ReadsDecoders fleet room before
+decoders_read [] zero before few possible = record { states = []; reads = no_more before; saves = tt }
+decoders_read [] (suc room) before few possible = record { states = []; reads = no_more before; saves = tt }
+decoders_read (decoder ∷ fleet) zero before few possible = absurd (omega (arith, few))
+decoders_read (decoder ∷ fleet) (suc room) before few possible =
+    let one = decoder_read decoder (head_text fleet) (head_of fleet) possible.0 (fleet_head fleet possible.1) in
+    let more = decoders_read fleet room (before ++ one.state ∷ []) (omega (arith, few)) possible.1 in
+    record {
+      states = one.state ∷ more.states;
+      reads = Reads-then _ one.reads (rw (append_assoc before (one.state ∷ []) more.states) at more.reads);
+      saves = (one.saves, more.saves);
+    }
+
+pub fleets_read_back : FleetsAreReadBack
+unfolding decoder_text
+fleets_read_back fleet line rest few possible =
+    let version = few_read version_line versions.Two (codes "dcc-decoders") (codes "2" ∷ [])
+    (keyword_token (codes "dcc-decoders") refl, (keyword_token (codes "2") refl, tt)) (omega arith) refl in
+    let all = decoders_read fleet 64 [] few possible in
+    let reads : Reads decoder_text (fleet_text fleet) all.states = rw (fleet_is fleet)
+    (Reads-then _ version (Reads-then _ (fleet_head fleet possible).first all.reads)) in
+    record {
+      states = all.states;
+      behind = line + line_feeds (fleet_text fleet);
+      reads = reads.gives line rest;
+      saves = all.saves;
+      lines = refl;
     }

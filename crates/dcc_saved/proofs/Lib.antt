@@ -12,4 +12,3 @@ pub mod CvsBack
 pub mod RowsBack
 pub mod MapsBack
 pub mod DecodersBack
-pub mod ReadBackLaws

@@ -27,9 +27,9 @@ feeds-append [] ys = omega arith
 feeds-append (x ∷ xs) ys = grind (arith, nat_tests, feeds-append xs ys)
 
 -- a reader and the one behind it
-pub Reads-then : {A B : Type 0} (first : Reader A) (next : A → Reader B) {a b : List ℕ} {x : A} {y : B}
+pub Reads-then : {A B : Type 0} {first : Reader A} (next : A → Reader B) {a b : List ℕ} {x : A} {y : B}
     → Reads first a x → Reads (next x) b y → Reads (first >>= next) (a ++ b) y
-Reads-then first next {a = a} {b = b} {y = y} one two = record {
+Reads-then next {a = a} {b = b} {y = y} one two = record {
   gives = λ n more.
       rw (
         append_assoc a b more,
@@ -40,9 +40,9 @@ Reads-then first next {a = a} {b = b} {y = y} one two = record {
 }
 
 -- the last reader, whose value leads to what is read
-pub Reads-last : {A B : Type 0} (first : Reader A) (next : A → Reader B) {a : List ℕ} {x : A} {y : B}
+pub Reads-last : {A B : Type 0} {first : Reader A} (next : A → Reader B) {a : List ℕ} {x : A} {y : B}
     → Reads first a x → ((text : Text) → next x text ≡ Ok (y, text)) → Reads (first >>= next) a y
-Reads-last first next {a = a} one ends =
+Reads-last next {a = a} one ends =
     record { gives = λ n more. rw (one.gives n more) (ends (at (n + line_feeds a) more)) }
 
 -- a line that is ended by a line feed, whatever text stands behind it

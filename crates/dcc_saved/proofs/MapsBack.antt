@@ -1,6 +1,6 @@
 -- A map that is possible is that of what its lines say.
 use Rattle.std.proofs.Common.{◌≡◌, ℕ, Bool, true, false, not, nat_le, List, Option, None, Some, if◌then◌else◌, refl}
-use Rattle.std.proofs.Common.{sym, ap, ◌∙◌, arith, zero, suc, ◌≤◌, ◌<◌, ◌&&◌, eqb, [], ◌∷◌, get_or}
+use Rattle.std.proofs.Common.{sym, ap, ◌∙◌, arith, zero, suc, ◌≤◌, ◌<◌, ◌&&◌, eqb, get_or}
 use Rattle.std.specs.Fmt.{decimal}
 use Rattle.std.proofs.lemmas.Bool.{and_parts, leb-true}
 use Rattle.std.proofs.lemmas.Fmt.{decimal_digit}
@@ -8,6 +8,7 @@ use Rattle.dcc_packet.specs.declared.address.Address.{Address}
 use Rattle.dcc_packet.specs.Bits.{is_one}
 use Rattle.dcc_packet.specs.Cvs.{cv_in}
 use Rattle.dcc_packet.specs.declared.accessory.Board.{Board}
+use Rattle.dcc_packet.specs.declared.fields.Bit.{Bit}
 use Rattle.dcc_packet.specs.Written.{state_word}
 use Rattle.dcc_packet.proofs.BitLemmas.{is_one-byte_of}
 use Rattle.dcc_regs.specs.declared.loco_state.LocoState.{LocoState}
@@ -25,7 +26,9 @@ use Rattle.dcc_regs.specs.Board.{board_registers}
 use Rattle.dcc_regs.specs.BoardState.{content as board_content}
 use Rattle.dcc_saved.specs.declared.decoder_line.Head.{Head}
 use Rattle.dcc_saved.specs.declared.decoder_line.Numbered.TheVariants as kinds
-use Rattle.dcc_saved.specs.FleetText.{speed_held, forward_held, pending_held, number_held}
+use Rattle.dcc_saved.specs.FleetText.{speed_held, forward_held, pending_held, number_held, first_four}
+use Rattle.dcc_saved.specs.DecoderLines.{listed}
+use Rattle.dcc_saved.specs.DecoderText.{board_read}
 use Rattle.dcc_saved.specs.ReadBack.{SameRegisters}
 use Rattle.dcc_saved.proofs.CvsBack.{ReadsCvs}
 use Rattle.dcc_saved.proofs.NumbersBack.{ReadsBits}
@@ -129,10 +132,7 @@ module _ (address : Option Address) (m : RegisterMap) (possible : IsPossible (wh
   same_loco (registers.Aspect n) = none_is (possible.registers (registers.Aspect n))
 
 -- the first four of a row
-abbrev pub four_of : {A : Type 0} → (ℕ → A) → List A
-four_of f = f 0 ∷ f 1 ∷ f 2 ∷ f 3 ∷ []
-
-four_at : {A : Type 0} (f : ℕ → A) (n : ℕ) (d : A) → nat_le n 3 ≡ true → get_or (four_of f) n d ≡ f n
+four_at : {A : Type 0} (f : ℕ → A) (n : ℕ) (d : A) → nat_le n 3 ≡ true → get_or (listed (first_four f)) n d ≡ f n
 four_at f zero d h = refl
 four_at f (suc zero) d h = refl
 four_at f (suc (suc zero)) d h = refl
@@ -143,8 +143,8 @@ four_at f (suc (suc (suc (suc n)))) d h = absurd (omega (arith, leb-true (suc (s
 abbrev pub positions_of : RegisterMap → ℕ → ℕ
 positions_of m n = number_held (m (registers.Position n))
 
-abbrev pub sides_of : RegisterMap → ℕ → Bool
-sides_of m n = eqb (positions_of m n) 1
+abbrev pub sides_of : RegisterMap → ℕ → Bit
+sides_of m n = record { one = eqb (positions_of m n) 1 }
 
 abbrev pub aspects_of : RegisterMap → ℕ → ℕ
 aspects_of m n = number_held (m (registers.Aspect n))
@@ -156,8 +156,8 @@ side_is (suc zero) h = (refl, decimal_digit 1 (omega arith))
 side_is (suc (suc k)) h = absurd (omega (arith, h))
 
 module _ (board : Board) (m : RegisterMap) (possible : IsPossible (who.Board board) m) where
-  pub side_at : (n : ℕ)
-      → ((if sides_of m n then 1 else 0) ≡ positions_of m n) × (decimal (positions_of m n) ≡ state_word (sides_of m n))
+  pub side_at : (n : ℕ) → ((if (sides_of m n).one then 1 else 0) ≡ positions_of m n)
+      × (decimal (positions_of m n) ≡ state_word (sides_of m n).one)
   side_at n =
       side_is (positions_of m n)
       (number_is (nat_le n 3) 1 {v = m (registers.Position n)} (possible.registers (registers.Position n))).0
@@ -169,12 +169,7 @@ module _ (board : Board) (m : RegisterMap) (possible : IsPossible (who.Board boa
 
   module _ (outs : ReadsBits kinds.Out m) where
     abbrev pub board_state : BoardState
-    board_state = record {
-      board = board;
-      outs = outs.value;
-      positions = four_of (sides_of m);
-      aspects = four_of (aspects_of m);
-    }
+    board_state = board_read board outs.value (first_four (sides_of m)) (first_four (aspects_of m))
 
     pub same_board : SameRegisters (board_registers (board_content board_state)) m
     same_board (registers.Out n) =
@@ -182,7 +177,7 @@ module _ (board : Board) (m : RegisterMap) (possible : IsPossible (who.Board boa
         (λ there. outs.bits n (omega (arith, leb-true n 7 there)))
     same_board (registers.Position n) =
         (number_is (nat_le n 3) 1 (possible.registers (registers.Position n))).1 _
-        (λ there. rw (four_at (sides_of m) n false there) (side_at n).0)
+        (λ there. rw (four_at (λ k. (sides_of m k).one) n false there) (side_at n).0)
     same_board (registers.Aspect n) =
         (number_is (nat_le n 3) 255 (possible.registers (registers.Aspect n))).1 _ (four_at (aspects_of m) n 0)
     same_board registers.Speed = none_is (possible.registers registers.Speed)

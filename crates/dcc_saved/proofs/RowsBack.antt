@@ -1,5 +1,5 @@
 -- Each line of a decoder is read again.
-use Rattle.std.proofs.Common.{◌≡◌, ℕ, ◌<◌, ◌≤◌, Bool, true, [], ◌∷◌, ◌++◌, length, codes, Option, None, Some, Ok}
+use Rattle.std.proofs.Common.{◌≡◌, ℕ, ◌<◌, ◌≤◌, true, [], ◌∷◌, ◌++◌, length, codes, Option, None, Some, Ok}
 use Rattle.std.proofs.Common.{refl, arith, length-append}
 use Rattle.std.specs.Fmt.{decimal}
 use Rattle.std.proofs.lemmas.List.{append-nil}
@@ -17,7 +17,7 @@ use Rattle.dcc_packet.proofs.LineFieldsBack.{direction_is_back, bit_is_back, sma
 use Rattle.dcc_packet.proofs.Tokens.{hex_token, keyword_token}
 use Rattle.dcc_regs.specs.Loco.{is_speed, is_pending_for}
 use Rattle.dcc_saved.specs.declared.decoder_fields.SavedSpeed.{SavedSpeed}
-use Rattle.dcc_saved.specs.DecoderLines.{keyword, keyed, Four, four, speed_words, speed_field, speed_line, pending_line}
+use Rattle.dcc_saved.specs.DecoderLines.{keyword, keyed, four, speed_words, speed_field, speed_line, pending_line}
 use Rattle.dcc_saved.specs.DecoderLines.{positions_line, aspects_line}
 use Rattle.dcc_saved.specs.FleetText.{line_text, pending_text, first_four}
 use Rattle.dcc_saved.specs.TextReader.{line_by}
@@ -37,7 +37,8 @@ pub speed_read : (x : SavedSpeed × Direction) → is_speed x.0.speed ≡ true
     → Reads (line_by speed_line) (line_text (codes "speed") (both speed_field direction_field) x) x
 speed_read x h =
     fields_read (codes "speed") (both speed_field direction_field) refl
-    (both_back speed_field direction_field speed_is_back direction_is_back) x (h, tt) (keyword_token (codes "speed") refl)
+    (both_back speed_field direction_field speed_is_back direction_is_back) x (h, tt)
+    (keyword_token (codes "speed") refl)
     (omega (arith, (speed_back x.0.speed h).2, length-append (speed_words x.0.speed) (direction_field.written x.1)))
 
 pending_token : (active : Option Address) (pending : Option Packet) → is_pending_for active pending ≡ true
@@ -62,14 +63,10 @@ aspects_read numbers small =
     fields_read (codes "aspect") (four small_field) refl (four_back small_field small_is_back) (first_four numbers)
     (small 0, (small 1, (small 2, small 3))) (keyword_token (codes "aspect") refl) (omega arith)
 
-abbrev pub first_sides : (ℕ → Bool) → Four Bit
-first_sides sides =
-    (record { one = sides 0 }, (record { one = sides 1 }, (record { one = sides 2 }, record { one = sides 3 })))
-
-pub positions_read : (numbers : ℕ → ℕ) (sides : ℕ → Bool) → ((k : ℕ) → decimal (numbers k) ≡ state_word (sides k))
+pub positions_read : (numbers : ℕ → ℕ) (sides : ℕ → Bit) → ((k : ℕ) → decimal (numbers k) ≡ state_word (sides k).one)
     → Reads (line_by positions_line) (line_text (codes "position") (four small_field) (first_four numbers))
-    (first_sides sides)
+    (first_four sides)
 positions_read numbers sides are =
     rw (are 0, are 1, are 2, are 3)
-    (fields_read (codes "position") (four bit_field) refl (four_back bit_field bit_is_back) (first_sides sides)
+    (fields_read (codes "position") (four bit_field) refl (four_back bit_field bit_is_back) (first_four sides)
     (tt, (tt, (tt, tt))) (keyword_token (codes "position") refl) (omega arith))

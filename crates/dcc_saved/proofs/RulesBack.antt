@@ -30,7 +30,7 @@ version_back versions.Two = (refl, keyword_token (codes "2") refl)
 
 pub version_is_back : IsReadBack version_field
 version_is_back =
-    one_word_back version_number version_word (λ version. (version_back version).0) (λ version. (version_back version).1)
+    one_word_back version_number version_word (λ v. (version_back v).0) (λ v. (version_back v).1)
 
 pub own_address_back : (a : Option Address) → is_active a ≡ true
     → (own_address (own_address_word a) ≡ Ok a) × IsToken (own_address_word a)

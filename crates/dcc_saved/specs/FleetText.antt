@@ -94,8 +94,8 @@ loco_front address m =
 abbrev pub board_line : Board → List ℕ
 board_line board = line_of (codes "board" ∷ decimal board.number ∷ [])
 
-abbrev pub first_four : (ℕ → ℕ) → Four ℕ
-first_four numbers = (numbers 0, (numbers 1, (numbers 2, numbers 3)))
+abbrev pub first_four : {A : Type 0} → (ℕ → A) → Four A
+first_four row = (row 0, (row 1, (row 2, row 3)))
 
 abbrev pub written_positions : RegisterMap → List ℕ
 written_positions m =

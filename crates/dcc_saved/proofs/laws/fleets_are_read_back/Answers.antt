@@ -1,4 +1,4 @@
-use Rattle.dcc_saved.proofs.ReadBackLaws.{fleets_read_back}
+use Rattle.dcc_saved.proofs.DecodersBack.{fleets_read_back}
 use Rattle.dcc_saved.proofs.laws.fleets_are_read_back.Goals as goal
 
 pub returns : goal.returns
