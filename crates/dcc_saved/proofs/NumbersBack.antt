@@ -10,6 +10,7 @@ use Rattle.std.proofs.lemmas.Bool.{le-ltb, cases_lt}
 use Rattle.std.proofs.lemmas.Fmt.{length-decimal-le}
 use Rattle.std.proofs.lemmas.Nat.Bits.{bit_at_lowest, bit_at-suc}
 use Rattle.std.proofs.lemmas.List.{append-nil}
+use Rattle.std.proofs.lemmas.Slice.Eq.{bytes_eq-Decides}
 use Rattle.dcc_packet.specs.Bits.{is_one}
 use Rattle.dcc_packet.specs.Fields.{IsToken}
 use Rattle.dcc_packet.specs.Words.{Word}
@@ -20,7 +21,7 @@ use Rattle.dcc_io.specs.Spaced.{behind_space}
 use Rattle.dcc_saved.specs.declared.decoder_line.Numbered.{Numbered}
 use Rattle.dcc_saved.specs.declared.decoder_line.Numbered.TheVariants as kinds
 use Rattle.dcc_saved.specs.Numbered.{name_of, end_of, register_of}
-use Rattle.dcc_saved.specs.DecoderLines.{keyword, number_of, numbers_from, numbers_line}
+use Rattle.dcc_saved.specs.DecoderLines.{number_of, numbers_from, numbers_line}
 use Rattle.dcc_regs.specs.Loco.{holds_one}
 use Rattle.dcc_regs.specs.Result.{RegisterMap}
 use Rattle.dcc_saved.specs.FleetText.{numbers_below, written_numbers}
@@ -28,11 +29,10 @@ use Rattle.dcc_saved.specs.TextReader.{line_by}
 use Rattle.dcc_saved.proofs.LinesBack.{Reads, line_reads}
 
 -- the keyword of a kind, and how many numbers there can be
-kind_is : (kind : Numbered)
-    → IsToken (name_of kind) × (keyword (name_of kind) (name_of kind) ≡ Ok tt) × (end_of kind ≤ 128)
-kind_is kinds.Function = (keyword_token (codes "on") refl, refl, omega arith)
-kind_is kinds.State = (keyword_token (codes "states") refl, refl, omega arith)
-kind_is kinds.Out = (keyword_token (codes "out") refl, refl, omega arith)
+kind_is : (kind : Numbered) → IsToken (name_of kind) × (end_of kind ≤ 128)
+kind_is kinds.Function = (keyword_token (codes "on") refl, omega arith)
+kind_is kinds.State = (keyword_token (codes "states") refl, omega arith)
+kind_is kinds.Out = (keyword_token (codes "out") refl, omega arith)
 
 -- the lowest bit of a number, and those above it
 lowest : (b : Bool) (v : ℕ) → is_one ((if b then 1 else 0) + 2 * v) 0 ≡ b
@@ -90,7 +90,7 @@ module _ (kind : Numbered) (on : ℕ → Bool) (sound : NoState0 kind on) where
     value = 0;
     written = sym (append-nil (numbers_below on (end_of kind)));
     tokens = tt;
-    short = omega (arith, (kind_is kind).2);
+    short = omega (arith, (kind_is kind).1);
     reads = λ least h. ap Ok (omega arith);
     bits = λ i j is within. absurd (omega (arith, is, within));
   }
@@ -101,7 +101,7 @@ module _ (kind : Numbered) (on : ℕ → Bool) (sound : NoState0 kind on) where
   row_before n within row = go (on n) refl
     where
       few : n < 128
-      few = omega (arith, within, (kind_is kind).2)
+      few = omega (arith, within, (kind_is kind).1)
 
       bits : (b : Bool) → on n ≡ b → (i j : ℕ) → i ≡ n + j → i < end_of kind
           → is_one ((if b then 1 else 0) + 2 * row.value) j ≡ on i
@@ -143,12 +143,12 @@ pub record ReadsBits (kind : Numbered) (m : RegisterMap) : Type 0 where
 pub numbers_read : (kind : Numbered) (m : RegisterMap) → NoState0 kind (on_of kind m) → ReadsBits kind m
 unfolding numbers_below numbers_line
 numbers_read kind m sound =
-    let (token, named, few) = kind_is kind in
+    let token = (kind_is kind).0 in
     let row = rows kind (on_of kind m) sound (end_of kind) (omega arith) (row_end kind (on_of kind m) sound) in
     record {
       value = row.value;
       reads = rw row.written (line_reads (numbers_line kind) row.value (name_of kind) row.words (token, row.tokens)
           (omega (arith, row.short, token.short, length-append (name_of kind) (spaced_words row.words)))
-          (rw (named, row.reads 0 (omega arith)) (ap Ok (omega arith))));
+          (rw ((bytes_eq-Decides (name_of kind) (name_of kind)).1 refl, row.reads 0 (omega arith)) (ap Ok (omega arith))));
       bits = λ j within. row.bits j j (omega arith) within;
     }

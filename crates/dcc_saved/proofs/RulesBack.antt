@@ -56,7 +56,7 @@ own_board_back b h =
 step_back : (name : Word) (step : ℕ → Speed) (last n : ℕ) → last < 256 → IsToken name
     → (nat_le 1 n && nat_le n last) ≡ true
     → ((rest : List Word) → speed_step step last (decimal n ∷ rest) ≡ Ok (step n, rest))
-    × AllByRecursion IsToken (name ∷ decimal n ∷ []) × (2 ≤ 2)
+    × AllByRecursion IsToken (name ∷ decimal n ∷ []) × (length (name ∷ decimal n ∷ []) ≤ 2)
 step_back name step last n small token h =
     let parts = and_parts (nat_le 1 n) (nat_le n last) h in
     let least = leb-true 1 n parts.0 in
