@@ -1,7 +1,6 @@
 pub mod BitsLemmas
 pub mod ReadLemmas
 pub mod DecoderTextLemmas
-mod BlankLines
 pub mod RowsLemmas
 pub mod FleetLemmas
 pub mod LinesBack

@@ -12,12 +12,16 @@ use Rattle.dcc_saved.specs.TextReader.Stop.{refused, cut, too_many}
 abbrev pub at : InputState → List ℕ → Text
 at input bytes = record { line = input.place.line; bytes = bytes }
 
--- a value, or why there is none, of bytes that are cut off by this fault or none
+-- why a text is not read to its end whose bytes are cut off by this fault or none
+abbrev pub stop_fault : Option KeptFault → Stop → KeptFault
+stop_fault last (refused line fault) = Line line fault
+stop_fault last (cut line) = fault_at_end line last
+stop_fault last too_many = TooMuch
+
+-- a value, or why there is none, of such bytes
 abbrev pub answer_of : {A : Type 0} → Option KeptFault → Result (A × Text) Stop → Result A KeptFault
 answer_of last (Ok read) = Ok read.0
-answer_of last (Err (refused line fault)) = Err (Line line fault)
-answer_of last (Err (cut line)) = Err (fault_at_end line last)
-answer_of last (Err too_many) = Err TooMuch
+answer_of last (Err stop) = Err (stop_fault last stop)
 
 -- what a reader answers of an input with this text
 abbrev pub answer_in : {A : Type 0} → Reader A → InputState → List ℕ → Result A KeptFault

@@ -1,27 +1,25 @@
 //! Reading a decoder text.
 
-ghost use Rattle.std.specs.Prelude.{◌≡◌, ◌<◌, ◌^◌, ◌%◌, None, true, nat_le, IfOk};
+ghost use Rattle.std.specs.Prelude.{◌≡◌, ◌%◌, None, true, nat_le, IfOk};
 ghost use Rattle.dcc_regs.specs.Addresses.{is_active};
-ghost use Rattle.dcc_regs.specs.Loco.{is_pending_for};
 ghost use Rattle.dcc_regs.specs.Possible.{is_decoder};
-ghost use Rattle.dcc_saved.specs.Inner.RequiredLine.{TakesLine, Judges};
+ghost use Rattle.dcc_saved.specs.Inner.RequiredLine.{TakesLine};
 ghost use Rattle.dcc_saved.specs.TextReader.{line_by};
 ghost use Rattle.dcc_saved.specs.TextRead.{Answers};
-ghost use Rattle.dcc_saved.specs.DecoderLines.{version_line, head_line, numbers_line};
-ghost use Rattle.dcc_saved.specs.DecoderLines.{pending_line, loco_line, keyed};
-ghost use Rattle.dcc_saved.specs.Numbered.{end_of};
+ghost use Rattle.dcc_saved.specs.DecoderLines.{version_line, head_line, keyed};
 ghost use Rattle.dcc_saved.specs.DecoderText.{board_lines, cvs_lines, decoder_lines, loco_lines, states_by};
-ghost use Rattle.dcc_saved.specs.PossibleLines.{IsPossibleHead, IsSoundLine, is_possible};
+ghost use Rattle.dcc_saved.specs.PossibleLines.{IsPossibleHead, is_possible};
 
 use crate::decoder_fields::SavedSpeed;
 use crate::decoder_line::{Four, Head, LocoLine, Numbered, Version};
-use crate::decoder_words::{head_line, keyed, loco_line, numbers_line, pending_line};
+use crate::line_rule::{CvLine, HeadLine, Keyed, LineRule, PendingLine};
 use crate::saved::Saved;
 use dcc_io::inputs::{line_of_next_byte, next_line, refuse_line};
 use dcc_io::{Input, KeptFault, Source, TextLine};
 use dcc_packet::field::Field;
-use dcc_packet::{Address, Bit, Board, Direction, Packet, PacketFault};
+use dcc_packet::{Address, Bit, Board, Direction, PacketFault};
 use dcc_regs::{BoardState, LocoState, Who};
+use std::marker::PhantomData;
 
 /// The next line. Where there is none, the line behind the last is out of place.
 fn line_in_place<R: Source>(input: &mut Input<R>) -> Result<TextLine, KeptFault>
@@ -37,19 +35,30 @@ fn line_in_place<R: Source>(input: &mut Input<R>) -> Result<TextLine, KeptFault>
     }
 }
 
-/// What was read of a line, or its fault, which is kept.
-fn judge<R: Source, T: Copy>(
-    input: &mut Input<R>,
-    line: u64,
-    read: Result<T, PacketFault>,
-) -> Result<T, KeptFault>
+/// What the next line says by its rule. Its fault is kept.
+fn read_line<R: Source, L: LineRule>(input: &mut Input<R>, rule: L) -> Result<L::Value, KeptFault>
     requires { input.old.fault ≡ None }
-    ensures { Judges input.old line read result input.new }
+    ensures reads { Answers (line_by (L.rule rule)) input.old result input.new }
+    ensures holds { IfOk result (L.Holds rule) }
 {
-    match read {
+    let line = line_in_place(input)?;
+    match rule.read(line.text.as_bytes()) {
         Ok(value) => Ok(value),
-        Err(fault) => Err(refuse_line(input, line, fault)),
+        Err(fault) => Err(refuse_line(input, line.number, fault)),
     }
+}
+
+/// The fields of the line that begins with this word.
+fn read_keyed<R: Source, F: Field + Copy>(
+    input: &mut Input<R>,
+    name: &'static [u8],
+) -> Result<F, KeptFault>
+    requires { input.old.fault ≡ None }
+    ensures reads { Answers (line_by (keyed name.now F.field)) input.old result input.new }
+    ensures fits { IfOk result F.field.Fits }
+{
+    let fields = PhantomData;
+    read_line(input, Keyed { name, fields })
 }
 
 /// The line that begins the text.
@@ -66,23 +75,7 @@ pub(crate) fn read_head<R: Source>(input: &mut Input<R>) -> Result<Head, KeptFau
     ensures reads { Answers (line_by head_line) input.old result input.new }
     ensures possible { IfOk result IsPossibleHead }
 {
-    let line = line_in_place(input)?;
-    judge(input, line.number, head_line(line.text.as_bytes()))
-}
-
-/// The line of the numbers that are on.
-fn read_numbers<R: Source>(input: &mut Input<R>, numbered: Numbered) -> Result<u128, KeptFault>
-    requires { input.old.fault ≡ None }
-    ensures reads { Answers (line_by (numbers_line numbered)) input.old result input.new }
-    ensures fits { IfOk result (λ bits. bits < 2 ^ end_of numbered) }
-    ensures even { numbered ≡ Numbered.State → IfOk result (λ bits. bits % 2 ≡ 0) }
-{
-    let line = line_in_place(input)?;
-    judge(
-        input,
-        line.number,
-        numbers_line(numbered, line.text.as_bytes()),
-    )
+    read_line(input, HeadLine)
 }
 
 /// The binary states that are on. Version 1 has no line of them.
@@ -93,45 +86,8 @@ fn states_of<R: Source>(input: &mut Input<R>, version: Version) -> Result<u128, 
 {
     match version {
         Version::One => Ok(0),
-        Version::Two => read_numbers(input, Numbered::State),
+        Version::Two => read_line(input, Numbered::State),
     }
-}
-
-/// The line of the pending CV write to this address.
-fn read_pending<R: Source>(
-    input: &mut Input<R>,
-    active: &Option<Address>,
-) -> Result<Option<Packet>, KeptFault>
-    requires { input.old.fault ≡ None }
-    ensures reads { Answers (line_by (pending_line active.now)) input.old result input.new }
-    ensures possible { IfOk result (λ pending. is_pending_for active.now pending ≡ true) }
-{
-    let line = line_in_place(input)?;
-    judge(
-        input,
-        line.number,
-        pending_line(active, line.text.as_bytes()),
-    )
-}
-
-/// A line of a CV, not below this one, or the line behind the CVs.
-fn read_loco_line<R: Source>(input: &mut Input<R>, least: u16) -> Result<LocoLine, KeptFault>
-    requires { input.old.fault ≡ None }
-    ensures reads { Answers (line_by (loco_line least)) input.old result input.new }
-    ensures sound { IfOk result (IsSoundLine least) }
-{
-    let line = line_in_place(input)?;
-    judge(input, line.number, loco_line(line.text.as_bytes(), least))
-}
-
-/// The fields of the line that begins with this word.
-fn read_keyed<R: Source, F: Field + Copy>(input: &mut Input<R>, name: &[u8]) -> Result<F, KeptFault>
-    requires { input.old.fault ≡ None }
-    ensures reads { Answers (line_by (keyed name.now F.field)) input.old result input.new }
-    ensures fits { IfOk result F.field.Fits }
-{
-    let line = line_in_place(input)?;
-    judge(input, line.number, keyed(name, line.text.as_bytes()))
 }
 
 /// The CVs and the line behind them.
@@ -143,7 +99,7 @@ fn read_cvs<R: Source>(input: &mut Input<R>) -> Result<([u8; 1024], Head), KeptF
     let mut cvs = [0; 1024];
     let mut least = 1;
     'cvs: loop {
-        match read_loco_line(input, least)? {
+        match read_line(input, CvLine { least })? {
             LocoLine::Cv { cv, value } => {
                 cvs[cv.number() as usize - 1] = value;
                 least = cv.number() + 1;
@@ -165,9 +121,9 @@ fn read_loco<R: Source>(
     ensures possible { IfOk result (λ read. (is_possible read.0 ≡ true) × IsPossibleHead read.1) }
 {
     let (saved, direction): (SavedSpeed, Direction) = read_keyed(input, b"speed")?;
-    let functions = read_numbers(input, Numbered::Function)?;
+    let functions = read_line(input, Numbered::Function)?;
     let states = states_of(input, version)?;
-    let pending = read_pending(input, &address)?;
+    let pending = read_line(input, PendingLine { address })?;
     let (cvs, head) = read_cvs(input)?;
     let state = LocoState {
         address,
@@ -188,7 +144,7 @@ fn read_board<R: Source>(input: &mut Input<R>, board: Board) -> Result<(Saved, H
     ensures reads { Answers (board_lines board) input.old result input.new }
     ensures possible { IfOk result (λ read. (is_possible read.0 ≡ true) × IsPossibleHead read.1) }
 {
-    let outs = read_numbers(input, Numbered::Out)?;
+    let outs = read_line(input, Numbered::Out)?;
     let positions: Four<Bit> = read_keyed(input, b"position")?;
     let aspects: Four<u8> = read_keyed(input, b"aspect")?;
     let head = read_head(input)?;

@@ -8,6 +8,7 @@ mod decoder_text;
 mod decoder_words;
 mod fleet_text;
 pub mod laws;
+mod line_rule;
 mod saved;
 mod saved_decoders;
 mod who_word;

@@ -1,6 +1,5 @@
 -- A line that has to stand where it is read.
 use Rattle.std.specs.Prelude.{◌≡◌, ◌⊎◌, ℕ, [], Some, Result, Ok, Err, IfSome}
-use Rattle.dcc_packet.specs.declared.fault.PacketFault.{PacketFault}
 use Rattle.dcc_packet.specs.declared.fault.PacketFault.TheVariants as faults
 use Rattle.dcc_io.specs.declared.text_line.TextLine.{TextLine}
 use Rattle.dcc_io.specs.declared.fault.KeptFault.{KeptFault}
@@ -24,9 +23,3 @@ TakesLine old (Err (Line number fault)) new = (fault ≡ faults.Word) × MissesL
 TakesLine old (Err Read) new = FailsInLine old new
 TakesLine old (Err TooMuch) new = OverflowsInLine old new
 TakesLine old (Err (Number line)) new = ⊥
-
--- what was read of a line on its own is answered, and a fault is kept
-abbrev pub Judges : {A : Type 0} → InputState → ℕ → Result A PacketFault → Result A KeptFault → InputState → Type 0
-Judges old line (Ok x) result new = (result ≡ Ok x) × (new ≡ old)
-Judges old line (Err fault) result new =
-    (result ≡ Err (Line line fault)) × (new ≡ record old { fault = Some (Line line fault) })

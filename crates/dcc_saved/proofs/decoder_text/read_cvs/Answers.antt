@@ -1,5 +1,7 @@
-use Rattle.std.proofs.lemmas.Result.{err_from_is_err_and}
-use Rattle.dcc_saved.proofs.DecoderTextLemmas.{ReadsCvs-start, ReadsCvs-cv, ReadsCvs-head, ReadsCvs-fault}
+use Rattle.dcc_saved.specs.DecoderLines.{loco_line}
+use Rattle.dcc_saved.specs.TextReader.{line_by}
+use Rattle.dcc_saved.proofs.ReadLemmas.{Leads-then, Answers-fault}
+use Rattle.dcc_saved.proofs.DecoderTextLemmas.{ReadsCvs-start, ReadsCvs-cv}
 use Rattle.dcc_saved.proofs.decoder_text.read_cvs.Goals as goal
 
 pub cvs-init : goal.cvs-init
@@ -7,18 +9,16 @@ cvs-init g c = ReadsCvs-start c.args.input.now c.requires
 
 pub cvs-preserved : goal.cvs-preserved
 cvs-preserved g c =
-    let ends = rw c.in-Cv.is at c.in_ok-cv.ensures in
+    let read = rw c.in-Cv.is at c.in_ok-cv.ensures in
     rw (c.number-least.ensures.value, c.number.ensures.value)
-    (ReadsCvs-cv c.args.input.now c.cvs.input c.read_loco_line.new.input c.cvs.least c.cvs.cvs c.in-Cv.cv
-    c.in-Cv.value c.cvs.invariant ends.reads ends.sound)
+    (ReadsCvs-cv _ _ _ _ _ _ _ c.cvs.invariant read.reads read.holds)
 
 pub returns-in-Head-clause-reads : goal.returns-in-Head-clause-reads
 returns-in-Head-clause-reads g c =
-    let ends = rw c.in-Head.is at c.in_ok-cv.ensures in
-    ReadsCvs-head c.args.input.now c.cvs.input c.read_loco_line.new.input c.cvs.least c.cvs.cvs c.in-Head.head
-    c.cvs.invariant ends.reads
+    let read = rw c.in-Head.is at c.in_ok-cv.ensures in
+    Leads-then (line_by (loco_line c.cvs.least)) _ c.cvs.invariant.leads read.reads
 
 pub returns-in_err-cv-clause-reads : goal.returns-in_err-cv-clause-reads
 returns-in_err-cv-clause-reads g c =
-    let p = err_from_is_err_and c.from_residual.result c.from_residual.ensures.1 in
-    rw (p.1, p.2) (ReadsCvs-fault _ _ _ c.cvs.least c.cvs.cvs _ c.cvs.invariant c.in_err-cv.ensures.reads)
+    Answers-fault (line_by (loco_line c.cvs.least)) _ c.cvs.invariant.leads _ _ _ c.from_residual.ensures.1
+    c.in_err-cv.ensures.reads

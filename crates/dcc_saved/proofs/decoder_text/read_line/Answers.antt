@@ -1,0 +1,17 @@
+use Rattle.dcc_saved.proofs.ReadLemmas.{line-missed, line-read, line-refused}
+use Rattle.dcc_saved.proofs.decoder_text.read_line.Goals as goal
+
+pub returns-in_err-line-clause-reads : goal.returns-in_err-line-clause-reads
+returns-in_err-line-clause-reads g c =
+    line-missed (g.L.LineRule.rule c.args.rule) _ _ _ _ c.from_residual.ensures.1 c.in_err-line.ensures
+
+pub returns-in-Ok-clause-reads : goal.returns-in-Ok-clause-reads
+returns-in-Ok-clause-reads g c =
+    let is = rw (c.as_bytes.ensures.value, c.deref.ensures.0) at c.in-Ok.ensures.is in
+    line-read (g.L.LineRule.rule c.args.rule) c.read.ensures.blank _ _ _ _ c.in_ok-line.ensures _ is
+
+pub returns-in-Err-clause-reads : goal.returns-in-Err-clause-reads
+returns-in-Err-clause-reads g c =
+    let is = rw (c.as_bytes.ensures.value, c.deref.ensures.0) at c.in-Err.ensures.is in
+    line-refused (g.L.LineRule.rule c.args.rule) c.read.ensures.blank _ _ _ _ c.in_ok-line.ensures _ _ _ is
+    (c.refuse_line.ensures.refuses c.in_ok-line.ensures.fault)
