@@ -1,10 +1,9 @@
 -- The lines of a decoder text, read one after the other.
-use Rattle.std.proofs.Common.{zero, suc, ◌≡◌, ℕ, ◌+◌, ◌-◌, ◌<◌, ◌≤◌, List, [], ◌∷◌, ◌++◌, length, Option, None}
-use Rattle.std.proofs.Common.{Some, Ok, Err, refl, sym, ap, arith, replicate, slice_set}
+use Rattle.std.proofs.Common.{zero, suc, ◌≡◌, ℕ, ◌+◌, ◌-◌, ◌<◌, List, [], ◌∷◌, ◌++◌, length, Option}
+use Rattle.std.proofs.Common.{Some, Err, refl, sym, ap, arith}
 use Rattle.std.proofs.Common.{inr}
 use Rattle.dcc_packet.specs.declared.accessory.Board.{Board}
 use Rattle.dcc_packet.specs.declared.address.Address.{Address}
-use Rattle.dcc_packet.specs.declared.cv.CvNumber.{CvNumber}
 use Rattle.dcc_packet.specs.declared.packet.Packet.{Packet}
 use Rattle.dcc_saved.specs.declared.decoder_fields.SavedSpeed.{SavedSpeed}
 use Rattle.dcc_io.specs.declared.fault.KeptFault.{KeptFault}
@@ -15,10 +14,8 @@ use Rattle.dcc_saved.specs.declared.saved.Saved.{Saved}
 use Rattle.dcc_saved.specs.declared.saved.Saved.TheVariants as saved
 use Rattle.dcc_saved.specs.declared.decoder_line.Head.{Head}
 use Rattle.dcc_saved.specs.declared.decoder_line.Head.TheVariants as heads
-use Rattle.dcc_saved.specs.declared.decoder_line.LocoLine.TheVariants as behind
 use Rattle.dcc_io.specs.InputState.{InputState}
-use Rattle.dcc_io.specs.Took.{Uses}
-use Rattle.dcc_saved.specs.DecoderLines.{head_line, numbers_line, pending_line, loco_line}
+use Rattle.dcc_saved.specs.DecoderLines.{head_line, numbers_line, pending_line}
 use Rattle.dcc_saved.specs.declared.decoder_line.Numbered.TheVariants as kinds
 use Rattle.dcc_packet.specs.declared.fields.Direction.{Direction}
 use Rattle.dcc_packet.specs.declared.fields.Bit.{Bit}
@@ -28,10 +25,10 @@ use Rattle.dcc_saved.specs.TextReader.Stop.{cut, too_many}
 use Rattle.dcc_saved.specs.TextRead.{at, answer_of, GoesOn, Leads, Answers, UsedWholeLines}
 use Rattle.dcc_regs.specs.declared.register.Who.{Who}
 use Rattle.dcc_saved.specs.declared.decoder_line.Version.{Version}
-use Rattle.dcc_saved.specs.DecoderText.{states_by, decoder_lines, cvs_from, cvs_lines}
+use Rattle.dcc_saved.specs.DecoderText.{states_by, decoder_lines, cvs_lines}
 use Rattle.dcc_saved.specs.DecoderText.{board_read, decoders_from, decoder_text}
 use Rattle.dcc_io.proofs.TookLemmas.{map_text}
-use Rattle.dcc_saved.proofs.ReadLemmas.{Leads-start, Leads-then, told_by}
+use Rattle.dcc_saved.proofs.ReadLemmas.{told_by}
 
 -- what follows each line of an accessory decoder
 abbrev pub behind_board_head : Board → ℕ → Four Bit → Four ℕ → Head → Reader (Saved × Head)
@@ -77,40 +74,7 @@ behind_functions version address speed functions = states_by version >>= behind_
 abbrev pub behind_speed : Version → Option Address → SavedSpeed × Direction → Reader (Saved × Head)
 behind_speed version address speed = line_by (numbers_line kinds.Function) >>= behind_functions version address speed
 
--- the CVs below this one were read, and as many lines may follow as can ascend
-pub record ReadsCvs (old : InputState) (least : ℕ) (cvs : List ℕ) (now : InputState) : Type 0 where
-  pub more : ℕ
-  pub room : 1025 ≤ more + least
-  pub first : 1 ≤ least
-  pub last : least ≤ 1025
-  pub leads : Leads cvs_lines old (cvs_from (suc more) least cvs) now
-
-pub ReadsCvs-start : (old : InputState) → old.fault ≡ None → ReadsCvs old 1 (replicate 1024 0) old
-unfolding cvs_lines
-ReadsCvs-start old fault =
-    record {
-      more = 1024;
-      room = omega arith;
-      first = omega arith;
-      last = omega arith;
-      leads = Leads-start cvs_lines old fault;
-    }
-
-pub ReadsCvs-cv : (old now new : InputState) (least : ℕ) (cvs : List ℕ) (cv : CvNumber) (value : ℕ)
-    → ReadsCvs old least cvs now → Answers (line_by (loco_line least)) now (Ok (behind.Cv cv value)) new
-    → least ≤ cv.number
-    → ReadsCvs old (cv.number + 1) (slice_set cvs (cv.number - 1) value) new
-ReadsCvs-cv old now new least cvs cv value reads line ascends =
-    go reads.more reads.room (Leads-then (line_by (loco_line least)) _ reads.leads line)
-  where
-    go : (more : ℕ) → 1025 ≤ more + least
-        → Leads cvs_lines old (cvs_from more (cv.number + 1) (slice_set cvs (cv.number - 1) value)) new
-        → ReadsCvs old (cv.number + 1) (slice_set cvs (cv.number - 1) value) new
-    go zero room leads = let range = cv.in_range in absurd (omega arith)
-    go (suc more) room leads =
-        let range = cv.in_range in
-        record { more = more; room = omega arith; first = omega arith; last = omega arith; leads = leads }
-
+-- what follows each of the first lines of a text
 abbrev pub behind_head : Version → Head → Reader (List Saved)
 behind_head version head = decoders_from version 64 [] head
 
@@ -120,11 +84,13 @@ behind_version version = line_by head_line >>= behind_head version
 -- where there is room for one more
 pub one_more : (version : Version) (before : List Saved) (who : Who) → length before < 64
     → decoders_from version (64 - length before) before (heads.Decoder who)
-    ≡ (decoder_lines version who >>= λ decoder. decoders_from version (63 - length before) (before ++ decoder.0 ∷ []) decoder.1)
+    ≡ (decoder_lines version who
+    >>= λ decoder. decoders_from version (63 - length before) (before ++ decoder.0 ∷ []) decoder.1)
 one_more version before who some =
     let room : 64 - length before ≡ suc (63 - length before) = omega arith in rw room refl
 
-pub no_more : (version : Version) (room : ℕ) (before : List Saved) → decoders_from version room before heads.End ≡ done before
+pub no_more : (version : Version) (room : ℕ) (before : List Saved)
+    → decoders_from version room before heads.End ≡ done before
 no_more version zero before = refl
 no_more version (suc room) before = refl
 
@@ -133,7 +99,7 @@ pub whole_lines : {rest : Reader (List Saved)} {old new : InputState} → Leads 
     → (rest (at new []) ≡ Err (cut old.place.line) → ⊥) → UsedWholeLines old new
 unfolding decoder_text
 whole_lines {rest = rest} {old = old} {new = new} leads more =
-    map_text (Uses (GoesOn decoder_text old rest new) old new) (λ text. new.lines + 1 ≡ new.place.line) old.text new.text
+    map_text _ (λ text. new.lines + 1 ≡ new.place.line) old.text new.text
     (λ text behind uses. used uses.used uses.is) leads.text
   where
     used : (bytes : List ℕ) → GoesOn decoder_text old rest new bytes → new.lines + 1 ≡ new.place.line
@@ -146,7 +112,7 @@ pub too_many_decoders : (old now : InputState) → Leads decoder_text old (stop_
 too_many_decoders old now leads = (
   (
     leads.failures,
-    told_by old now (λ bytes last. answer_of last (decoder_text (at old bytes))) (Err TooMuch) leads.took
+    told_by decoder_text old now (Err TooMuch) leads.took
         (λ used more last goes. ap (answer_of last) (goes.goes_on more)),
   ),
   refl,

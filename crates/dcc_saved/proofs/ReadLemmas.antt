@@ -1,5 +1,5 @@
 -- How readers of a text follow one another.
-use Rattle.std.proofs.Common.{◌≡◌, ℕ, ◌+◌, ◌-◌, ◌<◌, List, [], ◌∷◌, ◌++◌, length, take, Bool, true, false, eqb}
+use Rattle.std.proofs.Common.{◌≡◌, ℕ, ◌-◌, ◌<◌, List, [], ◌∷◌, ◌++◌, length, take, Bool, true, false, eqb}
 use Rattle.std.proofs.Common.{nat_le, Option, None, Some, Result, Ok, Err, refl, sym, ap, ◌∙◌, arith}
 use Rattle.std.proofs.Common.{append_assoc, length-append, ◌⊎◌, inl, inr, cond, IfSome, IsSomeAnd, IsErrAnd}
 use Rattle.std.proofs.lemmas.List.{append-nil}
@@ -12,26 +12,20 @@ use Rattle.dcc_io.specs.KeptAnswers.{KeepsFault}
 use Rattle.dcc_io.specs.TextPlace.{TextPlace, lines_with}
 use Rattle.dcc_io.specs.ReaderState.{IsAtEnd}
 use Rattle.dcc_io.specs.InputState.{InputState, all_lines}
-use Rattle.dcc_io.specs.Took.{Uses, Took, Stops, within_limit}
+use Rattle.dcc_io.specs.Took.{Uses, Took}
 use Rattle.dcc_io.specs.NumberedLines.{is_good}
 use Rattle.dcc_io.specs.NextLine.{has_line_feed, lines_within, IsOneLine, EndsLine, IsBadAt}
 use Rattle.dcc_saved.specs.Inner.RequiredLine.{TakesLine}
 use Rattle.dcc_saved.specs.TextReader.{Text, Stop, Reader, read_on, ◌>>=◌, first_line, behind_line}
 use Rattle.dcc_saved.specs.TextReader.{line_verdict, ended_line, line_by}
 use Rattle.dcc_saved.specs.TextReader.Stop.{cut}
-use Rattle.dcc_saved.specs.TextRead.{at, answer_of, answer_in, answer_before_failure, Leads, Refuses, Answers}
+use Rattle.dcc_saved.specs.TextRead.{at, answer_of, answer_at, answer_in, StopsAt, Leads, Refuses, Answers}
 use Rattle.dcc_saved.specs.TextRead.{TextLinesAt}
 use Rattle.dcc_io.proofs.TookLemmas.{if_some_map, map_text, Took-start, Took-map, Took-join, Stops-map}
 use Rattle.dcc_io.proofs.TookLemmas.{same_cond, Stops-behind, within_limit-used, within_limit-front, overflows}
 use Rattle.dcc_io.proofs.TookLemmas.{zero_fits, told_behind, LinesAt-behind}
 use Rattle.dcc_io.proofs.PassedLemmas.{or_false}
 use Rattle.dcc_io.proofs.LineLemmas.{bad-more, IsThrough, took_line}
-
-abbrev Fails : {A : Type 0} → Reader A → InputState → List ℕ → Type 0
-Fails read old used = answer_before_failure read old used ≡ Err Read
-
-abbrev Says : {A : Type 0} → Reader A → KeptFault → InputState → List ℕ → Type 0
-Says read fault old text = answer_in read old text ≡ Err fault
 
 -- nothing was read yet
 pub Leads-start : {A : Type 0} (read : Reader A) (input : InputState) → input.fault ≡ None → Leads read input read input
@@ -44,9 +38,8 @@ Leads-start read input fault = record {
 
 -- what stops a reader, in other words
 Refuses-map : {A B : Type 0} (read : Reader A) (whole : Reader B) (old now new : InputState) (fault : KeptFault)
-    → (Stops (Fails read now) (Says read fault now) now fault new
-    → Stops (Fails whole old) (Says whole fault old) old fault new)
-    → Refuses read now fault new → Refuses whole old fault new
+    → (StopsAt read now fault new → StopsAt whole old fault new) → Refuses read now fault new
+    → Refuses whole old fault new
 Refuses-map read whole old now new (Number line) each stops = stops
 Refuses-map read whole old now new (Line line why) each stops = each stops
 Refuses-map read whole old now new TooMuch each stops = each stops
@@ -59,30 +52,26 @@ cond-map true each other is = each is
 cond-map false each other is = other is
 
 -- what is answered of a text that begins with bytes which tell it
-pub told_by : {A : Type 0} {P : List ℕ → Type 0} (old new : InputState) (said : List ℕ → Option KeptFault → A) (x : A)
-    → Took P old new → ((used more : List ℕ) (last : Option KeptFault) → P used → said (used ++ more) last ≡ x)
-    → IfSome old.text (λ text. within_limit said old text ≡ x)
-told_by {P = P} old new said x took each =
-    map_text (Uses P old new) (λ text. within_limit said old text ≡ x) old.text new.text
+pub told_by : {A : Type 0} {P : List ℕ → Type 0} (read : Reader A) (old new : InputState) (x : Result A KeptFault)
+    → Took P old new
+    → ((used more : List ℕ) (last : Option KeptFault) → P used → answer_at read old (used ++ more) last ≡ x)
+    → IfSome old.text (λ text. answer_in read old text ≡ x)
+told_by read old new x took each =
+    map_text _ (λ text. answer_in read old text ≡ x) old.text new.text
     (λ text rest uses.
-    within_limit-used old new said (λ more last. x) text rest uses (λ more last. each uses.used more last uses.is)
+    within_limit-used old new (answer_at read old) (λ more last. x) text rest uses
+    (λ more last. each uses.used more last uses.is)
     ∙ same_cond (nat_le (length rest) new.bytes) x) took.text
 
 -- the lines that were used where a text is refused, told from further back
 TextLinesAt-behind : {P : List ℕ → Type 0} (old mid new : InputState) (fault : KeptFault) → Took P old mid
     → TextLinesAt mid fault new → TextLinesAt old fault new
-TextLinesAt-behind old mid new (Number line) took lines = LinesAt-behind took new (Number line) lines
-TextLinesAt-behind old mid new Read took lines = LinesAt-behind took new Read lines
 TextLinesAt-behind old mid new (Line line why) took (inl lines) = inl (LinesAt-behind took new (Line line why) lines)
-TextLinesAt-behind old mid new (Line line why) took (inr (at_end, all)) = inr (
-  at_end,
-  told_behind took (λ text. new.lines ≡ all_lines mid text) (λ text. new.lines ≡ all_lines old text)
-      (λ text rest uses same. same ∙ uses.lines) all,
-)
+TextLinesAt-behind old mid new (Line line why) took (inr (at_end, all)) =
+    inr (at_end, told_behind took _ _ (λ text rest uses same. same ∙ uses.lines) all)
 TextLinesAt-behind old mid new TooMuch took (inl lines) = inl (LinesAt-behind took new TooMuch lines)
-TextLinesAt-behind old mid new TooMuch took (inr whole) =
-    inr (told_behind took (λ text. new.lines + 1 ≡ new.place.line) (λ text. new.lines + 1 ≡ new.place.line)
-    (λ text rest uses same. same) whole)
+TextLinesAt-behind old mid new TooMuch took (inr whole) = inr (told_behind took _ _ (λ text rest uses same. same) whole)
+TextLinesAt-behind old mid new fault took lines = LinesAt-behind took new fault lines
 
 module _ {A B : Type 0} (first : Reader A) (next : A → Reader B) {whole : Reader B} {old now : InputState}
     (leads : Leads whole old (first >>= next) now) where
@@ -90,10 +79,6 @@ module _ {A B : Type 0} (first : Reader A) (next : A → Reader B) {whole : Read
   pub Leads-then : {new : InputState} {x : A} → Answers first now (Ok x) new → Leads whole old (next x) new
   Leads-then {new = new} value = record {
     took = Took-join leads.took value.took (λ front back before behind.
-        let same : length back ≡ 0 → new.lines ≡ now.lines = λ none. (behind.still none).0 in
-        let place : length back ≡ 0 → new.place.line ≡ now.place.line = λ none. (behind.still none).1 in
-        let same_before : length front ≡ 0 → now.lines ≡ old.lines = λ none. (before.still none).0 in
-        let place_before : length front ≡ 0 → now.place.line ≡ old.place.line = λ none. (before.still none).1 in
         record {
           goes_on =
               λ more. ap (λ (bytes : List ℕ). whole (at old bytes)) (append_assoc front back more)
@@ -114,12 +99,11 @@ module _ {A B : Type 0} (first : Reader A) (next : A → Reader B) {whole : Read
   refuses : (new : InputState) (fault : KeptFault) → Refuses first now fault new → Refuses whole old fault new
   refuses new fault =
       Refuses-map first whole old now new fault
-      (λ h. Stops-behind leads.took (Fails first now) (Fails whole old) (Says first fault now) (Says whole fault old) new fault h
+      (λ h. Stops-behind leads.took _ _ _ _ new fault h
       (λ front back before fails.
       ap (answer_of (Some Read)) (before.goes_on back) ∙ stops (Some Read) Read (first (at now back)) fails)
       (λ text rest uses says.
-      within_limit-used old now (λ bytes last. answer_of last (whole (at old bytes)))
-      (λ bytes last. answer_of last (read_on (first (at now bytes)) next)) text rest uses
+      within_limit-used old now (answer_at whole old) (answer_at (first >>= next) now) text rest uses
       (λ more last. ap (answer_of last) (uses.is.goes_on more))
       ∙ cond-map (nat_le (length rest) now.bytes) (stops None fault (first (at now rest)))
       (stops (Some TooMuch) fault (first (at now (take (now.bytes - 1) rest)))) says))
@@ -131,25 +115,20 @@ module _ {A B : Type 0} (first : Reader A) (next : A → Reader B) {whole : Read
       rw is (refuses new fault stop.0, stop.1, TextLinesAt-behind old now new fault leads.took stop.2)
 
 -- bytes without a line feed begin the first line
-first-goes_on : (line rest : List ℕ) → has_line_feed line ≡ false → first_line (line ++ rest) ≡ line ++ first_line rest
-first-goes_on [] rest one = refl
-first-goes_on (byte ∷ line) rest one =
-    let parts = or_false (eqb byte 10) (has_line_feed line) one in rw parts.0
-    (ap (λ (bytes : List ℕ). byte ∷ bytes) (first-goes_on line rest parts.1))
-
-behind-goes_on : (line rest : List ℕ) → has_line_feed line ≡ false → behind_line (line ++ rest) ≡ behind_line rest
-behind-goes_on [] rest one = refl
-behind-goes_on (byte ∷ line) rest one =
-    let parts = or_false (eqb byte 10) (has_line_feed line) one in rw parts.0 (behind-goes_on line rest parts.1)
+line-parts : (line rest : List ℕ) → has_line_feed line ≡ false
+    → (first_line (line ++ rest) ≡ line ++ first_line rest) × (behind_line (line ++ rest) ≡ behind_line rest)
+line-parts [] rest one = (refl, refl)
+line-parts (byte ∷ line) rest one =
+    let here = or_false (eqb byte 10) (has_line_feed line) one in
+    let parts = line-parts line rest here.1 in
+    rw here.0 (ap (λ (bytes : List ℕ). byte ∷ bytes) parts.0, parts.1)
 
 module _ {A : Type 0} (rule : List Word → Result A PacketFault) where
   -- the front of a line, and what follows it
   line-front : (n : ℕ) (line rest : List ℕ) → IsOneLine line → first_line rest ≡ []
       → line_by rule (record { line = n; bytes = line ++ rest }) ≡ ended_line rule n line (behind_line rest)
   line-front n line rest is_line ends =
-      let first : first_line (line ++ rest) ≡ line =
-      first-goes_on line rest is_line.one ∙ ap (λ (bytes : List ℕ). line ++ bytes) ends ∙ append-nil line in
-      rw (first, behind-goes_on line rest is_line.one, is_line.good) refl
+      let parts = line-parts line rest is_line.one in rw (parts.0, parts.1, ends, append-nil, is_line.good) refl
 
   -- a line that has not ended
   line-cut : (n : ℕ) (line : List ℕ) → IsOneLine line → line_by rule (record { line = n; bytes = line }) ≡ Err (cut n)
@@ -157,13 +136,12 @@ module _ {A : Type 0} (rule : List Word → Result A PacketFault) where
 
   -- a line that is bad from its first bytes on, or none
   missed_text : (old : InputState) (text : List ℕ) → IsBadAt old text ⊎ (text ≡ [])
-      → Says (line_by rule) (Line old.place.line faults.Word) old text
+      → answer_in (line_by rule) old text ≡ Err (Line old.place.line faults.Word)
   missed_text old text (inl bad) =
-      within_limit-front old (λ bytes last. answer_of last (line_by rule (at old bytes)))
-      (Err (Line old.place.line faults.Word)) text bad.line bad.rest bad.whole bad.within
+      within_limit-front old (answer_at (line_by rule) old) _ text bad.line bad.rest bad.whole bad.within
       (λ more last.
       let all : is_good (first_line (bad.line ++ more)) ≡ false =
-      ap is_good (first-goes_on bad.line more bad.one) ∙ bad-more bad.line (first_line more) bad.bad in
+      ap is_good (line-parts bad.line more bad.one).0 ∙ bad-more bad.line (first_line more) bad.bad in
       rw all refl)
   missed_text old text (inr none) = rw (none, zero_fits old.bytes) refl
 
@@ -172,30 +150,23 @@ module _ {A : Type 0} (rule : List Word → Result A PacketFault) where
       → IsErrAnd result (λ same. same ≡ fault) → TakesLine old (Err fault) new → Answers (line_by rule) old result new
   line-missed old new fault (Ok x) is h = absurd is
   line-missed old new (Line n why) (Err same) is h =
-      rw (is, h.0, h.1.at) (
-        (
-          h.1.failures,
-          if_some_map (λ text. IsBadAt old text ⊎ (text ≡ []))
-              (Says (line_by rule) (Line old.place.line faults.Word) old) old.text (missed_text old) h.1.text,
-        ),
-        rw h.1.at at h.1.fault,
-        rw h.1.at at h.1.lines,
-      )
+      rw (is, h.0, h.1) ((h.2.failures, if_some_map _ _ old.text (missed_text old) h.2.text), h.2.fault, h.2.lines)
   line-missed old new TooMuch (Err same) is h = rw is (
-    overflows IsOneLine (λ bytes last. answer_of last (line_by rule (at old bytes))) (Err TooMuch) old new h.0
+    overflows IsOneLine (answer_at (line_by rule) old) (Err TooMuch) old new h.0
         (λ used is_line. ap (answer_of (Some TooMuch)) (line-cut old.place.line used is_line)),
     h.1,
     inl h.2,
   )
   line-missed old new Read (Err same) is h = rw is (
-    Stops-map IsOneLine (Fails (line_by rule) old) (λ text. Unit {0}) (λ text. Unit {0}) old new Read h.0
+    Stops-map IsOneLine _ (λ text. Unit {0}) (λ text. Unit {0}) old new Read h.0
         (λ used is_line. ap (answer_of (Some Read)) (line-cut old.place.line used is_line)) (λ text none. none),
     h.1,
     h.2,
   )
   line-missed old new (Number n) (Err same) is h = absurd h
 
-  module _ (blank : rule [] ≡ Err faults.Word) (old mid : InputState) (n : ℕ) (line : List ℕ) (ends : EndsLine old n line mid) where
+  module _ (blank : rule [] ≡ Err faults.Word) (old mid : InputState) (n : ℕ) (line : List ℕ)
+      (ends : EndsLine old n line mid) where
     -- what is said of the line, whatever follows it
     given : (used more : List ℕ) → IsThrough old mid line used
         → line_by rule (at old (used ++ more)) ≡ line_verdict old.place.line (rule (words line)) more
@@ -244,7 +215,7 @@ module _ {A : Type 0} (rule : List Word → Result A PacketFault) where
         rw (keeps.0, keeps.1, ends.at) (
           (
             ends.failures,
-            told_by old mid (λ bytes last. answer_of last (line_by rule (at old bytes))) (Err (Line old.place.line why)) took
+            told_by (line_by rule) old mid (Err (Line old.place.line why)) took
                 (λ used more last through.
                 ap (answer_of last)
                 (given used more through ∙ ap (λ read. line_verdict old.place.line read more) (sym is))),

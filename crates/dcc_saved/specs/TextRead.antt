@@ -23,13 +23,17 @@ abbrev pub answer_of : {A : Type 0} → Option KeptFault → Result (A × Text) 
 answer_of last (Ok read) = Ok read.0
 answer_of last (Err stop) = Err (stop_fault last stop)
 
--- what a reader answers of an input with this text
+-- what a reader answers of these bytes at the line of an input, cut off by this fault or none
+abbrev pub answer_at : {A : Type 0} → Reader A → InputState → List ℕ → Option KeptFault → Result A KeptFault
+answer_at read input bytes last = answer_of last (read (at input bytes))
+
+-- what it answers of an input with this text
 abbrev pub answer_in : {A : Type 0} → Reader A → InputState → List ℕ → Result A KeptFault
-answer_in read input text = within_limit (λ bytes last. answer_of last (read (at input bytes))) input text
+answer_in read input text = within_limit (answer_at read input) input text
 
 -- what it answers of an input whose reader of bytes fails behind these
 abbrev pub answer_before_failure : {A : Type 0} → Reader A → InputState → List ℕ → Result A KeptFault
-answer_before_failure read input used = answer_of (Some Read) (read (at input used))
+answer_before_failure read input used = answer_at read input used (Some Read)
 
 -- behind these bytes the one reader goes on as the other, whatever follows them
 pub record GoesOn {A : Type 0} (read : Reader A) (old : InputState) (rest_read : Reader A) (new : InputState)
@@ -51,12 +55,16 @@ pub record Leads {A : Type 0} (read : Reader A) (old : InputState) (rest_read : 
 abbrev pub UsedWholeLines : InputState → InputState → Type 0
 UsedWholeLines old new = IfSome old.text (λ text. new.lines + 1 ≡ new.place.line)
 
--- the reader answers this fault, whose cause stands
-abbrev pub Refuses : {A : Type 0} → Reader A → InputState → KeptFault → InputState → Type 0
-Refuses read old (Number line) new = ⊥
-Refuses read old fault new =
+-- the reader stops at this fault, whose cause stands
+abbrev pub StopsAt : {A : Type 0} → Reader A → InputState → KeptFault → InputState → Type 0
+StopsAt read old fault new =
     Stops (λ used. answer_before_failure read old used ≡ Err Read) (λ text. answer_in read old text ≡ Err fault) old
     fault new
+
+-- it answers such a fault, never one of a number of a capture
+abbrev pub Refuses : {A : Type 0} → Reader A → InputState → KeptFault → InputState → Type 0
+Refuses read old (Number line) new = ⊥
+Refuses read old fault new = StopsAt read old fault new
 
 -- How many lines were used where a text is refused: those up to the line that the fault names, or all where the text has
 -- ended, since that may be the line behind its last. Where a decoder is one too many, those through its first line.

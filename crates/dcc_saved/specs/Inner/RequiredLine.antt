@@ -1,5 +1,5 @@
 -- A line that has to stand where it is read.
-use Rattle.std.specs.Prelude.{◌≡◌, ◌⊎◌, ℕ, [], Some, Result, Ok, Err, IfSome}
+use Rattle.std.specs.Prelude.{◌≡◌, ◌⊎◌, [], Some, Result, Ok, Err, IfSome}
 use Rattle.dcc_packet.specs.declared.fault.PacketFault.TheVariants as faults
 use Rattle.dcc_io.specs.declared.text_line.TextLine.{TextLine}
 use Rattle.dcc_io.specs.declared.fault.KeptFault.{KeptFault}
@@ -9,17 +9,16 @@ use Rattle.dcc_io.specs.NextLine.{EndsLine, IsBadAt, FailsInLine, OverflowsInLin
 use Rattle.dcc_saved.specs.TextRead.{TextLinesAt}
 
 -- the next line is bad, or there is none
-pub record MissesLine (old : InputState) (number : ℕ) (new : InputState) : Type 0 where
-  pub at : number ≡ old.place.line
+pub record MissesLine (old new : InputState) : Type 0 where
   pub text : IfSome old.text (λ text. IsBadAt old text ⊎ (text ≡ []))
-  pub lines : TextLinesAt old (Line number faults.Word) new
-  pub fault : new.fault ≡ Some (Line number faults.Word)
+  pub lines : TextLinesAt old (Line old.place.line faults.Word) new
+  pub fault : new.fault ≡ Some (Line old.place.line faults.Word)
   pub failures : new.failures ≡ old.failures
 
 -- the next line was taken, or why not
 abbrev pub TakesLine : InputState → Result TextLine KeptFault → InputState → Type 0
 TakesLine old (Ok line) new = EndsLine old line.number line.text.bytes new
-TakesLine old (Err (Line number fault)) new = (fault ≡ faults.Word) × MissesLine old number new
+TakesLine old (Err (Line number fault)) new = (fault ≡ faults.Word) × (number ≡ old.place.line) × MissesLine old new
 TakesLine old (Err Read) new = FailsInLine old new
 TakesLine old (Err TooMuch) new = OverflowsInLine old new
 TakesLine old (Err (Number line)) new = ⊥

@@ -1,4 +1,5 @@
-use Rattle.std.proofs.Common.{◌≡◌, ◌-◌, ◌<◌, ◌∷◌, ◌++◌, [], Err, true, refl, arith, length, length-append, vec_len, vec_capacity}
+use Rattle.std.proofs.Common.{◌≡◌, ◌-◌, ◌<◌, ◌∷◌, ◌++◌, [], Err, true, refl, arith, length, length-append, vec_len}
+use Rattle.std.proofs.Common.{vec_capacity}
 use Rattle.std.proofs.lemmas.List.Elements.{All-nil, All-push}
 use Rattle.std.proofs.lemmas.Result.{err_from_is_err_and}
 use Rattle.dcc_saved.specs.DecoderLines.{version_line, head_line}
@@ -20,13 +21,13 @@ pub returns-in_err-head-clause-reads : goal.returns-in_err-head-clause-reads
 unfolding decoder_text
 returns-in_err-head-clause-reads g c =
     let p = err_from_is_err_and c.from_residual-in_err-head.result c.from_residual-in_err-head.ensures.1 in
-    let version = Leads-then _ _ (Leads-start decoder_text _ c.requires.fault) c.in_ok-version.ensures in
+    let version = Leads-then _ _ (Leads-start decoder_text c.args.input.now c.requires.fault) c.in_ok-version.ensures in
     rw (p.1, p.2) (Answers-fault (line_by head_line) _ version _ _ (Err _) refl c.in_err-head.ensures.reads)
 
 pub decoders-init : goal.decoders-init
 unfolding decoder_text
 decoders-init g c =
-    let version = Leads-then _ _ (Leads-start decoder_text _ c.requires.fault) c.in_ok-version.ensures in
+    let version = Leads-then _ _ (Leads-start decoder_text c.args.input.now c.requires.fault) c.in_ok-version.ensures in
     rw c.requires.empty record {
       leads = Leads-then _ _ version c.in_ok-head.ensures.reads;
       head = c.in_ok-head.ensures.possible;
@@ -37,16 +38,14 @@ decoders-init g c =
 
 pub returns-then-len-eq-MOST-clause-reads : goal.returns-then-len-eq-MOST-clause-reads
 returns-then-len-eq-MOST-clause-reads g c =
-    let full : length c.decoders.decoders.items ≡ 64 =
-    omega (arith, c.decoders.decoders.ok, c.len.ensures, c.if-len-eq-MOST.true) in
+    let full : length c.decoders.decoders.items ≡ 64 = omega (arith, c.decoders.decoders.ok, c.len.ensures) in
     let refused = c.refuse_too_much.ensures.refuses c.decoders.invariant.leads.fault in
     rw (refused.0, refused.1) (too_many_decoders _ _ (rw (c.in-Decoder.is, full) at c.decoders.invariant.leads))
 
 pub decoders-preserved : goal.decoders-preserved
 decoders-preserved g c =
-    let few = c.decoders.invariant.few in
     let some : length c.decoders.decoders.items < 64 =
-    omega (arith, c.decoders.decoders.ok, c.len.ensures, c.if-len-eq-MOST.false) in
+    omega (arith, c.decoders.decoders.ok, c.len.ensures, c.if-len-eq-MOST.false, c.decoders.invariant.few) in
     let room : vec_len c.decoders.decoders < vec_capacity c.decoders.decoders =
     omega (arith, c.decoders.decoders.ok, c.decoders.invariant.room) in
     let items = rw (c.push.ensures.succeeds room) at c.push.ensures.items in
@@ -55,20 +54,19 @@ decoders-preserved g c =
     simp length-append (omega arith) in
     rw items record {
       leads = rw left
-          (Leads-then (decoder_lines c.in_ok-version.version c.in-Decoder.who) _
-          (rw (c.in-Decoder.is, one_more _ _ _ some) at c.decoders.invariant.leads) c.in_ok-decoder-in-Decoder.ensures.reads);
+          (Leads-then _ _ (rw (c.in-Decoder.is, one_more _ _ _ some) at c.decoders.invariant.leads)
+          c.in_ok-decoder-in-Decoder.ensures.reads);
       head = c.in_ok-decoder-in-Decoder.ensures.possible.1;
       few = simp length-append (omega arith);
       room = omega (arith, c.push.ensures.capacity, c.decoders.invariant.room);
-      possible = All-push (λ decoder. is_possible decoder ≡ true) c.decoders.decoders.items _ c.decoders.invariant.possible
-          c.in_ok-decoder-in-Decoder.ensures.possible.0;
+      possible = All-push (λ decoder. is_possible decoder ≡ true) c.decoders.decoders.items _
+          c.decoders.invariant.possible c.in_ok-decoder-in-Decoder.ensures.possible.0;
     }
 
 pub returns-in_err-decoder-in-Decoder-clause-reads : goal.returns-in_err-decoder-in-Decoder-clause-reads
 returns-in_err-decoder-in-Decoder-clause-reads g c =
-    let few = c.decoders.invariant.few in
     let some : length c.decoders.decoders.items < 64 =
-    omega (arith, c.decoders.decoders.ok, c.len.ensures, c.if-len-eq-MOST.false) in
+    omega (arith, c.decoders.decoders.ok, c.len.ensures, c.if-len-eq-MOST.false, c.decoders.invariant.few) in
     let p = err_from_is_err_and c.from_residual-in_err-decoder-in-Decoder.result
     c.from_residual-in_err-decoder-in-Decoder.ensures.1 in
     rw (p.1, p.2)

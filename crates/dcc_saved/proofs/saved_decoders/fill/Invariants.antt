@@ -6,7 +6,8 @@ use Rattle.dcc_saved.proofs.saved_decoders.fill.Given as goal
 
 abbrev pub invariant-decoders : goal.invariant-decoders
 invariant-decoders g l = record {
-  leads : Leads decoder_text l.fn.input (decoders_from l.version (64 - length l.decoders.items) l.decoders.items l.head) l.input;
+  leads : Leads decoder_text l.fn.input
+      (decoders_from l.version (64 - length l.decoders.items) l.decoders.items l.head) l.input;
   head : IsPossibleHead l.head;
   few : length l.decoders.items ≤ 64;
   room : 64 ≤ vec_capacity l.decoders;
