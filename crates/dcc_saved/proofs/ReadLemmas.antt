@@ -1,6 +1,6 @@
 -- How readers of a text follow one another.
 use Rattle.std.proofs.Common.{◌≡◌, ℕ, ◌-◌, ◌<◌, List, [], ◌∷◌, ◌++◌, length, take, Bool, true, false, eqb}
-use Rattle.std.proofs.Common.{nat_le, Option, None, Some, Result, Ok, Err, refl, sym, ap, ◌∙◌, arith}
+use Rattle.std.proofs.Common.{nat_le, Option, None, Some, Result, Ok, Err, refl, ap, ◌∙◌, arith}
 use Rattle.std.proofs.Common.{append_assoc, length-append, ◌⊎◌, inl, inr, cond, IfSome, IsSomeAnd, IsErrAnd}
 use Rattle.std.proofs.lemmas.List.{append-nil}
 use Rattle.dcc_packet.specs.declared.fault.PacketFault.{PacketFault}
@@ -9,11 +9,10 @@ use Rattle.dcc_packet.specs.Words.{Word, words}
 use Rattle.dcc_io.specs.declared.fault.KeptFault.{KeptFault}
 use Rattle.dcc_io.specs.declared.fault.KeptFault.TheVariants.{Number, Line, Read, TooMuch}
 use Rattle.dcc_io.specs.KeptAnswers.{KeepsFault}
-use Rattle.dcc_io.specs.TextPlace.{TextPlace, lines_with}
+use Rattle.dcc_io.specs.TextPlace.{lines_with}
 use Rattle.dcc_io.specs.ReaderState.{IsAtEnd}
 use Rattle.dcc_io.specs.InputState.{InputState, all_lines}
 use Rattle.dcc_io.specs.Took.{Uses, Took}
-use Rattle.dcc_io.specs.NumberedLines.{is_good}
 use Rattle.dcc_io.specs.NextLine.{has_line_feed, lines_within, IsOneLine, EndsLine, IsBadAt}
 use Rattle.dcc_saved.specs.Inner.RequiredLine.{TakesLine}
 use Rattle.dcc_saved.specs.TextReader.{Text, Stop, Reader, read_on, ◌>>=◌, first_line, behind_line}
@@ -41,9 +40,7 @@ Refuses-map : {A B : Type 0} (read : Reader A) (whole : Reader B) (old now new :
     → (StopsAt read now fault new → StopsAt whole old fault new) → Refuses read now fault new
     → Refuses whole old fault new
 Refuses-map read whole old now new (Number line) each stops = stops
-Refuses-map read whole old now new (Line line why) each stops = each stops
-Refuses-map read whole old now new TooMuch each stops = each stops
-Refuses-map read whole old now new Read each stops = each stops
+Refuses-map read whole old now new fault each stops = each stops
 
 -- what is answered either way
 cond-map : {A B : Type 0} (b : Bool) {x y : A} {z : B} {x' y' : B} {w : A} → (x ≡ w → x' ≡ z) → (y ≡ w → y' ≡ z)
@@ -80,9 +77,7 @@ module _ {A B : Type 0} (first : Reader A) (next : A → Reader B) {whole : Read
   Leads-then {new = new} value = record {
     took = Took-join leads.took value.took (λ front back before behind.
         record {
-          goes_on =
-              λ more. ap (λ (bytes : List ℕ). whole (at old bytes)) (append_assoc front back more)
-              ∙ before.goes_on (back ++ more) ∙ ap (λ read. read_on read next) (behind.goes_on more);
+          goes_on = λ more. rw (append_assoc, before.goes_on, behind.goes_on) refl;
           last = λ some. grind (arith, length-append front back);
           still = λ none. grind (arith, length-append front back);
         });
@@ -96,23 +91,23 @@ module _ {A B : Type 0} (first : Reader A) (next : A → Reader B) {whole : Read
   stops last fault (Ok read) says = cc
   stops last fault (Err stop) says = cc
 
-  refuses : (new : InputState) (fault : KeptFault) → Refuses first now fault new → Refuses whole old fault new
-  refuses new fault =
-      Refuses-map first whole old now new fault
-      (λ h. Stops-behind leads.took _ _ _ _ new fault h
-      (λ front back before fails.
-      ap (answer_of (Some Read)) (before.goes_on back) ∙ stops (Some Read) Read (first (at now back)) fails)
-      (λ text rest uses says.
-      within_limit-used old now (answer_at whole old) (answer_at (first >>= next) now) text rest uses
-      (λ more last. ap (answer_of last) (uses.is.goes_on more))
-      ∙ cond-map (nat_le (length rest) now.bytes) (stops None fault (first (at now rest)))
-      (stops (Some TooMuch) fault (first (at now (take (now.bytes - 1) rest)))) says))
-
   pub Answers-fault : (new : InputState) (fault : KeptFault) (result : Result B KeptFault)
       → IsErrAnd result (λ same. same ≡ fault) → Answers first now (Err fault) new → Answers whole old result new
   Answers-fault new fault (Ok x) is stop = absurd is
   Answers-fault new fault (Err same) is stop =
-      rw is (refuses new fault stop.0, stop.1, TextLinesAt-behind old now new fault leads.took stop.2)
+      rw is (
+        Refuses-map first whole old now new fault
+            (λ h. Stops-behind leads.took _ _ _ _ new fault h
+            (λ front back before fails. rw before.goes_on (stops (Some Read) Read (first (at now back)) fails))
+            (λ text rest uses says.
+            within_limit-used old now (answer_at whole old) (answer_at (first >>= next) now) text rest uses
+            (λ more last. ap (answer_of last) (uses.is.goes_on more))
+            ∙ cond-map (nat_le (length rest) now.bytes) (stops None fault (first (at now rest)))
+            (stops (Some TooMuch) fault (first (at now (take (now.bytes - 1) rest)))) says))
+            stop.0,
+        stop.1,
+        TextLinesAt-behind old now new fault leads.took stop.2,
+      )
 
 -- bytes without a line feed begin the first line
 line-parts : (line rest : List ℕ) → has_line_feed line ≡ false
@@ -121,7 +116,7 @@ line-parts [] rest one = (refl, refl)
 line-parts (byte ∷ line) rest one =
     let here = or_false (eqb byte 10) (has_line_feed line) one in
     let parts = line-parts line rest here.1 in
-    rw here.0 (ap (λ (bytes : List ℕ). byte ∷ bytes) parts.0, parts.1)
+    rw (here.0, parts.0, parts.1) (refl, refl)
 
 module _ {A : Type 0} (rule : List Word → Result A PacketFault) where
   -- the front of a line, and what follows it
@@ -139,10 +134,7 @@ module _ {A : Type 0} (rule : List Word → Result A PacketFault) where
       → answer_in (line_by rule) old text ≡ Err (Line old.place.line faults.Word)
   missed_text old text (inl bad) =
       within_limit-front old (answer_at (line_by rule) old) _ text bad.line bad.rest bad.whole bad.within
-      (λ more last.
-      let all : is_good (first_line (bad.line ++ more)) ≡ false =
-      ap is_good (line-parts bad.line more bad.one).0 ∙ bad-more bad.line (first_line more) bad.bad in
-      rw all refl)
+      (λ more last. rw ((line-parts bad.line more bad.one).0, bad-more bad.line (first_line more) bad.bad) refl)
   missed_text old text (inr none) = rw (none, zero_fits old.bytes) refl
 
   -- a line that was not taken
@@ -171,22 +163,18 @@ module _ {A : Type 0} (rule : List Word → Result A PacketFault) where
     given : (used more : List ℕ) → IsThrough old mid line used
         → line_by rule (at old (used ++ more)) ≡ line_verdict old.place.line (rule (words line)) more
     given used more through =
-        ap (λ (bytes : List ℕ). line_by rule (at old (bytes ++ more))) through.0
-        ∙ ap (λ (bytes : List ℕ). line_by rule (at old bytes)) (append_assoc line (10 ∷ []) more)
-        ∙ line-front old.place.line line (10 ∷ more) ends.is_line refl
+        rw (through.0, append_assoc) (line-front old.place.line line (10 ∷ more) ends.is_line refl)
 
     -- a line that has a value
     pub line-read : (x : A) → Ok x ≡ rule (words line) → Answers (line_by rule) old (Ok x) mid
     line-read x is = record {
       took = Took-map (took_line old mid n line ends) (λ used through. record {
-        goes_on =
-            λ more. given used more through ∙ ap (λ read. line_verdict old.place.line read more) (sym is)
-            ∙ ap (λ (place : TextPlace). Ok (x, record { line = place.line; bytes = more })) (sym ends.next);
+        goes_on = λ more. given used more through ∙ rw (← is, ends.next) refl;
         last = λ some. through.1 (some_bytes line is);
         still = λ none.
             let lengths = ap length through.0 ∙ length-append line (10 ∷ []) in absurd (omega (arith, none, lengths));
       });
-      in_comment = ap (λ (place : TextPlace). place.in_comment) ends.next;
+      in_comment = rw ends.next refl;
       halves = ends.halves;
     }
       where
@@ -216,9 +204,7 @@ module _ {A : Type 0} (rule : List Word → Result A PacketFault) where
           (
             ends.failures,
             told_by (line_by rule) old mid (Err (Line old.place.line why)) took
-                (λ used more last through.
-                ap (answer_of last)
-                (given used more through ∙ ap (λ read. line_verdict old.place.line read more) (sym is))),
+                (λ used more last through. ap (answer_of last) (given used more through) ∙ rw (← is) refl),
           ),
           refl,
           on_line old.text mid.text ends.lines took.text,
