@@ -120,9 +120,9 @@ too_many_decoders old now leads = (
 )
 
 -- the fault of a text, as it is told
-pub ReadFails-told : (old new : InputState) (fault : KeptFault) → Answers decoder_text old (Err fault) new
+pub fault_is_told : (old new : InputState) (fault : KeptFault) → Answers decoder_text old (Err fault) new
     → ReadFails old (as_tool_fault fault) new
-ReadFails-told old new (Line line fault) h = h
-ReadFails-told old new Read h = h
-ReadFails-told old new TooMuch h = h
-ReadFails-told old new (Number line) h = absurd h.0
+fault_is_told old new (Line line fault) h = h
+fault_is_told old new Read h = h
+fault_is_told old new TooMuch h = h
+fault_is_told old new (Number line) h = absurd h.0

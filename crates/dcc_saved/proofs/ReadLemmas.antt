@@ -1,7 +1,7 @@
 -- How readers of a text follow one another.
 use Rattle.std.proofs.Common.{◌≡◌, ℕ, ◌-◌, ◌<◌, List, [], ◌∷◌, ◌++◌, length, take, Bool, true, false, eqb}
 use Rattle.std.proofs.Common.{nat_le, Option, None, Some, Result, Ok, Err, refl, ap, ◌∙◌, arith}
-use Rattle.std.proofs.Common.{append_assoc, length-append, ◌⊎◌, inl, inr, cond, IfSome, IsSomeAnd, IsErrAnd}
+use Rattle.std.proofs.Common.{append_assoc, length-append, ◌⊎◌, inl, inr, cond, IfSome, IsSomeAnd}
 use Rattle.std.proofs.lemmas.List.{append-nil}
 use Rattle.dcc_packet.specs.declared.fault.PacketFault.{PacketFault}
 use Rattle.dcc_packet.specs.declared.fault.PacketFault.TheVariants as faults
@@ -91,23 +91,21 @@ module _ {A B : Type 0} (first : Reader A) (next : A → Reader B) {whole : Read
   stops last fault (Ok read) says = cc
   stops last fault (Err stop) says = cc
 
-  pub Answers-fault : (new : InputState) (fault : KeptFault) (result : Result B KeptFault)
-      → IsErrAnd result (λ same. same ≡ fault) → Answers first now (Err fault) new → Answers whole old result new
-  Answers-fault new fault (Ok x) is stop = absurd is
-  Answers-fault new fault (Err same) is stop =
-      rw is (
-        Refuses-map first whole old now new fault
-            (λ h. Stops-behind leads.took _ _ _ _ new fault h
-            (λ front back before fails. rw before.goes_on (stops (Some Read) Read (first (at now back)) fails))
-            (λ text rest uses says.
-            within_limit-used old now (answer_at whole old) (answer_at (first >>= next) now) text rest uses
-            (λ more last. ap (answer_of last) (uses.is.goes_on more))
-            ∙ cond-map (nat_le (length rest) now.bytes) (stops None fault (first (at now rest)))
-            (stops (Some TooMuch) fault (first (at now (take (now.bytes - 1) rest)))) says))
-            stop.0,
-        stop.1,
-        TextLinesAt-behind old now new fault leads.took stop.2,
-      )
+  pub Answers-fault : (new : InputState) (fault : KeptFault) → Answers first now (Err fault) new
+      → Answers whole old (Err fault) new
+  Answers-fault new fault stop = (
+    Refuses-map first whole old now new fault
+        (λ h. Stops-behind leads.took _ _ _ _ new fault h
+        (λ front back before fails. rw before.goes_on (stops (Some Read) Read (first (at now back)) fails))
+        (λ text rest uses says.
+        within_limit-used old now (answer_at whole old) (answer_at (first >>= next) now) text rest uses
+        (λ more last. ap (answer_of last) (uses.is.goes_on more))
+        ∙ cond-map (nat_le (length rest) now.bytes) (stops None fault (first (at now rest)))
+        (stops (Some TooMuch) fault (first (at now (take (now.bytes - 1) rest)))) says))
+        stop.0,
+    stop.1,
+    TextLinesAt-behind old now new fault leads.took stop.2,
+  )
 
 -- bytes without a line feed begin the first line
 line-parts : (line rest : List ℕ) → has_line_feed line ≡ false
@@ -138,24 +136,23 @@ module _ {A : Type 0} (rule : List Word → Result A PacketFault) where
   missed_text old text (inr none) = rw (none, zero_fits old.bytes) refl
 
   -- a line that was not taken
-  pub line-missed : (old new : InputState) (fault : KeptFault) (result : Result A KeptFault)
-      → IsErrAnd result (λ same. same ≡ fault) → TakesLine old (Err fault) new → Answers (line_by rule) old result new
-  line-missed old new fault (Ok x) is h = absurd is
-  line-missed old new (Line n why) (Err same) is h =
-      rw (is, h.0, h.1) ((h.2.failures, if_some_map _ _ old.text (missed_text old) h.2.text), h.2.fault, h.2.lines)
-  line-missed old new TooMuch (Err same) is h = rw is (
+  pub line-missed : (old new : InputState) (fault : KeptFault) → TakesLine old (Err fault) new
+      → Answers (line_by rule) old (Err fault) new
+  line-missed old new (Line n why) h =
+      rw (h.0, h.1) ((h.2.failures, if_some_map _ _ old.text (missed_text old) h.2.text), h.2.fault, h.2.lines)
+  line-missed old new TooMuch h = (
     overflows IsOneLine (answer_at (line_by rule) old) (Err TooMuch) old new h.0
         (λ used is_line. ap (answer_of (Some TooMuch)) (line-cut old.place.line used is_line)),
     h.1,
     inl h.2,
   )
-  line-missed old new Read (Err same) is h = rw is (
+  line-missed old new Read h = (
     Stops-map IsOneLine _ (λ text. Unit {0}) (λ text. Unit {0}) old new Read h.0
         (λ used is_line. ap (answer_of (Some Read)) (line-cut old.place.line used is_line)) (λ text none. none),
     h.1,
     h.2,
   )
-  line-missed old new (Number n) (Err same) is h = absurd h
+  line-missed old new (Number n) h = absurd h
 
   module _ (blank : rule [] ≡ Err faults.Word) (old mid : InputState) (n : ℕ) (line : List ℕ)
       (ends : EndsLine old n line mid) where
@@ -209,3 +206,5 @@ module _ {A : Type 0} (rule : List Word → Result A PacketFault) where
           refl,
           on_line old.text mid.text ends.lines took.text,
         )
+
+pub ruleset begins = (Leads-start)

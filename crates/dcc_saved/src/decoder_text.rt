@@ -79,6 +79,7 @@ pub(crate) fn read_head<R: Source>(input: &mut Input<R>) -> Result<Head, KeptFau
 }
 
 /// The binary states that are on. Version 1 has no line of them.
+#[tactic(auto, using(crate::proofs::ReadLemmas::begins))]
 fn states_of<R: Source>(input: &mut Input<R>, version: Version) -> Result<u128, KeptFault>
     requires { input.old.fault ≡ None }
     ensures reads { Answers (states_by version) input.old result input.new }

@@ -26,6 +26,7 @@ const MOST: usize = 64;
 /// P12 hex digits that are no frame, P13 a state that no decoder can be in. The decoders are such as
 /// `restore` takes. U7 where a 65th one stands in it or a limit is passed, U4 where a read fails. Memory is taken once, before
 /// anything is read; where there is none, the answer is U6.
+#[tactic(auto, using(crate::proofs::DecoderTextLemmas::fault_is_told))]
 pub fn read_decoders<R: Source>(
     alloc: Global,
     input: &mut Input<R>,

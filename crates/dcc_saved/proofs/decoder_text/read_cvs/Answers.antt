@@ -1,4 +1,4 @@
-use Rattle.std.proofs.Common.{suc, ◌≡◌, ◌-◌, arith}
+use Rattle.std.proofs.Common.{rules, suc, ◌≡◌, ◌-◌, arith}
 use Rattle.dcc_saved.specs.DecoderLines.{loco_line}
 use Rattle.dcc_saved.specs.DecoderText.{cvs_lines}
 use Rattle.dcc_saved.specs.TextReader.{line_by}
@@ -35,5 +35,4 @@ returns-in-Head-clause-reads g c =
 
 pub returns-in_err-cv-clause-reads : goal.returns-in_err-cv-clause-reads
 returns-in_err-cv-clause-reads g c =
-    Answers-fault (line_by (loco_line c.cvs.least)) _ c.cvs.invariant.leads _ _ _ c.from_residual.ensures.1
-    c.in_err-cv.ensures.reads
+    search (rules, Answers-fault (line_by (loco_line c.cvs.least)) _ c.cvs.invariant.leads)

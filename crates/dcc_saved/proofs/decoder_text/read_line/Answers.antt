@@ -1,9 +1,9 @@
+use Rattle.std.proofs.Common.{rules}
 use Rattle.dcc_saved.proofs.ReadLemmas.{line-missed, line-read, line-refused}
 use Rattle.dcc_saved.proofs.decoder_text.read_line.Goals as goal
 
 pub returns-in_err-line-clause-reads : goal.returns-in_err-line-clause-reads
-returns-in_err-line-clause-reads g c =
-    line-missed (g.L.LineRule.rule c.args.rule) _ _ _ _ c.from_residual.ensures.1 c.in_err-line.ensures
+returns-in_err-line-clause-reads g c = search (rules, line-missed)
 
 pub returns-in-Ok-clause-reads : goal.returns-in-Ok-clause-reads
 returns-in-Ok-clause-reads g c =

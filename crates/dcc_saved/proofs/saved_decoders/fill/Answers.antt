@@ -1,7 +1,6 @@
-use Rattle.std.proofs.Common.{◌≡◌, ◌-◌, ◌<◌, ◌∷◌, ◌++◌, [], Err, true, refl, arith, length, length-append, vec_len}
+use Rattle.std.proofs.Common.{◌≡◌, ◌-◌, ◌<◌, ◌∷◌, ◌++◌, [], rules, true, arith, length, length-append, vec_len}
 use Rattle.std.proofs.Common.{vec_capacity}
 use Rattle.std.proofs.lemmas.List.Elements.{All-nil, All-push}
-use Rattle.std.proofs.lemmas.Result.{err_from_is_err_and}
 use Rattle.dcc_saved.specs.DecoderLines.{version_line, head_line}
 use Rattle.dcc_saved.specs.DecoderText.{decoder_lines, decoder_text}
 use Rattle.dcc_saved.specs.PossibleLines.{is_possible}
@@ -13,16 +12,14 @@ use Rattle.dcc_saved.proofs.saved_decoders.fill.Goals as goal
 pub returns-in_err-version-clause-reads : goal.returns-in_err-version-clause-reads
 unfolding decoder_text
 returns-in_err-version-clause-reads g c =
-    let p = err_from_is_err_and c.from_residual.result c.from_residual.ensures.1 in
     let start = Leads-start decoder_text c.args.input.now c.requires.fault in
-    rw (p.1, p.2) (Answers-fault (line_by version_line) _ start _ _ (Err _) refl c.in_err-version.ensures)
+    search (rules, Answers-fault (line_by version_line) _ start)
 
 pub returns-in_err-head-clause-reads : goal.returns-in_err-head-clause-reads
 unfolding decoder_text
 returns-in_err-head-clause-reads g c =
-    let p = err_from_is_err_and c.from_residual-in_err-head.result c.from_residual-in_err-head.ensures.1 in
     let version = Leads-then _ _ (Leads-start decoder_text c.args.input.now c.requires.fault) c.in_ok-version.ensures in
-    rw (p.1, p.2) (Answers-fault (line_by head_line) _ version _ _ (Err _) refl c.in_err-head.ensures.reads)
+    search (rules, Answers-fault (line_by head_line) _ version)
 
 pub decoders-init : goal.decoders-init
 unfolding decoder_text
@@ -67,12 +64,8 @@ pub returns-in_err-decoder-in-Decoder-clause-reads : goal.returns-in_err-decoder
 returns-in_err-decoder-in-Decoder-clause-reads g c =
     let some : length c.decoders.decoders.items < 64 =
     omega (arith, c.decoders.decoders.ok, c.len.ensures, c.if-len-eq-MOST.false, c.decoders.invariant.few) in
-    let p = err_from_is_err_and c.from_residual-in_err-decoder-in-Decoder.result
-    c.from_residual-in_err-decoder-in-Decoder.ensures.1 in
-    rw (p.1, p.2)
-    (Answers-fault (decoder_lines c.in_ok-version.version c.in-Decoder.who) _
-    (rw (c.in-Decoder.is, one_more _ _ _ some) at c.decoders.invariant.leads) _ _ (Err _) refl
-    c.in_err-decoder-in-Decoder.ensures.reads)
+    let leads = rw (c.in-Decoder.is, one_more _ _ _ some) at c.decoders.invariant.leads in
+    search (rules, Answers-fault (decoder_lines c.in_ok-version.version c.in-Decoder.who) _ leads)
 
 pub returns-in-End-clause-reads : goal.returns-in-End-clause-reads
 returns-in-End-clause-reads g c = rw (c.in-End.is, no_more) at c.decoders.invariant.leads
