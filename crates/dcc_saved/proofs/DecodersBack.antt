@@ -69,10 +69,9 @@ fleet_head ((who.Loco address, m) ∷ fleet) possible =
     is_head (codes "loco") (own_address_word address ∷ []) (heads.Decoder (who.Loco address))
     (keyword_token (codes "loco") refl, (own.1, tt)) (omega arith) refl (rw own.0 refl)
 fleet_head ((who.Board board, m) ∷ fleet) possible =
-    let number = decimal_token board.number (let range = board.in_range in omega (arith, range)) in
     is_head (codes "board") (decimal board.number ∷ []) (heads.Decoder (who.Board board))
-    (keyword_token (codes "board") refl, (number, tt)) (omega arith) refl
-    (rw (own_board_back board possible.0.decoder) refl)
+    (keyword_token (codes "board") refl, (decimal_token board.number (omega (arith, board.in_range)), tt)) (omega arith)
+    refl (rw (own_board_back board possible.0.decoder) refl)
 
 -- the lines of a decoder behind its first, and the line behind them
 abbrev lines_to : Who × RegisterMap → List ℕ → List ℕ

@@ -32,7 +32,6 @@ use Rattle.dcc_saved.specs.DecoderText.{board_read}
 use Rattle.dcc_saved.specs.ReadBack.{SameRegisters}
 use Rattle.dcc_saved.proofs.CvsBack.{ReadsCvs}
 use Rattle.dcc_saved.proofs.NumbersBack.{ReadsBits}
-use Rattle.dcc_saved.proofs.PendingBack.{all_three}
 
 -- what a register may hold that is a flag if it is there, and one that never is
 abbrev pub may_be_flag : Bool → Option Value → Bool
@@ -111,9 +110,10 @@ module _ (address : Option Address) (m : RegisterMap) (possible : IsPossible (wh
   same_cv_bit : (cv place : ℕ) → is_cv_bit cv place ≡ true
       → is_one (cv_in cvs.given cv) place ≡ holds_one (m (registers.CvBit cv place))
   same_cv_bit cv place there =
-      let parts = all_three (nat_le 1 cv) (nat_le cv 1024) (nat_le place 7) there in
-      ap (λ n. is_one n place) (cvs.each cv (leb-true 1 cv parts.0) (leb-true cv 1024 parts.1))
-      ∙ is_one-byte_of (λ k. holds_one (m (registers.CvBit cv k))) place (leb-true place 7 parts.2)
+      let parts = and_parts (nat_le 1 cv && nat_le cv 1024) (nat_le place 7) there in
+      let range = and_parts (nat_le 1 cv) (nat_le cv 1024) parts.0 in
+      ap (λ n. is_one n place) (cvs.each cv (leb-true 1 cv range.0) (leb-true cv 1024 range.1))
+      ∙ is_one-byte_of (λ k. holds_one (m (registers.CvBit cv k))) place (leb-true place 7 parts.1)
 
   pub same_loco : SameRegisters (loco_registers (loco_content loco_state)) m
   same_loco registers.Speed = (speed_is address (possible.registers registers.Speed)).0
