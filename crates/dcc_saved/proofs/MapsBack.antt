@@ -34,17 +34,17 @@ use Rattle.dcc_saved.proofs.CvsBack.{ReadsCvs}
 use Rattle.dcc_saved.proofs.NumbersBack.{ReadsBits}
 
 -- what a register may hold that is a flag if it is there, and one that never is
-abbrev pub may_be_flag : Bool → Option Value → Bool
+abbrev may_be_flag : Bool → Option Value → Bool
 may_be_flag there None = not there
 may_be_flag there (Some (values.Flag on)) = there
 may_be_flag there (Some other) = false
 
-abbrev pub may_be_none : Option Value → Bool
+abbrev may_be_none : Option Value → Bool
 may_be_none None = true
 may_be_none (Some x) = false
 
 -- it holds what was read for it
-pub flag_is : (there one : Bool) {v : Option Value} → may_be_flag there v ≡ true → (there ≡ true → one ≡ holds_one v)
+flag_is : (there one : Bool) {v : Option Value} → may_be_flag there v ≡ true → (there ≡ true → one ≡ holds_one v)
     → (if there then Some (values.Flag one) else None) ≡ v
 flag_is true one {v = Some (values.Flag true)} h same = ap (λ (b : Bool). Some (values.Flag b)) (same refl)
 flag_is true one {v = Some (values.Flag false)} h same = ap (λ (b : Bool). Some (values.Flag b)) (same refl)
@@ -52,7 +52,7 @@ flag_is false one {v = None} h same = refl
 flag_is false one {v = Some (values.Flag on)} h same = cc
 flag_is there one h same = cc
 
-pub none_is : {v : Option Value} → may_be_none v ≡ true → None ≡ v
+none_is : {v : Option Value} → may_be_none v ≡ true → None ≡ v
 none_is {v = None} h = refl
 none_is {v = Some x} h = cc
 
