@@ -1,11 +1,11 @@
 -- The lines of CVs are read again, with the line behind them.
 use Rattle.std.proofs.Common.{zero, suc, ◌≡◌, ℕ, ◌+◌, ◌-◌, ◌<◌, ◌≤◌, Bool, true, false, eqb, List, [], ◌∷◌, ◌++◌}
-use Rattle.std.proofs.Common.{length, codes, replicate, slice_set, if◌then◌else◌, inl, inr, refl, sym, ap}
+use Rattle.std.proofs.Common.{length, codes, replicate, slice_set, if◌then◌else◌, inl, inr, refl}
 use Rattle.std.proofs.Common.{◌∙◌, arith, append_assoc}
 use Rattle.std.specs.Fmt.{decimal}
 use Rattle.std.proofs.lemmas.Bool.{eqb-true, le-ltb, cases_lt}
-use Rattle.std.proofs.lemmas.Grind.{get_or-set_at}
-use Rattle.std.proofs.lemmas.List.{get_or-replicate, get_or-set_other, set-get_or, length-set, length-replicate}
+use Rattle.std.proofs.lemmas.Grind.{common_steps}
+use Rattle.std.proofs.lemmas.List.{get_or-replicate, set-get_or, length-set, length-replicate}
 use Rattle.dcc_packet.specs.declared.cv.CvNumber.{CvNumber}
 use Rattle.dcc_packet.specs.Cvs.{cv_in}
 use Rattle.dcc_packet.proofs.Tokens.{decimal_token, keyword_token}
@@ -35,18 +35,15 @@ module _ (cvs : ℕ → ℕ) where
   given zero cv few some within = absurd (omega (arith, some, within))
   given (suc n) cv few some within = elim (cases_lt n cv) [
     | inl last ↦ let same : cv ≡ suc n = omega (arith, within, last) in
-        get_or-set_at (so_far n) (suc n - 1) (cv - 1) (cvs (suc n)) 0 (omega (arith, same))
-        (omega (arith, whole n, few)) ∙ ap cvs (sym same)
-    | inr ge ↦ get_or-set_other (so_far n) (suc n - 1) (cv - 1) (cvs (suc n)) 0 (λ e. omega (arith, e, some, ge))
-        ∙ given n cv (omega (arith, few)) some ge
+        let all = whole n in rw same (grind (common_steps, arith, all))
+    | inr ge ↦ let before = given n cv (omega (arith, few)) some ge in grind (common_steps, arith, before)
   ]
 
   none : (n cv : ℕ) → n < cv → cv ≤ 1024 → cv_in (so_far n) cv ≡ 0
   unfolding so_far
   none zero cv past few = get_or-replicate 1024 (cv - 1) 0 0 (omega (arith, past, few))
   none (suc n) cv past few =
-      get_or-set_other (so_far n) (suc n - 1) (cv - 1) (cvs (suc n)) 0 (λ e. omega (arith, e, past))
-      ∙ none n cv (omega (arith, past)) few
+      let before = none n cv (omega (arith, past)) few in grind (common_steps, arith, before)
 
   -- a CV that is 0 needs no line
   same_list : (n : ℕ) → n < 1024 → cvs (suc n) ≡ 0 → so_far (suc n) ≡ so_far n
