@@ -22,11 +22,12 @@ use Rattle.dcc_io.specs.Items.{EndsWith, ReadsUpTo}
 use Rattle.dcc_capture.specs.Capture.{captures, halves_of, capture_in, capture_before_failure, CaptureLinesAt}
 use Rattle.dcc_listen.specs.Gathered.{Gathered, GatherFails, StopsGathering}
 use Rattle.dcc_capture.specs.BothCaptures.{Both, Said, fault_alone, in_front, only_second, both_from, in_limit}
-use Rattle.dcc_capture.specs.FirstRead.{LeadsIn, Leads, first_so_far, first_is, FirstLinesAt, AnswersFirst}
+use Rattle.dcc_capture.specs.FirstRead.{LeadsIn, Leads, first_so_far, first_is, FirstLinesAt, StopsBoth, AnswersFirst}
 use Rattle.dcc_listen.specs.GatheredBoth.{both_in, both_before_failure, GatheredFirst, HoldBoth, GatheredBoth}
 use Rattle.dcc_listen.specs.GatheredBoth.{ReadsBothUpTo, BothLinesAt, StopsBothAt, BothFail}
 use Rattle.dcc_listen.proofs.ShowLemmas.{Answers}
 use Rattle.dcc_listen.proofs.GatherLemmas.{few_more}
+use Rattle.dcc_io.proofs.CallLemmas.{gives_up}
 use Rattle.dcc_io.proofs.TookLemmas.{told_behind, LinesAt-behind}
 use Rattle.dcc_io.proofs.WrittenLemmas.{HasRisen-one_more}
 use Rattle.dcc_capture.proofs.BothLemmas.{Leads-start, Leads-join, in_limit_of, second_behind}
@@ -98,123 +99,95 @@ front_in_limit : (halves : List ℕ) (before : ℕ) (now : InputState) (text : L
     → in_limit (first_so_far halves before now) now text ≡ in_front halves (in_limit (both_from before now) now text)
 front_in_limit halves before now text = go (nat_le (length text) now.bytes)
   where
+    said : ℕ → List ℕ → Option KeptFault → Both
+    said end = both_from before now end
+
     go : (within : Bool)
-        → cond within (first_so_far halves before now (all_lines now text + 1) text None)
-        (first_so_far halves before now (all_lines now text + 1) (take (now.bytes - 1) text) (Some TooMuch))
+        → cond within (in_front halves (said (all_lines now text + 1) text None))
+        (in_front halves (said (all_lines now text + 1) (take (now.bytes - 1) text) (Some TooMuch)))
         ≡ in_front halves
-        (cond within (both_from before now (all_lines now text + 1) text None)
-        (both_from before now (all_lines now text + 1) (take (now.bytes - 1) text) (Some TooMuch)))
+        (cond within (said (all_lines now text + 1) text None)
+        (said (all_lines now text + 1) (take (now.bytes - 1) text) (Some TooMuch)))
     go true = refl
     go false = refl
 
--- what stops the first capture stops both
-stopped_behind : (start now : InputState) (before : ℕ) (halves : List ℕ) (fault : KeptFault)
-    → Leads 0 start now (first_so_far halves before now)
-    → IfSome now.text (λ text. in_limit (both_from before now) now text ≡ fault_alone fault)
-    → IfSome start.text (λ text. (both_in start text).fault ≡ Some fault)
-stopped_behind start now before halves fault leads stops = go start.text now.text leads.text stops
-  where
-    go : (x y : Option (List ℕ))
-        → IfSome x (λ text. IsSomeAnd y (λ rest. LeadsIn 0 start now (first_so_far halves before now) text rest))
-        → IfSome y (λ text. in_limit (both_from before now) now text ≡ fault_alone fault)
-        → IfSome x (λ text. (both_in start text).fault ≡ Some fault)
-    go None y p q = tt
-    go (Some x) None p q = absurd p
-    go (Some x) (Some y) p q =
-        ap (λ (both : Both). both.fault)
-        (in_limit_of 0 start now (first_so_far halves before now) x y p ∙ front_in_limit halves before now y
-        ∙ ap (in_front halves) q)
+module _ {start now : InputState} {before : ℕ} {framer : Framer} {packets : List Packet}
+    (so_far : GatheringFirst start now before framer packets) where
+  -- what stops the first capture stops both
+  stopped_behind : (fault : KeptFault)
+      → IfSome now.text (λ text. in_limit (both_from before now) now text ≡ fault_alone fault)
+      → IfSome start.text (λ text. (both_in start text).fault ≡ Some fault)
+  stopped_behind fault stops = go start.text now.text so_far.leads.text stops
+    where
+      go : (x y : Option (List ℕ))
+          → IfSome x
+          (λ text. IsSomeAnd y (λ rest. LeadsIn 0 start now (first_so_far so_far.halves before now) text rest))
+          → IfSome y (λ text. in_limit (both_from before now) now text ≡ fault_alone fault)
+          → IfSome x (λ text. (both_in start text).fault ≡ Some fault)
+      go None y p q = tt
+      go (Some x) None p q = absurd p
+      go (Some x) (Some y) p q =
+          ap (λ (both : Both). both.fault)
+          (in_limit_of 0 start now (first_so_far so_far.halves before now) x y p
+          ∙ front_in_limit so_far.halves before now y ∙ ap (in_front so_far.halves) q)
 
--- the lines that were used where the first capture met a fault, told from further back
-first_lines : (start now new : InputState) (before : ℕ) (halves : List ℕ) (fault : KeptFault)
-    → Leads 0 start now (first_so_far halves before now) → FirstLinesAt before now fault new
-    → BothLinesAt start fault new
-first_lines start now new before halves (Number line) leads lines = LinesAt-behind leads new (Number line) lines
-first_lines start now new before halves (Line line why) leads (at_end, all) = (
-  at_end,
-  told_behind leads (λ text. new.lines ≡ all_lines now text) (λ text. new.lines ≡ all_lines start text)
-      (λ text rest uses same. same ∙ uses.lines) all,
-)
-first_lines start now new before halves Read leads lines = LinesAt-behind leads new Read lines
-first_lines start now new before halves TooMuch leads (inl lines) = inl (inl (LinesAt-behind leads new TooMuch lines))
-first_lines start now new before halves TooMuch leads (inr over) =
-    inl (inr record {
-      halves = halves ++ over.halves;
-      line = over.line;
-      mid = over.mid;
-      leads = Leads-join 0 before start now over.mid halves (first_so_far over.halves over.line over.mid)
-          (first_so_far (halves ++ over.halves) over.line over.mid) leads over.leads
-          (λ end more last. in_front_twice halves over.halves (both_from over.line over.mid end more last));
-      next = over.next;
-    })
+  -- the lines that were used where the first capture met a fault, told from further back
+  first_lines : (new : InputState) (fault : KeptFault) → FirstLinesAt before now fault new → BothLinesAt start fault new
+  first_lines new (Number line) lines = LinesAt-behind so_far.leads new (Number line) lines
+  first_lines new (Line line why) (at_end, all) = (
+    at_end,
+    told_behind so_far.leads (λ text. new.lines ≡ all_lines now text) (λ text. new.lines ≡ all_lines start text)
+        (λ text rest uses same. same ∙ uses.lines) all,
+  )
+  first_lines new Read lines = LinesAt-behind so_far.leads new Read lines
+  first_lines new TooMuch (inl lines) = inl (inl (LinesAt-behind so_far.leads new TooMuch lines))
+  first_lines new TooMuch (inr over) =
+      inl (inr record {
+        halves = so_far.halves ++ over.halves;
+        line = over.line;
+        mid = over.mid;
+        leads = Leads-join 0 before start now over.mid so_far.halves (first_so_far over.halves over.line over.mid)
+            (first_so_far (so_far.halves ++ over.halves) over.line over.mid) so_far.leads over.leads
+            (λ end more last. in_front_twice so_far.halves over.halves (both_from over.line over.mid end more last));
+        next = over.next;
+      })
 
-pub first_stops : (start now new : InputState) (before : ℕ) (framer : Framer) (packets : List Packet)
-    (fault : KeptFault) → start.fault ≡ None → GatheringFirst start now before framer packets
-    → AnswersFirst before now (Err fault) new
-    → BothFail start (as_tool_fault fault) new
-first_stops start now new before framer packets (Number line) none so_far answer =
-    inr (
-      none,
-      answer.1,
-      (
-        answer.0.0
-            ∙ so_far.leads.failures,
-        stopped_behind start now before so_far.halves (Number line) so_far.leads answer.0.1,
-      ),
-      first_lines start now new before so_far.halves (Number line) so_far.leads answer.2,
-    )
-first_stops start now new before framer packets (Line line fault) none so_far answer =
-    inr (
-      none,
-      answer.1,
-      (
-        answer.0.0
-            ∙ so_far.leads.failures,
-        stopped_behind start now before so_far.halves (Line line fault) so_far.leads answer.0.1,
-      ),
-      first_lines start now new before so_far.halves (Line line fault) so_far.leads answer.2,
-    )
-first_stops start now new before framer packets TooMuch none so_far answer =
-    inr (
-      none,
-      answer.1,
-      (
-        answer.0.0
-            ∙ so_far.leads.failures,
-        stopped_behind start now before so_far.halves TooMuch so_far.leads answer.0.1,
-      ),
-      first_lines start now new before so_far.halves TooMuch so_far.leads answer.2,
-    )
-first_stops start now new before framer packets Read none so_far answer = inr (
-  none,
-  answer.1,
-  (
-    subst (λ (n : ℕ). HasRisen start.failures n) (sym (answer.0.0 ∙ ap one_more so_far.leads.failures))
+  first_up_to : (new : InputState) (fault : KeptFault) → StopsBoth before now fault new → ReadsBothUpTo start fault new
+  first_up_to new Read stops = (
+    subst (λ (n : ℕ). HasRisen start.failures n) (sym (stops.0 ∙ ap one_more so_far.leads.failures))
         (HasRisen-one_more start.failures),
-    answer.0.1,
-    go start.text now.text new.text so_far.leads.text answer.0.2,
-  ),
-  first_lines start now new before so_far.halves Read so_far.leads answer.2,
-)
-  where
-    go : (x y z : Option (List ℕ))
-        → IfSome x (λ text. IsSomeAnd y (λ rest. LeadsIn 0 start now (first_so_far so_far.halves before now) text rest))
-        → IfSome y
-        (λ text. IsSomeAnd z
-        (λ rest. (used : List ℕ) × (text ≡ used ++ rest)
-        × ((end : ℕ) → both_from before now end used (Some Read) ≡ fault_alone Read)))
-        → IfSome x
-        (λ text. IsSomeAnd z
-        (λ rest. (used : List ℕ) × (text ≡ used ++ rest)
-        × ((both_before_failure start used).fault ≡ Some Read)))
-    go None y z p q = tt
-    go (Some x) None z p q = absurd p
-    go (Some x) (Some y) None p q = absurd q
-    go (Some x) (Some y) (Some z) p q = (
-      p.used ++ q.0,
-      p.whole ∙ ap (λ (rest : List ℕ). p.used ++ rest) q.1 ∙ sym (append_assoc p.used q.0 z),
-      ap (λ (both : Both). both.fault) (p.is 0 q.0 (Some Read) ∙ ap (in_front so_far.halves) (q.2 0)),
-    )
+    stops.1,
+    go start.text now.text new.text so_far.leads.text stops.2,
+  )
+    where
+      go : (x y z : Option (List ℕ))
+          → IfSome x
+          (λ text. IsSomeAnd y (λ rest. LeadsIn 0 start now (first_so_far so_far.halves before now) text rest))
+          → IfSome y
+          (λ text. IsSomeAnd z
+          (λ rest. (used : List ℕ) × (text ≡ used ++ rest)
+          × ((end : ℕ) → both_from before now end used (Some Read) ≡ fault_alone Read)))
+          → IfSome x
+          (λ text. IsSomeAnd z
+          (λ rest. (used : List ℕ) × (text ≡ used ++ rest)
+          × ((both_before_failure start used).fault ≡ Some Read)))
+      go None y z p q = tt
+      go (Some x) None z p q = absurd p
+      go (Some x) (Some y) None p q = absurd q
+      go (Some x) (Some y) (Some z) p q = (
+        p.used ++ q.0,
+        p.whole ∙ ap (λ (rest : List ℕ). p.used ++ rest) q.1 ∙ sym (append_assoc p.used q.0 z),
+        ap (λ (both : Both). both.fault) (p.is 0 q.0 (Some Read) ∙ ap (in_front so_far.halves) (q.2 0)),
+      )
+  first_up_to new (Number line) stops = (stops.0 ∙ so_far.leads.failures, stopped_behind (Number line) stops.1)
+  first_up_to new (Line line why) stops = (stops.0 ∙ so_far.leads.failures, stopped_behind (Line line why) stops.1)
+  first_up_to new TooMuch stops = (stops.0 ∙ so_far.leads.failures, stopped_behind TooMuch stops.1)
+
+  pub first_stops : (new : InputState) (fault : KeptFault) → start.fault ≡ None → AnswersFirst before now (Err fault) new
+      → BothFail start (as_tool_fault fault) new
+  first_stops new fault none answer =
+      gives_up (λ kept. StopsBothAt start kept new) _ _ fault
+      (inr (none, answer.1, first_up_to new fault answer.0, first_lines new fault answer.2))
 
 take_none : (n : ℕ) (text : List ℕ) → text ≡ [] → take n text ≡ []
 take_none zero text none = refl
@@ -304,27 +277,13 @@ module _ (old mid : InputState) (packets : List Packet) (first : GatheredFirst o
   second_lines new TooMuch (inr over) =
       inr record { halves = first.halves; mid = mid; ends = first.ends; over = over }
 
-  stops_at : (new : InputState) (fault : KeptFault) → StopsGathering mid fault new
-      → (ReadsUpTo captures mid (Some fault) new (λ halves. Unit {0}) → ReadsBothUpTo old fault new)
-      → StopsBothAt old fault new
-  stops_at new fault (inl kept) each = let clash : None ≡ Some fault = sym first.ends.leads.fault ∙ kept.0 in cc
-  stops_at new fault (inr (none, kept, reads, lines)) each =
-      inr (first.none_kept, kept, each reads, second_lines new fault lines)
-
-  pub second_fails : (new : InputState) (fault : ToolFault) → GatherFails mid fault new → BothFail old fault new
-  second_fails new (told.Number line) fails =
-      stops_at new (Number line) fails
-      (λ reads. (reads.1 ∙ first.ends.leads.failures, second_told (Number line) reads.0))
-  second_fails new (told.Line line fault) fails =
-      stops_at new (Line line fault) fails
-      (λ reads. (reads.1 ∙ first.ends.leads.failures, second_told (Line line fault) reads.0))
-  second_fails new told.TooMuch fails =
-      stops_at new TooMuch fails (λ reads. (reads.1 ∙ first.ends.leads.failures, second_told TooMuch reads.0))
-  second_fails new told.Read fails = stops_at new Read fails (λ reads. (
+  second_up_to : (new : InputState) (fault : KeptFault)
+      → ReadsUpTo captures mid (Some fault) new (λ halves. Unit {0}) → ReadsBothUpTo old fault new
+  second_up_to new Read reads = (
     subst (λ (n : ℕ). HasRisen n new.failures) first.ends.leads.failures reads.2,
     reads.1,
     go old.text mid.text new.text first.ends.leads.text first.ends.behind reads.0,
-  ))
+  )
     where
       go : (x y z : Option (List ℕ)) → IfSome x (λ text. IsSomeAnd y (λ rest. LeadsIn 0 old mid said text rest))
           → IfSome y (λ rest. (rest ≡ []) ⊎ (first.ends.line < mid.place.line))
@@ -347,6 +306,20 @@ module _ (old mid : InputState) (packets : List Packet) (first : GatheredFirst o
             (second_behind first.ends.line mid.halves mid.place y q.0 (Some Read) behind (front_none q.0 z y q.1)))
             ∙ q.2.0,
       )
+  second_up_to new (Number line) reads = (reads.1 ∙ first.ends.leads.failures, second_told (Number line) reads.0)
+  second_up_to new (Line line why) reads = (reads.1 ∙ first.ends.leads.failures, second_told (Line line why) reads.0)
+  second_up_to new TooMuch reads = (reads.1 ∙ first.ends.leads.failures, second_told TooMuch reads.0)
+
+  stops_at : (new : InputState) (fault : KeptFault) → StopsGathering mid fault new → StopsBothAt old fault new
+  stops_at new fault (inl kept) = let clash : None ≡ Some fault = sym first.ends.leads.fault ∙ kept.0 in cc
+  stops_at new fault (inr (none, kept, reads, lines)) =
+      inr (first.none_kept, kept, second_up_to new fault reads, second_lines new fault lines)
+
+  pub second_fails : (new : InputState) (fault : ToolFault) → GatherFails mid fault new → BothFail old fault new
+  second_fails new (told.Number line) fails = stops_at new (Number line) fails
+  second_fails new (told.Line line fault) fails = stops_at new (Line line fault) fails
+  second_fails new told.TooMuch fails = stops_at new TooMuch fails
+  second_fails new told.Read fails = stops_at new Read fails
   second_fails new told.NoMemory fails = (first.none_kept, fails.1)
   second_fails new told.Write fails = absurd fails
   second_fails new (told.Usage usage) fails = absurd fails

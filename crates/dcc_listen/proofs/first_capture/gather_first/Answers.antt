@@ -30,5 +30,4 @@ pub returns-in_err-line-clause-fails : goal.returns-in_err-line-clause-fails
 returns-in_err-line-clause-fails g c =
     let p = err_from_is_err_and c.from_residual.result c.from_residual.ensures.1 in
     rw (p.1, p.2)
-    (first_stops c.args.input.now c.runs.input c.push_first.new.input c.runs.before c.runs.framer
-    c.runs.packets.items _ (sym c.fault.ensures.fault ∙ c.in_default.is) c.runs.invariant c.in_err-line.ensures)
+    (first_stops c.runs.invariant _ _ (sym c.fault.ensures.fault ∙ c.in_default.is) c.in_err-line.ensures)
