@@ -37,12 +37,7 @@ at_register p d d' o (Aspect n) =
     where_there (nat_le n 3) (Number (d'.aspects n)) (Number (d.aspects n))
     (cons_option (option_map Number (aspect_set p n)) [])
     (λ t. rw (o.aspects n (there n 3 t)) (set_by Number (aspect_set p n) (d.aspects n)))
-at_register p d d' o SpeedRegister = refl
-at_register p d d' o Direction = refl
-at_register p d d' o (Function n) = refl
-at_register p d d' o (StateRegister n) = refl
-at_register p d d' o (CvBit cv place) = refl
-at_register p d d' o PendingRegister = refl
+at_register p d d' o r = refl
 
 pub step-heard : (who : Who) (p : Packet) (d d' : BoardContent) → hears who p ≡ true → TakesPacket p d d'
     → board_registers d' ≡ step who (board_registers d) p

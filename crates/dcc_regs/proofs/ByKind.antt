@@ -112,11 +112,10 @@ by_register mode p q C f g h SpeedRegister d = f (inl d)
 by_register mode p q C f g h Direction d = f (inr (inl d))
 by_register mode p q C f g h (Function n) d = f (inr (inr (inl (n, d))))
 by_register mode p q C f g h (StateRegister n) d = f (inr (inr (inr (n, d))))
-by_register mode p q C f g h (CvBit cv place) d = absurd d
-by_register mode p q C f g h PendingRegister d = absurd d
 by_register mode p q C f g h (Out n) d = g (inl (n, d))
 by_register mode p q C f g h (Position n) d = g (inr (n, d))
 by_register mode p q C f g h (Aspect n) d = h (n, d)
+by_register mode p q C f g h r d = absurd d
 
 pub loco_from : (mode : SpeedMode) (p q : Packet) → DifferInLoco mode p q → DifferIn mode p q
 loco_from mode p q (inl d) = record { register = SpeedRegister; differ = d }

@@ -95,13 +95,7 @@ pub result_of_heard-append : (start : RegisterMap) (l k : List Packet) (r : Regi
     → result_of_heard start (l ++ k) r ≡ result_of_heard (result_of_heard start l) k r
 result_of_heard-append start l k PendingRegister = pending_after-append start l k
 result_of_heard-append start l k (CvBit cv place) = cv_bit_after-append start l k cv place
-result_of_heard-append start l k SpeedRegister = plain_after-append start l k SpeedRegister refl
-result_of_heard-append start l k Direction = plain_after-append start l k Direction refl
-result_of_heard-append start l k (Function n) = plain_after-append start l k (Function n) refl
-result_of_heard-append start l k (StateRegister n) = plain_after-append start l k (StateRegister n) refl
-result_of_heard-append start l k (Out n) = plain_after-append start l k (Out n) refl
-result_of_heard-append start l k (Position n) = plain_after-append start l k (Position n) refl
-result_of_heard-append start l k (Aspect n) = plain_after-append start l k (Aspect n) refl
+result_of_heard-append start l k r = plain_after-append start l k r refl
 
 -- the law
 pub result-append : (who : Who) (start : RegisterMap) (l k : List Packet)
@@ -116,14 +110,7 @@ set_in_turn-nothing (Some v) = refl
 
 result_of_nothing : (start : RegisterMap) (r : Register) → result_of_heard start [] r ≡ start r
 result_of_nothing start PendingRegister = set_in_turn-nothing (start PendingRegister)
-result_of_nothing start (CvBit cv place) = set_in_turn-nothing (start (CvBit cv place))
-result_of_nothing start SpeedRegister = set_in_turn-nothing (start SpeedRegister)
-result_of_nothing start Direction = set_in_turn-nothing (start Direction)
-result_of_nothing start (Function n) = set_in_turn-nothing (start (Function n))
-result_of_nothing start (StateRegister n) = set_in_turn-nothing (start (StateRegister n))
-result_of_nothing start (Out n) = set_in_turn-nothing (start (Out n))
-result_of_nothing start (Position n) = set_in_turn-nothing (start (Position n))
-result_of_nothing start (Aspect n) = set_in_turn-nothing (start (Aspect n))
+result_of_nothing start r = set_in_turn-nothing (start r)
 
 -- no packet leaves each register as it is
 pub result-nothing : (who : Who) (start : RegisterMap) → result who start [] ≡ start

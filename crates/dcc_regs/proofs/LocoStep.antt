@@ -94,9 +94,7 @@ at_register p mode d d' o (CvBit cv place) =
     ap (λ b. Some (Flag b)) (o.cvs cv place (cv_there cv place t) (place_there cv place t))
     ∙ set_where Flag (is_effective (Some (PendingValue d.pending)) p) (bit_set p cv place) (is_one (d.cvs cv) place))
 at_register p mode d d' o PendingRegister = rw o.pending refl
-at_register p mode d d' o (Out n) = refl
-at_register p mode d d' o (Position n) = refl
-at_register p mode d d' o (Aspect n) = refl
+at_register p mode d d' o r = refl
 
 pub heard_one : (who : Who) (p : Packet) → hears who p ≡ true → heard who (p ∷ []) ≡ p ∷ []
 heard_one who p h = rw h refl

@@ -50,24 +50,12 @@ or_second false b t = t
 meets_at : (a b : Address) (active : Option Address) → is_for active a ≡ true → is_for active b ≡ true
     → meets a b ≡ true
 meets_at a Broadcast active h k = refl
-meets_at Broadcast (Short m) active h k = refl
-meets_at Broadcast (Long m) active h k = refl
+meets_at Broadcast b active h k = refl
 meets_at (Short n) (Short m) (Some (Short own)) h k = or_first _ _ (joined own.number n.number m.number h k)
 meets_at (Long n) (Long m) (Some (Long own)) h k = or_first _ _ (joined own.number n.number m.number h k)
-meets_at (Short n) (Short m) None h k = absurd (cc)
-meets_at (Short n) (Long m) None h k = absurd (cc)
-meets_at (Long n) (Short m) None h k = absurd (cc)
-meets_at (Long n) (Long m) None h k = absurd (cc)
-meets_at (Short n) (Short m) (Some Broadcast) h k = absurd (cc)
-meets_at (Short n) (Long m) (Some Broadcast) h k = absurd (cc)
-meets_at (Long n) (Short m) (Some Broadcast) h k = absurd (cc)
-meets_at (Long n) (Long m) (Some Broadcast) h k = absurd (cc)
-meets_at (Short n) (Short m) (Some (Long own)) h k = absurd (cc)
-meets_at (Short n) (Long m) (Some (Long own)) h k = absurd (cc)
-meets_at (Short n) (Long m) (Some (Short own)) h k = absurd (cc)
-meets_at (Long n) (Short m) (Some (Short own)) h k = absurd (cc)
-meets_at (Long n) (Short m) (Some (Long own)) h k = absurd (cc)
-meets_at (Long n) (Long m) (Some (Short own)) h k = absurd (cc)
+meets_at (Short n) (Long m) (Some (Short own)) h k = cc
+meets_at (Long n) (Short m) (Some (Short own)) h k = cc
+meets_at a b active h k = cc
 
 -- a board takes what is sent to this board
 takes_board : ℕ → Option ℕ → Bool
@@ -88,11 +76,9 @@ hears_signal own address false false e f = refl
 hears_board : (own : Board) (p : Packet) → hears (BoardWho own) p ≡ takes_board own.number (board_number p)
 unfolding takes_board
 hears_board own (ToLoco to what) = hears_reset own.number (is_full_reset to what)
-hears_board own (Accessory board output on) = refl
 hears_board own (Signal address aspect) =
     hears_signal own.number address.number (address.number == 2047) (nat_lt address.number 2044) refl refl
-hears_board own (Other frame) = refl
-hears_board own Idle = refl
+hears_board own p = refl
 
 record MeetAt (o o' : Option Address) : Type 0 where
   active : Option Address
@@ -108,15 +94,13 @@ loco_to : (o o' : Option Address) (active : Option Address) → option_map_or (i
     → option_map_or (is_for active) o' false ≡ true
     → both_meet meets o o' ≡ true
 loco_to (Some a) (Some b) active h k = meets_at a b active h k
-loco_to None o' active h k = absurd (cc)
-loco_to (Some a) None active h k = absurd (cc)
+loco_to o o' active h k = cc
 
 board_to : (o o' : Option ℕ) (own : ℕ) → takes_board own o ≡ true → takes_board own o' ≡ true
     → both_meet boards_meet o o' ≡ true
 unfolding takes_board
 board_to (Some a) (Some b) own h k = grind (arith, nat_tests)
-board_to None o' own h k = absurd (cc)
-board_to (Some a) None own h k = absurd (cc)
+board_to o o' own h k = cc
 
 record BoardAt (a b : ℕ) : Type 0 where
   own : Board
@@ -151,8 +135,7 @@ fits (Accessory board output on) n e = fits_by true board.number n board.in_rang
 fits (Signal address aspect) n e =
     fits_by (address.number == 2047 || nat_lt address.number 2044) (address.number / 4) n
     (quarter address.number address.in_range) e
-fits (Other frame) n e = absurd (cc)
-fits Idle n e = absurd (cc)
+fits p n e = cc
 
 by_boards : (p q : Packet) (o o' : Option ℕ) → board_number p ≡ o → board_number q ≡ o'
     → both_meet boards_meet o o' ≡ true → HeardTogether p q
@@ -163,8 +146,7 @@ by_boards p q (Some a) (Some b) e f h =
       first = hears_board at.own p ∙ (ap (takes_board at.own.number) e ∙ at.first);
       second = hears_board at.own q ∙ (ap (takes_board at.own.number) f ∙ at.second);
     }
-by_boards p q None o' e f h = absurd (cc)
-by_boards p q (Some a) None e f h = absurd (cc)
+by_boards p q o o' e f h = cc
 
 pub together_board : (p q : Packet) → some_board p q ≡ true → HeardTogether p q
 together_board p q h = by_boards p q (board_number p) (board_number q) refl refl h

@@ -64,15 +64,7 @@ broadcast_stop forward bits none = by_case (nat_lt bits.bits 2) (nat_lt bits.bit
 -- a group has a place for its first function
 first_place : (g : Group) → function_place Steps28 g (first_function g) ≡ Some 0
 first_place F0 = refl
-first_place F5 = refl
-first_place F9 = refl
-first_place F13 = refl
-first_place F21 = refl
-first_place F29 = refl
-first_place F37 = refl
-first_place F45 = refl
-first_place F53 = refl
-first_place F61 = refl
+first_place g = refl
 
 pub short_speed : (to : ShortAddress) (forward : Bool) (bits : SpeedBits28)
     → SetsNothing (Loco (Short to) (Speed28 forward bits)) → ⊥

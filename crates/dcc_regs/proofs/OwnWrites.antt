@@ -1,7 +1,7 @@
 -- A CV write to the own address sets no plain register.
 use Rattle.std.proofs.Common.{ℕ, true, ◌≡◌, ap, refl, None}
 use Rattle.std.specs.Prelude.{option_map}
-use Rattle.dcc_packet.specs.declared.address.Address.TheVariants.{Short, Long}
+use Rattle.dcc_packet.specs.declared.address.Address.TheVariants.{Broadcast, Short, Long}
 use Rattle.dcc_packet.specs.declared.instruction.What.TheVariants.{CvWrite, CvBitWrite}
 use Rattle.dcc_packet.specs.declared.packet.Packet.{Packet}
 use Rattle.dcc_packet.specs.declared.packet.Packet.TheVariants.{Loco}
@@ -30,34 +30,15 @@ none_of mode p (StateRegister n) a b c s d f g = ap (option_map Flag) (s n)
 none_of mode p (Out n) a b c s d f g = ap (option_map Flag) (d n)
 none_of mode p (Position n) a b c s d f g = ap (option_map side) (f n)
 none_of mode p (Aspect n) a b c s d f g = ap (option_map Number) (g n)
-none_of mode p (CvBit cv place) a b c s d f g = refl
-none_of mode p PendingRegister a b c s d f g = refl
+none_of mode p r a b c s d f g = refl
 
 -- an own write sets no plain register
 pub sets-own_write : (mode : SpeedMode) (p : Packet) (register : Register) → is_own_write p ≡ true
     → sets mode p register ≡ None
-sets-own_write Steps14 (Loco (Short to) (CvWrite cv value)) r e =
-    none_of Steps14 (Loco (Short to) (CvWrite cv value)) r refl refl (λ n. refl) (λ n. refl) (λ n. refl) (λ n. refl)
+sets-own_write mode (Loco Broadcast what) r e = cc
+sets-own_write mode (Loco to (CvWrite cv value)) r e =
+    none_of mode (Loco to (CvWrite cv value)) r refl refl (λ n. refl) (λ n. refl) (λ n. refl) (λ n. refl) (λ n. refl)
+sets-own_write mode (Loco to (CvBitWrite cv place one)) r e =
+    none_of mode (Loco to (CvBitWrite cv place one)) r refl refl (λ n. refl) (λ n. refl) (λ n. refl) (λ n. refl)
     (λ n. refl)
-sets-own_write Steps14 (Loco (Short to) (CvBitWrite cv place one)) r e =
-    none_of Steps14 (Loco (Short to) (CvBitWrite cv place one)) r refl refl (λ n. refl) (λ n. refl) (λ n. refl)
-    (λ n. refl) (λ n. refl)
-sets-own_write Steps14 (Loco (Long to) (CvWrite cv value)) r e =
-    none_of Steps14 (Loco (Long to) (CvWrite cv value)) r refl refl (λ n. refl) (λ n. refl) (λ n. refl) (λ n. refl)
-    (λ n. refl)
-sets-own_write Steps14 (Loco (Long to) (CvBitWrite cv place one)) r e =
-    none_of Steps14 (Loco (Long to) (CvBitWrite cv place one)) r refl refl (λ n. refl) (λ n. refl) (λ n. refl)
-    (λ n. refl) (λ n. refl)
-sets-own_write Steps28 (Loco (Short to) (CvWrite cv value)) r e =
-    none_of Steps28 (Loco (Short to) (CvWrite cv value)) r refl refl (λ n. refl) (λ n. refl) (λ n. refl) (λ n. refl)
-    (λ n. refl)
-sets-own_write Steps28 (Loco (Short to) (CvBitWrite cv place one)) r e =
-    none_of Steps28 (Loco (Short to) (CvBitWrite cv place one)) r refl refl (λ n. refl) (λ n. refl) (λ n. refl)
-    (λ n. refl) (λ n. refl)
-sets-own_write Steps28 (Loco (Long to) (CvWrite cv value)) r e =
-    none_of Steps28 (Loco (Long to) (CvWrite cv value)) r refl refl (λ n. refl) (λ n. refl) (λ n. refl) (λ n. refl)
-    (λ n. refl)
-sets-own_write Steps28 (Loco (Long to) (CvBitWrite cv place one)) r e =
-    none_of Steps28 (Loco (Long to) (CvBitWrite cv place one)) r refl refl (λ n. refl) (λ n. refl) (λ n. refl)
-    (λ n. refl) (λ n. refl)
-sets-own_write mode p r e = absurd (cc)
+sets-own_write mode p r e = cc

@@ -122,37 +122,17 @@ start-next m p = same_state (start (next m p)) (step (start m) p) (heard-sets m 
         heard-sets m p (CvBit cv place)
         ∙ where_set (is_own_write p && is_pending (m PendingRegister) p) (m (CvBit cv place))
         (option_map Flag (bit_set p cv place))
-    at_bit SpeedRegister = none_either (is_own_write p && is_pending (m PendingRegister) p)
-    at_bit Direction = none_either (is_own_write p && is_pending (m PendingRegister) p)
-    at_bit (Function n) = none_either (is_own_write p && is_pending (m PendingRegister) p)
-    at_bit (StateRegister n) = none_either (is_own_write p && is_pending (m PendingRegister) p)
-    at_bit PendingRegister = none_either (is_own_write p && is_pending (m PendingRegister) p)
-    at_bit (Out n) = none_either (is_own_write p && is_pending (m PendingRegister) p)
-    at_bit (Position n) = none_either (is_own_write p && is_pending (m PendingRegister) p)
-    at_bit (Aspect n) = none_either (is_own_write p && is_pending (m PendingRegister) p)
+    at_bit r = none_either (is_own_write p && is_pending (m PendingRegister) p)
 
     at_plain : (r : Register)
         → plain_only (next m p) r ≡ value_over (plain_only m r) (sets (mode_in (bits_only m)) p r)
     at_plain (CvBit cv place) = refl
     at_plain PendingRegister = refl
-    at_plain SpeedRegister = heard-sets m p SpeedRegister
-    at_plain Direction = heard-sets m p Direction
-    at_plain (Function n) = heard-sets m p (Function n)
-    at_plain (StateRegister n) = heard-sets m p (StateRegister n)
-    at_plain (Out n) = heard-sets m p (Out n)
-    at_plain (Position n) = heard-sets m p (Position n)
-    at_plain (Aspect n) = heard-sets m p (Aspect n)
+    at_plain r = heard-sets m p r
 
 read-start : (m : RegisterMap) (r : Register) → m r ≡ read (start m) r
-read-start m (CvBit cv place) = refl
 read-start m PendingRegister = refl
-read-start m SpeedRegister = refl
-read-start m Direction = refl
-read-start m (Function n) = refl
-read-start m (StateRegister n) = refl
-read-start m (Out n) = refl
-read-start m (Position n) = refl
-read-start m (Aspect n) = refl
+read-start m r = refl
 
 -- the registers after a list are those that its packets leave one by one, whatever they are at the start
 pub read-state_after : (m : RegisterMap) (l : List Packet) (r : Register)
