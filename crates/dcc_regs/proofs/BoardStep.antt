@@ -77,11 +77,7 @@ held own d bytes (Out n) = held_out own n (d.outs n) (nat_le n 7) refl
 held own d bytes (Position n) = held_position own n (d.positions n) (nat_le n 3) refl
 held own d bytes (Aspect n) = held_aspect own n (d.aspects n) (nat_le n 3) (bytes n) refl
 held own d bytes SpeedRegister = refl
-held own d bytes Direction = refl
-held own d bytes (Function n) = refl
-held own d bytes (StateRegister n) = refl
-held own d bytes (CvBit cv place) = refl
-held own d bytes PendingRegister = refl
+held own d bytes r = refl
 
 pub possible : (own : OwnBoard) (d : BoardContent) → nat_le own.number 510 ≡ true → ((n : ℕ) → d.aspects n < 256)
     → IsPossible (BoardWho own) (board_registers d)

@@ -89,14 +89,7 @@ active_address-loco d a b c e =
 
 started_at : (d : LocoContent) (r : Register) → loco_registers (start_content d.cvs) r ≡ powered_up (loco_registers d) r
 started_at d SpeedRegister = refl
-started_at d Direction = refl
-started_at d (Function n) = refl
-started_at d (StateRegister n) = refl
-started_at d (CvBit cv place) = refl
-started_at d PendingRegister = refl
-started_at d (Out n) = refl
-started_at d (Position n) = refl
-started_at d (Aspect n) = refl
+started_at d r = refl
 
 -- the registers of a decoder made with the CVs of another are those of the other powered up
 pub powered_up-loco : (m : RegisterMap) (d : LocoContent) (cvs bytes : List ℕ)

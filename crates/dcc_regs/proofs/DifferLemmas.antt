@@ -53,11 +53,7 @@ in_run_at mode bits n o ne d =
 of_group : (mode : SpeedMode) (to : Address) (bits : GroupBits) (n : ℕ)
     → function_set mode (ToLoco to (Functions bits)) n ≡ group_bit mode bits n
 of_group Steps14 Broadcast bits n = refl
-of_group Steps14 (Short own) bits n = refl
-of_group Steps14 (Long own) bits n = refl
-of_group Steps28 Broadcast bits n = refl
-of_group Steps28 (Short own) bits n = refl
-of_group Steps28 (Long own) bits n = refl
+of_group mode to bits n = refl
 
 in_run_of : (mode : SpeedMode) (to : Address) (bits : GroupBits) (group : Group) (n : ℕ) (o : Option Value)
     → Some bits.group ≡ Some group → n ≢ 0
@@ -112,11 +108,7 @@ off_what Steps28 (Short own) (Speed28 forward bits) n e ne = tt
 off_what Steps28 (Long own) (Speed28 forward bits) n e ne = tt
 off_what mode to (Functions bits) n e ne = absurd (cc)
 off_what Steps14 Broadcast what n e ne = tt
-off_what Steps14 (Short own) what n e ne = tt
-off_what Steps14 (Long own) what n e ne = tt
-off_what Steps28 Broadcast what n e ne = tt
-off_what Steps28 (Short own) what n e ne = tt
-off_what Steps28 (Long own) what n e ne = tt
+off_what mode to what n e ne = tt
 
 off_at : (mode : SpeedMode) (p : Packet) (n : ℕ) → group_of p ≡ None → n ≢ 0 → Off (function_set mode p n)
 off_at mode (ToLoco to what) n e ne = off_what mode to what n e ne

@@ -32,8 +32,7 @@ no_other Steps14 Broadcast forward bits n other = refl
 no_other Steps14 (Short to) forward bits n other = rw other refl
 no_other Steps14 (Long to) forward bits n other = rw other refl
 no_other Steps28 Broadcast forward bits n other = refl
-no_other Steps28 (Short to) forward bits n other = refl
-no_other Steps28 (Long to) forward bits n other = refl
+no_other Steps28 to forward bits n other = refl
 
 pub speed_turns_f0 : (mode : SpeedMode) (p : Packet) (to : Address) (what : What) (forward : Bool) (bits : SpeedBits28)
     (r w : ℕ) → p ≡ Loco to what → what ≡ Speed28 forward bits
@@ -149,15 +148,7 @@ place_by false u f at w r here below above = below refl
 
 few_functions : (group : Group) → (count_of group ≤ 8) × (first_function group ≤ 61)
 few_functions F0 = (omega arith, omega arith)
-few_functions F5 = (omega arith, omega arith)
-few_functions F9 = (omega arith, omega arith)
-few_functions F13 = (omega arith, omega arith)
-few_functions F21 = (omega arith, omega arith)
-few_functions F29 = (omega arith, omega arith)
-few_functions F37 = (omega arith, omega arith)
-few_functions F45 = (omega arith, omega arith)
-few_functions F53 = (omega arith, omega arith)
-few_functions F61 = (omega arith, omega arith)
+few_functions group = (omega arith, omega arith)
 
 group_of : (mode : SpeedMode) (bits : GroupBits) (n : ℕ) → 1 ≤ n
     → group_bit mode bits n

@@ -43,14 +43,9 @@ one_for (Some (Short own)) (Short a) (Short b) n m h k =
     ap Short (same_short a b (one_number own.number a.number b.number h k))
 one_for (Some (Long own)) (Long a) (Long b) n m h k =
     ap Long (same_long a b (one_number own.number a.number b.number h k))
-one_for None (Short a) b n m h k = absurd (cc)
-one_for None (Long a) b n m h k = absurd (cc)
-one_for (Some Broadcast) (Short a) b n m h k = absurd (cc)
-one_for (Some Broadcast) (Long a) b n m h k = absurd (cc)
-one_for (Some (Short own)) (Long a) b n m h k = absurd (cc)
-one_for (Some (Long own)) (Short a) b n m h k = absurd (cc)
-one_for (Some (Short own)) (Short a) (Long b) n m h k = absurd (cc)
-one_for (Some (Long own)) (Long a) (Short b) n m h k = absurd (cc)
+one_for (Some (Short own)) (Short a) (Long b) n m h k = cc
+one_for (Some (Long own)) (Long a) (Short b) n m h k = cc
+one_for active a b n m h k = cc
 
 no_board : (own : Board) (to : Address) (what : What) → to ≢ Broadcast → hears (BoardWho own) (ToLoco to what) ≡ true
     → ⊥
@@ -77,19 +72,12 @@ mode_bit_stays : (what : What) → writes_mode what ≡ false → cv_bit_set wha
 mode_bit_stays (CvWrite cv value) e = other_cv cv.number _ _ e
 mode_bit_stays (CvBitWrite cv place one) e = other_bit cv.number place.place _ _ e
 mode_bit_stays Reset e = refl
-mode_bit_stays (Speed28 forward bits) e = refl
-mode_bit_stays (Speed128 forward bits) e = refl
-mode_bit_stays (Functions bits) e = refl
-mode_bit_stays (BinaryState state on) e = refl
-mode_bit_stays (CvVerify cv value) e = refl
-mode_bit_stays (CvBitVerify cv place one) e = refl
+mode_bit_stays what e = refl
 
 bit_stays : (p : Packet) → writes_cv29 p ≡ false → bit_set p 29 1 ≡ None
 bit_stays (ToLoco to what) e = mode_bit_stays what e
 bit_stays (Accessory board output on) e = refl
-bit_stays (Signal address aspect) e = refl
-bit_stays (Other frame) e = refl
-bit_stays Idle e = refl
+bit_stays p e = refl
 
 none_by : (t : Bool) (o : Option Bool) → o ≡ None → (if t then option_map Flag o else None) ≡ None
 none_by true o e = ap (option_map Flag) e

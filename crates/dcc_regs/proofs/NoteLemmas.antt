@@ -11,21 +11,13 @@ use Rattle.dcc_regs.specs.Notes.{TurnoutCall, SignalCall, OtherCall, loco_note, 
 
 loco_again : (to : Address) (what : What) → packet_told (loco_note to what) ≡ Some (ToLoco to what)
 loco_again to Reset = refl
-loco_again to (Speed28 forward bits) = refl
-loco_again to (Speed128 forward bits) = refl
-loco_again to (Functions bits) = refl
-loco_again to (BinaryState state on) = refl
-loco_again to (CvWrite cv value) = refl
-loco_again to (CvVerify cv value) = refl
-loco_again to (CvBitWrite cv place one) = refl
-loco_again to (CvBitVerify cv place one) = refl
+loco_again to what = refl
 
 pub told_again : (p : Packet) → packet_told (note_of p) ≡ Some p
 told_again Idle = refl
 told_again (ToLoco to what) = loco_again to what
 told_again (Accessory board output on) = refl
-told_again (Signal address aspect) = refl
-told_again (Other frame) = refl
+told_again p = refl
 
 -- the packet that is told, and so its call
 told_call : (q p : Packet) → Some q ≡ Some p → note_of q ≡ note_of p

@@ -28,11 +28,7 @@ pub record IsState (s : LocoState) : Type 0 where
 all_five : (a b c d e : Bool) → (a && b && c && d && e) ≡ true
     → (a ≡ true) × (b ≡ true) × (c ≡ true) × (d ≡ true) × (e ≡ true)
 all_five true true true true true h = (refl, refl, refl, refl, refl)
-all_five false b c d e h = absurd (cc)
-all_five true false c d e h = absurd (cc)
-all_five true true false d e h = absurd (cc)
-all_five true true true false e h = absurd (cc)
-all_five true true true true false h = absurd (cc)
+all_five a b c d e h = cc
 
 pub parts_of : (s : LocoState) → is_state s ≡ true → IsState s
 parts_of s h =
@@ -67,8 +63,7 @@ held s h (StateRegister n) = state_held s n (is_binary_state n) refl
 held s h (CvBit cv place) = cv_held s cv place _ (is_cv_bit cv place) refl
 held s h PendingRegister = h.pending
 held s h (Out n) = refl
-held s h (Position n) = refl
-held s h (Aspect n) = refl
+held s h r = refl
 
 pub possible : (s : LocoState) → is_state s ≡ true → IsPossible (loco_who s) (loco_map s)
 possible s h = record { decoder = (parts_of s h).active; registers = held s (parts_of s h) }
