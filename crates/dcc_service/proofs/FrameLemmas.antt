@@ -13,10 +13,7 @@ pub four_bytes : (bytes : List ℕ) → length bytes ≡ 4 → xor_of bytes ≡ 
     → bytes ≡ with_error_byte (get_or bytes 0 0 ∷ get_or bytes 1 0 ∷ get_or bytes 2 0 ∷ [])
 four_bytes (a ∷ b ∷ c ∷ d ∷ []) e x = last_is_error_byte (a ∷ b ∷ c ∷ []) d x
 four_bytes [] e x = absurd (omega arith)
-four_bytes (a ∷ []) e x = absurd (omega arith)
-four_bytes (a ∷ b ∷ []) e x = absurd (omega arith)
-four_bytes (a ∷ b ∷ c ∷ []) e x = absurd (omega arith)
-four_bytes (a ∷ b ∷ c ∷ d ∷ f ∷ more) e x = absurd (omega arith)
+four_bytes xs e x = absurd (omega arith)
 
 pub spelled_of : (result : Option ServicePacket) (bytes frame : List ℕ)
     → IfSome result (λ packet. instruction_bytes packet ≡ bytes) → frame ≡ with_error_byte bytes
