@@ -83,13 +83,7 @@ unfolding AllBytes
 functions_are F0 bits h = record { least = omega arith; most = omega arith; all = (omega arith, tt) }
 functions_are F5 bits h = record { least = omega arith; most = omega arith; all = (omega arith, tt) }
 functions_are F9 bits h = record { least = omega arith; most = omega arith; all = (omega arith, tt) }
-functions_are F13 bits h = record { least = omega arith; most = omega arith; all = (omega arith, (omega arith, tt)) }
-functions_are F21 bits h = record { least = omega arith; most = omega arith; all = (omega arith, (omega arith, tt)) }
-functions_are F29 bits h = record { least = omega arith; most = omega arith; all = (omega arith, (omega arith, tt)) }
-functions_are F37 bits h = record { least = omega arith; most = omega arith; all = (omega arith, (omega arith, tt)) }
-functions_are F45 bits h = record { least = omega arith; most = omega arith; all = (omega arith, (omega arith, tt)) }
-functions_are F53 bits h = record { least = omega arith; most = omega arith; all = (omega arith, (omega arith, tt)) }
-functions_are F61 bits h = record { least = omega arith; most = omega arith; all = (omega arith, (omega arith, tt)) }
+functions_are group bits h = record { least = omega arith; most = omega arith; all = (omega arith, (omega arith, tt)) }
 
 cv_is : (kind : ℕ) (cv : CvNumber) (last : ℕ) → kind ≤ 0xEC → last < 256 → IsInstruction (cv_bytes kind cv.number last)
 unfolding AllBytes

@@ -70,15 +70,7 @@ speed128_bits_back speed =
 
 pub group_back : (g : Group) → group (group_word g) ≡ Ok g
 group_back F0 = refl
-group_back F5 = refl
-group_back F9 = refl
-group_back F13 = refl
-group_back F21 = refl
-group_back F29 = refl
-group_back F37 = refl
-group_back F45 = refl
-group_back F53 = refl
-group_back F61 = refl
+group_back group = refl
 
 pub group_bits_back : (f : GroupBits) → group_bits f.group (decimal f.bits) ≡ Ok f
 group_bits_back f =

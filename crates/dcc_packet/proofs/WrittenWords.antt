@@ -51,6 +51,4 @@ test_from_digits (c ∷ cs) h = rw (ascii_digit c h.0, test_from_digits cs h.1) 
 
 pub group_is_byte : (g : Group) → group_max g ≤ 255
 group_is_byte F0 = omega arith
-group_is_byte F5 = omega arith
-group_is_byte F9 = omega arith
-group_is_byte g = omega arith
+group_is_byte group = omega arith
