@@ -70,7 +70,7 @@ one_listing words (found ∷ more) one other first second =
 
 outcome_in_hex : (outcome : Seen) → IsOutcomeText false outcome (outcome_text outcome)
 outcome_in_hex Nothing = refl
-outcome_in_hex x = refl
+outcome_in_hex seen = refl
 
 listing_in_hex : (outcomes : List (ℕ × Seen)) → IsListing false outcomes (listing outcomes)
 listing_in_hex [] = refl

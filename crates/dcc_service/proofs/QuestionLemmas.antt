@@ -87,7 +87,7 @@ acted_on-twice (BitVerify cv bits one) cvs count = refl
 pub acknowledged-again : (packet : ServicePacket) (cvs : List ℕ)
     → is_acknowledged packet (acted_on packet cvs) ≡ is_acknowledged packet cvs
 acknowledged-again (Write cv value) cvs = refl
-acknowledged-again x cvs = refl
+acknowledged-again question cvs = refl
 
 after_settled : (packet : ServicePacket) (cvs : List ℕ) → length cvs ≡ 1024 → (after : ServiceState) (answer : Bool)
     → Step (waiting (Some packet) (acted_on packet cvs)) (spelling packet) after answer
@@ -146,5 +146,5 @@ any_of_answers false = refl
 pub any-more : (answers : List Bool) (answer : Bool)
     → list_any (λ a. a) (answers ++ answer ∷ []) ≡ list_any (λ a. a) answers || answer
 any-more [] true = refl
-any-more xs answer = refl
 any-more (false ∷ answers) answer = any-more answers answer
+any-more answers answer = refl

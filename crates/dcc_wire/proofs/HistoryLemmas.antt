@@ -20,7 +20,7 @@ microseconds Bad = 0
 
 pub class_of-microseconds : (half : Half) → class_of (microseconds half) ≡ half
 class_of-microseconds One = refl
-class_of-microseconds x = refl
+class_of-microseconds half = refl
 
 abbrev pub HasHistory : Rest → Type 0
 HasHistory framer = (durations : List ℕ) × StandsFor framer durations

@@ -25,7 +25,7 @@ unfolding half_of
 half_of-bit One true e = refl
 half_of-bit Zero false e = refl
 half_of-bit One false e = cc
-half_of-bit x bit e = cc
+half_of-bit half bit e = cc
 
 pub bad_half : (half : Half) → bit_of half ≡ None → half ≡ Bad
 bad_half One e = cc
