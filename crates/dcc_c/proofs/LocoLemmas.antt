@@ -34,7 +34,8 @@ is_short (Some (Long own)) e = absurd (omega arith)
 
 pub is_long : (own : Option Address) → own_kind own ≡ 2 → (address : LongAddress) × (own ≡ Some (Long address))
 is_long None e = absurd (omega arith)
-is_long o e = absurd (omega arith)
+is_long (Some Broadcast) e = absurd (omega arith)
+is_long (Some (Short own)) e = absurd (omega arith)
 is_long (Some (Long own)) e = (own, refl)
 
 -- what the numbers of a short or a long address come to

@@ -95,6 +95,7 @@ no_run (byte ∷ word) run spells = go (is_dash byte) refl
   where
     never : (a b : Bool) → (a && (b && false)) ≡ false
     never true true = refl
+    never true false = refl
     never false b = refl
 
     no_digit : is_dash byte ≡ true → duration_of (byte ∷ before_star word) ≡ None

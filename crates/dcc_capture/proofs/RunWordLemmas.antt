@@ -22,6 +22,7 @@ count_some count n is =
     go true true above true is =
         let value : digits_value 10 count ≡ n = cc in rw (← value) (above_none (digits_value 10 count) above)
     go true true above false is = cc
+    go true false above few is = cc
     go false some above few is = cc
 
 times_some : (count : Option (List ℕ)) (n : ℕ) → times count ≡ Some n → 0 < n
