@@ -1,9 +1,7 @@
 -- The lines of a decoder text, read one after the other.
-use Rattle.std.proofs.Common.{zero, suc, ◌≡◌, ℕ, ◌+◌, ◌-◌, ◌<◌, List, [], ◌∷◌, ◌++◌, length}
-use Rattle.std.proofs.Common.{Some, Err, refl, sym, ap, arith}
-use Rattle.std.proofs.Common.{inr}
+use Rattle.std.proofs.Common.{zero, suc, ◌≡◌, ℕ, ◌+◌, ◌-◌, ◌<◌, List, [], ◌∷◌, ◌++◌, length, Some, Err, refl, sym, arith, inr}
 use Rattle.dcc_io.specs.declared.fault.KeptFault.{KeptFault}
-use Rattle.dcc_io.specs.declared.fault.KeptFault.TheVariants.{Number, Line, Read, TooMuch}
+use Rattle.dcc_io.specs.declared.fault.KeptFault.TheVariants.{Number, TooMuch}
 use Rattle.dcc_io.specs.Faults.{as_tool_fault}
 use Rattle.dcc_saved.specs.TextReadOrNoMemory.{ReadFails}
 use Rattle.dcc_saved.specs.declared.saved.Saved.{Saved}
@@ -11,11 +9,10 @@ use Rattle.dcc_saved.specs.declared.decoder_line.Head.TheVariants as heads
 use Rattle.dcc_io.specs.InputState.{InputState}
 use Rattle.dcc_saved.specs.TextReader.{Reader, ◌>>=◌, done, stop_at}
 use Rattle.dcc_saved.specs.TextReader.Stop.{cut, too_many}
-use Rattle.dcc_saved.specs.TextRead.{at, answer_of, GoesOn, Leads, Answers, UsedWholeLines}
+use Rattle.dcc_saved.specs.TextRead.{at, GoesOn, Leads, Answers, UsedWholeLines}
 use Rattle.dcc_regs.specs.declared.register.Who.{Who}
 use Rattle.dcc_saved.specs.declared.decoder_line.Version.{Version}
-use Rattle.dcc_saved.specs.DecoderText.{decoder_lines}
-use Rattle.dcc_saved.specs.DecoderText.{decoders_from, decoder_text}
+use Rattle.dcc_saved.specs.DecoderText.{decoder_lines, decoders_from, decoder_text}
 use Rattle.dcc_io.proofs.TookLemmas.{map_text}
 use Rattle.dcc_saved.proofs.ReadLemmas.{told_by}
 
@@ -51,7 +48,7 @@ too_many_decoders old now leads = (
   (
     leads.failures,
     told_by decoder_text old now (Err TooMuch) leads.took
-        (λ used more last goes. ap (answer_of last) (goes.goes_on more)),
+        (λ used more last goes. rw goes.goes_on refl),
   ),
   refl,
   inr (whole_lines leads (λ same. cc)),
@@ -60,7 +57,5 @@ too_many_decoders old now leads = (
 -- the fault of a text, as it is told
 pub fault_is_told : (old new : InputState) (fault : KeptFault) → Answers decoder_text old (Err fault) new
     → ReadFails old (as_tool_fault fault) new
-fault_is_told old new (Line line fault) h = h
-fault_is_told old new Read h = h
-fault_is_told old new TooMuch h = h
 fault_is_told old new (Number line) h = absurd h.0
+fault_is_told old new fault h = h

@@ -35,6 +35,9 @@ Leads-start read input fault = record {
   halves = refl;
 }
 
+-- what the search is given where nothing is read
+pub ruleset begins = (Leads-start)
+
 -- what stops a reader, in other words
 Refuses-map : {A B : Type 0} (read : Reader A) (whole : Reader B) (old now new : InputState) (fault : KeptFault)
     → (StopsAt read now fault new → StopsAt whole old fault new) → Refuses read now fault new
@@ -206,5 +209,3 @@ module _ {A : Type 0} (rule : List Word → Result A PacketFault) where
           refl,
           on_line old.text mid.text ends.lines took.text,
         )
-
-pub ruleset begins = (Leads-start)

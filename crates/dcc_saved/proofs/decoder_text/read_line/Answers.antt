@@ -7,11 +7,8 @@ returns-in_err-line-clause-reads g c = search (rules, line-missed)
 
 pub returns-in-Ok-clause-reads : goal.returns-in-Ok-clause-reads
 returns-in-Ok-clause-reads g c =
-    let is = rw (c.as_bytes.ensures.value, c.deref.ensures.0) at c.in-Ok.ensures.is in
-    line-read (g.L.LineRule.rule c.args.rule) c.read.ensures.blank _ _ _ _ c.in_ok-line.ensures _ is
+    search (rules, line-read (g.L.LineRule.rule c.args.rule) c.read.ensures.blank _ _ _ _ c.in_ok-line.ensures)
 
 pub returns-in-Err-clause-reads : goal.returns-in-Err-clause-reads
 returns-in-Err-clause-reads g c =
-    let is = rw (c.as_bytes.ensures.value, c.deref.ensures.0) at c.in-Err.ensures.is in
-    line-refused (g.L.LineRule.rule c.args.rule) c.read.ensures.blank _ _ _ _ c.in_ok-line.ensures _ _ _ is
-    (c.refuse_line.ensures.refuses c.in_ok-line.ensures.fault)
+    search (rules, line-refused (g.L.LineRule.rule c.args.rule) c.read.ensures.blank _ _ _ _ c.in_ok-line.ensures)
