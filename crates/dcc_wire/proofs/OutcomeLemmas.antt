@@ -34,15 +34,11 @@ by_halves-more : (n : ℕ) (tail more : List Half) (v : ℕ × Seen) → bits_in
     → (bits_in (tail ++ more) ≡ []) × (by_halves n (behind_bits (tail ++ more)) ≡ Some v)
 unfolding bits_in behind_bits by_halves
 by_halves-more n [] more v q e = cc
-by_halves-more n (Bad ∷ tail) more v q e = (refl, e)
 by_halves-more n (One ∷ []) more v q e = cc
 by_halves-more n (Zero ∷ []) more v q e = cc
 by_halves-more n (One ∷ One ∷ tail) more v q e = cc
 by_halves-more n (Zero ∷ Zero ∷ tail) more v q e = cc
-by_halves-more n (One ∷ Zero ∷ tail) more v q e = (refl, e)
-by_halves-more n (One ∷ Bad ∷ tail) more v q e = (refl, e)
-by_halves-more n (Zero ∷ One ∷ tail) more v q e = (refl, e)
-by_halves-more n (Zero ∷ Bad ∷ tail) more v q e = (refl, e)
+by_halves-more n tail more v q e = (refl, e)
 
 more_by : (bits : List Bool) (tail more : List Half) (v : ℕ × Seen) (o : Option (List ℕ × Bool)) → bytes_in 6 bits ≡ o
     → bits_in tail ≡ []
@@ -236,13 +232,9 @@ grows_by bits (Zero ∷ []) Zero e q n = elim (cases_lt 0 (length bits % 9)) [
   | inl inside ↦ inner_bit bits Zero false refl e inside
   | inr edge ↦ zero_bit bits e (bytes_in-edge 6 bits e (omega (arith, edge)))
 ]
-grows_by bits (Bad ∷ tail) half e q n = cc
 grows_by bits (One ∷ One ∷ tail) half e q n = cc
-grows_by bits (Zero ∷ Zero ∷ tail) half e q n = cc
-grows_by bits (One ∷ Zero ∷ tail) half e q n = cc
-grows_by bits (One ∷ Bad ∷ tail) half e q n = cc
 grows_by bits (Zero ∷ One ∷ tail) half e q n = cc
-grows_by bits (Zero ∷ Bad ∷ tail) half e q n = cc
+grows_by bits tail half e q n = cc
 
 open_parts : (o : Option (List ℕ × Bool)) (b : Option (ℕ × Seen)) → option_or (option_map by_bits o) b ≡ None
     → (o ≡ None) × (b ≡ None)
@@ -266,19 +258,11 @@ unfolding by_halves
 by_halves-long n [] p e = cc
 by_halves-long n (One ∷ []) p e = cc
 by_halves-long n (Zero ∷ []) p e = cc
-by_halves-long n (Bad ∷ tail) p e =
-    let count = ap (λ q. q.0) (some_same e) in (omega (arith, count), omega (arith, count))
 by_halves-long n (One ∷ One ∷ tail) p e =
-    let count = ap (λ q. q.0) (some_same e) in (omega (arith, count), omega (arith, count))
-by_halves-long n (One ∷ Zero ∷ tail) p e =
-    let count = ap (λ q. q.0) (some_same e) in (omega (arith, count), omega (arith, count))
-by_halves-long n (One ∷ Bad ∷ tail) p e =
     let count = ap (λ q. q.0) (some_same e) in (omega (arith, count), omega (arith, count))
 by_halves-long n (Zero ∷ One ∷ tail) p e =
     let count = ap (λ q. q.0) (some_same e) in (omega (arith, count), omega (arith, count))
-by_halves-long n (Zero ∷ Zero ∷ tail) p e =
-    let count = ap (λ q. q.0) (some_same e) in (omega (arith, count), omega (arith, count))
-by_halves-long n (Zero ∷ Bad ∷ tail) p e =
+by_halves-long n tail p e =
     let count = ap (λ q. q.0) (some_same e) in (omega (arith, count), omega (arith, count))
 
 long_by : (bits : List Bool) (tail : List Half) (p : ℕ × Seen) (o : Option (List ℕ × Bool)) → bytes_in 6 bits ≡ o
@@ -304,12 +288,8 @@ outcome_of-long halves p e =
 pub ones_left_le : (outcome : Seen) → ones_left outcome ≤ 2
 unfolding ones_left
 ones_left_le Nothing = omega arith
-ones_left_le (Packet bytes) = omega arith
 ones_left_le (Refused BadHalf) = omega arith
-ones_left_le (Refused SplitBit) = omega arith
-ones_left_le (Refused TooShort) = omega arith
-ones_left_le (Refused TooLong) = omega arith
-ones_left_le (Refused (ErrorByte bytes)) = omega arith
+ones_left_le outcome = omega arith
 
 -- what a bit more answers
 
@@ -337,13 +317,9 @@ unfolding by_halves answer_of
 by_halves-something n [] e = refl
 by_halves-something n (One ∷ []) e = refl
 by_halves-something n (Zero ∷ []) e = refl
-by_halves-something n (Bad ∷ tail) e = cc
 by_halves-something n (One ∷ One ∷ tail) e = cc
-by_halves-something n (One ∷ Zero ∷ tail) e = cc
-by_halves-something n (One ∷ Bad ∷ tail) e = cc
 by_halves-something n (Zero ∷ One ∷ tail) e = cc
-by_halves-something n (Zero ∷ Zero ∷ tail) e = cc
-by_halves-something n (Zero ∷ Bad ∷ tail) e = cc
+by_halves-something n tail e = cc
 
 something_by : (o : Option (List ℕ × Bool)) (n : ℕ) (tail : List Half)
     → answer_of (option_or (option_map by_bits o) (by_halves n tail)) ≡ Nothing

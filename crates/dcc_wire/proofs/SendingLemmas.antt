@@ -221,8 +221,7 @@ pub record Classes (timing : Timing) : Type 0 where
 
 and_parts : (a b : Bool) → (a && b) ≡ true → (a ≡ true) × (b ≡ true)
 and_parts true true e = (refl, refl)
-and_parts true false e = cc
-and_parts false b e = cc
+and_parts a b e = cc
 
 not_none : (a b c : Bool)
     → IsTrue
@@ -231,9 +230,7 @@ not_none : (a b c : Bool)
     (if not b then Some TimingFault.Zero else (if not c then Some TimingFault.Preamble else None))))
     → (a ≡ true) × (b ≡ true) × (c ≡ true)
 not_none true true true e = (refl, refl, refl)
-not_none false b c e = cc
-not_none true false c e = cc
-not_none true true false e = cc
+not_none a b c e = cc
 
 pub classes : (timing : Timing) → Classes timing
 classes timing =
