@@ -17,15 +17,15 @@ use Rattle.dcc_regs.specs.Writes.{is_own_write}
 use Rattle.dcc_order.specs.declared.comparison.Comparison.{Comparison}
 use Rattle.dcc_order.specs.declared.last_heard.LastHeard.{LastHeard}
 use Rattle.dcc_order.specs.declared.verdict.Verdict.{Verdict}
-use Rattle.dcc_order.specs.declared.verdict.Verdict.TheVariants.{Members}
+use Rattle.dcc_order.specs.declared.verdict.Verdict.TheVariants.{Members, Alike}
 use Rattle.dcc_order.specs.declared.wants.Wants.{Wants}
 use Rattle.dcc_order.specs.declared.wants.Wants.TheVariants.{Left, Right, Done}
 use Rattle.dcc_order.specs.AlikeLists.{Cut, LastBlock, Block, cut, without_third_copies, in_first_block, cut_for}
 use Rattle.dcc_order.specs.AlikeLists.{AlikeBlocks}
 use Rattle.dcc_order.specs.OneMore.{ends_with_two, cut_more}
-use Rattle.dcc_order.specs.GivenLists.{Lists, IsVerdictOfAll, writes_in, block_len, open_blocks_len}
+use Rattle.dcc_order.specs.GivenLists.{Lists, IsVerdictOfAll, writes_in, open_blocks_len}
 use Rattle.dcc_order.specs.GivenLists.{most_held}
-use Rattle.dcc_order.specs.Comparisons.{StandsFor, GoesOn, WantsLeft, WantsRight, Stage, AlikeUpTo, open_cut}
+use Rattle.dcc_order.specs.Comparisons.{StandsFor, WantsLeft, WantsRight, Stage, AlikeUpTo, open_cut}
 use Rattle.dcc_order.specs.Comparisons.{EndAlike, IsVerdictAtEnds, last_heard, heard_next, nothing_heard}
 use Rattle.dcc_order.specs.Inner.ComparisonSteps.{heard_left, heard_right, joined_left, closed_left, begun_block}
 use Rattle.dcc_order.proofs.AlikeBlocks.{true_is_not_false}
@@ -71,81 +71,66 @@ last_heard-more l p = fold-append heard_next nothing_heard l (p ∷ [])
 longer : (l : List Packet) (p : Packet) → length (l ++ p ∷ []) ≡ length l + 1
 longer l p = length-append l (p ∷ [])
 
--- a packet that is not heard
-module _ (who : Who) (l : List Packet) (p : Packet) where
-  unheard_list : hears who p ≡ false → heard who (l ++ p ∷ []) ≡ heard who l
-  unheard_list e =
-      filter-append (hears who) l (p ∷ []) ∙ ap (λ t. heard who l ++ cond t (p ∷ []) []) e ∙ append-nil (heard who l)
+-- a list with one more packet: what was heard last, and its cut list
+record OneMore (who : Who) (l : List Packet) (p : Packet) (last : LastHeard) (x : Cut) : Type 0 where
+  is_last : last ≡ last_heard (heard who (l ++ p ∷ []))
+  is_cut : cut_for who (l ++ p ∷ []) ≡ x
 
-  heard_list : hears who p ≡ true → heard who (l ++ p ∷ []) ≡ heard who l ++ p ∷ []
-  heard_list e = filter-append (hears who) l (p ∷ []) ∙ ap (λ t. heard who l ++ cond t (p ∷ []) []) e
+module _ (who : Who) (l : List Packet) (p : Packet) (before : LastHeard) (is : before ≡ last_heard (heard who l)) where
+  -- a packet that is not heard
+  one_unheard : hears who p ≡ false → OneMore who l p before (cut_for who l)
+  one_unheard e = record {
+    is_last = rw (filter-append (hears who) l (p ∷ []), e, append-nil (heard who l)) is;
+    is_cut = rw (one_more_packet who l p, e) refl;
+  }
 
-  last_unheard : hears who p ≡ false → last_heard (heard who (l ++ p ∷ [])) ≡ last_heard (heard who l)
-  last_unheard e = ap last_heard (unheard_list e)
+  heard_more : hears who p ≡ true → heard_next before p ≡ last_heard (heard who (l ++ p ∷ []))
+  heard_more e = rw (filter-append (hears who) l (p ∷ []), e, last_heard-more (heard who l) p, is) refl
 
-  last_of_heard : hears who p ≡ true → last_heard (heard who (l ++ p ∷ [])) ≡ heard_next (last_heard (heard who l)) p
-  last_of_heard e = ap last_heard (heard_list e) ∙ last_heard-more (heard who l) p
-
-  cut_unheard : hears who p ≡ false → cut_for who (l ++ p ∷ []) ≡ cut_for who l
-  cut_unheard e =
-      one_more_packet who l p
-      ∙ ap (λ t. cond t
-      (cond (is_own_write p && ends_with_two (heard who l) p) (cut_for who l) (cut_more (cut_for who l) p))
-      (cut_for who l)) e
-
-  cut_heard : (t : Bool) → hears who p ≡ true → (is_own_write p && ends_with_two (heard who l) p) ≡ t
-      → cut_for who (l ++ p ∷ []) ≡ cond t (cut_for who l) (cut_more (cut_for who l) p)
-  cut_heard t e h =
-      one_more_packet who l p
-      ∙ ap (λ t. cond t
-      (cond (is_own_write p && ends_with_two (heard who l) p) (cut_for who l) (cut_more (cut_for who l) p))
-      (cut_for who l)) e
-      ∙ ap (λ t. cond t (cut_for who l) (cut_more (cut_for who l) p)) h
+  was_twice : (t : Bool) → (before.is_second && is_repeated before.packet p) ≡ t → ends_with_two (heard who l) p ≡ t
+  was_twice t e = rw (ends_twice (heard who l) p, sym is) e
 
   -- a write behind two copies of it
-  cut_left_out : hears who p ≡ true → is_own_write p ≡ true → ends_with_two (heard who l) p ≡ true
-      → cut_for who (l ++ p ∷ []) ≡ cut_for who l
-  cut_left_out e own two = cut_heard true e (ap (λ t. t && ends_with_two (heard who l) p) own ∙ two)
+  one_left_out : hears who p ≡ true → is_own_write p ≡ true → (before.is_second && is_repeated before.packet p) ≡ true
+      → OneMore who l p (heard_next before p) (cut_for who l)
+  one_left_out e own two =
+      record { is_last = heard_more e; is_cut = rw (one_more_packet who l p, e, own, was_twice true two) refl }
 
   -- a packet that joins the last block
-  cut_joined : hears who p ≡ true → is_own_write p ≡ false → cut_for who (l ++ p ∷ []) ≡ cut_more (cut_for who l) p
-  cut_joined e own = cut_heard false e (ap (λ t. t && ends_with_two (heard who l) p) own)
+  one_joined : hears who p ≡ true → is_own_write p ≡ false
+      → OneMore who l p (heard_next before p) (cut_more (cut_for who l) p)
+  one_joined e own = record { is_last = heard_more e; is_cut = rw (one_more_packet who l p, e, own) refl }
 
   -- a write that ends it
-  cut_ended : hears who p ≡ true → is_own_write p ≡ true → ends_with_two (heard who l) p ≡ false
-      → cut_for who (l ++ p ∷ []) ≡ cut_more (cut_for who l) p
-  cut_ended e own apart = cut_heard false e (ap (λ t. t && ends_with_two (heard who l) p) own ∙ apart)
+  one_ended : hears who p ≡ true → is_own_write p ≡ true → (before.is_second && is_repeated before.packet p) ≡ false
+      → OneMore who l p (heard_next before p) (cut_more (cut_for who l) p)
+  one_ended e own apart =
+      record { is_last = heard_more e; is_cut = rw (one_more_packet who l p, e, own, was_twice false apart) refl }
 
 up_to_left : (k : ℕ) (x y u w : Cut) (p : Packet) → AlikeUpTo k x y u w → AlikeUpTo k (cut_more x p) y (cut_more u p) w
 up_to_left zero x y u w p up = (ap (λ z. cut_more z p) up.0, up.1)
-up_to_left (suc k) (LastBlock left) y u w p up = absurd up
-up_to_left (suc k) (Block left write x) (LastBlock right) u w p up = absurd up
 up_to_left (suc k) (Block left write x) (Block right other y) u w p up = (up.0, up.1, up_to_left k x y u w p up.2)
+up_to_left (suc k) x y u w p up = absurd up
 
 up_to_right : (k : ℕ) (x y u w : Cut) (p : Packet) → AlikeUpTo k x y u w → AlikeUpTo k x (cut_more y p) u (cut_more w p)
 up_to_right zero x y u w p up = (up.0, ap (λ z. cut_more z p) up.1)
-up_to_right (suc k) (LastBlock left) y u w p up = absurd up
-up_to_right (suc k) (Block left write x) (LastBlock right) u w p up = absurd up
 up_to_right (suc k) (Block left write x) (Block right other y) u w p up = (up.0, up.1, up_to_right k x y u w p up.2)
+up_to_right (suc k) x y u w p up = absurd up
 
 up_to_next : (k : ℕ) (x y u w : Cut) (left right : List Packet) (write other : Packet)
     → AlikeUpTo k x y (Block left write u) (Block right other w) → AlikeBlocks left right → write ≡ other →
     AlikeUpTo (suc k) x y u w
-up_to_next zero x y u w left right write other up alike is =
-    subst (λ z. AlikeUpTo 1 z y u w) (sym up.0)
-    (subst (λ z. AlikeUpTo 1 (Block left write u) z u w) (sym up.1) (alike, is, (refl, refl)))
-up_to_next (suc k) (LastBlock a) y u w left right write other up alike is = absurd up
-up_to_next (suc k) (Block a b x) (LastBlock d) u w left right write other up alike is = absurd up
+up_to_next zero x y u w left right write other up alike is = rw (up.0, up.1) (alike, is, (refl, refl))
 up_to_next (suc k) (Block a b x) (Block d e y) u w left right write other up alike is =
     (up.0, up.1, up_to_next k x y u w left right write other up.2 alike is)
+up_to_next (suc k) x y u w left right write other up alike is = absurd up
 
 -- no more blocks than writes, and no more writes than packets
 blocks_before : (k : ℕ) (x y u w : Cut) → AlikeUpTo k x y u w → k ≤ writes_in y
 blocks_before zero x y u w up = omega arith
-blocks_before (suc k) (LastBlock left) y u w up = absurd up
-blocks_before (suc k) (Block left write x) (LastBlock right) u w up = absurd up
 blocks_before (suc k) (Block left write x) (Block right other y) u w up =
-    let rest = blocks_before k x y u w up.2 in omega (arith, rest)
+    omega (arith, blocks_before k x y u w up.2)
+blocks_before (suc k) x y u w up = absurd up
 
 writes-in_first : (p : Packet) (x : Cut) → writes_in (in_first_block p x) ≡ writes_in x
 writes-in_first p (LastBlock block) = refl
@@ -158,23 +143,18 @@ writes_within (p ∷ l) = by_case (is_own_write p) (writes_within l)
     by_case : (t : Bool) → writes_in (cut l) ≤ length l
         → writes_in (cond t (Block [] p (cut l)) (in_first_block p (cut l))) ≤ suc (length l)
     by_case true h = omega arith
-    by_case false h = let is = writes-in_first p (cut l) in omega (arith, is, h)
+    by_case false h = omega (arith, writes-in_first p (cut l))
 
 writes_given : (who : Who) (l : List Packet) → writes_in (cut_for who l) ≤ length l
 writes_given who l =
-    let few = writes_within (without_third_copies (heard who l)) in
-    let kept = length-capped (heard who l) in
-    let all = length-kept (hears who) l in
-    omega (arith, few, kept, all)
+    omega (arith, writes_within (without_third_copies (heard who l)), length-capped (heard who l), length-kept (hears who) l)
 
 -- the open blocks are those behind the alike ones
 pub open_behind : (k : ℕ) (x y u w : Cut) → AlikeUpTo k x y u w → open_blocks_len x y ≡ open_blocks_len u w
-open_behind zero x y u w up = ap (λ z. open_blocks_len z y) up.0 ∙ ap (λ z. open_blocks_len u z) up.1
-open_behind (suc k) (LastBlock left) y u w up = absurd up
-open_behind (suc k) (Block left write x) (LastBlock right) u w up = absurd up
+open_behind zero x y u w up = rw (up.0, up.1) refl
 open_behind (suc k) (Block left write x) (Block right other y) u w up =
-    ap (λ n. block_len n (Block left write x) + block_len n (Block right other y))
-    (suc-min-suc (writes_in x) (writes_in y)) ∙ open_behind k x y u w up.2
+    rw (suc-min-suc (writes_in x) (writes_in y)) (open_behind k x y u w up.2)
+open_behind (suc k) x y u w up = absurd up
 
 -- a verdict that is settled for the open blocks is that of all lists that continue these
 settled_for : (who : Who) (lists : Lists) (k : ℕ) (u w : Cut) (v : Verdict)
@@ -192,369 +172,259 @@ left_more lists p = record lists { left = lists.left ++ p ∷ [] }
 abbrev pub right_more : Lists → Packet → Lists
 right_more lists p = record lists { right = lists.right ++ p ∷ [] }
 
+wants_left : {c : Comparison} {lists : Lists} → StandsFor c lists → c.wants ≡ Left → WantsLeft c lists
+wants_left {c = c} {lists = lists} s e = subst (λ w. Stage w c lists) e s.stage
+
+wants_right : {c : Comparison} {lists : Lists} → StandsFor c lists → c.wants ≡ Right → WantsRight c lists
+wants_right {c = c} {lists = lists} s e = subst (λ w. Stage w c lists) e s.stage
+
+finished : (ended : Bool) (end : Option Packet) → ended ≡ is_none end → Finished ended end
+finished ended None e = e
+finished ended (Some write) e = tt
+
 module _ (c : Comparison) (lists : Lists) (p : Packet) (s : StandsFor c lists) where
   more_given : (n : ℕ) (l : List Packet) → n ≡ length l → n + 1 ≡ length (l ++ p ∷ [])
-  more_given n l e = ap (λ n. n + 1) e ∙ sym (longer l p)
+  more_given n l e = rw (longer l p, e) refl
 
-  wants_left : c.wants ≡ Left → WantsLeft c lists
-  wants_left e = subst (λ w. Stage w c lists) e s.stage
+  -- the left side is wanted still: this was heard last, and the open block is this
+  left_stays : c.wants ≡ Left → (last : LastHeard) (x : Cut) (first : List Packet)
+      → OneMore c.who lists.left p last x → length first ≤ length c.held.first + 1 →
+      AlikeUpTo c.block x (cut_for c.who lists.right) (LastBlock first) (LastBlock []) →
+      StandsFor (record c { left_given = c.left_given + 1; left_heard = last; held = record c.held { first = first } })
+      (left_more lists p)
+  left_stays e last x first more fits up =
+      let w = wants_left s e in record {
+        left_given = more_given c.left_given lists.left s.left_given;
+        right_given = s.right_given;
+        stage = rw e (record {
+          goes_on = record {
+            left_heard = more.is_last;
+            right_heard = w.goes_on.right_heard;
+            first_fits = omega (arith, longer lists.left p);
+            second_fits = w.goes_on.second_fits;
+          };
+          left_open = w.left_open;
+          right_open = w.right_open;
+          up_to = rw more.is_cut up;
+          none_yet = w.none_yet;
+        });
+      }
 
-  wants_right : c.wants ≡ Right → WantsRight c lists
-  wants_right e = subst (λ w. Stage w c lists) e s.stage
+  -- the cut lists where a write ends the left block, or another packet joins it
+  left_up : (w : WantsLeft c lists) (own : Bool) → is_own_write p ≡ own
+      → AlikeUpTo c.block (cut_more (cut_for c.who lists.left) p) (cut_for c.who lists.right)
+      (cond own (Block c.held.first p (LastBlock [])) (LastBlock (c.held.first ++ p ∷ []))) (LastBlock [])
+  left_up w own e =
+      rw (sym e) (up_to_left c.block (cut_for c.who lists.left) (cut_for c.who lists.right) (LastBlock c.held.first)
+      (LastBlock []) p w.up_to)
 
   pub left_passed : c.wants ≡ Left → hears c.who p ≡ false
       → StandsFor (record c { left_given = c.left_given + 1 }) (left_more lists p)
   left_passed e unheard =
-      let w = wants_left e in
-      let more = longer lists.left p in record {
-        left_given = more_given c.left_given lists.left s.left_given;
-        right_given = s.right_given;
-        stage = subst (λ w. Stage w (record c { left_given = c.left_given + 1 }) (left_more lists p)) (sym e)
-            (let w : WantsLeft (record c { left_given = c.left_given + 1 }) (left_more lists p) = record {
-              goes_on = record {
-                left_heard = w.goes_on.left_heard ∙ sym (last_unheard c.who lists.left p unheard);
-                right_heard = w.goes_on.right_heard;
-                first_fits = (let fits = w.goes_on.first_fits in omega (arith, fits, more));
-                second_fits = w.goes_on.second_fits;
-              };
-              left_open = w.left_open;
-              right_open = w.right_open;
-              up_to = subst
-                  (λ x. AlikeUpTo c.block x (cut_for c.who lists.right) (LastBlock c.held.first) (LastBlock []))
-                  (sym (cut_unheard c.who lists.left p unheard)) w.up_to;
-              none_yet = w.none_yet;
-            } in w);
-      }
-
-  -- the write was heard twice just before
-  twice_left : (w : WantsLeft c lists) (t : Bool) → (c.left_heard.is_second && is_repeated c.left_heard.packet p) ≡ t
-      → ends_with_two (heard c.who lists.left) p ≡ t
-  twice_left w t e =
-      ends_twice (heard c.who lists.left) p
-      ∙ ap (λ (h : LastHeard). h.is_second && is_repeated h.packet p) (sym w.goes_on.left_heard) ∙ e
-
-  heard_left_of : (w : WantsLeft c lists) → hears c.who p ≡ true
-      → heard_next c.left_heard p ≡ last_heard (heard c.who (lists.left ++ p ∷ []))
-  heard_left_of w e = ap (λ h. heard_next h p) w.goes_on.left_heard ∙ sym (last_of_heard c.who lists.left p e)
+      let w = wants_left s e in
+      left_stays e c.left_heard (cut_for c.who lists.left) c.held.first
+      (one_unheard c.who lists.left p c.left_heard w.goes_on.left_heard unheard) (omega arith) w.up_to
 
   pub left_left_out : c.wants ≡ Left → hears c.who p ≡ true → is_own_write p ≡ true
       → (c.left_heard.is_second && is_repeated c.left_heard.packet p) ≡ true
       → StandsFor (heard_left c p) (left_more lists p)
   left_left_out e hears_it own twice =
-      let w = wants_left e in
-      let more = longer lists.left p in record {
-        left_given = more_given c.left_given lists.left s.left_given;
-        right_given = s.right_given;
-        stage = subst (λ w. Stage w (heard_left c p) (left_more lists p)) (sym e)
-            (let w : WantsLeft (heard_left c p) (left_more lists p) = record {
-              goes_on = record {
-                left_heard = heard_left_of w hears_it;
-                right_heard = w.goes_on.right_heard;
-                first_fits = (let fits = w.goes_on.first_fits in omega (arith, fits, more));
-                second_fits = w.goes_on.second_fits;
-              };
-              left_open = w.left_open;
-              right_open = w.right_open;
-              up_to = subst
-                  (λ x. AlikeUpTo c.block x (cut_for c.who lists.right) (LastBlock c.held.first) (LastBlock []))
-                  (sym (cut_left_out c.who lists.left p hears_it own (twice_left w true twice))) w.up_to;
-              none_yet = w.none_yet;
-            } in w);
-      }
+      let w = wants_left s e in
+      left_stays e (heard_next c.left_heard p) (cut_for c.who lists.left) c.held.first
+      (one_left_out c.who lists.left p c.left_heard w.goes_on.left_heard hears_it own twice) (omega arith) w.up_to
 
   pub left_joined : c.wants ≡ Left → hears c.who p ≡ true → is_own_write p ≡ false
       → StandsFor (joined_left c p) (left_more lists p)
   left_joined e hears_it own =
-      let w = wants_left e in
-      let more = longer lists.left p in
-      let more_held = longer c.held.first p in record {
-        left_given = more_given c.left_given lists.left s.left_given;
-        right_given = s.right_given;
-        stage = subst (λ w. Stage w (joined_left c p) (left_more lists p)) (sym e)
-            (let w : WantsLeft (joined_left c p) (left_more lists p) = record {
-              goes_on = record {
-                left_heard = heard_left_of w hears_it;
-                right_heard = w.goes_on.right_heard;
-                first_fits = (let fits = w.goes_on.first_fits in omega (arith, fits, more, more_held));
-                second_fits = w.goes_on.second_fits;
-              };
-              left_open = w.left_open;
-              right_open = w.right_open;
-              up_to = subst
-                  (λ x. AlikeUpTo c.block x (cut_for c.who lists.right) (LastBlock (c.held.first ++ p ∷ []))
-                  (LastBlock []))
-                  (sym (cut_joined c.who lists.left p hears_it own))
-                  (subst (λ t. AlikeUpTo c.block (cut_more (cut_for c.who lists.left) p) (cut_for c.who lists.right)
-                  (cond t (Block c.held.first p (LastBlock [])) (LastBlock (c.held.first ++ p ∷ [])))
-                  (LastBlock [])) own
-                  (up_to_left c.block (cut_for c.who lists.left) (cut_for c.who lists.right) (LastBlock c.held.first)
-                  (LastBlock []) p w.up_to));
-              none_yet = w.none_yet;
-            } in w);
-      }
+      let w = wants_left s e in
+      left_stays e (heard_next c.left_heard p) (cut_more (cut_for c.who lists.left) p) (c.held.first ++ p ∷ [])
+      (one_joined c.who lists.left p c.left_heard w.goes_on.left_heard hears_it own)
+      (omega (arith, longer c.held.first p)) (left_up w false own)
 
   pub left_closed : c.wants ≡ Left → hears c.who p ≡ true → is_own_write p ≡ true
       → (c.left_heard.is_second && is_repeated c.left_heard.packet p) ≡ false
       → StandsFor (closed_left c p) (left_more lists p)
   left_closed e hears_it own apart =
-      let w = wants_left e in
-      let more = longer lists.left p in record {
+      let w = wants_left s e in
+      let more = one_ended c.who lists.left p c.left_heard w.goes_on.left_heard hears_it own apart in record {
         left_given = more_given c.left_given lists.left s.left_given;
         right_given = s.right_given;
         stage = record {
           goes_on = record {
-            left_heard = heard_left_of w hears_it;
+            left_heard = more.is_last;
             right_heard = w.goes_on.right_heard;
-            first_fits = (let fits = w.goes_on.first_fits in omega (arith, fits, more));
+            first_fits = omega (arith, longer lists.left p);
             second_fits = w.goes_on.second_fits;
           };
           left_end = w.left_open;
           right_open = w.right_open;
-          up_to = subst
-              (λ x. AlikeUpTo c.block x (cut_for c.who lists.right) (Block c.held.first p (LastBlock []))
-              (LastBlock c.held.second))
-              (sym (cut_ended c.who lists.left p hears_it own (twice_left w false apart)))
-              (subst (λ b. AlikeUpTo c.block (cut_more (cut_for c.who lists.left) p) (cut_for c.who lists.right)
-              (Block c.held.first p (LastBlock [])) (LastBlock b)) (sym w.none_yet)
-              (subst (λ t. AlikeUpTo c.block (cut_more (cut_for c.who lists.left) p) (cut_for c.who lists.right)
-              (cond t (Block c.held.first p (LastBlock [])) (LastBlock (c.held.first ++ p ∷ [])))
-              (LastBlock [])) own
-              (up_to_left c.block (cut_for c.who lists.left) (cut_for c.who lists.right) (LastBlock c.held.first)
-              (LastBlock []) p w.up_to)));
+          up_to = rw (more.is_cut, w.none_yet) (left_up w true own);
         };
       }
+
+  -- the right side is wanted still
+  right_stays : c.wants ≡ Right → (last : LastHeard) (y : Cut) (second : List Packet)
+      → OneMore c.who lists.right p last y → length second ≤ length c.held.second + 1 →
+      AlikeUpTo c.block (cut_for c.who lists.left) y (open_cut c.held.first c.left_end) (LastBlock second) →
+      StandsFor (record c { right_given = c.right_given + 1; right_heard = last; held = record c.held { second = second } })
+      (right_more lists p)
+  right_stays e last y second more fits up =
+      let w = wants_right s e in record {
+        left_given = s.left_given;
+        right_given = more_given c.right_given lists.right s.right_given;
+        stage = rw e (record {
+          goes_on = record {
+            left_heard = w.goes_on.left_heard;
+            right_heard = more.is_last;
+            first_fits = w.goes_on.first_fits;
+            second_fits = omega (arith, longer lists.right p);
+          };
+          left_end = w.left_end;
+          right_open = w.right_open;
+          up_to = rw more.is_cut up;
+        });
+      }
+
+  right_up : (w : WantsRight c lists) (own : Bool) → is_own_write p ≡ own
+      → AlikeUpTo c.block (cut_for c.who lists.left) (cut_more (cut_for c.who lists.right) p)
+      (open_cut c.held.first c.left_end)
+      (cond own (Block c.held.second p (LastBlock [])) (LastBlock (c.held.second ++ p ∷ [])))
+  right_up w own e =
+      rw (sym e) (up_to_right c.block (cut_for c.who lists.left) (cut_for c.who lists.right)
+      (open_cut c.held.first c.left_end) (LastBlock c.held.second) p w.up_to)
 
   pub right_passed : c.wants ≡ Right → hears c.who p ≡ false
       → StandsFor (record c { right_given = c.right_given + 1 }) (right_more lists p)
   right_passed e unheard =
-      let w = wants_right e in
-      let more = longer lists.right p in record {
-        left_given = s.left_given;
-        right_given = more_given c.right_given lists.right s.right_given;
-        stage = subst (λ w. Stage w (record c { right_given = c.right_given + 1 }) (right_more lists p)) (sym e)
-            (let w : WantsRight (record c { right_given = c.right_given + 1 }) (right_more lists p) = record {
-              goes_on = record {
-                left_heard = w.goes_on.left_heard;
-                right_heard = w.goes_on.right_heard ∙ sym (last_unheard c.who lists.right p unheard);
-                first_fits = w.goes_on.first_fits;
-                second_fits = (let fits = w.goes_on.second_fits in omega (arith, fits, more));
-              };
-              left_end = w.left_end;
-              right_open = w.right_open;
-              up_to = subst
-                  (λ y. AlikeUpTo c.block (cut_for c.who lists.left) y (open_cut c.held.first c.left_end)
-                  (LastBlock c.held.second)) (sym (cut_unheard c.who lists.right p unheard)) w.up_to;
-            } in w);
-      }
-
-  twice_right : (w : WantsRight c lists) (t : Bool)
-      → (c.right_heard.is_second && is_repeated c.right_heard.packet p) ≡ t
-      → ends_with_two (heard c.who lists.right) p ≡ t
-  twice_right w t e =
-      ends_twice (heard c.who lists.right) p
-      ∙ ap (λ (h : LastHeard). h.is_second && is_repeated h.packet p) (sym w.goes_on.right_heard) ∙ e
-
-  heard_right_of : (w : WantsRight c lists) → hears c.who p ≡ true
-      → heard_next c.right_heard p ≡ last_heard (heard c.who (lists.right ++ p ∷ []))
-  heard_right_of w e = ap (λ h. heard_next h p) w.goes_on.right_heard ∙ sym (last_of_heard c.who lists.right p e)
+      let w = wants_right s e in
+      right_stays e c.right_heard (cut_for c.who lists.right) c.held.second
+      (one_unheard c.who lists.right p c.right_heard w.goes_on.right_heard unheard) (omega arith) w.up_to
 
   pub right_left_out : c.wants ≡ Right → hears c.who p ≡ true → is_own_write p ≡ true
       → (c.right_heard.is_second && is_repeated c.right_heard.packet p) ≡ true
       → StandsFor (heard_right c p) (right_more lists p)
   right_left_out e hears_it own twice =
-      let w = wants_right e in
-      let more = longer lists.right p in record {
-        left_given = s.left_given;
-        right_given = more_given c.right_given lists.right s.right_given;
-        stage = subst (λ w. Stage w (heard_right c p) (right_more lists p)) (sym e)
-            (let w : WantsRight (heard_right c p) (right_more lists p) = record {
-              goes_on = record {
-                left_heard = w.goes_on.left_heard;
-                right_heard = heard_right_of w hears_it;
-                first_fits = w.goes_on.first_fits;
-                second_fits = (let fits = w.goes_on.second_fits in omega (arith, fits, more));
-              };
-              left_end = w.left_end;
-              right_open = w.right_open;
-              up_to = subst
-                  (λ y. AlikeUpTo c.block (cut_for c.who lists.left) y (open_cut c.held.first c.left_end)
-                  (LastBlock c.held.second))
-                  (sym (cut_left_out c.who lists.right p hears_it own (twice_right w true twice))) w.up_to;
-            } in w);
-      }
-
-  -- the cut of the right list with a packet that joins its last block
-  joined_up_to : (w : WantsRight c lists) → hears c.who p ≡ true → is_own_write p ≡ false →
-      AlikeUpTo c.block (cut_for c.who lists.left) (cut_for c.who (lists.right ++ p ∷ []))
-      (open_cut c.held.first c.left_end) (LastBlock (c.held.second ++ p ∷ []))
-  joined_up_to w hears_it own =
-      subst (λ y. AlikeUpTo c.block (cut_for c.who lists.left) y (open_cut c.held.first c.left_end)
-      (LastBlock (c.held.second ++ p ∷ []))) (sym (cut_joined c.who lists.right p hears_it own))
-      (subst (λ t. AlikeUpTo c.block (cut_for c.who lists.left) (cut_more (cut_for c.who lists.right) p)
-      (open_cut c.held.first c.left_end)
-      (cond t (Block c.held.second p (LastBlock [])) (LastBlock (c.held.second ++ p ∷ [])))) own
-      (up_to_right c.block (cut_for c.who lists.left) (cut_for c.who lists.right) (open_cut c.held.first c.left_end)
-      (LastBlock c.held.second) p w.up_to))
+      let w = wants_right s e in
+      right_stays e (heard_next c.right_heard p) (cut_for c.who lists.right) c.held.second
+      (one_left_out c.who lists.right p c.right_heard w.goes_on.right_heard hears_it own twice) (omega arith) w.up_to
 
   pub right_joined : c.wants ≡ Right → hears c.who p ≡ true → is_own_write p ≡ false →
       StandsFor (heard_right (record c { held = record c.held { second = c.held.second ++ p ∷ [] } }) p)
       (right_more lists p)
   right_joined e hears_it own =
-      let w = wants_right e in
-      let more = longer lists.right p in
-      let more_held = longer c.held.second p in
-      let now : Comparison = heard_right (record c { held = record c.held { second = c.held.second ++ p ∷ [] } }) p in
-      record {
-        left_given = s.left_given;
-        right_given = more_given c.right_given lists.right s.right_given;
-        stage = subst (λ w. Stage w now (right_more lists p)) (sym e)
-            (let w : WantsRight now (right_more lists p) = record {
-              goes_on = record {
-                left_heard = w.goes_on.left_heard;
-                right_heard = heard_right_of w hears_it;
-                first_fits = w.goes_on.first_fits;
-                second_fits = (let fits = w.goes_on.second_fits in omega (arith, fits, more, more_held));
-              };
-              left_end = w.left_end;
-              right_open = w.right_open;
-              up_to = joined_up_to w hears_it own;
-            } in w);
-      }
+      let w = wants_right s e in
+      right_stays e (heard_next c.right_heard p) (cut_more (cut_for c.who lists.right) p) (c.held.second ++ p ∷ [])
+      (one_joined c.who lists.right p c.right_heard w.goes_on.right_heard hears_it own)
+      (omega (arith, longer c.held.second p)) (right_up w false own)
 
-  finished_left : (w : WantsRight c lists) → Finished lists.left_ended c.left_end
-  finished_left w = by_end c.left_end w.left_end
-    where
-      by_end : (end : Option Packet) → lists.left_ended ≡ is_none end → Finished lists.left_ended end
-      by_end None e = e
-      by_end (Some write) e = tt
+  -- a verdict is settled by one more packet of the right list
+  right_done : c.wants ≡ Right → (last : LastHeard) (y z : Cut) (v : Verdict) → OneMore c.who lists.right p last y
+      → AlikeUpTo c.block (cut_for c.who lists.left) y (open_cut c.held.first c.left_end) z
+      → SettledFrom lists.left_ended lists.right_ended c.block (open_cut c.held.first c.left_end) z v
+      → (v ≡ Alike → ⊥) → StandsFor (heard_right (record c { wants = Done v }) p) (right_more lists p)
+  right_done e last y z v more up settled apart = record {
+    left_given = s.left_given;
+    right_given = more_given c.right_given lists.right s.right_given;
+    stage = record {
+      of_all =
+          settled_for c.who (right_more lists p) c.block (open_cut c.held.first c.left_end) z v (rw more.is_cut up)
+          settled;
+      both_ended = λ a. absurd (apart a);
+    };
+  }
 
   pub right_foreign : c.wants ≡ Right → hears c.who p ≡ true → is_own_write p ≡ false → (Contains c.held.first p → ⊥) →
       StandsFor (heard_right (record c { wants = Done (Members c.block) }) p) (right_more lists p)
   right_foreign e hears_it own none =
-      let w = wants_right e in record {
-        left_given = s.left_given;
-        right_given = more_given c.right_given lists.right s.right_given;
-        stage = record {
-          of_all =
-              settled_for c.who (right_more lists p) c.block (open_cut c.held.first c.left_end)
-              (LastBlock (c.held.second ++ p ∷ [])) (Members c.block)
-              (joined_up_to w hears_it own)
-              (subst (λ re. SettledFrom lists.left_ended re c.block (open_cut c.held.first c.left_end)
-              (LastBlock (c.held.second ++ p ∷ [])) (Members c.block)) (sym w.right_open)
-              (foreign_packet c.block c.held.first (c.held.second ++ p ∷ []) p lists.left_ended c.left_end
-              (finished_left w) none (Contains-push c.held.second p)));
-          both_ended = λ a. cc;
-        };
-      }
-
-  -- the cut of the right list with a write that ends its last block
-  closed_up_to : (w : WantsRight c lists) → hears c.who p ≡ true → is_own_write p ≡ true
-      → (c.right_heard.is_second && is_repeated c.right_heard.packet p) ≡ false →
-      AlikeUpTo c.block (cut_for c.who lists.left) (cut_for c.who (lists.right ++ p ∷ []))
-      (open_cut c.held.first c.left_end) (Block c.held.second p (LastBlock []))
-  closed_up_to w hears_it own apart =
-      subst (λ y. AlikeUpTo c.block (cut_for c.who lists.left) y (open_cut c.held.first c.left_end)
-      (Block c.held.second p (LastBlock [])))
-      (sym (cut_ended c.who lists.right p hears_it own (twice_right w false apart)))
-      (subst (λ t. AlikeUpTo c.block (cut_for c.who lists.left) (cut_more (cut_for c.who lists.right) p)
-      (open_cut c.held.first c.left_end)
-      (cond t (Block c.held.second p (LastBlock [])) (LastBlock (c.held.second ++ p ∷ [])))) own
-      (up_to_right c.block (cut_for c.who lists.left) (cut_for c.who lists.right) (open_cut c.held.first c.left_end)
-      (LastBlock c.held.second) p w.up_to))
+      let w = wants_right s e in
+      right_done e (heard_next c.right_heard p) (cut_more (cut_for c.who lists.right) p)
+      (LastBlock (c.held.second ++ p ∷ [])) (Members c.block)
+      (one_joined c.who lists.right p c.right_heard w.goes_on.right_heard hears_it own) (right_up w false own)
+      (rw w.right_open (foreign_packet c.block c.held.first (c.held.second ++ p ∷ []) p lists.left_ended c.left_end
+      (finished lists.left_ended c.left_end w.left_end) none (Contains-push c.held.second p))) (λ a. cc)
 
   pub right_settled : (v : Verdict) → c.wants ≡ Right → hears c.who p ≡ true → is_own_write p ≡ true
       → (c.right_heard.is_second && is_repeated c.right_heard.packet p) ≡ false →
       IsVerdictAtEnds c.block c.held.first c.left_end c.held.second (Some p) v
       → StandsFor (heard_right (record c { wants = Done v }) p) (right_more lists p)
   right_settled v e hears_it own apart verdict =
-      let w = wants_right e in record {
-        left_given = s.left_given;
-        right_given = more_given c.right_given lists.right s.right_given;
-        stage = record {
-          of_all =
-              settled_for c.who (right_more lists p) c.block (open_cut c.held.first c.left_end)
-              (open_cut c.held.second (Some p)) v
-              (closed_up_to w hears_it own apart)
-              (settled_at_ends lists.left_ended lists.right_ended c.block c.held.first c.held.second c.left_end (Some p)
-              v (finished_left w) tt verdict);
-          both_ended = λ a.
-              let ends = alike_at_ends c.block c.held.first c.held.second c.left_end (Some p)
-              (subst (IsVerdictAtEnds c.block c.held.first c.left_end c.held.second (Some p)) a verdict) in
-              let none : Some p ≡ None = ends.1 in cc;
-        };
-      }
+      let w = wants_right s e in
+      right_done e (heard_next c.right_heard p) (cut_more (cut_for c.who lists.right) p)
+      (open_cut c.held.second (Some p)) v
+      (one_ended c.who lists.right p c.right_heard w.goes_on.right_heard hears_it own apart) (right_up w true own)
+      (settled_at_ends lists.left_ended lists.right_ended c.block c.held.first c.held.second c.left_end (Some p) v
+      (finished lists.left_ended c.left_end w.left_end) tt verdict)
+      (λ a. let none : Some p ≡ None = (alike_at_ends c.block c.held.first c.held.second c.left_end (Some p)
+      (subst (IsVerdictAtEnds c.block c.held.first c.left_end c.held.second (Some p)) a verdict)).1 in cc)
 
   pub right_next : c.wants ≡ Right → hears c.who p ≡ true → is_own_write p ≡ true
       → (c.right_heard.is_second && is_repeated c.right_heard.packet p) ≡ false →
       AlikeBlocks c.held.first c.held.second → EndAlike c.left_end (Some p)
       → StandsFor (heard_right (begun_block c) p) (right_more lists p)
   right_next e hears_it own apart alike ends =
-      let w = wants_right e in
-      let more = longer lists.right p in record {
+      let w = wants_right s e in
+      let more = one_ended c.who lists.right p c.right_heard w.goes_on.right_heard hears_it own apart in
+      let next = by_end c.left_end (right_up w true own) w.left_end ends in record {
         left_given = s.left_given;
         right_given = more_given c.right_given lists.right s.right_given;
         stage = record {
           goes_on = record {
             left_heard = w.goes_on.left_heard;
-            right_heard = heard_right_of w hears_it;
+            right_heard = more.is_last;
             first_fits = omega arith;
             second_fits = omega arith;
           };
-          left_open = left_open w c.left_end w.left_end ends;
+          left_open = next.0;
           right_open = w.right_open;
-          up_to = subst
-              (λ k. AlikeUpTo k (cut_for c.who lists.left) (cut_for c.who (lists.right ++ p ∷ [])) (LastBlock [])
-              (LastBlock [])) (sym (add-one c.block))
-              (by_end c.left_end (closed_up_to w hears_it own apart) ends);
+          up_to = rw (more.is_cut, add-one c.block) next.1;
           none_yet = refl;
         };
       }
     where
-      left_open : WantsRight c lists → (end : Option Packet) → lists.left_ended ≡ is_none end → EndAlike end (Some p)
-          → lists.left_ended ≡ false
-      left_open w None e ends = absurd ends
-      left_open w (Some write) e ends = e
-
       by_end : (end : Option Packet) →
-          AlikeUpTo c.block (cut_for c.who lists.left) (cut_for c.who (lists.right ++ p ∷ []))
-          (open_cut c.held.first end) (Block c.held.second p (LastBlock [])) → EndAlike end (Some p) →
-          AlikeUpTo (suc c.block) (cut_for c.who lists.left) (cut_for c.who (lists.right ++ p ∷ [])) (LastBlock [])
+          AlikeUpTo c.block (cut_for c.who lists.left) (cut_more (cut_for c.who lists.right) p)
+          (open_cut c.held.first end) (Block c.held.second p (LastBlock [])) → lists.left_ended ≡ is_none end
+          → EndAlike end (Some p) →
+          (lists.left_ended ≡ false)
+          × AlikeUpTo (suc c.block) (cut_for c.who lists.left) (cut_more (cut_for c.who lists.right) p) (LastBlock [])
           (LastBlock [])
-      by_end None up ends = absurd ends
-      by_end (Some write) up ends =
-          up_to_next c.block (cut_for c.who lists.left) (cut_for c.who (lists.right ++ p ∷ [])) (LastBlock [])
-          (LastBlock []) c.held.first c.held.second write p up alike ends
+      by_end None up e ends = absurd ends
+      by_end (Some write) up e ends = (
+        e,
+        up_to_next c.block (cut_for c.who lists.left) (cut_more (cut_for c.who lists.right) p) (LastBlock [])
+            (LastBlock []) c.held.first c.held.second write p up alike ends,
+      )
 
 -- the number of a block is no larger than the number of packets
 pub block_given : (c : Comparison) (lists : Lists) → c.wants ≡ Right → StandsFor c lists → c.block ≤ c.right_given
 block_given c lists e s =
-    let w : WantsRight c lists = subst (λ w. Stage w c lists) e s.stage in
-    let before = blocks_before c.block (cut_for c.who lists.left) (cut_for c.who lists.right)
-    (open_cut c.held.first c.left_end) (LastBlock c.held.second) w.up_to in
-    let few = writes_given c.who lists.right in
-    let given = s.right_given in
-    omega (arith, before, few, given)
+    let w = wants_right s e in
+    omega (
+      arith,
+      writes_given c.who lists.right,
+      blocks_before c.block (cut_for c.who lists.left)
+          (cut_for c.who lists.right) (open_cut c.held.first c.left_end) (LastBlock c.held.second) w.up_to,
+    )
 
 -- the end of the left list
 pub left_ends : (c : Comparison) (lists : Lists) → c.wants ≡ Left → StandsFor c lists
     → StandsFor (record c { left_end = None; wants = Right }) (record lists { left_ended = true })
 left_ends c lists e s =
-    let w : WantsLeft c lists = subst (λ w. Stage w c lists) e s.stage in record {
+    let w = wants_left s e in
+    let g = w.goes_on in record {
       left_given = s.left_given;
       right_given = s.right_given;
       stage = record {
         goes_on =
             record {
-              left_heard = w.goes_on.left_heard;
-              right_heard = w.goes_on.right_heard;
-              first_fits = w.goes_on.first_fits;
-              second_fits = w.goes_on.second_fits;
+              left_heard = g.left_heard;
+              right_heard = g.right_heard;
+              first_fits = g.first_fits;
+              second_fits = g.second_fits;
             };
         left_end = refl;
         right_open = w.right_open;
-        up_to = subst
-            (λ b. AlikeUpTo c.block (cut_for c.who lists.left) (cut_for c.who lists.right) (LastBlock c.held.first)
-            (LastBlock b)) (sym w.none_yet) w.up_to;
+        up_to = rw w.none_yet w.up_to;
       };
     }
 
@@ -563,7 +433,7 @@ pub right_ends : (c : Comparison) (lists : Lists) (v : Verdict) → c.wants ≡ 
     → IsVerdictAtEnds c.block c.held.first c.left_end c.held.second None v → StandsFor c lists →
     StandsFor (record c { wants = Done v }) (record lists { right_ended = true })
 right_ends c lists v e verdict s =
-    let w : WantsRight c lists = subst (λ w. Stage w c lists) e s.stage in record {
+    let w = wants_right s e in record {
       left_given = s.left_given;
       right_given = s.right_given;
       stage = record {
@@ -571,65 +441,41 @@ right_ends c lists v e verdict s =
             settled_for c.who (record lists { right_ended = true }) c.block (open_cut c.held.first c.left_end)
             (open_cut c.held.second None) v w.up_to
             (settled_at_ends lists.left_ended true c.block c.held.first c.held.second c.left_end None v
-            (by_end c.left_end w.left_end) refl verdict);
+            (finished lists.left_ended c.left_end w.left_end) refl verdict);
         both_ended = λ a.
             let ends = alike_at_ends c.block c.held.first c.held.second c.left_end None
             (subst (IsVerdictAtEnds c.block c.held.first c.left_end c.held.second None) a verdict) in
             (w.left_end ∙ ap is_none ends.0, refl);
       };
     }
-  where
-    by_end : (end : Option Packet) → lists.left_ended ≡ is_none end → Finished lists.left_ended end
-    by_end None e = e
-    by_end (Some write) e = tt
 
--- what is held is the two open blocks
-pub held_left : (c : Comparison) (lists : Lists) → c.wants ≡ Left → StandsFor c lists
-    → length c.held.first + length c.held.second ≡ most_held c.who lists
-held_left c lists e s =
-    let w : WantsLeft c lists = subst (λ w. Stage w c lists) e s.stage in
-    ap (λ l. length c.held.first + length l) w.none_yet
-    ∙ sym (open_behind c.block (cut_for c.who lists.left) (cut_for c.who lists.right) (LastBlock c.held.first)
-    (LastBlock []) w.up_to)
-
-pub held_right : (c : Comparison) (lists : Lists) → c.wants ≡ Right → StandsFor c lists
-    → length c.held.first + length c.held.second ≡ most_held c.who lists
-held_right c lists e s =
-    let w : WantsRight c lists = subst (λ w. Stage w c lists) e s.stage in
-    by_end c.left_end
-    ∙ sym (open_behind c.block (cut_for c.who lists.left) (cut_for c.who lists.right)
-    (open_cut c.held.first c.left_end) (LastBlock c.held.second) w.up_to)
-  where
-    by_end : (end : Option Packet)
-        → length c.held.first + length c.held.second ≡ open_blocks_len (open_cut c.held.first end)
-        (LastBlock c.held.second)
-    by_end None = refl
-    by_end (Some write) = refl
-
--- no block is longer than its list
+-- what is held is the two open blocks, and no block is longer than its list
 pub held_fits : (c : Comparison) (lists : Lists) → ((v : Verdict) → c.wants ≡ Done v → ⊥) → c.left_given < 2 ^ 32
     → c.right_given < 2 ^ 32 → StandsFor c lists →
     (length c.held.first + length c.held.second < 2 ^ 64)
     × (length c.held.first + length c.held.second ≡ most_held c.who lists)
-held_fits c lists going left right s = by_wants c.wants refl
+held_fits c lists going left right s = by_wants c.wants s.stage going
   where
-    fits : GoesOn c lists → length c.held.first + length c.held.second < 2 ^ 64
-    fits g =
-        let first = g.first_fits in
-        let second = g.second_fits in
-        let left_is = s.left_given in
-        let right_is = s.right_given in
-        omega (arith, first, second, left_is, right_is, left, right)
+    behind : (u w : Cut) → AlikeUpTo c.block (cut_for c.who lists.left) (cut_for c.who lists.right) u w
+        → most_held c.who lists ≡ open_blocks_len u w
+    behind u w up = open_behind c.block (cut_for c.who lists.left) (cut_for c.who lists.right) u w up
 
-    by_wants : (w : Wants) → c.wants ≡ w
+    held_right : (end : Option Packet)
+        → length c.held.first + length c.held.second ≡ open_blocks_len (open_cut c.held.first end)
+        (LastBlock c.held.second)
+    held_right None = refl
+    held_right (Some write) = refl
+
+    by_wants : (w : Wants) → Stage w c lists → ((v : Verdict) → w ≡ Done v → ⊥)
         → (length c.held.first + length c.held.second < 2 ^ 64)
         × (length c.held.first + length c.held.second ≡ most_held c.who lists)
-    by_wants Left e = (
-      fits ((let w : WantsLeft c lists = subst (λ w. Stage w c lists) e s.stage in w.goes_on)),
-      held_left c lists e s,
+    by_wants Left w going = (
+      omega arith,
+      ap (λ l. length c.held.first + length l) w.none_yet ∙ sym (behind (LastBlock c.held.first) (LastBlock []) w.up_to),
     )
-    by_wants Right e = (
-      fits ((let w : WantsRight c lists = subst (λ w. Stage w c lists) e s.stage in w.goes_on)),
-      held_right c lists e s,
+    by_wants Right w going = (
+      omega arith,
+      held_right c.left_end
+          ∙ sym (behind (open_cut c.held.first c.left_end) (LastBlock c.held.second) w.up_to),
     )
-    by_wants (Done v) e = absurd (going v e)
+    by_wants (Done v) w going = absurd (going v refl)
