@@ -3,6 +3,8 @@ use Rattle.std.proofs.Common.{◌≡◌, ◌∙◌, refl, sym, ap, Bool, true, f
 use Rattle.std.proofs.Common.{◌⊎◌, inl, inr, ◌<◌, arith}
 use Rattle.std.specs.Prelude.{◌&&◌, ◌||◌, filter, Contains, ◌≢◌}
 use Rattle.std.specs.List.{AllByRecursion}
+use Rattle.std.proofs.lemmas.Bool.{cases_Bool, or_cases}
+use Rattle.std.proofs.lemmas.Bool.Decides.{not_from_Decides}
 use Rattle.std.proofs.lemmas.List.Elements.{All-contains, All-from_recursion, Contains-append_left}
 use Rattle.std.proofs.lemmas.List.Elements.{Contains-append_right, Contains-push_cases, Contains-append_cases}
 use Rattle.std.proofs.lemmas.List.Elements.{Contains-push}
@@ -33,6 +35,13 @@ last_of (p ∷ l) = later_of (Some p) (last_of l)
 
 pub true_is_not_false : true ≡ false → ⊥
 true_is_not_false e = cc
+
+-- two packets are the same or not, and `same` tells
+pub same_tells : (p q : Packet) → ((same p q ≡ true) × (p ≡ q)) ⊎ ((same p q ≡ false) × (p ≡ q → ⊥))
+same_tells p q = elim (cases_Bool (same p q)) [
+  | inl e ↦ inl (e, (Decides-same p q).0 e)
+  | inr e ↦ inr (e, not_from_Decides (same p q) (Decides-same p q) e)
+]
 
 none_both : (a b : Option Value) → later_of a b ≡ None → (a ≡ None) × (b ≡ None)
 none_both a None e = (e, refl)
@@ -146,10 +155,6 @@ or_left false b e = cc
 or_right : (a b : Bool) → b ≡ true → (a || b) ≡ true
 or_right true b e = refl
 or_right false b e = e
-
-or_cases : (a b : Bool) → (a || b) ≡ true → (a ≡ true) ⊎ (b ≡ true)
-or_cases true b e = inl refl
-or_cases false b e = inr e
 
 module _ (f : Packet → Option Value) (left right : List Packet) (members : SameMembers left right) (v w : Value)
     (a : LastSetter f left v) (b : LastSetter f right w) where

@@ -1,6 +1,6 @@
 -- One more packet, or an end, of the lists that a comparison stands for.
 use Rattle.std.proofs.Common.{ℕ, zero, suc, ◌+◌, ◌^◌, ◌<◌, ◌≤◌, ◌≡◌, ◌∙◌, refl, sym, ap, subst, Bool, true, false}
-use Rattle.std.proofs.Common.{cond, List, [], ◌∷◌, ◌++◌, append-nil, Option, Some, None, is_none, length, arith}
+use Rattle.std.proofs.Common.{cond, List, [], ◌∷◌, ◌++◌, Option, Some, None, is_none, length, arith}
 use Rattle.std.proofs.Common.{add-one}
 use Rattle.std.specs.Prelude.{Contains, ◌&&◌, fold}
 use Rattle.std.proofs.Math.Nat.{suc-min-suc, zero-add}
@@ -8,8 +8,6 @@ use Rattle.std.proofs.lemmas.List.{length-append}
 use Rattle.std.proofs.lemmas.List.Sums.{fold-append}
 use Rattle.std.proofs.lemmas.List.Elements.{filter-append, Contains-push}
 use Rattle.dcc_packet.specs.declared.packet.Packet.{Packet}
-use Rattle.dcc_packet.specs.SamePacket.{same}
-use Rattle.dcc_packet.proofs.SameFrames.{Decides-same, same-refl}
 use Rattle.dcc_regs.specs.declared.register.Who.{Who}
 use Rattle.dcc_regs.specs.Heard.{hears, heard}
 use Rattle.dcc_regs.specs.Result.{is_repeated}
@@ -28,7 +26,7 @@ use Rattle.dcc_order.specs.GivenLists.{most_held}
 use Rattle.dcc_order.specs.Comparisons.{StandsFor, WantsLeft, WantsRight, Stage, AlikeUpTo, open_cut}
 use Rattle.dcc_order.specs.Comparisons.{EndAlike, IsVerdictAtEnds, last_heard, heard_next, nothing_heard}
 use Rattle.dcc_order.specs.Inner.ComparisonSteps.{heard_left, heard_right, joined_left, closed_left, begun_block}
-use Rattle.dcc_order.proofs.AlikeBlocks.{true_is_not_false}
+use Rattle.dcc_order.proofs.AlikeBlocks.{same_tells}
 use Rattle.dcc_order.proofs.CutTests.{length-capped, length-kept}
 use Rattle.dcc_order.proofs.OneMorePacket.{one_more_packet}
 use Rattle.dcc_order.proofs.SettledVerdicts.{SettledFrom, Finished, settled_behind, settled_at_ends, alike_at_ends}
@@ -39,24 +37,7 @@ two_at_end : (before : LastHeard) (q r : Packet) (l : List Packet) (p : Packet) 
     ends_with_two (q ∷ r ∷ l)
     p ≡ ((fold heard_next before (q ∷ r ∷ l)).is_second && is_repeated (fold heard_next before (q ∷ r ∷ l)).packet
     p)
-two_at_end before q r [] p = by_case (same p q) (same p r) (same q r) (same r p) refl refl refl refl
-  where
-    by_case : (a b d e : Bool) → same p q ≡ a → same p r ≡ b → same q r ≡ d → same r p ≡ e → (a && b) ≡ (d && e)
-    by_case true true true true i j k m = refl
-    by_case true true true false i j k m =
-        absurd (true_is_not_false (sym (ap (λ z. same z p) (sym ((Decides-same p r).0 j)) ∙ same-refl p) ∙ m))
-    by_case true true false e i j k m =
-        absurd (true_is_not_false (sym (ap (λ z. same z r) (sym ((Decides-same p q).0 i)) ∙ j) ∙ k))
-    by_case true false true true i j k m =
-        absurd (true_is_not_false (sym (ap (λ z. same z r) ((Decides-same p q).0 i) ∙ k) ∙ j))
-    by_case true false true false i j k m = refl
-    by_case true false false e i j k m = refl
-    by_case false b true true i j k m =
-        absurd (true_is_not_false
-        (sym (ap (same p) ((Decides-same q r).0 k) ∙ ap (λ z. same z r) (sym ((Decides-same r p).0 m))
-        ∙ same-refl r) ∙ i))
-    by_case false b true false i j k m = refl
-    by_case false b false e i j k m = refl
+two_at_end before q r [] p = grind (arith, same_tells p q, same_tells p r, same_tells q r, same_tells r p)
 two_at_end before q r (s ∷ l) p = two_at_end (heard_next before q) r s l p
 
 pub ends_twice : (l : List Packet) (p : Packet)
@@ -77,13 +58,6 @@ record OneMore (who : Who) (l : List Packet) (p : Packet) (last : LastHeard) (x 
   is_cut : cut_for who (l ++ p ∷ []) ≡ x
 
 module _ (who : Who) (l : List Packet) (p : Packet) (before : LastHeard) (is : before ≡ last_heard (heard who l)) where
-  -- a packet that is not heard
-  one_unheard : hears who p ≡ false → OneMore who l p before (cut_for who l)
-  one_unheard e = record {
-    is_last = rw (filter-append (hears who) l (p ∷ []), e, append-nil (heard who l)) is;
-    is_cut = rw (one_more_packet who l p, e) refl;
-  }
-
   heard_more : hears who p ≡ true → heard_next before p ≡ last_heard (heard who (l ++ p ∷ []))
   heard_more e = rw (filter-append (hears who) l (p ∷ []), e, last_heard-more (heard who l) p, is) refl
 
@@ -218,13 +192,6 @@ module _ (c : Comparison) (lists : Lists) (p : Packet) (s : StandsFor c lists) w
       rw (sym e) (up_to_left c.block (cut_for c.who lists.left) (cut_for c.who lists.right) (LastBlock c.held.first)
       (LastBlock []) p w.up_to)
 
-  pub left_passed : c.wants ≡ Left → hears c.who p ≡ false
-      → StandsFor (record c { left_given = c.left_given + 1 }) (left_more lists p)
-  left_passed e unheard =
-      let w = wants_left s e in
-      left_stays e c.left_heard (cut_for c.who lists.left) c.held.first
-      (one_unheard c.who lists.left p c.left_heard w.goes_on.left_heard unheard) (omega arith) w.up_to
-
   pub left_left_out : c.wants ≡ Left → hears c.who p ≡ true → is_own_write p ≡ true
       → (c.left_heard.is_second && is_repeated c.left_heard.packet p) ≡ true
       → StandsFor (heard_left c p) (left_more lists p)
@@ -292,13 +259,6 @@ module _ (c : Comparison) (lists : Lists) (p : Packet) (s : StandsFor c lists) w
   right_up w own e =
       rw (sym e) (up_to_right c.block (cut_for c.who lists.left) (cut_for c.who lists.right)
       (open_cut c.held.first c.left_end) (LastBlock c.held.second) p w.up_to)
-
-  pub right_passed : c.wants ≡ Right → hears c.who p ≡ false
-      → StandsFor (record c { right_given = c.right_given + 1 }) (right_more lists p)
-  right_passed e unheard =
-      let w = wants_right s e in
-      right_stays e c.right_heard (cut_for c.who lists.right) c.held.second
-      (one_unheard c.who lists.right p c.right_heard w.goes_on.right_heard unheard) (omega arith) w.up_to
 
   pub right_left_out : c.wants ≡ Right → hears c.who p ≡ true → is_own_write p ≡ true
       → (c.right_heard.is_second && is_repeated c.right_heard.packet p) ≡ true

@@ -6,15 +6,14 @@ use Rattle.std.proofs.lemmas.List.Elements.{Contains-append_left}
 use Rattle.dcc_packet.specs.declared.packet.Packet.{Packet}
 use Rattle.dcc_regs.specs.declared.register.Who.{Who}
 use Rattle.dcc_order.specs.declared.verdict.Verdict.{Verdict}
-use Rattle.dcc_order.specs.declared.verdict.Verdict.TheVariants.{Alike, Writes, Members, Order}
+use Rattle.dcc_order.specs.declared.verdict.Verdict.TheVariants.{Alike, Members}
 use Rattle.dcc_order.specs.AlikeLists.{Cut, LastBlock, Block, cut_for, SameMembers}
 use Rattle.dcc_order.specs.Verdicts.{IsVerdictFrom}
 use Rattle.dcc_order.specs.OneMore.{GoesOnAs}
 use Rattle.dcc_order.specs.GivenLists.{MayFollow}
-use Rattle.dcc_order.specs.Comparisons.{AlikeUpTo, open_cut, IsVerdictAtEnds}
-use Rattle.dcc_order.proofs.CutTests.{at_first}
+use Rattle.dcc_order.specs.Comparisons.{AlikeUpTo, open_cut, cut_then, IsVerdictAtEnds}
+use Rattle.dcc_order.proofs.CutTests.{at_first, alike_from_verdict}
 use Rattle.dcc_order.proofs.OneMorePacket.{finished_blocks_stay}
-use Rattle.dcc_order.proofs.AlikeBlocks.{true_is_not_false}
 
 -- how the cut of a list that has ended, or has not, goes on
 abbrev pub Continues : Bool → Cut → Cut → Type 0
@@ -44,8 +43,6 @@ pub settled_behind : (le re : Bool) (j k : ℕ) (x y u w : Cut) (v : Verdict) �
 settled_behind le re zero k x y u w v up s =
     subst (λ c. SettledFrom le re k c y v) (sym up.0)
     (subst (λ c. SettledFrom le re k u c v) (sym up.1) (subst (λ n. SettledFrom le re n u w v) (add-zero k) s))
-settled_behind le re (suc j) k (LastBlock left) y u w v up s = absurd up
-settled_behind le re (suc j) k (Block left write x) (LastBlock right) u w v up s = absurd up
 settled_behind le re (suc j) k (Block left write x) (Block right other y) u w v up s = λ p q f g.
     let first = opened le left write x p f in
     let second = opened re right other y q g in
@@ -60,84 +57,64 @@ settled_behind le re (suc j) k (Block left write x) (Block right other y) u w v 
             second.rest first.goes_on second.goes_on,
       ),
     )))
+settled_behind le re (suc j) k x y u w v up s = absurd up
 
 -- a side is finished where a write ends its block, or the list has ended
 abbrev pub Finished : Bool → Option Packet → Type 0
 Finished ended None = ended ≡ true
 Finished ended (Some write) = Unit {0}
 
-ended_last : (ended : Bool) (x y : Cut) → ended ≡ true → Continues ended x y → y ≡ x
-ended_last true x y h e = e
-ended_last false x y h e = absurd (true_is_not_false (sym h))
+-- a cut list that begins with a finished block
+record Ends (block : List Packet) (write : Option Packet) (x : Cut) : Type 0 where
+  rest : Cut
+  is : x ≡ cut_then block write rest
+
+finished_stays : (ended : Bool) (block : List Packet) (write : Option Packet) (x : Cut) → Finished ended write
+    → Continues ended (open_cut block write) x → Ends block write x
+finished_stays true block None x f e = record { rest = LastBlock []; is = e }
+finished_stays false block None x f g = cc
+finished_stays ended block (Some write) x f g =
+    let first = opened ended block write (LastBlock []) x g in record { rest = first.rest; is = first.is }
 
 -- a verdict on two finished blocks is settled
 pub settled_at_ends : (le re : Bool) (k : ℕ) (left right : List Packet) (w u : Option Packet) (v : Verdict)
     → Finished le w → Finished re u →
     IsVerdictAtEnds k left w right u v → SettledFrom le re k (open_cut left w) (open_cut right u) v
-settled_at_ends le re k left right None None v f g d = λ p q h i.
-    at_first k p q (LastBlock left) (LastBlock right) v (ended_last le (LastBlock left) p f h)
-    (ended_last re (LastBlock right) q g i) (d (LastBlock []) (LastBlock []))
-settled_at_ends le re k left right None (Some u) v f g d = λ p q h i.
-    let second = opened re right u (LastBlock []) q i in
-    at_first k p q (LastBlock left) (Block right u second.rest) v (ended_last le (LastBlock left) p f h) second.is
-    (d (LastBlock []) second.rest)
-settled_at_ends le re k left right (Some w) None v f g d = λ p q h i.
-    let first = opened le left w (LastBlock []) p h in
-    at_first k p q (Block left w first.rest) (LastBlock right) v first.is (ended_last re (LastBlock right) q g i)
-    (d first.rest (LastBlock []))
-settled_at_ends le re k left right (Some w) (Some u) v f g d = λ p q h i.
-    let first = opened le left w (LastBlock []) p h in
-    let second = opened re right u (LastBlock []) q i in
-    at_first k p q (Block left w first.rest) (Block right u second.rest) v first.is second.is (d first.rest second.rest)
+settled_at_ends le re k left right w u v f g d = λ p q h i.
+    let first = finished_stays le left w p f h in
+    let second = finished_stays re right u q g i in
+    at_first k p q (cut_then left w first.rest) (cut_then right u second.rest) v first.is second.is
+    (d first.rest second.rest)
 
 -- the verdict at two ends is Alike only where both lists end there
 pub alike_at_ends : (k : ℕ) (left right : List Packet) (w u : Option Packet) → IsVerdictAtEnds k left w right u Alike
     → (w ≡ None) × (u ≡ None)
 alike_at_ends k left right None None d = (refl, refl)
-alike_at_ends k left right None (Some u) d = elim (d (LastBlock []) (LastBlock [])) [
-  | inl bad ↦ (let e : Alike ≡ Members k = bad.1 in cc)
-  | inr (inl bad) ↦ (let e : Alike ≡ Order k = bad.2 in cc)
-  | inr (inr bad) ↦ (let e : Alike ≡ Writes = bad.2 in cc)
-]
-alike_at_ends k left right (Some w) None d = elim (d (LastBlock []) (LastBlock [])) [
-  | inl bad ↦ (let e : Alike ≡ Members k = bad.1 in cc)
-  | inr (inl bad) ↦ (let e : Alike ≡ Order k = bad.2 in cc)
-  | inr (inr bad) ↦ (let e : Alike ≡ Writes = bad.2 in cc)
-]
-alike_at_ends k left right (Some w) (Some u) d = elim (d (LastBlock []) (Block [] u (LastBlock []))) [
-  | inl bad ↦ (let e : Alike ≡ Members k = bad.1 in cc)
-  | inr (inl bad) ↦ (let e : Alike ≡ Order k = bad.2 in cc)
-  | inr (inr (m, o, inl bad)) ↦ (let e : Alike ≡ Writes = bad.1 in cc)
-  | inr (inr (m, o, inr (e, inl bad))) ↦ (let e : Alike ≡ Members (k + 1) = bad.1 in cc)
-  | inr (inr (m, o, inr (e, inr (inl bad)))) ↦ (let e : Alike ≡ Order (k + 1) = bad.2 in cc)
-  | inr (inr (m, o, inr (e, inr (inr bad)))) ↦ (let e : Alike ≡ Writes = bad.2 in cc)
-]
-
-foreign_stays : (left right more : List Packet) (x : Packet) → (Contains left x → ⊥) → Contains right x
-    → SameMembers left (right ++ more) → ⊥
-foreign_stays left right more x none here same = none ((same x).1 (Contains-append_left right more x here))
+alike_at_ends k left right None (Some u) d =
+    absurd (alike_from_verdict k (LastBlock left) (Block right u (LastBlock [])) (d (LastBlock []) (LastBlock [])))
+alike_at_ends k left right (Some w) None d =
+    absurd (alike_from_verdict k (Block left w (LastBlock [])) (LastBlock right) (d (LastBlock []) (LastBlock [])))
+alike_at_ends k left right (Some w) (Some u) d = absurd (alike_from_verdict k (Block left w (LastBlock []))
+    (Block right u (Block [] u (LastBlock []))) (d (LastBlock []) (Block [] u (LastBlock [])))).2
 
 -- a packet of the second block that is not in the first, which is finished
 pub foreign_packet : (k : ℕ) (left right : List Packet) (x : Packet) (le : Bool) (w : Option Packet) → Finished le w
     → (Contains left x → ⊥) → Contains right x →
     SettledFrom le false k (open_cut left w) (LastBlock right) (Members k)
-foreign_packet k left right x le None f none here =
-    λ p q h i. at_first k p q (LastBlock left) q (Members k) (ended_last le (LastBlock left) p f h) refl (by_end q i)
+foreign_packet k left right x le w f none here = λ p q h i.
+    let first = finished_stays le left w p f h in
+    at_first k p q (cut_then left w first.rest) q (Members k) first.is refl (by_end w first.rest q i)
   where
-    by_end : (q : Cut) → GoesOnAs (LastBlock right) q → IsVerdictFrom k (LastBlock left) q (Members k)
-    by_end (LastBlock longer) i =
-        inl (subst (λ l. ¬ SameMembers left l) (sym i.1) (foreign_stays left right i.0 x none here), refl)
-    by_end (Block longer u rest) i =
-        inl (subst (λ l. ¬ SameMembers left l) (sym i.1) (foreign_stays left right i.0 x none here), refl)
-foreign_packet k left right x le (Some w) f none here = λ p q h i.
-    let first = opened le left w (LastBlock []) p h in
-    at_first k p q (Block left w first.rest) q (Members k) first.is refl (by_end first.rest q i)
-  where
-    by_end : (rest q : Cut) → GoesOnAs (LastBlock right) q → IsVerdictFrom k (Block left w rest) q (Members k)
-    by_end rest (LastBlock longer) i =
-        inl (subst (λ l. ¬ SameMembers left l) (sym i.1) (foreign_stays left right i.0 x none here), refl)
-    by_end rest (Block longer u further) i =
-        inl (subst (λ l. ¬ SameMembers left l) (sym i.1) (foreign_stays left right i.0 x none here), refl)
+    differ : (longer : List Packet) → (more : List Packet) × (longer ≡ right ++ more) → ¬ SameMembers left longer
+    differ longer m same =
+        none ((same x).1 (subst (λ l. Contains l x) (sym m.1) (Contains-append_left right m.0 x here)))
+
+    by_end : (w : Option Packet) (rest q : Cut) → GoesOnAs (LastBlock right) q
+        → IsVerdictFrom k (cut_then left w rest) q (Members k)
+    by_end None rest (LastBlock longer) i = inl (differ longer i, refl)
+    by_end None rest (Block longer u further) i = inl (differ longer i, refl)
+    by_end (Some w) rest (LastBlock longer) i = inl (differ longer i, refl)
+    by_end (Some w) rest (Block longer u further) i = inl (differ longer i, refl)
 
 pub continues : (who : Who) (ended : Bool) (l more : List Packet) → MayFollow ended more
     → Continues ended (cut_for who l) (cut_for who (l ++ more))
