@@ -1,13 +1,11 @@
 -- Alike blocks leave the same state.
 use Rattle.std.proofs.Common.{◌≡◌, ◌∙◌, refl, sym, ap, Bool, true, false, cond, List, [], ◌∷◌, Option, Some, None}
-use Rattle.std.proofs.Common.{◌⊎◌, inl, inr, ◌<◌, arith}
-use Rattle.std.specs.Prelude.{◌&&◌, ◌||◌, filter, Contains, ◌≢◌}
+use Rattle.std.proofs.Common.{◌⊎◌, inl, inr, arith}
+use Rattle.std.specs.Prelude.{◌&&◌, filter, Contains, ◌≢◌}
 use Rattle.std.specs.List.{AllByRecursion}
 use Rattle.std.proofs.lemmas.Bool.{cases_Bool, or_cases}
 use Rattle.std.proofs.lemmas.Bool.Decides.{not_from_Decides}
-use Rattle.std.proofs.lemmas.List.Elements.{All-contains, All-from_recursion, Contains-append_left}
-use Rattle.std.proofs.lemmas.List.Elements.{Contains-append_right, Contains-push_cases, Contains-append_cases}
-use Rattle.std.proofs.lemmas.List.Elements.{Contains-push}
+use Rattle.std.proofs.lemmas.List.Elements.{All-contains, All-from_recursion}
 use Rattle.dcc_packet.specs.declared.packet.Packet.{Packet}
 use Rattle.dcc_regs.specs.declared.register.Register.{Register}
 use Rattle.dcc_regs.specs.declared.register.Value.{Value}
@@ -26,7 +24,8 @@ use Rattle.dcc_regs.proofs.SameValues.{same_value, Decides-same_value}
 use Rattle.dcc_regs.proofs.RegisterStep.{overwritten-none}
 use Rattle.dcc_regs.proofs.ResultByParts.{State, step, state_after, same_state, later_of, last_set, sets_bit}
 use Rattle.dcc_regs.proofs.ResultByParts.{overwritten-overwritten}
-use Rattle.dcc_order.specs.AlikeLists.{without_repeats, turns, SameMembers, AlikeBlocks}
+use Rattle.dcc_order.specs.AlikeLists.{is_one_of, without_repeats, turns, SameMembers, AlikeBlocks}
+use Rattle.dcc_order.proofs.Contained.{contains_none, contains_head, contains_tail, contains_cases}
 
 -- the last packet of a list
 abbrev pub last_of : List Packet → Option Packet
@@ -59,37 +58,15 @@ last_unrepeated_from : (before : Option Packet) (l : List Packet)
     → later_of before (last_of (without_repeats before l)) ≡ later_of before (last_of l)
 last_unrepeated_from before [] = refl
 last_unrepeated_from None (p ∷ l) = ap (later_of None) (last_unrepeated_from (Some p) l)
-last_unrepeated_from (Some b) (p ∷ l) = by_case (same b p) refl (last_unrepeated_from (Some p) l)
-  where
-    by_case : (t : Bool) → same b p ≡ t
-        → later_of (Some p) (last_of (without_repeats (Some p) l)) ≡ later_of (Some p) (last_of l) →
-        later_of (Some b) (last_of (cond t (without_repeats (Some p) l) (p ∷ without_repeats (Some p) l))) ≡ later_of
-        (Some b)
-        (later_of (Some p) (last_of l))
-    by_case true e rest =
-        ap (λ z. later_of (Some z) (last_of (without_repeats (Some p) l))) ((Decides-same b p).0 e) ∙ rest
-        ∙ sym (some_first b p (last_of l))
-    by_case false e rest = ap (later_of (Some b)) rest
+last_unrepeated_from (Some b) (p ∷ l) = elim (same_tells b p) [
+  | inl (e, is) ↦ rw (e, is, some_first p p (last_of l)) (last_unrepeated_from (Some p) l)
+  | inr (e, apart) ↦ rw (e, last_unrepeated_from (Some p) l) refl
+]
 
 -- a packet that is left out is not the last of its kind
 last_unrepeated : (l : List Packet) → last_of (without_repeats None l) ≡ last_of l
 last_unrepeated l =
     sym (none_first (last_of (without_repeats None l))) ∙ last_unrepeated_from None l ∙ none_first (last_of l)
-
-contains_head : (x : Packet) (l : List Packet) → Contains (x ∷ l) x
-contains_head x l = Contains-append_left (x ∷ []) l x (Contains-push [] x)
-
-contains_tail : (x : Packet) (l : List Packet) (p : Packet) → Contains l p → Contains (x ∷ l) p
-contains_tail x l p h = Contains-append_right (x ∷ []) l p h
-
-contains_none : (p : Packet) → Contains [] p → ⊥
-contains_none p h = absurd (let low : h.0 < 0 = h.1 in omega arith)
-
-contains_cases : (x : Packet) (l : List Packet) (p : Packet) → Contains (x ∷ l) p → (x ≡ p) ⊎ Contains l p
-contains_cases x l p h = elim (Contains-append_cases (x ∷ []) l p h) [
-  | inl one ↦ elim (Contains-push_cases [] x p one) [ inl none ↦ absurd (contains_none p none) | inr e ↦ inl e ]
-  | inr rest ↦ inr rest
-]
 
 none_gives : (f : Packet → Option Value) (l : List Packet) (p : Packet) → last_set f l ≡ None → Contains l p
     → f p ≡ None
@@ -102,11 +79,10 @@ none_gives f (x ∷ l) p e h = elim (contains_cases x l p h) [
 no_setter : (f : Packet → Option Value) (test : Packet → Bool) (l : List Packet) → last_set f l ≡ None
     → ((x : Packet) → test x ≡ true → f x ≢ None) → filter test l ≡ []
 no_setter f test [] e only = refl
-no_setter f test (x ∷ l) e only = by_case (test x) refl (no_setter f test l (none_both (f x) (last_set f l) e).1 only)
-  where
-    by_case : (t : Bool) → test x ≡ t → filter test l ≡ [] → cond t (x ∷ filter test l) (filter test l) ≡ []
-    by_case true h rest = absurd (only x h (none_both (f x) (last_set f l) e).0)
-    by_case false h rest = rest
+no_setter f test (x ∷ l) e only = elim (cases_Bool (test x)) [
+  | inl h ↦ absurd (only x h (none_both (f x) (last_set f l) e).0)
+  | inr h ↦ rw h (no_setter f test l (none_both (f x) (last_set f l) e).1 only)
+]
 
 -- the packet that sets a register last: of those of its kind it is the last of the block
 pub record LastSetter (f : Packet → Option Value) (block : List Packet) (v : Value) : Type 0 where
@@ -118,11 +94,7 @@ pub record LastSetter (f : Packet → Option Value) (block : List Packet) (v : V
 
 last_filter : (test : Packet → Bool) (x : Packet) (l : List Packet) (p : Packet) → last_of (filter test l) ≡ Some p
     → last_of (filter test (x ∷ l)) ≡ Some p
-last_filter test x l p e = by_case (test x)
-  where
-    by_case : (t : Bool) → last_of (cond t (x ∷ filter test l) (filter test l)) ≡ Some p
-    by_case true = ap (later_of (Some x)) e
-    by_case false = e
+last_filter test x l p e = elim (cases_Bool (test x)) [ inl h ↦ rw (h, e) refl | inr h ↦ rw h e ]
 
 last_setter : (f : Packet → Option Value) (l : List Packet) (v : Value) → last_set f l ≡ Some v → LastSetter f l v
 last_setter f [] v e = cc
@@ -143,47 +115,25 @@ last_setter f (x ∷ l) v e = by_case (last_set f l) refl (last_setter f l)
       setter = x;
       within = contains_head x l;
       gives = sym (ap (later_of (f x)) h) ∙ e;
-      ends = λ test t only.
-          ap (λ b. last_of (cond b (x ∷ filter test l) (filter test l))) t
-          ∙ ap (λ rest. later_of (Some x) (last_of rest)) (no_setter f test l h only);
+      ends = λ test t only. rw (t, no_setter f test l h only) refl;
     }
 
-or_left : (a b : Bool) → a ≡ true → (a || b) ≡ true
-or_left true b e = refl
-or_left false b e = cc
-
-or_right : (a b : Bool) → b ≡ true → (a || b) ≡ true
-or_right true b e = refl
-or_right false b e = e
-
-module _ (f : Packet → Option Value) (left right : List Packet) (members : SameMembers left right) (v w : Value)
-    (a : LastSetter f left v) (b : LastSetter f right w) where
-  pair : Packet → Bool
-  pair x = same a.setter x || same b.setter x
-
-  pair_sets : (x : Packet) → pair x ≡ true → f x ≢ None
-  unfolding pair
-  pair_sets x t none = elim (or_cases (same a.setter x) (same b.setter x) t) [
-    | inl e ↦
-        (let is : f a.setter ≡ f x = ap f ((Decides-same a.setter x).0 e) in
-        let bad : Some v ≡ None = sym a.gives ∙ is ∙ none in cc)
-    | inr e ↦
-        (let is : f b.setter ≡ f x = ap f ((Decides-same b.setter x).0 e) in
-        let bad : Some w ≡ None = sym b.gives ∙ is ∙ none in cc)
-  ]
-
-  -- the packets that set a register last in each block are the same where they take the same turns
-  same_setter : turns a.setter b.setter left ≡ turns a.setter b.setter right → a.setter ≡ b.setter
-  unfolding pair
-  same_setter e =
-      let here : last_of (filter pair left) ≡ Some a.setter =
-      a.ends pair (or_left (same a.setter a.setter) (same b.setter a.setter) (same-refl a.setter)) pair_sets in
-      let there : last_of (filter pair right) ≡ Some b.setter =
-      b.ends pair (or_right (same a.setter b.setter) (same b.setter b.setter) (same-refl b.setter)) pair_sets in
-      let both : Some a.setter ≡ Some b.setter =
-      sym here ∙ sym (last_unrepeated (filter pair left)) ∙ ap last_of e ∙ last_unrepeated (filter pair right)
-      ∙ there in
-      cc
+-- the packets that set a register last in each block are the same where they take the same turns
+same_setter : (f : Packet → Option Value) (left right : List Packet) (v w : Value) (a : LastSetter f left v)
+    (b : LastSetter f right w) → turns a.setter b.setter left ≡ turns a.setter b.setter right → a.setter ≡ b.setter
+same_setter f left right v w a b e =
+    let pair = is_one_of a.setter b.setter in
+    let here = a.ends pair (rw (same-refl a.setter) refl) pair_sets in
+    let there = b.ends pair (grind (arith, same-refl b.setter, cases_Bool (same a.setter b.setter))) pair_sets in
+    let both : Some a.setter ≡ Some b.setter =
+    sym here ∙ sym (last_unrepeated (filter pair left)) ∙ ap last_of e ∙ last_unrepeated (filter pair right) ∙ there in
+    cc
+  where
+    pair_sets : (x : Packet) → is_one_of a.setter b.setter x ≡ true → f x ≢ None
+    pair_sets x t none = elim (or_cases (same a.setter x) (same b.setter x) t) [
+      | inl e ↦ (let is : a.setter ≡ x = (Decides-same a.setter x).0 e in cc (a.gives))
+      | inr e ↦ (let is : b.setter ≡ x = (Decides-same b.setter x).0 e in cc (b.gives))
+    ]
 
 -- what holds of each packet of a block: the decoder hears it, and it is no own write
 abbrev pub InBlock : Who → Packet → Type 0
@@ -192,59 +142,44 @@ InBlock who p = (hears who p ≡ true) × (is_own_write p ≡ false)
 member : (P : Packet → Type 0) (l : List Packet) (p : Packet) → AllByRecursion P l → Contains l p → P p
 member P l p all h = All-contains P l p (All-from_recursion P l all) h
 
-same_last_set : (who : Who) (mode : SpeedMode) (r : Register) (left right : List Packet)
-    → AllByRecursion (InBlock who) left → AllByRecursion (InBlock who) right → AlikeBlocks left right →
-    last_set (λ p. sets mode p r) left ≡ last_set (λ p. sets mode p r) right
-same_last_set who mode r left right lefts rights alike = by_case (last_set f left) (last_set f right) refl refl
-  where
-    f : Packet → Option Value
-    f p = sets mode p r
+module _ (who : Who) (mode : SpeedMode) (r : Register) (left right : List Packet)
+    (lefts : AllByRecursion (InBlock who) left) (rights : AllByRecursion (InBlock who) right)
+    (alike : AlikeBlocks left right) where
+  abbrev f : Packet → Option Value
+  f p = sets mode p r
 
-    by_case : (a b : Option Value) → last_set (λ p. sets mode p r) left ≡ a → last_set (λ p. sets mode p r) right ≡ b
-        → a ≡ b
-    by_case None None x y = refl
-    by_case (Some v) None x y =
-        let a = last_setter (λ p. sets mode p r) left v x in
-        let none : sets mode a.setter r ≡ None =
-        none_gives (λ p. sets mode p r) right a.setter y ((alike.members a.setter).0 a.within) in
-        let bad : Some v ≡ None = sym a.gives ∙ none in
-        cc
-    by_case None (Some w) x y =
-        let b = last_setter (λ p. sets mode p r) right w y in
-        let none : sets mode b.setter r ≡ None =
-        none_gives (λ p. sets mode p r) left b.setter x ((alike.members b.setter).1 b.within) in
-        let bad : Some w ≡ None = sym b.gives ∙ none in
-        cc
-    by_case (Some v) (Some w) x y = decided (same_value v w) refl
-      where
-        a : LastSetter (λ p. sets mode p r) left v
-        a = last_setter (λ p. sets mode p r) left v x
+  same_last : (a b : Option Value) → last_set f left ≡ a → last_set f right ≡ b → a ≡ b
+  same_last None None x y = refl
+  same_last (Some v) None x y =
+      let a = last_setter f left v x in
+      cc (a.gives, none_gives f right a.setter y ((alike.members a.setter).0 a.within))
+  same_last None (Some w) x y =
+      let b = last_setter f right w y in
+      cc (b.gives, none_gives f left b.setter x ((alike.members b.setter).1 b.within))
+  same_last (Some v) (Some w) x y = elim (cases_Bool (same_value v w)) [
+    | inl e ↦ ap Some ((Decides-same_value v w).0 e)
+    | inr e ↦
+        (let a = last_setter f left v x in
+        let b = last_setter f right w y in
+        let conflict : Conflict a.setter b.setter = record {
+          who = who;
+          first_heard = (member (InBlock who) left a.setter lefts a.within).0;
+          second_heard = (member (InBlock who) right b.setter rights b.within).0;
+          mode = mode;
+          register = r;
+          one = v;
+          other = w;
+          first_sets = a.gives;
+          second_sets = b.gives;
+          apart = not_from_Decides (same_value v w) (Decides-same_value v w) e;
+        } in
+        let is = same_setter f left right v w a b
+        (alike.order a.setter b.setter a.within ((alike.members b.setter).1 b.within) conflict) in
+        sym a.gives ∙ ap f is ∙ b.gives)
+  ]
 
-        b : LastSetter (λ p. sets mode p r) right w
-        b = last_setter (λ p. sets mode p r) right w y
-
-        decided : (t : Bool) → same_value v w ≡ t → Some v ≡ Some w
-        decided true e = ap Some ((Decides-same_value v w).0 e)
-        decided false e =
-            let a : LastSetter (λ p. sets mode p r) left v = last_setter (λ p. sets mode p r) left v x in
-            let b : LastSetter (λ p. sets mode p r) right w = last_setter (λ p. sets mode p r) right w y in
-            let in_left : Contains left b.setter = (alike.members b.setter).1 b.within in
-            let conflict : Conflict a.setter b.setter = record {
-              who = who;
-              first_heard = (member (InBlock who) left a.setter lefts a.within).0;
-              second_heard = (member (InBlock who) right b.setter rights b.within).0;
-              mode = mode;
-              register = r;
-              one = v;
-              other = w;
-              first_sets = a.gives;
-              second_sets = b.gives;
-              apart = λ is. true_is_not_false (sym ((Decides-same_value v w).1 is) ∙ e);
-            } in
-            let is : a.setter ≡ b.setter =
-            same_setter (λ p. sets mode p r) left right alike.members v w a b
-            (alike.order a.setter b.setter a.within in_left conflict) in
-            sym a.gives ∙ ap (λ p. sets mode p r) is ∙ b.gives
+  same_last_set : last_set f left ≡ last_set f right
+  same_last_set = same_last (last_set f left) (last_set f right) refl refl
 
 -- a block changes no CV bit
 run_block_bits : (who : Who) (s : State) (l : List Packet) → AllByRecursion (InBlock who) l → (r : Register)

@@ -1,6 +1,7 @@
 -- Lists that are alike for a decoder leave the same registers.
-use Rattle.std.proofs.Common.{◌≡◌, ◌∙◌, refl, sym, ap, Bool, true, false, cond, List, [], ◌∷◌, ◌++◌, Option, Some}
+use Rattle.std.proofs.Common.{◌≡◌, ◌∙◌, refl, sym, ap, Bool, true, false, cond, List, [], ◌∷◌, ◌++◌, Option, Some, inl, inr}
 use Rattle.std.specs.Prelude.{◌&&◌}
+use Rattle.std.proofs.lemmas.Bool.{cases_Bool, and_parts}
 use Rattle.std.specs.List.{AllByRecursion}
 use Rattle.std.proofs.lemmas.List.Elements.{filter_passes, recursion_from_All}
 use Rattle.dcc_packet.specs.declared.packet.Packet.{Packet}
@@ -20,30 +21,27 @@ use Rattle.dcc_regs.proofs.ResultByParts.{same_state, sets_bit}
 use Rattle.dcc_regs.proofs.ResultByParts.{overwritten-twice}
 use Rattle.dcc_order.specs.AlikeLists.{begins_with_two, without_third_copies, Cut, LastBlock, Block, in_first_block}
 use Rattle.dcc_order.specs.AlikeLists.{cut, cut_for}
-use Rattle.dcc_order.specs.AlikeLists.{AlikeCuts}
+use Rattle.dcc_order.specs.AlikeLists.{AlikeCuts, AlikeBlocks}
 use Rattle.dcc_order.specs.Laws.{AlikeListsLeaveTheSame, AlikeListsAgreeAfterEachBlock, through_block}
 use Rattle.std.proofs.Common.{ℕ, zero, suc}
 use Rattle.dcc_regs.specs.declared.register.Register.TheVariants.{CvBit}
 use Rattle.dcc_order.proofs.AlikeBlocks.{InBlock, alike_blocks}
 
 -- the packets of a cut list
-pub flat : Cut → List Packet
+abbrev pub flat : Cut → List Packet
 flat (LastBlock block) = block
 flat (Block block write rest) = block ++ write ∷ flat rest
 
 flat-in_first_block : (p : Packet) (x : Cut) → flat (in_first_block p x) ≡ p ∷ flat x
-unfolding flat
 flat-in_first_block p (LastBlock block) = refl
 flat-in_first_block p (Block block write rest) = refl
 
 pub flat-cut : (l : List Packet) → flat (cut l) ≡ l
-unfolding flat
 flat-cut [] = refl
-flat-cut (p ∷ l) = by_case (is_own_write p) (flat-cut l)
-  where
-    by_case : (t : Bool) → flat (cut l) ≡ l → flat (cond t (Block [] p (cut l)) (in_first_block p (cut l))) ≡ p ∷ l
-    by_case true rest = ap (λ m. p ∷ m) rest
-    by_case false rest = flat-in_first_block p (cut l) ∙ ap (λ m. p ∷ m) rest
+flat-cut (p ∷ l) = elim (cases_Bool (is_own_write p)) [
+  | inl e ↦ rw (e, flat-cut l) refl
+  | inr e ↦ rw (e, flat-in_first_block p (cut l), flat-cut l) refl
+]
 
 -- each block of a cut list has packets that the decoder hears, and no own write
 abbrev WellCut : Who → Cut → Type 0
@@ -57,30 +55,32 @@ well_in_first_block who p (Block block write rest) here well = ((here, well.0), 
 
 well_cut : (who : Who) (l : List Packet) → AllByRecursion (λ p. hears who p ≡ true) l → WellCut who (cut l)
 well_cut who [] all = tt
-well_cut who (p ∷ l) all = by_case (is_own_write p) refl (well_cut who l all.1)
-  where
-    by_case : (t : Bool) → is_own_write p ≡ t → WellCut who (cut l)
-        → WellCut who (cond t (Block [] p (cut l)) (in_first_block p (cut l)))
-    by_case true e rest = (tt, rest)
-    by_case false e rest = well_in_first_block who p (cut l) (all.0, e) rest
+well_cut who (p ∷ l) all = elim (cases_Bool (is_own_write p)) [
+  | inl e ↦ rw e (tt, well_cut who l all.1)
+  | inr e ↦ rw e (well_in_first_block who p (cut l) (all.0, e) (well_cut who l all.1))
+]
+
+-- alike blocks, one write behind them, and what leaves the same behind that
+behind_blocks : (who : Who) (s : State) (left right : List Packet) (write other : Packet) (m n : List Packet)
+    → AllByRecursion (InBlock who) left → AllByRecursion (InBlock who) right → AlikeBlocks left right → write ≡ other →
+    ((t : State) → state_after t m ≡ state_after t n)
+    → state_after s (left ++ write ∷ m) ≡ state_after s (right ++ other ∷ n)
+behind_blocks who s left right write other m n lefts rights alike is later =
+    rw (
+      state_after-append s left (write ∷ m),
+      state_after-append s right (other ∷ n),
+      alike_blocks who s left right lefts rights alike,
+      is,
+    ) (later (step (state_after s right) other))
 
 alike_cuts : (who : Who) (s : State) (x y : Cut) → WellCut who x → WellCut who y → AlikeCuts x y
     → state_after s (flat x) ≡ state_after s (flat y)
-unfolding flat
 alike_cuts who s (LastBlock left) (LastBlock right) lefts rights alike =
     alike_blocks who s left right lefts rights alike
-alike_cuts who s (LastBlock left) (Block right other rest) lefts rights alike = absurd alike
-alike_cuts who s (Block left write rest) (LastBlock right) lefts rights alike = absurd alike
 alike_cuts who s (Block left write x) (Block right other y) lefts rights alike =
-    state_after-append s left (write ∷ flat x)
-    ∙ alike_cuts who (step (state_after s left) write) x y lefts.1 rights.1 alike.2
-    ∙ ap (λ t. state_after (step t write) (flat y)) (alike_blocks who s left right lefts.0 rights.0 alike.0)
-    ∙ ap (λ w. state_after (step (state_after s right) w) (flat y)) alike.1
-    ∙ sym (state_after-append s right (other ∷ flat y))
-
-both_true : (a b : Bool) → (a && b) ≡ true → (a ≡ true) × (b ≡ true)
-both_true true b e = (refl, e)
-both_true false b e = cc
+    behind_blocks who s left right write other (flat x) (flat y) lefts.0 rights.0 alike.0 alike.1
+    (λ t. alike_cuts who t x y lefts.1 rights.1 alike.2)
+alike_cuts who s x y lefts rights alike = absurd alike
 
 -- a third copy of an own write writes the same again
 third_copy : (s : State) (p : Packet) → is_own_write p ≡ true → step (step (step s p) p) p ≡ step (step s p) p
@@ -109,42 +109,30 @@ left_out : (s : State) (p : Packet) (l : List Packet) → is_own_write p ≡ tru
 left_out s p [] write two = cc
 left_out s p (q ∷ []) write two = cc
 left_out s p (q ∷ r ∷ l) write two =
-    let first : p ≡ q = (Decides-same p q).0 (both_true (same p q) (same p r) two).0 in
-    let second : p ≡ r = (Decides-same p r).0 (both_true (same p q) (same p r) two).1 in
-    ap (λ x. state_after (step (step s x) r) l) (sym first)
-    ∙ ap (λ x. state_after (step (step s p) x) l) (sym second)
-    ∙ ap (λ t. state_after t l) (sym (third_copy s p write))
-    ∙ ap (λ x. state_after (step (step (step s p) p) x) l) second
-    ∙ ap (λ x. state_after (step (step (step s p) x) r) l) first
+    let both = and_parts (same p q) (same p r) two in
+    rw (← (Decides-same p q).0 both.0, ← (Decides-same p r).0 both.1)
+    (ap (λ t. state_after t l) (sym (third_copy s p write)))
 
 state_after-capped : (s : State) (l : List Packet) → state_after s (without_third_copies l) ≡ state_after s l
 state_after-capped s [] = refl
-state_after-capped s (p ∷ l) =
-    by_case (is_own_write p && begins_with_two l p) refl (state_after-capped s l) (state_after-capped (step s p) l)
-  where
-    by_case : (t : Bool) → (is_own_write p && begins_with_two l p) ≡ t
-        → state_after s (without_third_copies l) ≡ state_after s l
-        → state_after (step s p) (without_third_copies l) ≡ state_after (step s p) l
-        → state_after s (cond t (without_third_copies l) (p ∷ without_third_copies l)) ≡ state_after (step s p) l
-    by_case true e here rest =
-        here ∙ left_out s p l (both_true (is_own_write p) (begins_with_two l p) e).0
-        (both_true (is_own_write p) (begins_with_two l p) e).1
-    by_case false e here rest = rest
+state_after-capped s (p ∷ l) = elim (cases_Bool (is_own_write p && begins_with_two l p)) [
+  | inl e ↦
+      (let both = and_parts (is_own_write p) (begins_with_two l p) e in
+      rw e (state_after-capped s l ∙ left_out s p l both.0 both.1))
+  | inr e ↦ rw e (state_after-capped (step s p) l)
+]
 
 all_capped : (P : Packet → Type 0) (l : List Packet) → AllByRecursion P l → AllByRecursion P (without_third_copies l)
 all_capped P [] all = tt
-all_capped P (p ∷ l) all = by_case (is_own_write p && begins_with_two l p) (all_capped P l all.1)
-  where
-    by_case : (t : Bool) → AllByRecursion P (without_third_copies l)
-        → AllByRecursion P (cond t (without_third_copies l) (p ∷ without_third_copies l))
-    by_case true rest = rest
-    by_case false rest = (all.0, rest)
+all_capped P (p ∷ l) all = elim (cases_Bool (is_own_write p && begins_with_two l p)) [
+  | inl e ↦ rw e (all_capped P l all.1)
+  | inr e ↦ rw e (all.0, all_capped P l all.1)
+]
 
-all_heard : (who : Who) (l : List Packet)
-    → AllByRecursion (λ p. hears who p ≡ true) (without_third_copies (heard who l))
-all_heard who l =
-    all_capped (λ p. hears who p ≡ true) (heard who l)
-    (recursion_from_All (λ p. hears who p ≡ true) (heard who l) (filter_passes (hears who) l))
+well_cut_for : (who : Who) (l : List Packet) → WellCut who (cut_for who l)
+well_cut_for who l =
+    well_cut who (without_third_copies (heard who l)) (all_capped (λ p. hears who p ≡ true) (heard who l)
+    (recursion_from_All (λ p. hears who p ≡ true) (heard who l) (filter_passes (hears who) l)))
 
 state_after-cut_for : (who : Who) (s : State) (l : List Packet)
     → state_after s (flat (cut_for who l)) ≡ state_after s (heard who l)
@@ -156,9 +144,7 @@ alike_lists who left right alike m r =
     read-state_after m (heard who left) r
     ∙ ap (λ s. read s r) (
     sym (state_after-cut_for who (start m) left)
-    ∙ alike_cuts who (start m) (cut_for who left) (cut_for who right)
-    (well_cut who (without_third_copies (heard who left)) (all_heard who left))
-    (well_cut who (without_third_copies (heard who right)) (all_heard who right)) alike
+    ∙ alike_cuts who (start m) (cut_for who left) (cut_for who right) (well_cut_for who left) (well_cut_for who right) alike
     ∙ state_after-cut_for who (start m) right)
     ∙ sym (read-state_after m (heard who right) r)
 
@@ -166,21 +152,15 @@ alike_through : (who : Who) (s : State) (k : ℕ) (x y : Cut) → WellCut who x 
     → state_after s (through_block k x) ≡ state_after s (through_block k y)
 alike_through who s k (LastBlock left) (LastBlock right) lefts rights alike =
     alike_blocks who s left right lefts rights alike
-alike_through who s k (LastBlock left) (Block right other rest) lefts rights alike = absurd alike
-alike_through who s k (Block left write rest) (LastBlock right) lefts rights alike = absurd alike
 alike_through who s zero (Block left write x) (Block right other y) lefts rights alike =
     alike_blocks who s left right lefts.0 rights.0 alike.0
 alike_through who s (suc k) (Block left write x) (Block right other y) lefts rights alike =
-    state_after-append s left (write ∷ through_block k x)
-    ∙ alike_through who (step (state_after s left) write) k x y lefts.1 rights.1 alike.2
-    ∙ ap (λ t. state_after (step t write) (through_block k y)) (alike_blocks who s left right lefts.0 rights.0 alike.0)
-    ∙ ap (λ w. state_after (step (state_after s right) w) (through_block k y)) alike.1
-    ∙ sym (state_after-append s right (other ∷ through_block k y))
+    behind_blocks who s left right write other (through_block k x) (through_block k y) lefts.0 rights.0 alike.0 alike.1
+    (λ t. alike_through who t k x y lefts.1 rights.1 alike.2)
+alike_through who s k x y lefts rights alike = absurd alike
 
 pub alike_after_each_block : AlikeListsAgreeAfterEachBlock
 alike_after_each_block who left right alike k m cv place =
     read-state_after m (through_block k (cut_for who left)) (CvBit cv place)
-    ∙ ap (λ s. read s (CvBit cv place)) (alike_through who (start m) k (cut_for who left) (cut_for who right)
-    (well_cut who (without_third_copies (heard who left)) (all_heard who left))
-    (well_cut who (without_third_copies (heard who right)) (all_heard who right)) alike)
+    ∙ ap (λ s. read s (CvBit cv place)) (alike_through who (start m) k (cut_for who left) (cut_for who right) (well_cut_for who left) (well_cut_for who right) alike)
     ∙ sym (read-state_after m (through_block k (cut_for who right)) (CvBit cv place))

@@ -1,18 +1,19 @@
 -- Two blocks, held by numbers.
-use Rattle.std.proofs.Common.{ℕ, zero, suc, ◌+◌, ◌<◌, ◌≤◌, ◌≡◌, ◌∙◌, refl, sym, ap, subst, List, [], ◌∷◌, ◌++◌}
-use Rattle.std.proofs.Common.{length, arith, get_or, set, map, take, cond}
+use Rattle.std.proofs.Common.{ℕ, suc, ◌+◌, ◌<◌, ◌≤◌, ◌≡◌, ◌∙◌, refl, sym, ap, subst, List, [], ◌∷◌, ◌++◌}
+use Rattle.std.proofs.Common.{length, arith, get_or, set, map, take, cond, inl, inr}
 use Rattle.std.specs.Prelude.{Contains, ◌↔◌, Result, Ok, Err, IsOk, is_ok}
+use Rattle.std.proofs.Math.ListN.{get_or-append}
+use Rattle.std.proofs.Math.Seq.{take-suc-set, map-set_same}
 use Rattle.std.proofs.lemmas.List.{length-append, map-append, length-map, length-take, take-append-le, get_or_default}
+use Rattle.std.proofs.lemmas.List.{get_or-map, get_or-take, length-set}
 use Rattle.dcc_packet.specs.declared.packet.Packet.{Packet}
 use Rattle.dcc_packet.specs.declared.packet.Packet.TheVariants.{Idle}
-use Rattle.dcc_regs.specs.Conflict.{Conflict}
 use Rattle.dcc_order.specs.declared.places.Place.{Place}
 use Rattle.dcc_order.specs.AlikeLists.{SameMembers, SameOrder}
-use Rattle.dcc_order.specs.Held.{Held}
 use Rattle.dcc_order.specs.HeldPlaces.{AreHeld, held_at, members_at, numbers_at, packets_of, Numbered, NumberedAlike}
-use Rattle.dcc_order.specs.Members.{member_number, EachOnce, AreMembers}
-use Rattle.dcc_order.specs.Turns.{turns_of}
-use Rattle.dcc_order.proofs.MemberLaws.{number-within, stands_at, known_member, new_member, get-push_old, get-push_new}
+use Rattle.dcc_order.specs.Members.{member_number, EachOnce}
+use Rattle.dcc_order.proofs.MemberLaws.{number-within, stands_at, known_member, new_member, get-push_new}
+use Rattle.dcc_order.proofs.Contained.{contains_none, contains_head, contains_tail, contains_cases}
 use Rattle.dcc_order.proofs.OrderLaws.{CountedAlike, order_from_counts, counts_from_order}
 
 -- what a call gives where it succeeds
@@ -42,86 +43,44 @@ packets-more : (members : List Packet) (x : Packet) (ns : List ℕ) → Numbered
     → packets_of (members ++ x ∷ []) ns ≡ packets_of members ns
 packets-more members x [] all = refl
 packets-more members x (n ∷ ns) all =
-    ap (λ p. p ∷ packets_of (members ++ x ∷ []) ns) (get-push_old members x Idle n all.0)
-    ∙ ap (λ l. get_or members n Idle ∷ l) (packets-more members x ns all.1)
-
--- what is kept is of these members and these numbers
-pub record Kept (members : List Packet) (ns others : List ℕ) : Type 0 where
-  pub members_of : AreMembers members (packets_of members ns)
-  pub first_numbered : Numbered members ns
-  pub second_numbered : Numbered members others
+    rw (get_or-append members (x ∷ []) Idle n all.0, packets-more members x ns all.1) refl
 
 packets_known : (members : List Packet) (ns : List ℕ) (x : Packet) → member_number members x < length members
     → packets_of members (ns ++ member_number members x ∷ []) ≡ packets_of members ns ++ x ∷ []
 packets_known members ns x inside =
-    packets-push members ns (member_number members x)
-    ∙ ap (λ p. packets_of members ns ++ p ∷ []) (sym (stands_at members x Idle inside))
+    rw (packets-push members ns (member_number members x), ← stands_at members x Idle inside) refl
 
 packets_new : (members : List Packet) (ns : List ℕ) (x : Packet) → Numbered members ns
     → packets_of (members ++ x ∷ []) (ns ++ length members ∷ []) ≡ packets_of members ns ++ x ∷ []
 packets_new members ns x all =
-    packets-push (members ++ x ∷ []) ns (length members)
-    ∙ ap (λ l. l ++ get_or (members ++ x ∷ []) (length members) Idle ∷ []) (packets-more members x ns all)
-    ∙ ap (λ p. packets_of members ns ++ p ∷ []) (get-push_new members x Idle (length members) refl)
+    rw (
+      packets-push (members ++ x ∷ []) ns (length members),
+      packets-more members x ns all,
+      get-push_new members x Idle (length members) refl,
+    ) refl
 
-kept_known : (members : List Packet) (ns others : List ℕ) (x : Packet) → Kept members ns others
-    → member_number members x < length members →
-    Kept members (ns ++ member_number members x ∷ []) others
-kept_known members ns others x kept inside = record {
-  members_of =
-      subst (AreMembers members) (sym (packets_known members ns x inside))
-      (known_member members (packets_of members ns) x kept.members_of inside);
-  first_numbered = numbered_push members ns (member_number members x) kept.first_numbered inside;
-  second_numbered = kept.second_numbered;
-}
+-- a packet of these numbers is a member
+packets_are_members : (members : List Packet) (ns : List ℕ) → Numbered members ns → (p : Packet)
+    → Contains (packets_of members ns) p → (n : ℕ) × (n < length members) × Contains ns n × (get_or members n Idle ≡ p)
+packets_are_members members [] all p h = absurd (contains_none p h)
+packets_are_members members (n ∷ ns) all p h = elim (contains_cases (get_or members n Idle) (packets_of members ns) p h) [
+  | inl is ↦ (n, all.0, contains_head n ns, is)
+  | inr later ↦
+      (let m = packets_are_members members ns all.1 p later in (m.0, m.1, contains_tail n ns m.0 m.2, m.3))
+]
 
-kept_new : (members : List Packet) (ns others : List ℕ) (x : Packet) → Kept members ns others
-    → member_number members x ≡ length members →
-    Kept (members ++ x ∷ []) (ns ++ length members ∷ []) others
-kept_new members ns others x kept none = record {
-  members_of =
-      subst (AreMembers (members ++ x ∷ [])) (sym (packets_new members ns x kept.first_numbered))
-      (new_member members (packets_of members ns) x kept.members_of none);
-  first_numbered =
-      numbered_push (members ++ x ∷ []) ns (length members) (numbered_more members x ns kept.first_numbered)
-      (let total = length-append members (x ∷ []) in omega (arith, total));
-  second_numbered = numbered_more members x others kept.second_numbered;
-}
-
-kept_of : (places : List Place) (count : ℕ) (others : List ℕ) → AreHeld places count others
-    → Kept (members_at places count) (numbers_at places) others
-kept_of places count others held =
-    record { members_of = held.members; first_numbered = held.first_numbered; second_numbered = held.second_numbered }
-
-held_of : (places : List Place) (count : ℕ) (others : List ℕ) → count ≤ length places
-    → Kept (members_at places count) (numbers_at places) others → AreHeld places count others
-held_of places count others inside kept =
-    record {
-      within = inside;
-      members = kept.members_of;
-      first_numbered = kept.first_numbered;
-      second_numbered = kept.second_numbered;
-    }
+number_gives : (members : List Packet) (ns : List ℕ) (n : ℕ) → Contains ns n
+    → Contains (packets_of members ns) (get_or members n Idle)
+number_gives members [] n h = absurd (contains_none n h)
+number_gives members (m ∷ ns) n h = elim (contains_cases m ns n h) [
+  | inl is ↦ subst (λ k. Contains (packets_of members (m ∷ ns)) (get_or members k Idle)) is
+      (contains_head (get_or members m Idle) (packets_of members ns))
+  | inr later ↦ contains_tail (get_or members m Idle) (packets_of members ns) (get_or members n Idle)
+      (number_gives members ns n later)
+]
 
 pub count_of : (places : List Place) (count : ℕ) → count ≤ length places → length (members_at places count) ≡ count
 count_of places count inside = length-map (take count places) (λ place. place.member) ∙ simp length-take (omega arith)
-
-take_set : (places : List Place) (k : ℕ) (r : Place) → k < length places
-    → take (suc k) (set places k r) ≡ take k places ++ r ∷ []
-take_set [] k r h = absurd (omega arith)
-take_set (p ∷ places) zero r h = refl
-take_set (p ∷ places) (suc k) r h = ap (λ l. p ∷ l) (take_set places k r (omega arith))
-
-numbers_set : (places : List Place) (k : ℕ) (r d : Place) → k < length places → r.number ≡ (get_or places k d).number
-    → numbers_at (set places k r) ≡ numbers_at places
-numbers_set [] k r d h e = absurd (omega arith)
-numbers_set (p ∷ places) zero r d h e = ap (λ n. n ∷ numbers_at places) e
-numbers_set (p ∷ places) (suc k) r d h e = ap (λ l. p.number ∷ l) (numbers_set places k r d (omega arith) e)
-
-length-set_place : (places : List Place) (k : ℕ) (r : Place) → length (set places k r) ≡ length places
-length-set_place [] k r = refl
-length-set_place (p ∷ places) zero r = refl
-length-set_place (p ∷ places) (suc k) r = ap suc (length-set_place places k r)
 
 module _ (places : List Place) (count : ℕ) (others : List ℕ) (held : AreHeld places count others) (x : Packet) where
   abbrev members : List Packet
@@ -166,82 +125,72 @@ module _ (places : List Place) (count : ℕ) (others : List ℕ) (held : AreHeld
   pub known_held : member_number members x < length members
       → AreHeld (places ++ place (member_number members x) ∷ []) count others
   known_held inside =
-      let n = member_number members x in
-      held_of (places ++ place n ∷ []) count others
-      (let more = longer n in let has = held.within in omega (arith, more, has))
-      (subst (λ front. Kept (map (λ place. place.member) front) (numbers_at (places ++ place n ∷ [])) others)
-      (sym (same_front n))
-      (subst (λ ns. Kept members ns others) (sym (more_numbers n))
-      (kept_known members (numbers_at places) others x (kept_of places count others held) inside)))
+      let n = member_number members x in record {
+        within = omega (arith, longer n, held.within);
+        members = rw (same_front n, more_numbers n, packets_known members (numbers_at places) x inside)
+            (known_member members (packets_of members (numbers_at places)) x held.members inside);
+        first_numbered = rw (same_front n, more_numbers n)
+            (numbered_push members (numbers_at places) n held.first_numbered inside);
+        second_numbered = rw (same_front n) held.second_numbered;
+      }
 
   pub known_view : member_number members x < length members
       → held_at (places ++ place (member_number members x) ∷ []) count others ≡ record (held_at places count others)
       { first = (held_at places count others).first ++ x ∷ [] }
-  known_view inside =
-      let n = member_number members x in
-      ap (λ front.
-      let v : Held =
-      record {
-        first = packets_of (map (λ place. place.member) front) (numbers_at (places ++ place n ∷ []));
-        second = packets_of (map (λ place. place.member) front) others;
-      } in
-      v) (same_front n)
-      ∙ ap (λ ns. let v : Held = record { first = packets_of members ns; second = packets_of members others } in v)
-      (more_numbers n)
-      ∙ ap (λ l. let v : Held = record { first = l; second = packets_of members others } in v)
-      (packets_known members (numbers_at places) x inside)
+  known_view inside = rw (
+    same_front (member_number members x),
+    more_numbers (member_number members x),
+    packets_known members (numbers_at places) x inside,
+  ) refl
 
   -- a packet that is no member yet: it is put where its number is
   abbrev now : Place → List Place
   now d = set (places ++ place count ∷ []) count (record (get_or (places ++ place count ∷ []) count d) { member = x })
 
-  new_front : (d : Place)
-      → take (suc count) (now d) ≡ take count places
-      ++ record (get_or (places ++ place count ∷ []) count d) { member = x } ∷ []
-  new_front d =
-      take_set (places ++ place count ∷ []) count (record (get_or (places ++ place count ∷ []) count d) { member = x })
-      (let more = longer count in let has = held.within in omega (arith, more, has))
-      ∙ ap (λ l. l ++ record (get_or (places ++ place count ∷ []) count d) { member = x } ∷ []) (same_front count)
+  here : count < length (places ++ place count ∷ [])
+  here = omega (arith, longer count, held.within)
 
   pub new_members : (d : Place) → members_at (now d) (suc count) ≡ members ++ x ∷ []
   new_members d =
-      ap (map (λ place. place.member)) (new_front d)
-      ∙ map-append (λ place. place.member) (take count places)
-      (record (get_or (places ++ place count ∷ []) count d) { member = x } ∷ [])
+      rw (
+        take-suc-set (places ++ place count ∷ []) count
+            (record (get_or (places ++ place count ∷ []) count d) { member = x }) here,
+        same_front count,
+      )
+      (map-append (λ place. place.member) (take count places)
+      (record (get_or (places ++ place count ∷ []) count d) { member = x } ∷ []))
 
   new_numbers : (d : Place) → numbers_at (now d) ≡ numbers_at places ++ length members ∷ []
   new_numbers d =
-      numbers_set (places ++ place count ∷ []) count
-      (record (get_or (places ++ place count ∷ []) count d) { member = x }) d
-      (let more = longer count in let has = held.within in omega (arith, more, has)) refl
-      ∙ more_numbers count
-      ∙ ap (λ n. numbers_at places ++ n ∷ []) (sym (count_of places count held.within))
+      rw (
+        map-set_same (λ (place : Place). place.number) (places ++ place count ∷ []) count
+            (record (get_or (places ++ place count ∷ []) count d) { member = x }) d refl,
+        more_numbers count,
+        count_of places count held.within,
+      ) refl
 
   pub new_held : (d : Place) → member_number members x ≡ length members → AreHeld (now d) (suc count) others
-  new_held d none =
-      held_of (now d) (suc count) others
-      (let more = longer count in let has = held.within in
-      let same_length = length-set_place (places ++ place count ∷ []) count
-      (record (get_or (places ++ place count ∷ []) count d) { member = x }) in
-      omega (arith, more, has, same_length))
-      (subst (λ ms. Kept ms (numbers_at (now d)) others) (sym (new_members d))
-      (subst (λ ns. Kept (members ++ x ∷ []) ns others) (sym (new_numbers d))
-      (kept_new members (numbers_at places) others x (kept_of places count others held) none)))
+  new_held d none = record {
+    within = rw (length-set (places ++ place count ∷ []) count
+        (record (get_or (places ++ place count ∷ []) count d) { member = x })) here;
+    members = rw (new_members d, new_numbers d, packets_new members (numbers_at places) x held.first_numbered)
+        (new_member members (packets_of members (numbers_at places)) x held.members none);
+    first_numbered = rw (new_members d, new_numbers d)
+        (numbered_push (members ++ x ∷ []) (numbers_at places) (length members)
+        (numbered_more members x (numbers_at places) held.first_numbered)
+        (omega (arith, length-append members (x ∷ []))));
+    second_numbered = rw (new_members d) (numbered_more members x others held.second_numbered);
+  }
 
   pub new_view : (d : Place)
       → held_at (now d) (suc count) others ≡ record (held_at places count others)
       { first = (held_at places count others).first ++ x ∷ [] }
-  new_view d =
-      ap (λ ms. let v : Held = record { first = packets_of ms (numbers_at (now d)); second = packets_of ms others } in
-      v) (new_members d)
-      ∙ ap (λ ns.
-      let v : Held =
-      record { first = packets_of (members ++ x ∷ []) ns; second = packets_of (members ++ x ∷ []) others } in
-      v) (new_numbers d)
-      ∙ ap (λ l. let v : Held = record { first = l; second = packets_of (members ++ x ∷ []) others } in v)
-      (packets_new members (numbers_at places) x held.first_numbered)
-      ∙ ap (λ l. let v : Held = record { first = packets_of members (numbers_at places) ++ x ∷ []; second = l } in v)
-      (packets-more members x others held.second_numbered)
+  new_view d = rw (
+    new_members d,
+    new_numbers d,
+    packets_new members (numbers_at places) x held.first_numbered,
+    packets-more members x others held.second_numbered,
+  ) refl
 
   -- a packet of the second block that is a member
   pub second_held : member_number members x < length members
@@ -256,34 +205,12 @@ module _ (places : List Place) (count : ℕ) (others : List ℕ) (held : AreHeld
   pub second_view : member_number members x < length members
       → held_at places count (others ++ member_number members x ∷ []) ≡ record (held_at places count others)
       { second = (held_at places count others).second ++ x ∷ [] }
-  second_view inside =
-      ap (λ l. let v : Held = record { first = packets_of members (numbers_at places); second = l } in v)
-      (packets_known members others x inside)
-
--- a packet of these numbers is a member
-packets_are_members : (members : List Packet) (ns : List ℕ) → Numbered members ns → (p : Packet)
-    → Contains (packets_of members ns) p → (n : ℕ) × (n < length members) × Contains ns n × (get_or members n Idle ≡ p)
-packets_are_members members [] all p h = absurd (let low : h.0 < 0 = h.1 in omega arith)
-packets_are_members members (n ∷ ns) all p (zero, inside, is) = (n, all.0, (zero, (omega arith), refl), is)
-packets_are_members members (n ∷ ns) all p (suc k, inside, is) =
-    let rest = packets_are_members members ns all.1 p
-    (k, (let low : suc k < suc (length (packets_of members ns)) = inside in omega arith), is) in
-    (rest.0, rest.1, (suc rest.2.0, (let low : rest.2.0 < length ns = rest.2.1 in omega arith), rest.2.2), rest.3)
-
-number_gives : (members : List Packet) (ns : List ℕ) (n : ℕ) → Contains ns n
-    → Contains (packets_of members ns) (get_or members n Idle)
-number_gives members [] n h = absurd (let low : h.0 < 0 = h.1 in omega arith)
-number_gives members (m ∷ ns) n (zero, inside, is) = (zero, (omega arith), ap (λ k. get_or members k Idle) is)
-number_gives members (m ∷ ns) n (suc k, inside, is) =
-    let rest = number_gives members ns n (k, (let low : suc k < suc (length ns) = inside in omega arith), is) in
-    (suc rest.0, (let low : rest.0 < length (packets_of members ns) = rest.1 in omega arith), rest.2)
+  second_view inside = rw (packets_known members others x inside) refl
 
 numbers_back : (members : List Packet) → EachOnce members → (ns : List ℕ) → Numbered members ns
     → map (member_number members) (packets_of members ns) ≡ ns
 numbers_back _ _ [] _ = refl
-numbers_back members once (n ∷ ns) all =
-    ap (λ k. k ∷ map (member_number members) (packets_of members ns)) (once n Idle all.0)
-    ∙ ap (λ l. n ∷ l) (numbers_back members once ns all.1)
+numbers_back members once (n ∷ ns) all = rw (once n Idle all.0, numbers_back members once ns all.1) refl
 
 module _ (places : List Place) (count : ℕ) (others : List ℕ) (held : AreHeld places count others) where
   abbrev ms : List Packet
@@ -317,25 +244,18 @@ module _ (places : List Place) (count : ℕ) (others : List ℕ) (held : AreHeld
   )
 
   member_at : (k : ℕ) (d : Packet) (e : Place) → k < count → get_or ms k d ≡ (get_or places k e).member
-  member_at k d e below = go places count k d e below held.within
-    where
-      go : (places : List Place) (count k : ℕ) (d : Packet) (e : Place) → k < count → count ≤ length places
-          → get_or (map (λ place. place.member) (take count places)) k d ≡ (get_or places k e).member
-      go [] count k d e below inside = absurd (let low : count ≤ 0 = inside in omega arith)
-      go (p ∷ places) zero k d e below inside = absurd (omega arith)
-      go (p ∷ places) (suc count) zero d e below inside = refl
-      go (p ∷ places) (suc count) (suc k) d e below inside =
-          go places count k d e (omega arith) (let low : suc count ≤ suc (length places) = inside in omega arith)
+  member_at k d e below =
+      get_or-map (λ (place : Place). place.member) (take count places) k e d (simp length-take (omega (arith, held.within)))
+      ∙ ap (λ (place : Place). place.member) (get_or-take count places k e below)
 
   -- any two packets that conflict take the same turns exactly where the number of one of them does with each before it
   pub order_by_numbers : ((own : ℕ) → own < count → NumberedAlike places others own) ↔ SameOrder
       (held_at places count others).first (held_at places count others).second
   order_by_numbers = (
     λ each. order_from_counts ms first second held.members
-        (λ own inside. let low : own < count = (let is = size in omega (arith, is, inside)) in counted own low
-        (each own low)),
-    λ order own below. numbered own
-        (counts_from_order ms first second held.members order own (let is = size in omega (arith, is, below))) below,
+        (λ own inside. (counted own (omega (arith, size, inside))).0 (each own (omega (arith, size, inside)))),
+    λ order own below. (counted own below).1
+        (counts_from_order ms first second held.members order own (omega (arith, size, below))),
   )
     where
       first : List Packet
@@ -344,23 +264,23 @@ module _ (places : List Place) (count : ℕ) (others : List ℕ) (held : AreHeld
       second : List Packet
       second = packets_of ms others
 
-      counted : (own : ℕ) → own < count → NumberedAlike places others own → CountedAlike ms first second own
-      counted own own_in same rival d e rival_before clash =
-          let rival_in : rival < count = (omega (arith, rival_before, own_in)) in
-          ap (turns_of own rival) (numbers_back ms held.members.once (numbers_at places) held.first_numbered)
-          ∙ same rival nowhere nowhere rival_before
-          (subst (λ p. Conflict p (get_or places rival nowhere).member) (member_at own d nowhere own_in)
-          (subst (Conflict (get_or ms own d)) (member_at rival e nowhere rival_in) clash))
-          ∙ sym (ap (turns_of own rival) (numbers_back ms held.members.once others held.second_numbered))
+      counted : (own : ℕ) → own < count → NumberedAlike places others own ↔ CountedAlike ms first second own
+      counted own own_in = (
+        λ same rival d e before clash.
+            rw (
+              numbers_back ms held.members.once (numbers_at places) held.first_numbered,
+              numbers_back ms held.members.once others held.second_numbered,
+            )
+            (same rival nowhere nowhere before
+            (rw (← member_at own d nowhere own_in, ← member_at rival e nowhere (omega (arith, before, own_in))) clash)),
+        λ same rival d e before clash.
+            rw (
+              numbers_back ms held.members.once (numbers_at places) held.first_numbered,
+              numbers_back ms held.members.once others held.second_numbered,
+            ) at
+            (same rival Idle Idle before
+            (rw (member_at own Idle d own_in, member_at rival Idle e (omega (arith, before, own_in))) clash)),
+      )
         where
           nowhere : Place
           nowhere = record { number = 0; member = Idle }
-
-      numbered : (own : ℕ) → CountedAlike ms first second own → own < count → NumberedAlike places others own
-      numbered own same own_in rival d e rival_before clash =
-          let rival_in : rival < count = (omega (arith, rival_before, own_in)) in
-          sym (ap (turns_of own rival) (numbers_back ms held.members.once (numbers_at places) held.first_numbered))
-          ∙ same rival Idle Idle rival_before
-          (subst (λ p. Conflict p (get_or ms rival Idle)) (sym (member_at own Idle d own_in))
-          (subst (Conflict (get_or places own d).member) (sym (member_at rival Idle e rival_in)) clash))
-          ∙ ap (turns_of own rival) (numbers_back ms held.members.once others held.second_numbered)

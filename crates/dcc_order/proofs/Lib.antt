@@ -5,6 +5,7 @@ pub mod SentAndHeard
 pub mod PieceLemmas
 pub mod WholeTheorem
 pub mod ConflictLaws
+pub mod Contained
 pub mod AlikeBlocks
 pub mod AlikeCuts
 pub mod CutTests
