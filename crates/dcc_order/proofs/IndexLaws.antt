@@ -61,11 +61,11 @@ pub found_or_count : (members : List Packet) (x : Packet)
 found_or_count members x = grind (arith, nat_tests, number-within members x)
 
 -- what is found by a packet's number in an index, or the count
-pub number_found : (found : ℕ → Option ℕ) (members : List Packet) (x : Packet) (count : ℕ) → IsIndex found members
-    → IsFrame (spelling x) → length members ≡ count →
-    unwrap_or (found (frame_number (spelling x))) count ≡ member_number members x
-number_found found members x count index frame size =
-    rw (index x frame, sym size) (found_or_count members x)
+pub number_found : (found : ℕ → Option ℕ) (members : List Packet) (x : Packet) (count key number : ℕ)
+    → IsIndex found members → IsFrame (spelling x) → key ≡ frame_number (spelling x) → length members ≡ count →
+    number ≡ unwrap_or (found key) count → number ≡ member_number members x
+number_found found members x count key number index frame is size told =
+    told ∙ rw (is, index x frame, ← size) (found_or_count members x)
 
 here : (members : List Packet) (x : Packet) → member_number members x < length members
     → position (same x) members ≡ Some (member_number members x)
@@ -90,40 +90,39 @@ position-push members x p apart = elim (cases_eq (member_number members p) (leng
   ) refl
 ]
 
-module _ (found then_found : ℕ → Option ℕ) (members : List Packet) (x : Packet) (index : IsIndex found members)
-    (frame : IsFrame (spelling x)) where
-  -- the index after the number of a known packet was put where it is
-  pub known_index :
-      ((q : ℕ)
-      → then_found q ≡ cond (is_at (nat_cmp (frame_number (spelling x))) q) (Some (member_number members x)) (found q))
-      → member_number members x < length members → IsIndex then_found members
-  known_index now inside p own =
-      now (frame_number (spelling p))
-      ∙ elim (cases_Bool (is_at (nat_cmp (frame_number (spelling x))) (frame_number (spelling p)))) [
-        | inl e ↦ rw (e, same_number p x own frame (at_key (frame_number (spelling x)) (frame_number (spelling p)) e))
+-- the index after a number was put at the number of a packet's frame
+module _ (found then_found : ℕ → Option ℕ) (members : List Packet) (x : Packet) (key number : ℕ)
+    (index : IsIndex found members) (frame : IsFrame (spelling x)) (is : key ≡ frame_number (spelling x))
+    (put : (q : ℕ) → then_found q ≡ cond (is_at (nat_cmp key) q) (Some number) (found q)) where
+  -- that of a known packet is where it was
+  pub known_index : number ≡ member_number members x → member_number members x < length members
+      → IsIndex then_found members
+  known_index known inside p own =
+      put (frame_number (spelling p))
+      ∙ elim (cases_Bool (is_at (nat_cmp key) (frame_number (spelling p)))) [
+        | inl e ↦ rw (e, same_number p x own frame (sym is ∙ at_key key (frame_number (spelling p)) e), known)
             (sym (here members x inside))
         | inr e ↦ rw e (index p own)
       ]
 
-  -- the index after a new packet
-  pub new_index :
-      ((q : ℕ) → then_found q ≡ cond (is_at (nat_cmp (frame_number (spelling x))) q) (Some (length members)) (found q))
-      → member_number members x ≡ length members → IsIndex then_found (members ++ x ∷ [])
-  new_index now none p own =
-      now (frame_number (spelling p))
-      ∙ elim (cases_Bool (is_at (nat_cmp (frame_number (spelling x))) (frame_number (spelling p)))) [
-        | inl e ↦ rw (e, same_number p x own frame (at_key (frame_number (spelling x)) (frame_number (spelling p)) e))
+  -- that of a new packet is the number of members
+  pub new_index : number ≡ length members → member_number members x ≡ length members
+      → IsIndex then_found (members ++ x ∷ [])
+  new_index new none p own =
+      put (frame_number (spelling p))
+      ∙ elim (cases_Bool (is_at (nat_cmp key) (frame_number (spelling p)))) [
+        | inl e ↦ rw (e, same_number p x own frame (sym is ∙ at_key key (frame_number (spelling p)) e), new)
             (ap (λ n. Some n) (sym new_place)
             ∙ sym (here (members ++ x ∷ []) x (omega (arith, new_place, length-append members (x ∷ [])))))
-        | inr e ↦ rw e (index p own ∙ sym (position-push members x p (differ e)))
+        | inr e ↦ rw e (index p own ∙ sym (position-push members x p (differ p e)))
       ]
     where
       new_place : member_number (members ++ x ∷ []) x ≡ length members
       new_place = rw (number-push_new members x x none, same-refl x) (omega arith)
 
-      differ : is_at (nat_cmp (frame_number (spelling x))) (frame_number (spelling p)) ≡ false → same p x ≡ false
-      differ e = elim (same_tells p x) [
-        | inl (t, is) ↦ absurd (off_key (frame_number (spelling x)) (frame_number (spelling p)) e
-            (ap (λ y. frame_number (spelling y)) (sym is)))
+      differ : (p : Packet) → is_at (nat_cmp key) (frame_number (spelling p)) ≡ false → same p x ≡ false
+      differ p e = elim (same_tells p x) [
+        | inl (t, same_as) ↦ absurd (off_key key (frame_number (spelling p)) e
+            (is ∙ ap (λ y. frame_number (spelling y)) (sym same_as)))
         | inr (t, other) ↦ t
       ]

@@ -2,9 +2,19 @@
 
 ghost use Rattle.std.specs.Prelude.{◌≡◌, ◌<◌, ◌≤◌, ◌+◌, ◌*◌, ◌^◌, length};
 ghost use Rattle.dcc_order.specs.FrameNumbers as index;
+ghost use Rattle.dcc_packet.specs.Spelling.{spelling};
 ghost use Rattle.dcc_wire.specs.Frames.{IsFrame};
 
+use dcc_packet::Packet;
 use dcc_wire::Frame;
+
+/// The number of a packet's frame.
+pub fn number_of_frame(packet: &Packet) -> u64
+    ensures number { result ≡ index.frame_number (spelling packet.now) }
+    ensures valid { IsFrame (spelling packet.now) }
+{
+    frame_number(&packet.frame())
+}
 
 /// The bytes of a frame as one number, which no other frame has.
 pub fn frame_number(frame: &Frame) -> u64

@@ -5,8 +5,8 @@ ghost use Rattle.std.specs.Prelude.{Contains};
 ghost use Rattle.dcc_order.specs.AlikeLists.{SameMembers, SameOrder};
 ghost use Rattle.dcc_order.specs.Held.{nothing_held};
 
-use crate::frame_number::frame_number;
-use crate::places::{Place, has_each_below, number_at, same_turns_of_all, set_member};
+use crate::frame_number::number_of_frame;
+use crate::places::{Place, has_each_below, number_at, push_place, same_turns_of_all, set_member};
 use crate::turns::Turns;
 use dcc_packet::Packet;
 use std::alloc::{AllocError, Global};
@@ -67,7 +67,7 @@ impl HeldBlocks {
         ensures ok { OnOk result (self.new ≡ record self.old { first = self.old.first ++ packet.now ∷ [] }) }
         ensures err { OnErr result (self.new ≡ self.old) }
     {
-        let frame = frame_number(&packet.frame());
+        let frame = number_of_frame(packet);
         let number = number_at(&self.index, frame, self.count);
         let members = self.count.saturating_add(1);
         self.turns.reserve(members)?;
@@ -75,11 +75,7 @@ impl HeldBlocks {
         self.places.reserve(1)?;
         // A known packet stays where it is in the index.
         self.index.insert(frame, number)?;
-        // There is room.
-        let _ = self.places.push(Place {
-            number,
-            member: *packet,
-        });
+        push_place(&mut self.places, number, packet);
         if number == self.count {
             set_member(&mut self.places, number, packet);
             self.count += 1;
@@ -94,7 +90,7 @@ impl HeldBlocks {
         ensures foreign { result ≡ Ok false → (¬ Contains self.old.first packet.now) × (self.new ≡ self.old) }
         ensures err { OnErr result (self.new ≡ self.old) }
     {
-        let frame = frame_number(&packet.frame());
+        let frame = number_of_frame(packet);
         let number = number_at(&self.index, frame, self.count);
         if number == self.count {
             return Ok(false);

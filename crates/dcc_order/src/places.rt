@@ -1,7 +1,7 @@
 //! The places of a list of packets, each with a number and, beside it, the packet of a number.
 
 ghost use Rattle.std.specs.Prelude.{◌≡◌, ◌↔◌, ◌<◌, ◌≤◌, ℕ, IsTrue, length, slice_index_or, slice_set, vec_len};
-ghost use Rattle.std.specs.Prelude.{vec_capacity, Contains};
+ghost use Rattle.std.specs.Prelude.{vec_capacity, Contains, ◌+◌, ◌++◌, ◌∷◌, []};
 ghost use Rattle.std.specs.BTreeMap.{get};
 ghost use Rattle.std.specs.List.{AllByRecursion};
 ghost use Rattle.std.specs.Option.{unwrap_or};
@@ -33,6 +33,18 @@ pub fn number_at(index: &BTreeMap<u64, usize>, frame: u64, count: usize) -> usiz
         Some(number) => *number,
         None => count,
     }
+}
+
+/// One more place, for which there is room.
+pub fn push_place(places: &mut Vec<Place>, number: usize, packet: &Packet)
+    requires { vec_len places.old < vec_capacity places.old }
+    ensures items { places.new.items ≡ places.old.items ++ (record { number = number; member = packet.now }) ∷ [] }
+    ensures len { vec_len places.new ≡ vec_len places.old + 1 }
+{
+    let _ = places.push(Place {
+        number,
+        member: *packet,
+    });
 }
 
 /// This packet has the number of this place.
