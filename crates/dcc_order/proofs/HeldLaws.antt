@@ -1,6 +1,6 @@
 -- Two blocks, held by numbers.
 use Rattle.std.proofs.Common.{ℕ, suc, ◌+◌, ◌<◌, ◌≤◌, ◌≡◌, ◌∙◌, refl, sym, ap, subst, List, [], ◌∷◌, ◌++◌}
-use Rattle.std.proofs.Common.{length, arith, get_or, set, map, take, cond, inl, inr}
+use Rattle.std.proofs.Common.{length, arith, Option, get_or, set, map, take, cond, inl, inr}
 use Rattle.std.specs.Prelude.{Contains, ◌↔◌, Result, Ok, Err, IsOk, is_ok}
 use Rattle.std.proofs.Math.ListN.{get_or-append}
 use Rattle.std.proofs.Math.Seq.{take-suc-set, map-set_same}
@@ -10,6 +10,11 @@ use Rattle.dcc_packet.specs.declared.packet.Packet.{Packet}
 use Rattle.dcc_packet.specs.declared.packet.Packet.TheVariants.{Idle}
 use Rattle.dcc_order.specs.declared.places.Place.{Place}
 use Rattle.dcc_order.specs.AlikeLists.{SameMembers, SameOrder}
+use Rattle.std.specs.Option.{unwrap_or}
+use Rattle.dcc_wire.specs.Frames.{IsFrame}
+use Rattle.dcc_packet.specs.Spelling.{spelling}
+use Rattle.dcc_order.specs.FrameNumbers.{frame_number, IsIndex}
+use Rattle.dcc_order.proofs.IndexLaws.{number_found}
 use Rattle.dcc_order.specs.HeldPlaces.{AreHeld, held_at, members_at, numbers_at, packets_of, Numbered, NumberedAlike}
 use Rattle.dcc_order.specs.Members.{member_number, EachOnce}
 use Rattle.dcc_order.proofs.MemberLaws.{number-within, stands_at, known_member, new_member, get-push_new}
@@ -82,7 +87,7 @@ number_gives members (m ∷ ns) n h = elim (contains_cases m ns n h) [
 pub count_of : (places : List Place) (count : ℕ) → count ≤ length places → length (members_at places count) ≡ count
 count_of places count inside = length-map (take count places) (λ place. place.member) ∙ simp length-take (omega arith)
 
-module _ (places : List Place) (count : ℕ) (others : List ℕ) (held : AreHeld places count others) (x : Packet) where
+module _ {places : List Place} {count : ℕ} {others : List ℕ} (held : AreHeld places count others) (x : Packet) where
   abbrev members : List Packet
   members = members_at places count
 
@@ -97,6 +102,12 @@ module _ (places : List Place) (count : ℕ) (others : List ℕ) (held : AreHeld
 
   more_numbers : (n : ℕ) → numbers_at (places ++ place n ∷ []) ≡ numbers_at places ++ n ∷ []
   more_numbers n = map-append (λ place. place.number) places (place n ∷ [])
+
+  -- the number that an index has for the packet, or how many there are
+  pub number_is : (index : ℕ → Option ℕ) (key number : ℕ) → IsIndex index members → IsFrame (spelling x)
+      → key ≡ frame_number (spelling x) → number ≡ unwrap_or (index key) count → number ≡ member_number members x
+  number_is index key number is_index frame is told =
+      number_found index members x count key number is_index frame is (count_of places count held.within) told
 
   -- a number that is not how many there are
   pub is_known : (member_number members x ≡ count → ⊥) → member_number members x < length members
@@ -212,7 +223,7 @@ numbers_back : (members : List Packet) → EachOnce members → (ns : List ℕ) 
 numbers_back _ _ [] _ = refl
 numbers_back members once (n ∷ ns) all = rw (once n Idle all.0, numbers_back members once ns all.1) refl
 
-module _ (places : List Place) (count : ℕ) (others : List ℕ) (held : AreHeld places count others) where
+module _ {places : List Place} {count : ℕ} {others : List ℕ} (held : AreHeld places count others) where
   abbrev ms : List Packet
   ms = members_at places count
 

@@ -4,10 +4,8 @@ use Rattle.std.specs.BTreeMap.{get}
 use Rattle.dcc_packet.specs.declared.packet.Packet.TheVariants.{Idle}
 use Rattle.dcc_order.specs.declared.places.Place.{Place}
 use Rattle.dcc_order.specs.Held.{Held}
-use Rattle.dcc_order.specs.HeldPlaces.{members_at}
-use Rattle.dcc_order.specs.Members.{member_number}
-use Rattle.dcc_order.proofs.IndexLaws.{number_found, known_index, new_index}
-use Rattle.dcc_order.proofs.HeldLaws.{count_of, is_known, is_new, known_held, known_view, known_members}
+use Rattle.dcc_order.proofs.IndexLaws.{known_index, new_index}
+use Rattle.dcc_order.proofs.HeldLaws.{number_is, is_known, is_new, known_held, known_view, known_members}
 use Rattle.dcc_order.proofs.HeldLaws.{new_held, new_view, new_members}
 use Rattle.dcc_order.proofs.held_blocks.HeldBlocks.push_first.Goals as goal
 
@@ -16,21 +14,28 @@ nowhere = record { number = 0; member = Idle }
 
 pub invariant_of-self-then-number-self : goal.invariant_of-self-then-number-self
 invariant_of-self-then-number-self c =
-    let b = c.self.inside in
-    let places = b.places.items in
     let x = c.args.packet.now in
     let held = c.self.invariant.0 in
-    let found = number_found (get nat_cmp b.index) (members_at places b.count) x b.count _ _ c.self.invariant.1
-    c.number_of_frame-frame.ensures.valid c.number_of_frame-frame.ensures.number (count_of places b.count held.within)
+    let frame = c.number_of_frame-frame.ensures in
+    let found = number_is held x (get nat_cmp c.self.inside.index) _ _ c.self.invariant.1 frame.valid frame.number
     c.number_at-number.ensures in
-    let fresh = is_new places b.count b.others.items held x (sym found ∙ c.if-number-self.true) in
-    (
-      rw (c.set_member.ensures nowhere, c.push_place.ensures.items, c.reserve-3.ensures.items, c.if-number-self.true,
-          add-one b.count) (new_held places b.count b.others.items held x nowhere fresh),
-      rw (c.set_member.ensures nowhere, c.push_place.ensures.items, c.reserve-3.ensures.items, c.if-number-self.true,
-          add-one b.count, new_members places b.count b.others.items held x nowhere)
-          (new_index (get nat_cmp b.index) (get nat_cmp c.insert.new.self) (members_at places b.count) x _ _
-          c.self.invariant.1 c.number_of_frame-frame.ensures.valid c.number_of_frame-frame.ensures.number
+    let fresh = is_new held x (sym found ∙ c.if-number-self.true) in (
+      rw (
+        c.set_member.ensures nowhere,
+        c.push_place.ensures.items,
+        c.reserve-3.ensures.items,
+        c.if-number-self.true,
+        add-one c.self.inside.count,
+      ) (new_held held x nowhere fresh),
+      rw (
+        c.set_member.ensures nowhere,
+        c.push_place.ensures.items,
+        c.reserve-3.ensures.items,
+        c.if-number-self.true,
+        add-one c.self.inside.count,
+        new_members held x nowhere,
+      )
+          (new_index (get nat_cmp c.self.inside.index) (get nat_cmp c.insert.new.self) _ x _ _ c.self.invariant.1 frame.valid frame.number
           c.in_ok-insert.ensures.updates.0 (found ∙ fresh) fresh),
       omega (arith, held.within, c.push_place.ensures.len, c.saturating_add-members.ensures, c.in_ok-reserve.ensures.ok),
       omega (arith, held.within, c.push_place.ensures.len, c.saturating_add-members.ensures, c.in_ok-reserve-2.ensures.ok),
@@ -38,21 +43,21 @@ invariant_of-self-then-number-self c =
 
 pub invariant_of-self-else-number-self : goal.invariant_of-self-else-number-self
 invariant_of-self-else-number-self c =
-    let b = c.self.inside in
-    let places = b.places.items in
     let x = c.args.packet.now in
     let held = c.self.invariant.0 in
-    let found = number_found (get nat_cmp b.index) (members_at places b.count) x b.count _ _ c.self.invariant.1
-    c.number_of_frame-frame.ensures.valid c.number_of_frame-frame.ensures.number (count_of places b.count held.within)
+    let frame = c.number_of_frame-frame.ensures in
+    let found = number_is held x (get nat_cmp c.self.inside.index) _ _ c.self.invariant.1 frame.valid frame.number
     c.number_at-number.ensures in
-    let inside = is_known places b.count b.others.items held x (λ e. c.if-number-self.false (found ∙ e)) in
-    (
+    let inside = is_known held x (λ e. c.if-number-self.false (found ∙ e)) in (
       rw (c.push_place.ensures.items, c.reserve-3.ensures.items, found)
-          (known_held places b.count b.others.items held x inside),
-      rw (c.push_place.ensures.items, c.reserve-3.ensures.items, found,
-          known_members places b.count b.others.items held x (member_number (members_at places b.count) x))
-          (known_index (get nat_cmp b.index) (get nat_cmp c.insert.new.self) (members_at places b.count) x _ _
-          c.self.invariant.1 c.number_of_frame-frame.ensures.valid c.number_of_frame-frame.ensures.number
+          (known_held held x inside),
+      rw (
+        c.push_place.ensures.items,
+        c.reserve-3.ensures.items,
+        found,
+        known_members held x _,
+      )
+          (known_index (get nat_cmp c.self.inside.index) (get nat_cmp c.insert.new.self) _ x _ _ c.self.invariant.1 frame.valid frame.number
           c.in_ok-insert.ensures.updates.0 found inside),
       omega (arith, c.self.invariant.2, c.reserve.ensures),
       omega (arith, c.self.invariant.3, c.reserve-2.ensures),
@@ -60,28 +65,29 @@ invariant_of-self-else-number-self c =
 
 pub returns-then-number-self-clause-ok : goal.returns-then-number-self-clause-ok
 returns-then-number-self-clause-ok c =
-    let b = c.self.inside in
-    let places = b.places.items in
     let x = c.args.packet.now in
     let held = c.self.invariant.0 in
-    let found = number_found (get nat_cmp b.index) (members_at places b.count) x b.count _ _ c.self.invariant.1
-    c.number_of_frame-frame.ensures.valid c.number_of_frame-frame.ensures.number (count_of places b.count held.within)
+    let frame = c.number_of_frame-frame.ensures in
+    let found = number_is held x (get nat_cmp c.self.inside.index) _ _ c.self.invariant.1 frame.valid frame.number
     c.number_at-number.ensures in
-    let fresh = is_new places b.count b.others.items held x (sym found ∙ c.if-number-self.true) in
-    rw (c.set_member.ensures nowhere, c.push_place.ensures.items, c.reserve-3.ensures.items, c.if-number-self.true,
-    add-one b.count) (new_view places b.count b.others.items held x nowhere)
+    let fresh = is_new held x (sym found ∙ c.if-number-self.true) in
+    rw (
+      c.set_member.ensures nowhere,
+      c.push_place.ensures.items,
+      c.reserve-3.ensures.items,
+      c.if-number-self.true,
+      add-one c.self.inside.count,
+    ) (new_view held x nowhere)
     ∙ ap (λ (h : Held). let v : Held = record h { first = h.first ++ x ∷ [] } in v) c.self.view_is
 
 pub returns-else-number-self-clause-ok : goal.returns-else-number-self-clause-ok
 returns-else-number-self-clause-ok c =
-    let b = c.self.inside in
-    let places = b.places.items in
     let x = c.args.packet.now in
     let held = c.self.invariant.0 in
-    let found = number_found (get nat_cmp b.index) (members_at places b.count) x b.count _ _ c.self.invariant.1
-    c.number_of_frame-frame.ensures.valid c.number_of_frame-frame.ensures.number (count_of places b.count held.within)
+    let frame = c.number_of_frame-frame.ensures in
+    let found = number_is held x (get nat_cmp c.self.inside.index) _ _ c.self.invariant.1 frame.valid frame.number
     c.number_at-number.ensures in
-    let inside = is_known places b.count b.others.items held x (λ e. c.if-number-self.false (found ∙ e)) in
+    let inside = is_known held x (λ e. c.if-number-self.false (found ∙ e)) in
     rw (c.push_place.ensures.items, c.reserve-3.ensures.items, found)
-    (known_view places b.count b.others.items held x inside)
+    (known_view held x inside)
     ∙ ap (λ (h : Held). let v : Held = record h { first = h.first ++ x ∷ [] } in v) c.self.view_is
