@@ -146,27 +146,26 @@ left_more lists p = record lists { left = lists.left ++ p ∷ [] }
 abbrev pub right_more : Lists → Packet → Lists
 right_more lists p = record lists { right = lists.right ++ p ∷ [] }
 
-wants_left : {c : Comparison} {lists : Lists} → StandsFor c lists → c.wants ≡ Left → WantsLeft c lists
+pub wants_left : {c : Comparison} {lists : Lists} → StandsFor c lists → c.wants ≡ Left → WantsLeft c lists
 wants_left {c = c} {lists = lists} s e = subst (λ w. Stage w c lists) e s.stage
 
-wants_right : {c : Comparison} {lists : Lists} → StandsFor c lists → c.wants ≡ Right → WantsRight c lists
+pub wants_right : {c : Comparison} {lists : Lists} → StandsFor c lists → c.wants ≡ Right → WantsRight c lists
 wants_right {c = c} {lists = lists} s e = subst (λ w. Stage w c lists) e s.stage
 
 finished : (ended : Bool) (end : Option Packet) → ended ≡ is_none end → Finished ended end
 finished ended None e = e
 finished ended (Some write) e = tt
 
-module _ (c : Comparison) (lists : Lists) (p : Packet) (s : StandsFor c lists) where
+module _ {c : Comparison} {lists : Lists} (s : StandsFor c lists) (p : Packet) where
   more_given : (n : ℕ) (l : List Packet) → n ≡ length l → n + 1 ≡ length (l ++ p ∷ [])
   more_given n l e = rw (longer l p, e) refl
 
   -- the left side is wanted still: this was heard last, and the open block is this
-  left_stays : c.wants ≡ Left → (last : LastHeard) (x : Cut) (first : List Packet)
-      → OneMore c.who lists.left p last x → length first ≤ length c.held.first + 1 →
+  left_stays : c.wants ≡ Left → {last : LastHeard} {x : Cut} (first : List Packet) → OneMore c.who lists.left p last x → length first ≤ length c.held.first + 1 →
       AlikeUpTo c.block x (cut_for c.who lists.right) (LastBlock first) (LastBlock []) →
       StandsFor (record c { left_given = c.left_given + 1; left_heard = last; held = record c.held { first = first } })
       (left_more lists p)
-  left_stays e last x first more fits up =
+  left_stays e {last = last} first more fits up =
       let w = wants_left s e in record {
         left_given = more_given c.left_given lists.left s.left_given;
         right_given = s.right_given;
@@ -197,15 +196,15 @@ module _ (c : Comparison) (lists : Lists) (p : Packet) (s : StandsFor c lists) w
       → StandsFor (heard_left c p) (left_more lists p)
   left_left_out e hears_it own twice =
       let w = wants_left s e in
-      left_stays e (heard_next c.left_heard p) (cut_for c.who lists.left) c.held.first
-      (one_left_out c.who lists.left p c.left_heard w.goes_on.left_heard hears_it own twice) (omega arith) w.up_to
+      left_stays e c.held.first
+      (one_left_out _ _ p _ w.goes_on.left_heard hears_it own twice) (omega arith) w.up_to
 
   pub left_joined : c.wants ≡ Left → hears c.who p ≡ true → is_own_write p ≡ false
       → StandsFor (joined_left c p) (left_more lists p)
   left_joined e hears_it own =
       let w = wants_left s e in
-      left_stays e (heard_next c.left_heard p) (cut_more (cut_for c.who lists.left) p) (c.held.first ++ p ∷ [])
-      (one_joined c.who lists.left p c.left_heard w.goes_on.left_heard hears_it own)
+      left_stays e (c.held.first ++ p ∷ [])
+      (one_joined _ _ p _ w.goes_on.left_heard hears_it own)
       (omega (arith, longer c.held.first p)) (left_up w false own)
 
   pub left_closed : c.wants ≡ Left → hears c.who p ≡ true → is_own_write p ≡ true
@@ -213,7 +212,7 @@ module _ (c : Comparison) (lists : Lists) (p : Packet) (s : StandsFor c lists) w
       → StandsFor (closed_left c p) (left_more lists p)
   left_closed e hears_it own apart =
       let w = wants_left s e in
-      let more = one_ended c.who lists.left p c.left_heard w.goes_on.left_heard hears_it own apart in record {
+      let more = one_ended _ _ p _ w.goes_on.left_heard hears_it own apart in record {
         left_given = more_given c.left_given lists.left s.left_given;
         right_given = s.right_given;
         stage = record {
@@ -230,12 +229,11 @@ module _ (c : Comparison) (lists : Lists) (p : Packet) (s : StandsFor c lists) w
       }
 
   -- the right side is wanted still
-  right_stays : c.wants ≡ Right → (last : LastHeard) (y : Cut) (second : List Packet)
-      → OneMore c.who lists.right p last y → length second ≤ length c.held.second + 1 →
+  right_stays : c.wants ≡ Right → {last : LastHeard} {y : Cut} (second : List Packet) → OneMore c.who lists.right p last y → length second ≤ length c.held.second + 1 →
       AlikeUpTo c.block (cut_for c.who lists.left) y (open_cut c.held.first c.left_end) (LastBlock second) →
       StandsFor (record c { right_given = c.right_given + 1; right_heard = last; held = record c.held { second = second } })
       (right_more lists p)
-  right_stays e last y second more fits up =
+  right_stays e {last = last} second more fits up =
       let w = wants_right s e in record {
         left_given = s.left_given;
         right_given = more_given c.right_given lists.right s.right_given;
@@ -265,24 +263,23 @@ module _ (c : Comparison) (lists : Lists) (p : Packet) (s : StandsFor c lists) w
       → StandsFor (heard_right c p) (right_more lists p)
   right_left_out e hears_it own twice =
       let w = wants_right s e in
-      right_stays e (heard_next c.right_heard p) (cut_for c.who lists.right) c.held.second
-      (one_left_out c.who lists.right p c.right_heard w.goes_on.right_heard hears_it own twice) (omega arith) w.up_to
+      right_stays e c.held.second
+      (one_left_out _ _ p _ w.goes_on.right_heard hears_it own twice) (omega arith) w.up_to
 
   pub right_joined : c.wants ≡ Right → hears c.who p ≡ true → is_own_write p ≡ false →
       StandsFor (heard_right (record c { held = record c.held { second = c.held.second ++ p ∷ [] } }) p)
       (right_more lists p)
   right_joined e hears_it own =
       let w = wants_right s e in
-      right_stays e (heard_next c.right_heard p) (cut_more (cut_for c.who lists.right) p) (c.held.second ++ p ∷ [])
-      (one_joined c.who lists.right p c.right_heard w.goes_on.right_heard hears_it own)
+      right_stays e (c.held.second ++ p ∷ [])
+      (one_joined _ _ p _ w.goes_on.right_heard hears_it own)
       (omega (arith, longer c.held.second p)) (right_up w false own)
 
   -- a verdict is settled by one more packet of the right list
-  right_done : c.wants ≡ Right → (last : LastHeard) (y z : Cut) (v : Verdict) → OneMore c.who lists.right p last y
-      → AlikeUpTo c.block (cut_for c.who lists.left) y (open_cut c.held.first c.left_end) z
+  right_done : c.wants ≡ Right → {last : LastHeard} {y : Cut} (z : Cut) (v : Verdict) → OneMore c.who lists.right p last y → AlikeUpTo c.block (cut_for c.who lists.left) y (open_cut c.held.first c.left_end) z
       → SettledFrom lists.left_ended lists.right_ended c.block (open_cut c.held.first c.left_end) z v
       → (v ≡ Alike → ⊥) → StandsFor (heard_right (record c { wants = Done v }) p) (right_more lists p)
-  right_done e last y z v more up settled apart = record {
+  right_done e z v more up settled apart = record {
     left_given = s.left_given;
     right_given = more_given c.right_given lists.right s.right_given;
     stage = record {
@@ -297,9 +294,8 @@ module _ (c : Comparison) (lists : Lists) (p : Packet) (s : StandsFor c lists) w
       StandsFor (heard_right (record c { wants = Done (Members c.block) }) p) (right_more lists p)
   right_foreign e hears_it own none =
       let w = wants_right s e in
-      right_done e (heard_next c.right_heard p) (cut_more (cut_for c.who lists.right) p)
-      (LastBlock (c.held.second ++ p ∷ [])) (Members c.block)
-      (one_joined c.who lists.right p c.right_heard w.goes_on.right_heard hears_it own) (right_up w false own)
+      right_done e (LastBlock (c.held.second ++ p ∷ [])) (Members c.block)
+      (one_joined _ _ p _ w.goes_on.right_heard hears_it own) (right_up w false own)
       (rw w.right_open (foreign_packet c.block c.held.first (c.held.second ++ p ∷ []) p lists.left_ended c.left_end
       (finished lists.left_ended c.left_end w.left_end) none (Contains-push c.held.second p))) (λ a. cc)
 
@@ -309,9 +305,8 @@ module _ (c : Comparison) (lists : Lists) (p : Packet) (s : StandsFor c lists) w
       → StandsFor (heard_right (record c { wants = Done v }) p) (right_more lists p)
   right_settled v e hears_it own apart verdict =
       let w = wants_right s e in
-      right_done e (heard_next c.right_heard p) (cut_more (cut_for c.who lists.right) p)
-      (open_cut c.held.second (Some p)) v
-      (one_ended c.who lists.right p c.right_heard w.goes_on.right_heard hears_it own apart) (right_up w true own)
+      right_done e (open_cut c.held.second (Some p)) v
+      (one_ended _ _ p _ w.goes_on.right_heard hears_it own apart) (right_up w true own)
       (settled_at_ends lists.left_ended lists.right_ended c.block c.held.first c.held.second c.left_end (Some p) v
       (finished lists.left_ended c.left_end w.left_end) tt verdict)
       (λ a. let none : Some p ≡ None = (alike_at_ends c.block c.held.first c.held.second c.left_end (Some p)
@@ -323,7 +318,7 @@ module _ (c : Comparison) (lists : Lists) (p : Packet) (s : StandsFor c lists) w
       → StandsFor (heard_right (begun_block c) p) (right_more lists p)
   right_next e hears_it own apart alike ends =
       let w = wants_right s e in
-      let more = one_ended c.who lists.right p c.right_heard w.goes_on.right_heard hears_it own apart in
+      let more = one_ended _ _ p _ w.goes_on.right_heard hears_it own apart in
       let next = by_end c.left_end (right_up w true own) w.left_end ends in record {
         left_given = s.left_given;
         right_given = more_given c.right_given lists.right s.right_given;
@@ -356,8 +351,8 @@ module _ (c : Comparison) (lists : Lists) (p : Packet) (s : StandsFor c lists) w
       )
 
 -- the number of a block is no larger than the number of packets
-pub block_given : (c : Comparison) (lists : Lists) → c.wants ≡ Right → StandsFor c lists → c.block ≤ c.right_given
-block_given c lists e s =
+pub block_given : {c : Comparison} {lists : Lists} → StandsFor c lists → c.wants ≡ Right → c.block ≤ c.right_given
+block_given {c = c} {lists = lists} s e =
     let w = wants_right s e in
     omega (
       arith,

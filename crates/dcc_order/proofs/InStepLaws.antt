@@ -11,6 +11,7 @@ use Rattle.dcc_order.specs.declared.wants.Wants.{Wants}
 use Rattle.dcc_order.specs.declared.wants.Wants.TheVariants.{Left, Right, Done}
 use Rattle.dcc_order.specs.Comparisons.{StandsFor, Stage}
 use Rattle.dcc_order.specs.GivenLists.{Lists, no_lists, with_item, MayFollow, IsVerdictOfAll}
+use Rattle.dcc_order.proofs.ComparisonLaws.{wants_left, wants_right}
 use Rattle.dcc_order.specs.InStep.{IsFront, IsInStep, ends_wanted, most_wanted, BecomesBy, NothingGivenYet, OneMoreOfLeft}
 use Rattle.dcc_order.specs.InStep.{OneMoreOfRight, LessIsWantedBehindLeft, LessIsWantedBehindRight, PlacesAreCounted}
 use Rattle.dcc_order.specs.InStep.{VerdictIsOfBoth, VerdictIsOfTheGiven, NoMoreIsGiven}
@@ -40,26 +41,20 @@ is_right_with : (item : Option Packet) (lists : Lists) → with_item Right item 
 is_right_with None lists = refl
 is_right_with (Some p) lists = refl
 
-stands_left : (c next : Comparison) (item : Option Packet) (lists : Lists) → Left ≡ c.wants → BecomesBy c item next
+stands_left : {c next : Comparison} {item : Option Packet} {lists : Lists} → Left ≡ c.wants → BecomesBy c item next
     → StandsFor c lists → StandsFor next (left_with item lists)
-stands_left c next item lists is becomes stands =
-    subst (λ l. StandsFor next l) (is_left_with item lists)
-    (subst (λ w. StandsFor next (with_item w item lists)) (sym is) (becomes.stands lists stands))
+stands_left {next = next} {item = item} {lists = lists} is becomes stands =
+    subst (StandsFor next) (is_left_with item lists) (rw (← is) at (becomes.stands lists stands))
 
-stands_right : (c next : Comparison) (item : Option Packet) (lists : Lists) → Right ≡ c.wants → BecomesBy c item next
+stands_right : {c next : Comparison} {item : Option Packet} {lists : Lists} → Right ≡ c.wants → BecomesBy c item next
     → StandsFor c lists → StandsFor next (right_with item lists)
-stands_right c next item lists is becomes stands =
-    subst (λ l. StandsFor next l) (is_right_with item lists)
-    (subst (λ w. StandsFor next (with_item w item lists)) (sym is) (becomes.stands lists stands))
+stands_right {next = next} {item = item} {lists = lists} is becomes stands =
+    subst (StandsFor next) (is_right_with item lists) (rw (← is) at (becomes.stands lists stands))
 
 -- no side is wanted whose end was given
-left_is_open : (c : Comparison) (lists : Lists) → c.wants ≡ Left → StandsFor c lists
+left_is_open : {c : Comparison} {lists : Lists} → StandsFor c lists → c.wants ≡ Left
     → (lists.left_ended ≡ false) × (lists.right_ended ≡ false)
-left_is_open c lists is stands =
-    let stage = subst (λ (w : Wants). Stage w c lists) is stands.stage in (stage.left_open, stage.right_open)
-
-right_is_open : (c : Comparison) (lists : Lists) → c.wants ≡ Right → StandsFor c lists → lists.right_ended ≡ false
-right_is_open c lists is stands = let stage = subst (λ (w : Wants). Stage w c lists) is stands.stage in stage.right_open
+left_is_open s is = ((wants_left s is).left_open, (wants_left s is).right_open)
 
 -- what stands behind the front
 behind : (given rest : List Packet) → slice_get (given ++ rest) (length given) ≡ slice_get rest 0
@@ -69,8 +64,6 @@ behind (p ∷ given) rest = behind given rest
 front_at : (whole given rest : List Packet) (ended : Bool) (item : Option Packet) → whole ≡ given ++ rest
     → ended ≡ false → item ≡ slice_get rest 0 → IsFront whole (with_more item given) (ended_by item ended)
 front_at whole given [] ended None parts going is = record { rest = []; parts = parts; may = refl }
-front_at whole given [] ended (Some p) parts going is = absurd (cc)
-front_at whole given (q ∷ later) ended None parts going is = absurd (cc)
 front_at whole given (q ∷ later) ended (Some p) parts going is =
     let same : q ≡ p = cc in
     record {
@@ -78,13 +71,14 @@ front_at whole given (q ∷ later) ended (Some p) parts going is =
       parts = parts ∙ ap (λ (x : Packet). given ++ x ∷ later) same ∙ sym (append_assoc given (p ∷ []) later);
       may = rw going tt;
     }
+front_at whole given rest ended item parts going is = absurd (cc)
 
 -- a front with the next packet, or with the end
-front_more : (whole given : List Packet) (ended : Bool) (item : Option Packet) → IsFront whole given ended
+front_more : {whole given : List Packet} {ended : Bool} (item : Option Packet) → IsFront whole given ended
     → ended ≡ false → item ≡ slice_get whole (length given) → IsFront whole (with_more item given) (ended_by item ended)
-front_more whole given ended item front going is =
+front_more {whole = whole} {given = given} {ended = ended} item front going is =
     front_at whole given front.rest ended item front.parts going
-    (is ∙ ap (λ (l : List Packet). slice_get l (length given)) front.parts ∙ behind given front.rest)
+    (is ∙ rw front.parts (behind given front.rest))
 
 pub nothing_given_yet : NothingGivenYet
 unfolding IsInStep
@@ -100,11 +94,10 @@ pub one_more_of_left : OneMoreOfLeft
 unfolding IsInStep
 one_more_of_left who left right c next item s is at becomes = record {
   lists = left_with item s.lists;
-  stands = stands_left c next item s.lists is becomes s.stands;
+  stands = stands_left is becomes s.stands;
   who_is = becomes.same_who ∙ s.who_is;
   left_front =
-      front_more left s.lists.left s.lists.left_ended item s.left_front (left_is_open c s.lists (sym is) s.stands).0
-      (at.is ∙ ap (slice_get left) s.stands.left_given);
+      front_more item s.left_front (left_is_open s.stands (sym is)).0 (at.is ∙ ap (slice_get left) s.stands.left_given);
   right_front = s.right_front;
 }
 
@@ -112,88 +105,82 @@ pub one_more_of_right : OneMoreOfRight
 unfolding IsInStep
 one_more_of_right who left right c next item s is at becomes = record {
   lists = right_with item s.lists;
-  stands = stands_right c next item s.lists is becomes s.stands;
+  stands = stands_right is becomes s.stands;
   who_is = becomes.same_who ∙ s.who_is;
   left_front = s.left_front;
   right_front =
-      front_more right s.lists.right s.lists.right_ended item s.right_front (right_is_open c s.lists (sym is) s.stands)
+      front_more item s.right_front (wants_right s.stands (sym is)).right_open
       (at.is ∙ ap (slice_get right) s.stands.right_given);
 }
 
 at_most_two : (w : Wants) → ends_wanted w ≤ 2
 at_most_two Left = omega arith
-at_most_two Right = omega arith
-at_most_two (Done verdict) = omega arith
+at_most_two w = omega arith
 
 -- behind the left end the left side is not wanted, and behind the right one nothing is
-behind_left_end : (c : Comparison) (lists : Lists) (w : Wants) → c.wants ≡ w → StandsFor c lists
-    → lists.left_ended ≡ true → ends_wanted w ≤ 1
-behind_left_end c lists Left is stands ended = let going = (left_is_open c lists is stands).0 in absurd (cc)
-behind_left_end c lists Right is stands ended = omega arith
-behind_left_end c lists (Done verdict) is stands ended = omega arith
+behind_left_end : {c : Comparison} {lists : Lists} → StandsFor c lists → lists.left_ended ≡ true → (w : Wants)
+    → c.wants ≡ w → ends_wanted w ≤ 1
+behind_left_end s ended Left is = let going = (left_is_open s is).0 in absurd (cc)
+behind_left_end s ended w is = omega arith
 
-behind_right_end : (c : Comparison) (lists : Lists) (w : Wants) → c.wants ≡ w → StandsFor c lists
-    → lists.right_ended ≡ true → ends_wanted w ≡ 0
-behind_right_end c lists Left is stands ended = let going = (left_is_open c lists is stands).1 in absurd (cc)
-behind_right_end c lists Right is stands ended = let going = right_is_open c lists is stands in absurd (cc)
-behind_right_end c lists (Done verdict) is stands ended = refl
+behind_right_end : {c : Comparison} {lists : Lists} → StandsFor c lists → lists.right_ended ≡ true → (w : Wants)
+    → c.wants ≡ w → ends_wanted w ≡ 0
+behind_right_end s ended Left is = let going = (left_is_open s is).1 in absurd (cc)
+behind_right_end s ended Right is = let going = (wants_right s is).right_open in absurd (cc)
+behind_right_end s ended (Done verdict) is = refl
 
 less_behind_left : (left right : List Packet) (c next : Comparison) (lists : Lists) (item : Option Packet)
     → Left ≡ c.wants → StandsFor c lists → StandsFor next (left_with item lists) → item ≡ slice_get left c.left_given
     → most_wanted left right next < most_wanted left right c
 less_behind_left left right c next lists None is stands then at =
-    let before : 2 ≡ ends_wanted c.wants = ap ends_wanted is in
-    let after : ends_wanted next.wants ≤ 1 = behind_left_end next (left_with None lists) next.wants refl then refl in
-    omega (arith, stands.left_given, stands.right_given, then.left_given, then.right_given)
+    omega (arith, ap ends_wanted is, behind_left_end then refl next.wants refl)
 less_behind_left left right c next lists (Some p) is stands then at =
-    let before : 2 ≡ ends_wanted c.wants = ap ends_wanted is in
-    let after : ends_wanted next.wants ≤ 2 = at_most_two next.wants in
-    let within = slice_get_within left c.left_given p (sym at) in
-    let longer = length-append lists.left (p ∷ []) in
-    omega (arith, stands.left_given, stands.right_given, then.left_given, then.right_given)
+    omega (
+      arith,
+      ap ends_wanted is,
+      at_most_two next.wants,
+      slice_get_within left c.left_given p (sym at),
+      length-append lists.left (p ∷ []),
+    )
 
 less_behind_right : (left right : List Packet) (c next : Comparison) (lists : Lists) (item : Option Packet)
     → Right ≡ c.wants → StandsFor c lists → StandsFor next (right_with item lists)
     → item ≡ slice_get right c.right_given
     → most_wanted left right next < most_wanted left right c
 less_behind_right left right c next lists None is stands then at =
-    let before : 1 ≡ ends_wanted c.wants = ap ends_wanted is in
-    let after : ends_wanted next.wants ≡ 0 = behind_right_end next (right_with None lists) next.wants refl then refl in
-    omega (arith, stands.left_given, stands.right_given, then.left_given, then.right_given)
+    omega (arith, ap ends_wanted is, behind_right_end then refl next.wants refl)
 less_behind_right left right c next lists (Some p) is stands then at =
-    let before : 1 ≡ ends_wanted c.wants = ap ends_wanted is in
-    let after : ends_wanted next.wants ≤ 2 = at_most_two next.wants in
-    let within = slice_get_within right c.right_given p (sym at) in
-    let longer = length-append lists.right (p ∷ []) in
-    omega (arith, stands.left_given, stands.right_given, then.left_given, then.right_given)
+    omega (
+      arith,
+      ap ends_wanted is,
+      at_most_two next.wants,
+      slice_get_within right c.right_given p (sym at),
+      length-append lists.right (p ∷ []),
+    )
 
 pub less_is_wanted_behind_left : LessIsWantedBehindLeft
 unfolding IsInStep
 less_is_wanted_behind_left who left right c next item s is at becomes =
-    less_behind_left left right c next s.lists item is s.stands
-    (stands_left c next item s.lists is becomes s.stands) at.is
+    less_behind_left left right c next s.lists item is s.stands (stands_left is becomes s.stands) at.is
 
 pub less_is_wanted_behind_right : LessIsWantedBehindRight
 unfolding IsInStep
 less_is_wanted_behind_right who left right c next item s is at becomes =
-    less_behind_right left right c next s.lists item is s.stands
-    (stands_right c next item s.lists is becomes s.stands) at.is
+    less_behind_right left right c next s.lists item is s.stands (stands_right is becomes s.stands) at.is
 
 pub places_are_counted : PlacesAreCounted
 places_are_counted packets place None at few = tt
-places_are_counted packets place (Some p) at few =
-    let within = slice_get_within packets place p (sym at.is) in omega arith
+places_are_counted packets place (Some p) at few = omega (arith, slice_get_within packets place p (sym at.is))
 
-settled : (c : Comparison) (lists : Lists) (verdict : Verdict) → Done verdict ≡ c.wants → StandsFor c lists
+settled : {c : Comparison} {lists : Lists} (verdict : Verdict) → Done verdict ≡ c.wants → StandsFor c lists
     → IsVerdictOfAll c.who lists verdict
-settled c lists verdict is stands =
-    let stage = subst (λ (w : Wants). Stage w c lists) (sym is) stands.stage in stage.of_all
+settled {c = c} {lists = lists} verdict is stands = (subst (λ (w : Wants). Stage w c lists) (sym is) stands.stage).of_all
 
 pub verdict_is_of_both : VerdictIsOfBoth
 unfolding IsInStep
 verdict_is_of_both who left right c verdict s is =
     rw (s.left_front.parts, s.right_front.parts, sym s.who_is)
-    (settled c s.lists verdict is s.stands s.left_front.rest s.right_front.rest s.left_front.may s.right_front.may)
+    (settled verdict is s.stands s.left_front.rest s.right_front.rest s.left_front.may s.right_front.may)
 
 nothing_follows : (ended : Bool) → MayFollow ended []
 nothing_follows true = refl
@@ -203,30 +190,25 @@ front : (given rest : List Packet) → take (length given) (given ++ rest) ≡ g
 front given rest = grind (arith, common_steps)
 
 -- what was given of a list, and nothing behind it
-taken : (whole given : List Packet) (ended : Bool) (n : ℕ) → IsFront whole given ended → n ≡ length given
+taken : {whole given : List Packet} {ended : Bool} (n : ℕ) → IsFront whole given ended → n ≡ length given
     → take n whole ≡ given ++ []
-taken whole given ended n f is =
-    ap (λ (m : ℕ). take m whole) is ∙ ap (take (length given)) f.parts ∙ front given f.rest ∙ sym (append-nil given)
+taken {given = given} n f is = rw (is, f.parts, front given f.rest) (sym (append-nil given))
 
 pub verdict_is_of_the_given : VerdictIsOfTheGiven
 unfolding IsInStep
 verdict_is_of_the_given who left right c verdict given s is counted =
-    let one : take given.0 left ≡ s.lists.left ++ [] =
-    taken left s.lists.left s.lists.left_ended given.0 s.left_front (ap (λ (p : ℕ × ℕ). p.0) counted ∙ s.stands.left_given)
-    in
-    let other : take given.1 right ≡ s.lists.right ++ [] =
-    taken right s.lists.right s.lists.right_ended given.1 s.right_front
-    (ap (λ (p : ℕ × ℕ). p.1) counted ∙ s.stands.right_given) in
-    rw (one, other, sym s.who_is)
-    (settled c s.lists verdict is s.stands [] [] (nothing_follows s.lists.left_ended)
-    (nothing_follows s.lists.right_ended))
+    rw (
+      taken given.0 s.left_front (ap (λ (p : ℕ × ℕ). p.0) counted ∙ s.stands.left_given),
+      taken given.1 s.right_front (ap (λ (p : ℕ × ℕ). p.1) counted ∙ s.stands.right_given),
+      sym s.who_is,
+    )
+    (settled verdict is s.stands [] [] (nothing_follows s.lists.left_ended) (nothing_follows s.lists.right_ended))
 
-few : (whole given : List Packet) (ended : Bool) (n : ℕ) → IsFront whole given ended → n ≡ length given → n ≤ length whole
-few whole given ended n f is = omega (arith, ap length f.parts, length-append given f.rest)
+few : {whole given : List Packet} {ended : Bool} (n : ℕ) → IsFront whole given ended → n ≡ length given
+    → n ≤ length whole
+few {given = given} n f is = omega (arith, ap length f.parts, length-append given f.rest)
 
 pub no_more_is_given : NoMoreIsGiven
 unfolding IsInStep
-no_more_is_given who left right c s = (
-  few left s.lists.left s.lists.left_ended c.left_given s.left_front s.stands.left_given,
-  few right s.lists.right s.lists.right_ended c.right_given s.right_front s.stands.right_given,
-)
+no_more_is_given who left right c s =
+    (few c.left_given s.left_front s.stands.left_given, few c.right_given s.right_front s.stands.right_given)

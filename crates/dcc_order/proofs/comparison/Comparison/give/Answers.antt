@@ -8,5 +8,5 @@ give_right-requires-clause-numbered c =
     let few : c.args.self.now.right_given < 2 ^ 32 - 1 =
     subst (λ item. IfSome item (λ _. c.args.self.now.right_given < 2 ^ 32 - 1)) c.in-Right-Some.is-1
     (c.requires.right c.in-Right-Some.is-0) in
-    let below = block_given c.args.self.now c.requires.reached.0 c.in-Right-Some.is-0 c.requires.reached.1 in
+    let below = block_given c.requires.reached.1 c.in-Right-Some.is-0 in
     omega (arith, few, below)

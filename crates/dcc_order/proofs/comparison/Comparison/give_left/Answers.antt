@@ -7,14 +7,14 @@ pub returns-then-not-is_own_write-clause-stands : goal.returns-then-not-is_own_w
 returns-then-not-is_own_write-clause-stands c = λ lists s.
     let p = c.args.packet.now in
     subst (λ n. StandsFor n (left_more lists p)) (sym c.in_ok-join_left.ensures.ok)
-    (left_joined c.args.self.now lists p s c.requires.wants (sym c.hears.ensures ∙ c.if-not-hears.false)
+    (left_joined s p c.requires.wants (sym c.hears.ensures ∙ c.if-not-hears.false)
     (sym c.is_own_write.ensures.own ∙ c.if-not-is_own_write.true))
 
 pub returns-then-was_twice-clause-stands : goal.returns-then-was_twice-clause-stands
 returns-then-was_twice-clause-stands c = λ lists s.
     let p = c.args.packet.now in
     subst (λ n. StandsFor n (left_more lists p)) (sym c.leave_out_left.ensures)
-    (left_left_out c.args.self.now lists p s c.requires.wants (sym c.hears.ensures ∙ c.if-not-hears.false)
+    (left_left_out s p c.requires.wants (sym c.hears.ensures ∙ c.if-not-hears.false)
     (sym c.is_own_write.ensures.own ∙ c.if-not-is_own_write.false)
     (sym c.was_twice.ensures ∙ c.if-was_twice.true))
 
@@ -22,6 +22,6 @@ pub returns-clause-stands : goal.returns-clause-stands
 returns-clause-stands c = λ lists s.
     let p = c.args.packet.now in
     subst (λ n. StandsFor n (left_more lists p)) (sym c.close_left.ensures)
-    (left_closed c.args.self.now lists p s c.requires.wants (sym c.hears.ensures ∙ c.if-not-hears.false)
+    (left_closed s p c.requires.wants (sym c.hears.ensures ∙ c.if-not-hears.false)
     (sym c.is_own_write.ensures.own ∙ c.if-not-is_own_write.false)
     (sym c.was_twice.ensures ∙ c.if-was_twice.false))

@@ -11,16 +11,16 @@ returns-then-not-is_own_write-clause-stands c = λ lists s.
     let own = sym c.is_own_write.ensures.own ∙ c.if-not-is_own_write.true in
     elim c.in_ok-join_right.ensures.ok [
       | inl is ↦ subst (λ n. StandsFor n (right_more lists p)) (sym is)
-          (right_joined c.args.self.now lists p s c.requires.wants hears_it own)
+          (right_joined s p c.requires.wants hears_it own)
       | inr (none, is) ↦ subst (λ n. StandsFor n (right_more lists p)) (sym is)
-          (right_foreign c.args.self.now lists p s c.requires.wants hears_it own none)
+          (right_foreign s p c.requires.wants hears_it own none)
     ]
 
 pub returns-then-was_twice-clause-stands : goal.returns-then-was_twice-clause-stands
 returns-then-was_twice-clause-stands c = λ lists s.
     let p = c.args.packet.now in
     subst (λ n. StandsFor n (right_more lists p)) (sym c.leave_out_right.ensures)
-    (right_left_out c.args.self.now lists p s c.requires.wants (sym c.hears.ensures ∙ c.if-not-hears.false)
+    (right_left_out s p c.requires.wants (sym c.hears.ensures ∙ c.if-not-hears.false)
     (sym c.is_own_write.ensures.own ∙ c.if-not-is_own_write.false)
     (sym c.was_twice.ensures ∙ c.if-was_twice.true))
 
@@ -32,7 +32,7 @@ returns-clause-stands c = λ lists s.
     let apart = sym c.was_twice.ensures ∙ c.if-was_twice.false in
     elim c.close_right.ensures [
       | inl (v, verdict, is) ↦ subst (λ n. StandsFor n (right_more lists p)) (sym is)
-          (right_settled c.args.self.now lists p s v c.requires.wants hears_it own apart verdict)
+          (right_settled s p v c.requires.wants hears_it own apart verdict)
       | inr (alike, ends, is) ↦ subst (λ n. StandsFor n (right_more lists p)) (sym is)
-          (right_next c.args.self.now lists p s c.requires.wants hears_it own apart alike ends)
+          (right_next s p c.requires.wants hears_it own apart alike ends)
     ]
