@@ -12,7 +12,7 @@ use Rattle.dcc_packet.specs.SamePacket.{same}
 use Rattle.dcc_order.specs.AlikeLists.{SameTurns}
 use Rattle.dcc_order.specs.declared.turns.Turns.{Turns}
 use Rattle.dcc_order.specs.Members.{member_number, EachOnce}
-use Rattle.dcc_order.specs.Turns.{turns_taken, rival_turn, no_turns, with_turn, turns_of}
+use Rattle.dcc_order.specs.Turns.{turns_taken, rival_turn, no_turns, with_turn, turns_of, Counted}
 use Rattle.dcc_order.proofs.AlikeBlocks.{true_is_not_false, same_tells}
 use Rattle.dcc_order.proofs.Contained.{contains_none, contains_tail, contains_cases}
 use Rattle.dcc_order.proofs.MemberLaws.{stands_at}
@@ -37,6 +37,12 @@ turns_within own rival taken (n ∷ numbers) =
 
 pub turns_fit : (own rival : ℕ) (numbers : List ℕ) → (turns_of own rival numbers).count ≤ length numbers
 turns_fit own rival numbers = let all = turns_within own rival no_turns numbers in omega arith
+
+-- so counted turns are no more than the numbers that came
+pub few_turns : {turns : List Turns} {own count : ℕ} {ns : List ℕ} (most : ℕ) → Counted turns own count ns
+    → length ns < most → (rival : ℕ) (d : Turns) → rival < length turns → (get_or turns rival d).count < most
+few_turns {own = own} {ns = ns} most counted few rival d inside =
+    rw (counted.told rival d inside) (omega (arith, turns_fit own rival ns))
 
 -- one more number
 pub turns_of-more : (own rival : ℕ) (numbers : List ℕ) (n : ℕ)

@@ -3,7 +3,7 @@ use Rattle.std.proofs.Common.{ℕ, ◌<◌, ◌≡◌, ◌∙◌, refl, sym, ap,
 use Rattle.std.proofs.Common.{length, get_or, map}
 use Rattle.std.specs.Prelude.{Contains, ◌⊎◌, ◌||◌, filter}
 use Rattle.std.proofs.Math.Path.{fun_ext}
-use Rattle.std.proofs.lemmas.Bool.{cases_order}
+use Rattle.std.proofs.lemmas.Bool.{cases_order, cases_Bool}
 use Rattle.dcc_packet.specs.SamePacket.{same}
 use Rattle.std.proofs.lemmas.List.{get_or_default}
 use Rattle.dcc_packet.specs.declared.packet.Packet.{Packet}
@@ -19,13 +19,7 @@ apart p q clash e = no_clash q (subst (λ x. Conflict x q) e clash)
 
 -- two packets take turns, whichever is named first
 either_way : (p q : Packet) → is_one_of p q ≡ is_one_of q p
-either_way p q = fun_ext (λ x. swap (same p x) (same q x))
-  where
-    swap : (a b : Bool) → (a || b) ≡ (b || a)
-    swap true true = refl
-    swap true false = refl
-    swap false true = refl
-    swap false false = refl
+either_way p q = fun_ext (λ x. grind (arith, cases_Bool (same p x), cases_Bool (same q x)))
 
 turned : (p q : Packet) (left right : List Packet) → SameTurns left right p q → SameTurns left right q p
 turned p q left right =
@@ -67,22 +61,14 @@ module _ (members left right : List Packet) (are : AreMembers members left)
   order_from_counts p q hp hq clash =
       let one = (are.same_set p).1 hp in
       let other = (are.same_set q).1 hq in
-      let there : Conflict (get_or members one.0 p) (get_or members other.0 q) =
-      subst (λ x. Conflict x (get_or members other.0 q)) (sym one.2) (subst (Conflict p) (sym other.2) clash) in
-      subst (λ x. SameTurns left right x q) one.2
-      (subst (SameTurns left right (get_or members one.0 p)) other.2
-      (by_place one.0 other.0 one.1 other.1 there (cases_order one.0 other.0)))
-    where
-      by_place : (one other : ℕ) → one < length members → other < length members
-          → Conflict (get_or members one p) (get_or members other q) → (one ≡ other) ⊎ ((one < other) ⊎ (other < one)) →
-          SameTurns left right (get_or members one p) (get_or members other q)
-      by_place one other one_in other_in there (inr (inl low)) =
-          turned (get_or members other q) (get_or members one p) left right
-          (below other one q p other_in low (other_way (get_or members one p) (get_or members other q) there))
-      by_place one other one_in other_in there (inl e) =
-          absurd (apart (get_or members one p) (get_or members other q) there
-          (get_or_default members one p q one_in ∙ ap (λ k. get_or members k q) e))
-      by_place one other one_in other_in there (inr (inr low)) = below one other p q one_in low there
+      let there : Conflict (get_or members one.0 p) (get_or members other.0 q) = rw (one.2, other.2) clash in
+      rw (← one.2, ← other.2) (elim (cases_order one.0 other.0) [
+        | inl e ↦ absurd (apart (get_or members one.0 p) (get_or members other.0 q) there
+            (get_or_default members one.0 p q one.1 ∙ ap (λ k. get_or members k q) e))
+        | inr (inl low) ↦ turned (get_or members other.0 q) (get_or members one.0 p) left right
+            (below other.0 one.0 q p other.1 low (other_way (get_or members one.0 p) (get_or members other.0 q) there))
+        | inr (inr low) ↦ below one.0 other.0 p q one.1 low there
+      ])
 
 stands : (members block : List Packet) → AreMembers members block → (k : ℕ) (d : Packet) → k < length members
     → Contains block (get_or members k d)
@@ -92,7 +78,7 @@ stands members block are k d inside =
 pub counts_from_order : (members left right : List Packet) → AreMembers members left → SameOrder left right → (own : ℕ)
     → own < length members → CountedAlike members left right own
 counts_from_order members left right are order own own_in rival d e rival_before clash =
-    let rival_in : rival < length members = (omega (arith, rival_before, own_in)) in
+    let rival_in : rival < length members = omega (arith, rival_before, own_in) in
     (same_turns_counted members are.once own rival d e own_in rival_in
     (apart (get_or members own d) (get_or members rival e) clash) left right).0
     (order (get_or members own d) (get_or members rival e) (stands members left are own d own_in)

@@ -36,25 +36,22 @@ take_all : (ds : List ℕ) (n : ℕ) → length ds ≤ n → take n ds ≡ ds
 take_all ds n h = grind (arith, common_steps)
 
 -- one half more, with the packets that it shows
-one_half : {L : Type 0} (told : L → Note → L → Type 0) (track : List ℕ) (n : ℕ) (framer next : Rest) (answer : Seen)
-    (shown : List Packet) (who who' who'' : Who) (start now after : RegisterMap) (a b c : L)
+one_half : {L : Type 0} {told : L → Note → L → Type 0} (track : List ℕ) (n : ℕ) {framer next : Rest} (answer : Seen)
+    (shown : List Packet) {who who' who'' : Who} {start now after : RegisterMap} {a b c : L}
     → WereHeardAndTold told (take n track) framer who start who' now a b → n < length track
     → StandsForOneMore framer (slice_index_or track n 0) next → ShowsAtOneMore framer (slice_index_or track n 0) answer
     → AreSpelled shown (frames_of answer)
     → HasHeard shown who' now who'' after → IsTold told (heard who shown) b c
     → WereHeardAndTold told (take (n + 1) track) next who start who'' after a c
-one_half {L} told track n framer next answer shown who who' who'' start now after a b c come in_track stands sees spelled
-    hear tell =
-    subst (λ halves. WereHeardAndTold told halves next who start who'' after a c) (take_more track n in_track) (record {
+one_half {told = told} track n answer shown {who = who} {a = a} {b = b} {c = c} come in_track stands sees spelled hear tell =
+    rw (← take_more track n in_track) (record {
       stands = stands (take n track) come.stands;
       packets = come.packets ++ shown;
       seen = packets_more (take n track) (take n track ++ slice_index_or track n 0 ∷ []) answer (length (take n track))
           come.packets shown (sees (take n track) come.stands) come.seen spelled;
       heard_all = heard_more come.heard_all hear;
-      told_all =
-          let e : heard who (come.packets ++ shown) ≡ heard who come.packets ++ heard who shown =
-          filter-append (hears who) come.packets shown in
-          rw e (told_more told (heard who come.packets) (heard who shown) a b c come.told_all tell);
+      told_all = rw (filter-append (hears who) come.packets shown)
+          (told_more told (heard who come.packets) (heard who shown) a b c come.told_all tell);
     })
 
 -- a decoder that is who it was hears what it heard
@@ -71,7 +68,7 @@ no_half_has_come {L} told framer who start listener stands =
 pub no_packet_has_come : {L : Type 0} (told : L → Note → L → Type 0) → NoPacketHasCome told
 unfolding HaveCome
 no_packet_has_come {L} told track n framer next answer who who' start now a b come in_track stands sees never =
-    one_half told track n framer next answer [] who who' who' start now now a b b come in_track stands sees
+    one_half track n answer [] come in_track stands sees
     (none_spelled answer never) (heard_nothing who' now) refl
 
 pub packet_is_told : {L : Type 0} (told : L → Note → L → Type 0) → PacketIsTold told
@@ -80,7 +77,7 @@ packet_is_told {L} told track n framer next answer frame p who who' who'' asked 
     in_track stands sees is spelled same stepped asks hear so tell =
     let heard_it : hears who p ≡ true =
     hears_as_before who who' who'' asked p is_heard true come.heard_all.same_who same asks hear so in
-    one_half told track n framer next answer (p ∷ []) who who' who'' start now after a b c come in_track stands sees
+    one_half track n answer (p ∷ []) come in_track stands sees
     (rw is (ap (λ (f : List ℕ). f ∷ []) spelled)) (record { same_who = same; registers = stepped })
     (rw heard_it (c, tell, refl))
 
@@ -90,7 +87,7 @@ packet_is_passed_over {L} told track n framer next answer frame p who who' who''
     come in_track stands sees is spelled same stepped asks hear so =
     let heard_it : hears who p ≡ false =
     hears_as_before who who' who'' asked p is_heard false come.heard_all.same_who same asks hear so in
-    one_half told track n framer next answer (p ∷ []) who who' who'' start now after a b b come in_track stands sees
+    one_half track n answer (p ∷ []) come in_track stands sees
     (rw is (ap (λ (f : List ℕ). f ∷ []) spelled)) (record { same_who = same; registers = stepped }) (rw heard_it refl)
 
 -- what a listener was told of a packet, by whether its decoder hears it
@@ -106,7 +103,7 @@ packet_is_heard_and_told {L} told track n framer next answer p who who' who'' st
     sees in_track =
     let as_before : IsHeardAndTold told p who now who'' after b c =
     subst (λ (w : Who). IsHeardAndTold told p w now who'' after b c) come.heard_all.same_who takes in
-    one_half told track n framer next answer (p ∷ []) who who' who'' start now after a b c come in_track stands sees
+    one_half track n answer (p ∷ []) come in_track stands sees
     (rw is refl) takes.heard (told_one told who p (hears who p) b c refl as_before.tells as_before.passes_over)
 
 pub track_is_heard : {L : Type 0} (told : L → Note → L → Type 0) → TrackIsHeard told

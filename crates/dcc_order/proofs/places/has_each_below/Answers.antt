@@ -9,17 +9,11 @@ pub returns-clause-each : goal.returns-clause-each
 returns-clause-each c =
     let count = c.args.count in
     let ns = c.args.numbers.now in
-    let turns = c.as_slice.result.now in
-    let counted : Counted turns count count ns =
-    subst (λ l. Counted l count count ns) (sym c.as_slice.ensures.value) c.count_turns.ensures.counted in
-    let size = counted.each in (
+    let counted = rw (← c.as_slice.ensures.value) at c.count_turns.ensures.counted in (
       λ t k below.
-          let inside : k < length turns = omega (arith, below, size) in
+          let inside : k < length c.as_slice.result.now = omega (arith, below, counted.each) in
           (has_come count k ns c.requires.below).0
-          (subst (λ (taken : Turns). IsTrue taken.rival_last) (counted.told k no_turns inside)
-          (c.each_has_come.ensures.0 t k no_turns inside)),
-      λ each. c.each_has_come.ensures.1 (λ k d inside.
-          let below : k < count = omega (arith, inside, size) in
-          subst (λ (taken : Turns). IsTrue taken.rival_last) (sym (counted.told k d inside))
-          ((has_come count k ns c.requires.below).1 (each k below))),
+          (rw (counted.told k no_turns inside) at (c.each_has_come.ensures.0 t k no_turns inside)),
+      λ each. c.each_has_come.ensures.1 (λ k d inside. rw (counted.told k d inside)
+          ((has_come count k ns c.requires.below).1 (each k (omega (arith, inside, counted.each))))),
     )

@@ -17,18 +17,17 @@ loop-rival-preserved c =
     let right = c.args.right.now in
     let own = c.args.own in
     let i = c.loop-rival.rival in
-    let in_left : i < length left = c.loop-rival-test.true in
-    let in_right : i < length right = omega (arith, c.requires.each, c.loop-rival-test.true) in
     let here : (d e : Place) (t : Turns) → Conflict (get_or places own d).member (get_or places i e).member
     → get_or left i t ≡ get_or right i t =
     λ d e t clash. elim c.else-not-is.branch [
-      | else-not-is-via-else-not-is w ↦ get_or_default left i t no_turns in_left ∙ c.is.ensures.0 w.if-not-is.false
-          ∙ get_or_default right i no_turns t in_right
+      | else-not-is-via-else-not-is w ↦ get_or_default left i t no_turns c.loop-rival-test.true
+          ∙ c.is.ensures.0 w.if-not-is.false
+          ∙ get_or_default right i no_turns t (omega (arith, c.requires.each, c.loop-rival-test.true))
       | else-not-is-via-then-not-is+else-conflict w ↦ absurd (true_is_not_false (sym (w.conflict.ensures.1
-          (subst (λ (place : Place). Conflict place.member (get_or places i w.index-places-rival.result).member)
-          (get_or_default places own d w.index-places-own.result (omega arith))
-          (subst (λ (place : Place). Conflict (get_or places own d).member place.member)
-          (get_or_default places i e w.index-places-rival.result (omega arith)) clash))) ∙ w.if-conflict.false))
+          (rw (
+            get_or_default places own w.index-places-own.result d (omega arith),
+            get_or_default places i w.index-places-rival.result e (omega arith),
+          ) clash)) ∙ w.if-conflict.false))
     ] in
     λ k d e t below clash. below_more
     (λ k. (d e : Place) (t : Turns) → Conflict (get_or places own d).member (get_or places k e).member

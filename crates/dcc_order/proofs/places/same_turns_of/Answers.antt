@@ -18,13 +18,12 @@ tells : (places : List Place) (others : List ℕ) (own : ℕ) (left right : List
     ↔ NumberedAlike places others own
 tells places others own left right mine its = (
   λ same rival d e inside clash.
-      let here : rival < length left = (let each = mine.each in omega (arith, each, inside)) in
-      let there : rival < length right = (let each = its.each in omega (arith, each, inside)) in
-      sym (mine.told rival no_turns here) ∙ same rival d e no_turns here clash ∙ its.told rival no_turns there,
+      sym (mine.told rival no_turns (omega (arith, mine.each, inside)))
+      ∙ same rival d e no_turns (omega (arith, mine.each, inside)) clash
+      ∙ its.told rival no_turns (omega (arith, its.each, inside)),
   λ alike rival d e t inside clash.
-      let count_is = mine.each in
-      let there : rival < length right = (let each = its.each in omega (arith, each, inside, count_is)) in
-      mine.told rival t inside ∙ alike rival d e (omega (arith, inside, count_is)) clash ∙ sym (its.told rival t there),
+      mine.told rival t inside ∙ alike rival d e (omega (arith, inside, mine.each)) clash
+      ∙ sym (its.told rival t (omega (arith, its.each, inside, mine.each))),
 )
 
 pub returns-then-sets_nothing-clause-same : goal.returns-then-sets_nothing-clause-same
@@ -37,9 +36,7 @@ returns-then-sets_nothing-clause-same c = (
 
 pub returns-clause-same : goal.returns-clause-same
 returns-clause-same c =
-    let own = c.args.own in
-    let told = tells c.args.places.now c.args.others.now own c.as_slice.result.now c.as_slice-2.result.now
-    (subst (λ l. Counted l own own (numbers_at c.args.places.now)) (sym c.as_slice.ensures.value)
-    c.count_turns_at.ensures.counted)
-    (subst (λ l. Counted l own own c.args.others.now) (sym c.as_slice-2.ensures.value) c.count_turns.ensures.counted) in
+    let told = tells c.args.places.now c.args.others.now c.args.own c.as_slice.result.now c.as_slice-2.result.now
+    (rw c.as_slice.ensures.value c.count_turns_at.ensures.counted)
+    (rw c.as_slice-2.ensures.value c.count_turns.ensures.counted) in
     (λ t. told.0 (c.same_turns_at.ensures.0 t), λ alike. c.same_turns_at.ensures.1 (told.1 alike))
