@@ -1,9 +1,10 @@
 -- One more packet, or an end, of the lists that a comparison stands for.
 use Rattle.std.proofs.Common.{ℕ, zero, suc, ◌+◌, ◌^◌, ◌<◌, ◌≤◌, ◌≡◌, ◌∙◌, refl, sym, ap, subst, Bool, true, false}
 use Rattle.std.proofs.Common.{cond, List, [], ◌∷◌, ◌++◌, Option, Some, None, is_none, length, arith}
-use Rattle.std.proofs.Common.{add-one}
+use Rattle.std.proofs.Common.{add-one, inl, inr}
 use Rattle.std.specs.Prelude.{Contains, ◌&&◌, fold}
 use Rattle.std.proofs.Math.Nat.{suc-min-suc, zero-add}
+use Rattle.std.proofs.lemmas.Bool.{cases_Bool}
 use Rattle.std.proofs.lemmas.List.{length-append}
 use Rattle.std.proofs.lemmas.List.Sums.{fold-append}
 use Rattle.std.proofs.lemmas.List.Elements.{filter-append, Contains-push}
@@ -112,12 +113,10 @@ writes-in_first p (Block block write rest) = refl
 
 writes_within : (l : List Packet) → writes_in (cut l) ≤ length l
 writes_within [] = omega arith
-writes_within (p ∷ l) = by_case (is_own_write p) (writes_within l)
-  where
-    by_case : (t : Bool) → writes_in (cut l) ≤ length l
-        → writes_in (cond t (Block [] p (cut l)) (in_first_block p (cut l))) ≤ suc (length l)
-    by_case true h = omega arith
-    by_case false h = omega (arith, writes-in_first p (cut l))
+writes_within (p ∷ l) = elim (cases_Bool (is_own_write p)) [
+  | inl e ↦ rw e (omega (arith, writes_within l))
+  | inr e ↦ rw e (omega (arith, writes-in_first p (cut l), writes_within l))
+]
 
 writes_given : (who : Who) (l : List Packet) → writes_in (cut_for who l) ≤ length l
 writes_given who l =

@@ -1,7 +1,7 @@
 -- Two blocks, held by numbers.
 use Rattle.std.proofs.Common.{ℕ, suc, ◌+◌, ◌<◌, ◌≤◌, ◌≡◌, ◌∙◌, refl, sym, ap, subst, List, [], ◌∷◌, ◌++◌}
-use Rattle.std.proofs.Common.{length, arith, Option, get_or, set, map, take, cond, inl, inr}
-use Rattle.std.specs.Prelude.{Contains, ◌↔◌, Result, Ok, Err, IsOk, is_ok}
+use Rattle.std.proofs.Common.{length, arith, Option, get_or, set, map, take, inl, inr}
+use Rattle.std.specs.Prelude.{Contains, ◌↔◌}
 use Rattle.std.proofs.Math.ListN.{get_or-append}
 use Rattle.std.proofs.Math.Seq.{take-suc-set, map-set_same}
 use Rattle.std.proofs.lemmas.List.{length-append, map-append, length-map, length-take, take-append-le, get_or_default}
@@ -21,12 +21,6 @@ use Rattle.dcc_order.proofs.MemberLaws.{number-within, stands_at, known_member, 
 use Rattle.dcc_order.proofs.Contained.{contains_none, contains_head, contains_tail, contains_cases}
 use Rattle.dcc_order.proofs.OrderLaws.{CountedAlike, order_from_counts, counts_from_order}
 
--- what a call gives where it succeeds
-pub on_ok : {A T E : Type 0} (r : Result T E) (got done failed : A) → got ≡ cond (is_ok r) done failed → IsOk r
-    → got ≡ done
-on_ok (Ok x) got done failed e ok = e
-on_ok (Err y) got done failed e ok = absurd (cc)
-
 numbered_push : (members : List Packet) (ns : List ℕ) (n : ℕ) → Numbered members ns → n < length members
     → Numbered members (ns ++ n ∷ [])
 numbered_push members [] n all here = (here, tt)
@@ -35,10 +29,8 @@ numbered_push members (m ∷ ns) n all here = (all.0, numbered_push members ns n
 numbered_more : (members : List Packet) (x : Packet) (ns : List ℕ) → Numbered members ns
     → Numbered (members ++ x ∷ []) ns
 numbered_more members x [] all = tt
-numbered_more members x (n ∷ ns) all = (
-  (let total = length-append members (x ∷ []) in let here = all.0 in omega (arith, total, here)),
-  numbered_more members x ns all.1,
-)
+numbered_more members x (n ∷ ns) all =
+    (omega (arith, length-append members (x ∷ []), all.0), numbered_more members x ns all.1)
 
 packets-push : (members : List Packet) (ns : List ℕ) (n : ℕ)
     → packets_of members (ns ++ n ∷ []) ≡ packets_of members ns ++ get_or members n Idle ∷ []
@@ -111,10 +103,7 @@ module _ {places : List Place} {count : ℕ} {others : List ℕ} (held : AreHeld
 
   -- a number that is not how many there are
   pub is_known : (member_number members x ≡ count → ⊥) → member_number members x < length members
-  is_known apart =
-      let within = number-within members x in
-      let size = count_of places count held.within in
-      omega (arith, apart, within, size)
+  is_known apart = omega (arith, apart, number-within members x, count_of places count held.within)
 
   pub is_new : member_number members x ≡ count → member_number members x ≡ length members
   is_new e = e ∙ sym (count_of places count held.within)
@@ -128,9 +117,7 @@ module _ {places : List Place} {count : ℕ} {others : List ℕ} (held : AreHeld
   is_foreign e h =
       let m = (held.members.same_set x).1 h in
       let place : member_number members x ≡ m.0 = ap (member_number members) (sym m.2) ∙ held.members.once m.0 x m.1 in
-      let size = count_of places count held.within in
-      let low : m.0 < length members = m.1 in
-      omega (arith, place, size, low, e)
+      omega (arith, place, count_of places count held.within, m.1, e)
 
   -- a packet that is a member already
   pub known_held : member_number members x < length members

@@ -1,7 +1,7 @@
 -- The order of packets that conflict, by the numbers of the packets.
-use Rattle.std.proofs.Common.{ℕ, ◌<◌, ◌≡◌, ◌∙◌, refl, sym, ap, subst, arith, Bool, true, false, None, inl, inr, List}
+use Rattle.std.proofs.Common.{ℕ, ◌<◌, ◌≡◌, ◌∙◌, sym, ap, subst, arith, None, inl, inr, List}
 use Rattle.std.proofs.Common.{length, get_or, map}
-use Rattle.std.specs.Prelude.{Contains, ◌⊎◌, ◌||◌, filter}
+use Rattle.std.specs.Prelude.{Contains, filter}
 use Rattle.std.proofs.Math.Path.{fun_ext}
 use Rattle.std.proofs.lemmas.Bool.{cases_order, cases_Bool}
 use Rattle.dcc_packet.specs.SamePacket.{same}

@@ -83,23 +83,23 @@ ended p q None n = []
 ended p q (Some x) zero = []
 ended p q (Some x) (suc n) = ended p q (Some (other p q x)) n ++ x ∷ []
 
--- a last turn is that of one of the two packets
-abbrev Sound : Packet → Packet → Option Packet → ℕ → Type 0
-Sound p q None n = n ≡ 0
-Sound p q (Some y) n = is_one_of p q y ≡ true
+-- there is a last turn exactly where there is a turn, and it is that of one of the two packets
+abbrev Fits : Packet → Packet → Option Packet → ℕ → Type 0
+Fits p q None n = n ≡ 0
+Fits p q (Some y) n = (is_one_of p q y ≡ true) × (0 < n)
 
 -- turns as their summary tells them
 abbrev Told : Packet → Packet → List Packet → Summary → Type 0
-Told p q list taken = (list ≡ ended p q taken.last taken.count) × Sound p q taken.last taken.count
+Told p q list taken = (list ≡ ended p q taken.last taken.count) × Fits p q taken.last taken.count
 
 turn_passes : (p q x y : Packet) → is_one_of p q y ≡ true → is_one_of p q x ≡ true → same y x ≡ false → y ≡ other p q x
 turn_passes p q x y hy hx ne =
     grind (arith, same_tells p x, same_tells p y, same_tells q x, same_tells q y, same_tells y x, hy, hx, ne)
 
-same_end : (p q x : Packet) (last : Option Packet) (n : ℕ) → Sound p q last n → is_one_of p q x ≡ true
+same_end : (p q x : Packet) (last : Option Packet) (n : ℕ) → Fits p q last n → is_one_of p q x ≡ true
     → is_repeated last x ≡ false → ended p q last n ≡ ended p q (Some (other p q x)) n
-same_end p q x None n sound hx ne = sym (ap (ended p q (Some (other p q x))) sound)
-same_end p q x (Some y) n sound hx ne = ap (λ z. ended p q (Some z) n) (turn_passes p q x y sound hx ne)
+same_end p q x None n fits hx ne = rw fits refl
+same_end p q x (Some y) n fits hx ne = ap (λ z. ended p q (Some z) n) (turn_passes p q x y fits.0 hx ne)
 
 told_more : (p q x : Packet) (list : List Packet) (taken : Summary) → Told p q list taken → (t r : Bool)
     → is_one_of p q x ≡ t → is_repeated taken.last x ≡ r →
@@ -108,9 +108,8 @@ told_more : (p q x : Packet) (list : List Packet) (taken : Summary) → Told p q
 told_more p q x list taken told false r et er = told
 told_more p q x list taken told true true et er = (append-nil list ∙ told.0, told.1)
 told_more p q x list taken told true false et er = (
-  ap (λ l. l ++ x ∷ []) (told.0 ∙ same_end p q x taken.last taken.count told.1 et er)
-      ∙ ap (ended p q (Some x)) (sym (add-one taken.count)),
-  et,
+  rw (told.0, add-one taken.count, same_end p q x taken.last taken.count told.1 et er) refl,
+  (et, omega arith),
 )
 
 pub snoc : (P : List Packet → Type 0) → P [] → ((l : List Packet) (x : Packet) → P l → P (l ++ x ∷ []))
@@ -153,23 +152,6 @@ summary_tells p q left right = (
   λ e. (told p q left).0 ∙ ap (λ (z : Summary). ended p q z.last z.count) e ∙ sym (told p q right).0,
 )
 
--- there is a last turn exactly where there is a turn, and it is that of one of the two
-abbrev Fits : Packet → Packet → Option Packet → ℕ → Type 0
-Fits p q None n = n ≡ 0
-Fits p q (Some y) n = (is_one_of p q y ≡ true) × (0 < n)
-
-fits_more : (p q x : Packet) (taken : Summary) → Fits p q taken.last taken.count → (t r : Bool) → is_one_of p q x ≡ t →
-    Fits p q (cond t (cond r taken (record { last = Some x; count = taken.count + 1 })) taken).last
-    (cond t (cond r taken (record { last = Some x; count = taken.count + 1 })) taken).count
-fits_more p q x taken fits false r e = fits
-fits_more p q x taken fits true true e = fits
-fits_more p q x taken fits true false e = (e, omega arith)
-
-fits : (p q : Packet) (block : List Packet) → Fits p q (summary p q block).last (summary p q block).count
-fits p q = snoc (λ block. Fits p q (summary p q block).last (summary p q block).count) refl
-    (λ block x h. subst (λ (z : Summary). Fits p q z.last z.count) (sym (summary-append p q block x))
-    (fits_more p q x (summary p q block) h (is_one_of p q x) (is_repeated (summary p q block).last x) refl))
-
 -- a summary as a packet and its rival keep it
 abbrev shown : Packet → Summary → Turns
 shown q taken = record { count = taken.count; rival_last = is_repeated taken.last q }
@@ -191,7 +173,7 @@ other_one p q y one apart = grind (arith, same_tells y p, same_tells p y, same_t
 pub own_comes : (p q : Packet) → (p ≡ q → ⊥) → (block : List Packet)
     → turns_taken p q (block ++ p ∷ []) ≡ own_turn (turns_taken p q block)
 own_comes p q apart block =
-    ap (shown q) (summary-append p q block p) ∙ rw (one_left p q) (by_last taken.last taken.count (fits p q block))
+    ap (shown q) (summary-append p q block p) ∙ rw (one_left p q) (by_last taken.last taken.count (told p q block).1)
   where
     taken : Summary
     taken = summary p q block
@@ -234,6 +216,6 @@ turns_told p q left right = (
   λ e.
       let count : (summary p q left).count ≡ (summary p q right).count = ap (λ (t : Turns). t.count) e in
       let last = last_told p q (summary p q left).last (summary p q right).last (summary p q left).count
-      (summary p q right).count (fits p q left) (fits p q right) count (ap (λ (t : Turns). t.rival_last) e) in
+      (summary p q right).count (told p q left).1 (told p q right).1 count (ap (λ (t : Turns). t.rival_last) e) in
       (summary_tells p q left right).1 (λ i. record { last = last i; count = count i }),
 )

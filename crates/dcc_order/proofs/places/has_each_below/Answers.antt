@@ -1,7 +1,5 @@
-use Rattle.std.proofs.Common.{◌<◌, sym, subst, arith, length}
-use Rattle.std.specs.Prelude.{IsTrue}
-use Rattle.dcc_order.specs.declared.turns.Turns.{Turns}
-use Rattle.dcc_order.specs.Turns.{Counted, no_turns}
+use Rattle.std.proofs.Common.{◌<◌, arith, length}
+use Rattle.dcc_order.specs.Turns.{no_turns}
 use Rattle.dcc_order.proofs.NumberLaws.{has_come}
 use Rattle.dcc_order.proofs.places.has_each_below.Goals as goal
 

@@ -1,4 +1,4 @@
-use Rattle.std.proofs.Common.{◌≡◌, ◌<◌, ◌∙◌, sym, subst, refl, arith, get_or, length}
+use Rattle.std.proofs.Common.{◌≡◌, ◌∙◌, sym, refl, arith, get_or}
 use Rattle.std.proofs.lemmas.List.{get_or_default}
 use borrow.Author.Count.{below_more}
 use Rattle.dcc_regs.specs.Conflict.{Conflict}

@@ -1,5 +1,5 @@
-use Rattle.std.proofs.Common.{◌≡◌, ◌<◌, ◌-◌, ◌^◌, ◌+◌, ◌++◌, ℕ, List, [], ◌∷◌, zero, suc, refl, sym, subst, get_or}
-use Rattle.std.proofs.Common.{set, map, take, drop, length, arith}
+use Rattle.std.proofs.Common.{◌≡◌, ◌<◌, ◌++◌, ℕ, List, [], ◌∷◌, zero, suc, refl, get_or}
+use Rattle.std.proofs.Common.{map, take, drop, length, arith}
 use Rattle.std.proofs.lemmas.List.{get_or_default}
 use Rattle.std.proofs.lemmas.List.Edits.{map_over_more}
 use Rattle.dcc_order.specs.declared.turns.Turns.{Turns}
@@ -16,17 +16,12 @@ not_yet (x ∷ xs) (suc i) d inside = not_yet xs i d (omega arith)
 pub with_own-requires : goal.with_own-requires
 with_own-requires c =
     let i = c.loop-taken.taken-index in
-    let Low : Turns → Type 0 = λ taken. taken.count < 2 ^ 64 - 1 in
-    subst (λ turns. Low (get_or turns i no_turns)) (sym c.loop-taken.invariant)
-    (subst Low (sym (not_yet c.args.turns.now i no_turns c.loop-taken-test.true))
-    (c.requires i no_turns c.loop-taken-test.true))
+    rw (c.loop-taken.invariant, not_yet c.args.turns.now i no_turns c.loop-taken-test.true)
+    (c.requires i no_turns c.loop-taken-test.true)
 
 pub loop-taken-preserved : goal.loop-taken-preserved
 loop-taken-preserved c =
-    let xs = c.args.turns.now in
     let ys = c.loop-taken.turns in
     let i = c.loop-taken.taken-index in
-    let within : i < length ys = omega arith in
-    subst (λ r. set ys i r ≡ map own_turn (take (i + 1) xs) ++ drop (i + 1) xs) (sym c.with_own.ensures)
-    (map_over_more own_turn xs ys i (get_or ys i no_turns) c.loop-taken-test.true c.loop-taken.invariant
-    (get_or_default ys i no_turns (get_or ys i no_turns) within))
+    rw c.with_own.ensures (map_over_more own_turn c.args.turns.now ys i (get_or ys i no_turns) c.loop-taken-test.true
+    c.loop-taken.invariant (get_or_default ys i no_turns (get_or ys i no_turns) (omega arith)))

@@ -1,6 +1,4 @@
-use Rattle.std.proofs.Common.{◌∙◌, sym, subst, refl, inr}
-use Rattle.dcc_order.specs.AlikeLists.{SameOrder}
-use Rattle.dcc_order.specs.Held.{Held}
+use Rattle.std.proofs.Common.{◌∙◌, sym, refl, inr}
 use Rattle.dcc_order.proofs.AlikeBlocks.{true_is_not_false}
 use Rattle.dcc_order.proofs.comparison.Comparison.difference.Goals as goal
 
@@ -8,8 +6,7 @@ pub returns-then-not-has_same_order-clause-found : goal.returns-then-not-has_sam
 returns-then-not-has_same_order-clause-found c = inr (
   c.has_same_members.ensures.same.0 c.if-not-has_same_members.false,
   (λ order. true_is_not_false
-      (sym (c.has_same_order.ensures.same.1
-      (subst (λ (h : Held). SameOrder h.first h.second) (sym c.has_same_members.ensures.unchanged) order))
+      (sym (c.has_same_order.ensures.same.1 (rw c.has_same_members.ensures.unchanged order))
       ∙ c.if-not-has_same_order.true)),
   refl,
 )
@@ -17,6 +14,5 @@ returns-then-not-has_same_order-clause-found c = inr (
 pub returns-clause-found : goal.returns-clause-found
 returns-clause-found c = record {
   members = c.has_same_members.ensures.same.0 c.if-not-has_same_members.false;
-  order = subst (λ (h : Held). SameOrder h.first h.second) c.has_same_members.ensures.unchanged
-      (c.has_same_order.ensures.same.0 c.if-not-has_same_order.false);
+  order = rw c.has_same_members.ensures.unchanged at (c.has_same_order.ensures.same.0 c.if-not-has_same_order.false);
 }
