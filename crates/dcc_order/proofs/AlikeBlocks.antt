@@ -18,7 +18,8 @@ use Rattle.dcc_regs.specs.Heard.{hears}
 use Rattle.dcc_regs.specs.Sets.{sets}
 use Rattle.dcc_regs.specs.Conflict.{Conflict}
 use Rattle.dcc_regs.specs.Setting.{value_over, mode_in}
-use Rattle.dcc_regs.specs.Result.{is_pending, left_pending}
+use Rattle.dcc_regs.specs.Result.{is_pending, left_pending, is_repeated}
+use Rattle.dcc_order.specs.Turns.{last_behind}
 use Rattle.dcc_packet.proofs.SameFrames.{Decides-same, same-refl}
 use Rattle.dcc_regs.proofs.SameValues.{same_value, Decides-same_value}
 use Rattle.dcc_regs.proofs.RegisterStep.{overwritten-none}
@@ -26,11 +27,6 @@ use Rattle.dcc_regs.proofs.ResultByParts.{State, step, state_after, same_state, 
 use Rattle.dcc_regs.proofs.ResultByParts.{overwritten-overwritten}
 use Rattle.dcc_order.specs.AlikeLists.{is_one_of, without_repeats, turns, SameMembers, AlikeBlocks}
 use Rattle.dcc_order.proofs.Contained.{contains_none, contains_head, contains_tail, contains_cases}
-
--- the last packet of a list
-abbrev pub last_of : List Packet → Option Packet
-last_of [] = None
-last_of (p ∷ l) = later_of (Some p) (last_of l)
 
 pub true_is_not_false : true ≡ false → ⊥
 true_is_not_false e = cc
@@ -46,27 +42,18 @@ none_both : (a b : Option Value) → later_of a b ≡ None → (a ≡ None) × (
 none_both a None e = (e, refl)
 none_both a (Some v) e = cc
 
-none_first : {X : Type 0} (o : Option X) → later_of None o ≡ o
-none_first None = refl
-none_first (Some x) = refl
-
-some_first : {X : Type 0} (a b : X) (o : Option X) → later_of (Some a) (later_of (Some b) o) ≡ later_of (Some b) o
-some_first a b None = refl
-some_first a b (Some x) = refl
-
-last_unrepeated_from : (before : Option Packet) (l : List Packet)
-    → later_of before (last_of (without_repeats before l)) ≡ later_of before (last_of l)
-last_unrepeated_from before [] = refl
-last_unrepeated_from None (p ∷ l) = ap (later_of None) (last_unrepeated_from (Some p) l)
-last_unrepeated_from (Some b) (p ∷ l) = elim (same_tells b p) [
-  | inl (e, is) ↦ rw (e, is, some_first p p (last_of l)) (last_unrepeated_from (Some p) l)
-  | inr (e, apart) ↦ rw (e, last_unrepeated_from (Some p) l) refl
-]
+pub repeated_is_last : (last : Option Packet) (x : Packet) → is_repeated last x ≡ true → last ≡ Some x
+repeated_is_last None x e = absurd (true_is_not_false (sym e))
+repeated_is_last (Some y) x e = ap (λ z. Some z) ((Decides-same y x).0 e)
 
 -- a packet that is left out is not the last of its kind
-last_unrepeated : (l : List Packet) → last_of (without_repeats None l) ≡ last_of l
-last_unrepeated l =
-    sym (none_first (last_of (without_repeats None l))) ∙ last_unrepeated_from None l ∙ none_first (last_of l)
+pub last_behind-unrepeated : (before : Option Packet) (l : List Packet)
+    → last_behind before (without_repeats before l) ≡ last_behind before l
+last_behind-unrepeated before [] = refl
+last_behind-unrepeated before (y ∷ l) = elim (cases_Bool (is_repeated before y)) [
+  | inl e ↦ rw (e, repeated_is_last before y e) (last_behind-unrepeated (Some y) l)
+  | inr e ↦ rw e (last_behind-unrepeated (Some y) l)
+]
 
 none_gives : (f : Packet → Option Value) (l : List Packet) (p : Packet) → last_set f l ≡ None → Contains l p
     → f p ≡ None
@@ -90,11 +77,16 @@ pub record LastSetter (f : Packet → Option Value) (block : List Packet) (v : V
   pub within : Contains block setter
   pub gives : f setter ≡ Some v
   pub ends : (test : Packet → Bool) → test setter ≡ true → ((x : Packet) → test x ≡ true → f x ≢ None)
-      → last_of (filter test block) ≡ Some setter
+      → last_behind None (filter test block) ≡ Some setter
 
-last_filter : (test : Packet → Bool) (x : Packet) (l : List Packet) (p : Packet) → last_of (filter test l) ≡ Some p
-    → last_of (filter test (x ∷ l)) ≡ Some p
-last_filter test x l p e = elim (cases_Bool (test x)) [ inl h ↦ rw (h, e) refl | inr h ↦ rw h e ]
+last_later : (x : Packet) (l : List Packet) (p : Packet) → last_behind None l ≡ Some p → last_behind (Some x) l ≡ Some p
+last_later x [] p e = absurd (cc)
+last_later x (y ∷ l) p e = e
+
+last_filter : (test : Packet → Bool) (x : Packet) (l : List Packet) (p : Packet)
+    → last_behind None (filter test l) ≡ Some p → last_behind None (filter test (x ∷ l)) ≡ Some p
+last_filter test x l p e =
+    elim (cases_Bool (test x)) [ inl h ↦ rw h (last_later x (filter test l) p e) | inr h ↦ rw h e ]
 
 last_setter : (f : Packet → Option Value) (l : List Packet) (v : Value) → last_set f l ≡ Some v → LastSetter f l v
 last_setter f [] v e = cc
@@ -126,7 +118,8 @@ same_setter f left right v w a b e =
     let here = a.ends pair (rw (same-refl a.setter) refl) pair_sets in
     let there = b.ends pair (grind (arith, same-refl b.setter, cases_Bool (same a.setter b.setter))) pair_sets in
     let both : Some a.setter ≡ Some b.setter =
-    sym here ∙ sym (last_unrepeated (filter pair left)) ∙ ap last_of e ∙ last_unrepeated (filter pair right) ∙ there in
+    sym here ∙ sym (last_behind-unrepeated None (filter pair left)) ∙ ap (last_behind None) e
+    ∙ last_behind-unrepeated None (filter pair right) ∙ there in
     cc
   where
     pair_sets : (x : Packet) → is_one_of a.setter b.setter x ≡ true → f x ≢ None

@@ -1,5 +1,5 @@
 -- Two whole lists, given to a comparison.
-use Rattle.std.proofs.Common.{◌≡◌, ◌++◌, sym, subst, Bool, List}
+use Rattle.std.proofs.Common.{◌≡◌, ◌++◌, Bool, List}
 use Rattle.dcc_packet.specs.declared.packet.Packet.{Packet}
 use Rattle.dcc_regs.specs.declared.register.Who.{Who}
 use Rattle.dcc_order.specs.declared.comparison.Comparison.{Comparison}
@@ -29,7 +29,5 @@ pub verdict_of_both : (who : Who) (left right left_rest right_rest : List Packet
     (g : Giving who left right left_rest right_rest left_ended right_ended c) → IsVerdictOfAll c.who g.lists v
     → IsVerdict who left right v
 verdict_of_both who left right left_rest right_rest left_ended right_ended c v g all =
-    subst (λ w. IsVerdict w left right v) g.who_is
-    (subst (λ l. IsVerdict c.who l right v) (sym g.left_side.parts)
-    (subst (λ l. IsVerdict c.who (g.lists.left ++ left_rest) l v) (sym g.right_side.parts)
-    (all left_rest right_rest g.left_side.may g.right_side.may)))
+    rw (← g.who_is, g.left_side.parts, g.right_side.parts)
+    (all left_rest right_rest g.left_side.may g.right_side.may)

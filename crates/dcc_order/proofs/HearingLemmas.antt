@@ -31,11 +31,14 @@ pub packets_more : (halves more : List ℕ) (answer : Seen) (place : ℕ) (packe
     → seen more ≡ seen halves ++ report_at place answer
     → ArePackets packets halves → AreSpelled shown (frames_of answer) → ArePackets (packets ++ shown) more
 packets_more halves more answer place packets shown e before now =
-    map-append spelling packets shown
-    ∙ ap (λ frames. frames ++ map spelling shown) before
-    ∙ ap (λ frames. frames_in (seen halves) ++ frames) (now ∙ sym (frames_in-reported place answer))
-    ∙ sym (frames_in-append (seen halves) (report_at place answer))
-    ∙ ap frames_in (sym e)
+    rw (
+      e,
+      map-append spelling packets shown,
+      frames_in-append (seen halves) (report_at place answer),
+      frames_in-reported place answer,
+      before,
+      now,
+    ) refl
 
 pub heard_half : {who who' who'' : Who} {m m' m'' : RegisterMap} (halves more : List ℕ) (answer : Seen) (place : ℕ)
     (shown : List Packet) → seen more ≡ seen halves ++ report_at place answer
@@ -49,14 +52,11 @@ heard_half halves more answer place shown e spelled before now = record {
 
 same_packets : (ps qs : List Packet) → map spelling ps ≡ map spelling qs → ps ≡ qs
 same_packets [] [] e = refl
-same_packets [] (q ∷ qs) e = absurd (cc)
-same_packets (p ∷ ps) [] e = absurd (cc)
 same_packets (p ∷ ps) (q ∷ qs) e =
     let first : spelling p ≡ spelling q = cc in
     let rest : map spelling ps ≡ map spelling qs = cc in
-    let head : p ≡ q = one.one_packet p q first in
-    let tail : ps ≡ qs = same_packets ps qs rest in
-    rw (head, tail) refl
+    rw (one.one_packet p q first, same_packets ps qs rest) refl
+same_packets ps qs e = absurd (cc)
 
 pub one_list_of_packets : OneListOfPackets
 one_list_of_packets halves ps qs e f = same_packets ps qs (e ∙ sym f)

@@ -17,30 +17,27 @@ SteppedTo R (suc n) (x ∷ xs) (y ∷ ys) = R x y × SteppedTo R n xs ys
 pub SteppedTo-set : {A : Type 0} → (R : A → A → Type 0) (n : ℕ) (xs ys : List A) (d y : A) → n < length xs
     → SteppedTo R n xs ys → R (get_or xs n d) y → SteppedTo R (suc n) xs (set ys n y)
 SteppedTo-set R n [] ys d y h s r = absurd (omega arith)
-SteppedTo-set R zero (x ∷ xs) [] d y h s r = absurd (cc)
 SteppedTo-set R zero (x ∷ xs) (z ∷ zs) d y h s r = let e : zs ≡ xs = cc in (r, e)
-SteppedTo-set R (suc n) (x ∷ xs) [] d y h s r = s
 SteppedTo-set R (suc n) (x ∷ xs) (z ∷ zs) d y h s r = (s.0, SteppedTo-set R n xs zs d y (omega arith) s.1 r)
+SteppedTo-set R zero xs ys d y h s r = absurd (cc)
+SteppedTo-set R n xs ys d y h s r = absurd s
 
 -- the element that is changed next is as it was
 pub SteppedTo-next : {A : Type 0} → (R : A → A → Type 0) (n : ℕ) (xs ys : List A) (d : A) → SteppedTo R n xs ys
     → get_or ys n d ≡ get_or xs n d
 SteppedTo-next R zero xs ys d s = rw s refl
 SteppedTo-next R (suc n) [] [] d s = refl
-SteppedTo-next R (suc n) [] (z ∷ zs) d s = absurd s
-SteppedTo-next R (suc n) (x ∷ xs) [] d s = absurd s
 SteppedTo-next R (suc n) (x ∷ xs) (z ∷ zs) d s = SteppedTo-next R n xs zs d s.1
+SteppedTo-next R n xs ys d s = absurd s
 
 -- all elements were changed
 pub AllZip-from_stepped : {A : Type 0} → (R : A → A → Type 0) (n : ℕ) (xs ys : List A) → length xs ≤ n
     → SteppedTo R n xs ys → AllZip R xs ys
-AllZip-from_stepped R zero [] [] h s = tt
-AllZip-from_stepped R zero [] (y ∷ ys) h s = absurd (cc)
+AllZip-from_stepped R n [] [] h s = tt
 AllZip-from_stepped R zero (x ∷ xs) ys h s = absurd (omega arith)
-AllZip-from_stepped R (suc n) [] [] h s = tt
-AllZip-from_stepped R (suc n) [] (y ∷ ys) h s = s
-AllZip-from_stepped R (suc n) (x ∷ xs) [] h s = s
 AllZip-from_stepped R (suc n) (x ∷ xs) (y ∷ ys) h s = (s.0, AllZip-from_stepped R n xs ys (omega arith) s.1)
+AllZip-from_stepped R zero xs ys h s = absurd (cc)
+AllZip-from_stepped R n xs ys h s = absurd s
 
 -- one more element is changed, as it is now
 pub SteppedTo-more : {A : Type 0} → (R : A → A → Type 0) (n : ℕ) (xs ys : List A) (d y : A) → n < length xs
@@ -54,11 +51,8 @@ pub AllZip-then : {A B C : Type 0} → (R : A → B → Type 0) (S : B → C →
     → ((x : A) (y : B) (z : C) → R x y → S y z → T x z)
     → (xs : List A) (ys : List B) (zs : List C) → AllZip R xs ys → AllZip S ys zs → AllZip T xs zs
 AllZip-then R S T join [] [] [] r s = tt
-AllZip-then R S T join [] [] (z ∷ zs) r s = s
-AllZip-then R S T join [] (y ∷ ys) zs r s = absurd r
-AllZip-then R S T join (x ∷ xs) [] zs r s = absurd r
-AllZip-then R S T join (x ∷ xs) (y ∷ ys) [] r s = s
 AllZip-then R S T join (x ∷ xs) (y ∷ ys) (z ∷ zs) r s = (join x y z r.0 s.0, AllZip-then R S T join xs ys zs r.1 s.1)
+AllZip-then R S T join xs ys zs r s = absurd (assumption)
 
 -- each element is as it was
 pub AllZip-same : {A : Type 0} → (R : A → A → Type 0) → ((x : A) → R x x) → (xs : List A) → AllZip R xs xs

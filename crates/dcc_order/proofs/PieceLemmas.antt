@@ -3,7 +3,7 @@ use Rattle.std.proofs.Common.{◌≡◌, ℕ, ◌+◌, ◌<◌, ◌≤◌, List,
 use Rattle.std.proofs.Common.{ap, append_assoc}
 use Rattle.std.proofs.lemmas.Grind.{common_steps}
 
-take_more : (ds : List ℕ) (n : ℕ) → n < length ds → take n ds ++ slice_index_or ds n 0 ∷ [] ≡ take (n + 1) ds
+pub take_more : (ds : List ℕ) (n : ℕ) → n < length ds → take n ds ++ slice_index_or ds n 0 ∷ [] ≡ take (n + 1) ds
 take_more ds n h = grind (arith, common_steps)
 
 pub one_more : (halves ds : List ℕ) (n : ℕ) → n < length ds
@@ -11,7 +11,7 @@ pub one_more : (halves ds : List ℕ) (n : ℕ) → n < length ds
 one_more halves ds n h =
     append_assoc halves (take n ds) (slice_index_or ds n 0 ∷ []) ∙ ap (λ l. halves ++ l) (take_more ds n h)
 
-take_all : (ds : List ℕ) (n : ℕ) → length ds ≤ n → take n ds ≡ ds
+pub take_all : (ds : List ℕ) (n : ℕ) → length ds ≤ n → take n ds ≡ ds
 take_all ds n h = grind (arith, common_steps)
 
 pub all_taken : (halves ds : List ℕ) (n : ℕ) → length ds ≤ n → halves ++ take n ds ≡ halves ++ ds

@@ -3,7 +3,7 @@ use Rattle.std.proofs.Common.{◌≡◌, ◌∙◌, ℕ, ◌+◌, ◌-◌, List,
 use Rattle.std.proofs.Common.{append-nil}
 use Rattle.std.proofs.lemmas.List.{append_cancel_left}
 use Rattle.dcc_wire.specs.declared.seen.Seen.{Seen}
-use Rattle.dcc_wire.specs.declared.seen.Seen.TheVariants.{Nothing, Packet as PacketSeen, Refused}
+use Rattle.dcc_wire.specs.declared.seen.Seen.TheVariants.{Nothing, Packet as PacketSeen}
 use Rattle.dcc_wire.specs.Framing.{Rest, StandsFor, seen, report_at}
 use Rattle.dcc_wire.specs.Frames.{IsFrame}
 use Rattle.dcc_wire.specs.Sending.{Sent, sent, sent_all, at_last_halves, AllFrames}
@@ -21,15 +21,13 @@ keeps_old : (more : List (ℕ × Seen)) (place : ℕ) (answer kept : Seen) → k
     → answer ≡ Nothing → kept ≡ last_seen Nothing (more ++ report_at place answer)
 unfolding report_at
 keeps_old more place Nothing kept e is = e ∙ ap (last_seen Nothing) (sym (append-nil more))
-keeps_old more place (PacketSeen frame) kept e is = absurd (cc)
-keeps_old more place (Refused fault) kept e is = absurd (cc)
+keeps_old more place answer kept e is = absurd (cc)
 
 keeps_new : (more : List (ℕ × Seen)) (place : ℕ) (answer : Seen) → (answer ≡ Nothing → ⊥)
     → answer ≡ last_seen Nothing (more ++ report_at place answer)
 unfolding report_at
 keeps_new more place Nothing some = absurd (some refl)
-keeps_new more place (PacketSeen frame) some = sym (last_seen-one Nothing more (place, PacketSeen frame))
-keeps_new more place (Refused fault) some = sym (last_seen-one Nothing more (place, Refused fault))
+keeps_new more place answer some = sym (last_seen-one Nothing more (place, answer))
 
 -- one half more has come
 one_more : (track halves left later : List ℕ) (framer next : Rest) (us : ℕ) (answer kept now : Seen)

@@ -1,7 +1,6 @@
 -- A track that comes half by half: a decoder hears it, and a listener is told what the decoder hears.
-use Rattle.std.proofs.Common.{Bool, ap, ◌∙◌, sym, ◌≡◌, ℕ, ◌+◌, ◌<◌, ◌≤◌, true, false, List, [], ◌∷◌, ◌++◌, length}
-use Rattle.std.proofs.Common.{take, slice_index_or, refl, subst, arith}
-use Rattle.std.proofs.lemmas.Grind.{common_steps}
+use Rattle.std.proofs.Common.{Bool, ap, ◌∙◌, sym, ◌≡◌, ℕ, ◌+◌, ◌<◌, true, false, List, [], ◌∷◌, ◌++◌, length}
+use Rattle.std.proofs.Common.{take, slice_index_or, refl, subst}
 use Rattle.std.proofs.lemmas.List.Elements.{filter-append}
 use Rattle.dcc_wire.specs.Framing.{Rest}
 use Rattle.dcc_wire.specs.declared.seen.Seen.{Seen}
@@ -16,6 +15,7 @@ use Rattle.dcc_regs.proofs.InParts.{heard_more, heard_nothing}
 use Rattle.dcc_order.specs.Hearing.{AreSpelled, ArePackets, frames_of}
 use Rattle.dcc_order.specs.ToldTracks.{IsTold, HaveCome, WereHeardAndTold, StandsForOneMore, ShowsAtOneMore, NoHalfHasCome, NoPacketHasCome, PacketIsTold}
 use Rattle.dcc_order.specs.ToldTracks.{PacketIsPassedOver, PacketIsHeardAndTold, TrackIsHeard, TrackIsTold}
+use Rattle.dcc_order.proofs.PieceLemmas.{take_more, take_all}
 use Rattle.dcc_order.proofs.HearingLemmas.{packets_more, no_packets, one_list_of_packets}
 
 told_more : {L : Type 0} (told : L → Note → L → Type 0) (first more : List Packet) (a b c : L) → IsTold told first a b
@@ -28,12 +28,6 @@ none_spelled : (answer : Seen) → ((frame : Frame) → answer ≡ PacketSeen fr
 none_spelled Nothing never = refl
 none_spelled (PacketSeen frame) never = absurd (never frame refl)
 none_spelled (Refused fault) never = refl
-
-take_more : (ds : List ℕ) (n : ℕ) → n < length ds → take n ds ++ slice_index_or ds n 0 ∷ [] ≡ take (n + 1) ds
-take_more ds n h = grind (arith, common_steps)
-
-take_all : (ds : List ℕ) (n : ℕ) → length ds ≤ n → take n ds ≡ ds
-take_all ds n h = grind (arith, common_steps)
 
 -- one half more, with the packets that it shows
 one_half : {L : Type 0} {told : L → Note → L → Type 0} (track : List ℕ) (n : ℕ) {framer next : Rest} (answer : Seen)

@@ -1,6 +1,6 @@
 -- Tracks in pieces, and fleets member by member.
 use Rattle.std.proofs.Common.{◌≡◌, ℕ, ◌+◌, ◌<◌, ◌≤◌, List, [], ◌∷◌, ◌++◌, map, length, take, slice_index_or, arith}
-use Rattle.std.proofs.Common.{◌∙◌, ap, Bor}
+use Rattle.std.proofs.Common.{◌∙◌, ap, refl, Bor}
 use Rattle.std.proofs.lemmas.Grind.{common_steps}
 use Rattle.std.proofs.lemmas.List.{map-append, append-nil}
 use Rattle.std.proofs.lemmas.List.Folds.{concat-append}
@@ -22,8 +22,7 @@ piece_more pieces n d h =
     let last : Bor (List ℕ) = slice_index_or pieces n d in
     ap whole_track (take_more pieces n d h)
     ∙ ap concat (map-append halves (take n pieces) (last ∷ []))
-    ∙ concat-append (map halves (take n pieces)) (halves last ∷ [])
-    ∙ ap (λ (hs : List ℕ). concat (map halves (take n pieces)) ++ hs) (append-nil (halves last))
+    ∙ rw (concat-append (map halves (take n pieces)) (halves last ∷ []), append-nil (halves last)) refl
 
 -- all pieces
 pub pieces_all : (pieces : List (Bor (List ℕ))) (n : ℕ) → length pieces ≤ n
@@ -34,9 +33,8 @@ pieces_all pieces n h = ap whole_track (take_all pieces n h)
 pub AllZip-viewed : {A B C : Type 0} → (v : A → B) (R : B → C → Type 0) (xs : List A) (ys : List C)
     → AllZip R (map v xs) ys → AllZip (λ x y. R (v x) y) xs ys
 AllZip-viewed v R [] [] r = tt
-AllZip-viewed v R [] (y ∷ ys) r = r
-AllZip-viewed v R (x ∷ xs) [] r = r
 AllZip-viewed v R (x ∷ xs) (y ∷ ys) r = (r.0, AllZip-viewed v R xs ys r.1)
+AllZip-viewed v R xs ys r = absurd r
 
 -- each member beside its own view
 pub AllZip-start : {A B : Type 0} (R : A → B → Type 0) (view : B → A) (ys : List B) → ((y : B) → R (view y) y)
@@ -51,11 +49,6 @@ pub AllZip-both : {A B C D : Type 0}
     → (xs : List A) (ys : List B) (zs : List C) (ws : List D) → AllZip P xs zs → AllZip Q ys ws → AllZip E xs ys
     → AllZip F zs ws
 AllZip-both P Q E F join [] [] [] [] p q e = tt
-AllZip-both P Q E F join [] [] [] (w ∷ ws) p q e = q
-AllZip-both P Q E F join [] [] (z ∷ zs) ws p q e = absurd p
-AllZip-both P Q E F join [] (y ∷ ys) zs ws p q e = absurd e
-AllZip-both P Q E F join (x ∷ xs) [] zs ws p q e = absurd e
-AllZip-both P Q E F join (x ∷ xs) (y ∷ ys) [] ws p q e = absurd p
-AllZip-both P Q E F join (x ∷ xs) (y ∷ ys) (z ∷ zs) [] p q e = absurd q
 AllZip-both P Q E F join (x ∷ xs) (y ∷ ys) (z ∷ zs) (w ∷ ws) p q e =
     (join x y z w p.0 q.0 e.0, AllZip-both P Q E F join xs ys zs ws p.1 q.1 e.1)
+AllZip-both P Q E F join xs ys zs ws p q e = absurd (assumption)

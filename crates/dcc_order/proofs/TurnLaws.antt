@@ -7,12 +7,12 @@ use Rattle.std.proofs.lemmas.List.{length-append, append-nil}
 use Rattle.std.proofs.lemmas.List.Elements.{filter-append}
 use Rattle.dcc_packet.specs.declared.packet.Packet.{Packet}
 use Rattle.dcc_packet.specs.SamePacket.{same}
-use Rattle.dcc_packet.proofs.SameFrames.{Decides-same, same-refl}
+use Rattle.dcc_packet.proofs.SameFrames.{same-refl}
 use Rattle.dcc_regs.specs.Result.{is_repeated}
 use Rattle.dcc_order.specs.AlikeLists.{is_one_of, without_repeats, turns, SameTurns}
 use Rattle.dcc_order.specs.declared.turns.Turns.{Turns}
 use Rattle.dcc_order.specs.Turns.{last_behind, last_turn, turns_taken, own_turn, rival_turn}
-use Rattle.dcc_order.proofs.AlikeBlocks.{true_is_not_false, same_tells}
+use Rattle.dcc_order.proofs.AlikeBlocks.{same_tells, repeated_is_last, last_behind-unrepeated}
 
 -- which of two packets has the last turn, and how many turns they take
 pub record Summary : Type 0 where
@@ -57,10 +57,6 @@ last-append p q block x = rw (filter-append (is_one_of p q) block (x ∷ [])) (e
   | inl e ↦ rw e (last_behind-append None (filter (is_one_of p q) block) x)
   | inr e ↦ rw (e, append-nil (filter (is_one_of p q) block)) refl
 ])
-
-repeated_is_last : (last : Option Packet) (x : Packet) → is_repeated last x ≡ true → last ≡ Some x
-repeated_is_last None x e = absurd (true_is_not_false (sym e))
-repeated_is_last (Some y) x e = ap (λ z. Some z) ((Decides-same y x).0 e)
 
 pub summary-append : (p q : Packet) (block : List Packet) (x : Packet)
     → summary p q (block ++ x ∷ []) ≡ one_more p q (summary p q block) x
@@ -125,14 +121,6 @@ told p q = snoc (λ block. Told p q (turns p q block) (summary p q block)) (refl
     (λ block x h. subst (Told p q (turns p q (block ++ x ∷ []))) (sym (summary-append p q block x))
     (rw (turns-append p q block x) (told_more p q x (turns p q block) (summary p q block) h (is_one_of p q x) (is_repeated (summary p q block).last x)
     refl refl)))
-
-last_behind-unrepeated : (before : Option Packet) (l : List Packet)
-    → last_behind before (without_repeats before l) ≡ last_behind before l
-last_behind-unrepeated before [] = refl
-last_behind-unrepeated before (y ∷ l) = elim (cases_Bool (is_repeated before y)) [
-  | inl e ↦ rw (e, repeated_is_last before y e) (last_behind-unrepeated (Some y) l)
-  | inr e ↦ rw e (last_behind-unrepeated (Some y) l)
-]
 
 -- the summary is that of the turns alone
 summary_of_turns : (p q : Packet) (block : List Packet)

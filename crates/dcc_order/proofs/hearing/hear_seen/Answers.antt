@@ -1,6 +1,4 @@
-use Rattle.std.proofs.Common.{◌≡◌, ◌∷◌, [], List, ℕ, subst, ap}
-use Rattle.dcc_wire.specs.declared.seen.Seen.{Seen}
-use Rattle.dcc_order.specs.Hearing.{frames_of, AreSpelled}
+use Rattle.std.proofs.Common.{◌∷◌, [], List, ℕ, ap}
 use Rattle.dcc_regs.proofs.InParts.{heard_nothing}
 use Rattle.dcc_order.proofs.ListWalk.{AllZip-same}
 use Rattle.dcc_order.proofs.SpelledLemmas.{no_packet, one_packet}
@@ -8,11 +6,8 @@ use Rattle.dcc_order.proofs.hearing.hear_seen.Goals as goal
 
 pub returns-in-Packet-clause-hears : goal.returns-in-Packet-clause-hears
 returns-in-Packet-clause-hears g c = λ packets spelled.
-    let frames : AreSpelled packets (c.in-Packet.frame ∷ []) =
-    subst (λ (seen : Seen). AreSpelled packets (frames_of seen)) c.in-Packet.is spelled in
-    let one : packets ≡ c.read.result ∷ [] =
-    one_packet packets c.in-Packet.frame c.read.result c.read.ensures.only frames in
-    rw one c.hear_packet.ensures
+    rw (one_packet packets c.in-Packet.frame c.read.result c.read.ensures.only (rw c.in-Packet.is at spelled))
+    c.hear_packet.ensures
 
 pub returns-in-Packet-clause-spelled : goal.returns-in-Packet-clause-spelled
 returns-in-Packet-clause-spelled g c =
@@ -20,12 +15,8 @@ returns-in-Packet-clause-spelled g c =
 
 pub returns-in-Nothing-clause-hears : goal.returns-in-Nothing-clause-hears
 returns-in-Nothing-clause-hears g c = λ packets spelled.
-    let none : packets ≡ [] =
-    no_packet packets (subst (λ (seen : Seen). AreSpelled packets (frames_of seen)) c.in-Nothing.is spelled) in
-    rw none (AllZip-same _ (λ x. heard_nothing _ _) _)
+    rw (no_packet packets (rw c.in-Nothing.is at spelled)) (AllZip-same _ (λ x. heard_nothing _ _) _)
 
 pub returns-in-Refused-clause-hears : goal.returns-in-Refused-clause-hears
 returns-in-Refused-clause-hears g c = λ packets spelled.
-    let none : packets ≡ [] =
-    no_packet packets (subst (λ (seen : Seen). AreSpelled packets (frames_of seen)) c.in-Refused.is spelled) in
-    rw none (AllZip-same _ (λ x. heard_nothing _ _) _)
+    rw (no_packet packets (rw c.in-Refused.is at spelled)) (AllZip-same _ (λ x. heard_nothing _ _) _)
