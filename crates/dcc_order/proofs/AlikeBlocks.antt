@@ -1,7 +1,7 @@
 -- Alike blocks leave the same state.
-use Rattle.std.proofs.Common.{◌≡◌, ◌∙◌, refl, sym, ap, Bool, true, false, cond, List, [], ◌∷◌, Option, Some, None}
+use Rattle.std.proofs.Common.{◌≡◌, ◌∙◌, refl, sym, ap, Bool, true, false, List, [], ◌∷◌, Option, Some, None}
 use Rattle.std.proofs.Common.{◌⊎◌, inl, inr, arith}
-use Rattle.std.specs.Prelude.{◌&&◌, filter, Contains, ◌≢◌}
+use Rattle.std.specs.Prelude.{filter, Contains, ◌≢◌}
 use Rattle.std.specs.List.{AllByRecursion}
 use Rattle.std.proofs.lemmas.Bool.{cases_Bool, or_cases}
 use Rattle.std.proofs.lemmas.Bool.Decides.{not_from_Decides}
@@ -18,12 +18,12 @@ use Rattle.dcc_regs.specs.Heard.{hears}
 use Rattle.dcc_regs.specs.Sets.{sets}
 use Rattle.dcc_regs.specs.Conflict.{Conflict}
 use Rattle.dcc_regs.specs.Setting.{value_over, mode_in}
-use Rattle.dcc_regs.specs.Result.{is_pending, left_pending, is_repeated}
+use Rattle.dcc_regs.specs.Result.{left_pending, is_repeated}
 use Rattle.dcc_order.specs.Turns.{last_behind}
 use Rattle.dcc_packet.proofs.SameFrames.{Decides-same, same-refl}
 use Rattle.dcc_regs.proofs.SameValues.{same_value, Decides-same_value}
 use Rattle.dcc_regs.proofs.RegisterStep.{overwritten-none}
-use Rattle.dcc_regs.proofs.ResultByParts.{State, step, state_after, same_state, later_of, last_set, sets_bit}
+use Rattle.dcc_regs.proofs.ResultByParts.{State, step, state_after, same_state, later_of, last_set}
 use Rattle.dcc_regs.proofs.ResultByParts.{overwritten-overwritten}
 use Rattle.dcc_order.specs.AlikeLists.{is_one_of, without_repeats, turns, SameMembers, AlikeBlocks}
 use Rattle.dcc_order.proofs.Contained.{contains_none, contains_head, contains_tail, contains_cases}
@@ -180,12 +180,12 @@ run_block_bits : (who : Who) (s : State) (l : List Packet) → AllByRecursion (I
 run_block_bits who s [] all r = refl
 run_block_bits who s (p ∷ l) all r =
     run_block_bits who (step s p) l all.1 r
-    ∙ ap (λ t. cond (t && is_pending s.pending p) (value_over (s.bits r) (sets_bit p r)) (s.bits r)) all.0.1
+    ∙ rw all.0.1 refl
 
 -- a block that is not empty leaves nothing pending, where there is such a register
 run_block_pending : (who : Who) (s : State) (p : Packet) (l : List Packet) → AllByRecursion (InBlock who) (p ∷ l)
     → (state_after s (p ∷ l)).pending ≡ value_over s.pending (Some (PendingValue None))
-run_block_pending who s p [] all = ap (λ t. value_over s.pending (Some (PendingValue (cond t (Some p) None)))) all.0.1
+run_block_pending who s p [] all = rw all.0.1 refl
 run_block_pending who s p (q ∷ l) all =
     run_block_pending who (step s p) q l all.1
     ∙ overwritten-overwritten s.pending (Some (PendingValue (left_pending p))) (Some (PendingValue None))

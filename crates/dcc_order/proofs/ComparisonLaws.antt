@@ -135,7 +135,7 @@ settled_for : (who : Who) (lists : Lists) (k : ℕ) (u w : Cut) (v : Verdict)
     SettledFrom lists.left_ended lists.right_ended k u w v → IsVerdictOfAll who lists v
 settled_for who lists k u w v up s = λ lefts rights f g.
     settled_behind lists.left_ended lists.right_ended k 0 (cut_for who lists.left) (cut_for who lists.right) u w v up
-    (subst (λ n. SettledFrom lists.left_ended lists.right_ended n u w v) (sym (zero-add k)) s)
+    (rw (zero-add k) s)
     (cut_for who (lists.left ++ lefts)) (cut_for who (lists.right ++ rights))
     (continues who lists.left_ended lists.left lefts f) (continues who lists.right_ended lists.right rights g)
 

@@ -3,7 +3,6 @@ use Rattle.std.proofs.Common.{◌≡◌, ◌∙◌, sym, Some, None}
 use Rattle.dcc_packet.specs.declared.packet.Packet.{Packet}
 use Rattle.dcc_regs.specs.Conflict.{Conflict}
 use Rattle.dcc_regs.specs.Sets.{SetsNothing}
-use Rattle.dcc_regs.specs.declared.register.Value.{Value}
 
 -- a packet does not conflict with itself
 pub no_clash : (p : Packet) → Conflict p p → ⊥
@@ -11,7 +10,4 @@ no_clash p c = c.apart (let both : Some c.one ≡ Some c.other = sym c.first_set
 
 -- nor does one that sets nothing with any
 pub nothing_set : (p q : Packet) → SetsNothing p → Conflict p q → ⊥
-nothing_set p q none c = some_is_not_none c.one (sym c.first_sets ∙ none c.mode c.register)
-  where
-    some_is_not_none : (v : Value) → Some v ≡ None → ⊥
-    some_is_not_none v e = cc
+nothing_set p q none c = let bad : Some c.one ≡ None = sym c.first_sets ∙ none c.mode c.register in cc

@@ -1,5 +1,5 @@
 -- How a cut list begins, and what that says of the verdict.
-use Rattle.std.proofs.Common.{◌≡◌, sym, subst, Bool, List, [], ◌∷◌, ℕ, ◌+◌, ◌≤◌}
+use Rattle.std.proofs.Common.{◌≡◌, Bool, List, [], ◌∷◌, ℕ, ◌+◌, ◌≤◌}
 use Rattle.std.proofs.Common.{length, arith, inl, inr}
 use Rattle.std.proofs.lemmas.Bool.{cases_Bool}
 use Rattle.std.specs.Prelude.{◌⊎◌, ◌≢◌, ◌&&◌, filter}
@@ -13,7 +13,7 @@ use Rattle.dcc_order.specs.AlikeLists.{begins_with_two}
 use Rattle.dcc_order.specs.Verdicts.{IsVerdictFrom, BlocksVerdict}
 
 pub at_first : (k : ℕ) (x y u w : Cut) (v : Verdict) → x ≡ u → y ≡ w → IsVerdictFrom k u w v → IsVerdictFrom k x y v
-at_first k x y u w v e h is = subst (λ c. IsVerdictFrom k c y v) (sym e) (subst (λ c. IsVerdictFrom k u c v) (sym h) is)
+at_first k x y u w v e h is = rw (e, h) is
 
 -- where the verdict is that they are alike, two blocks are, and what is behind them says so too
 alike_within : (k : ℕ) (left right : List Packet) (further : Type 0) → BlocksVerdict k left right Alike further

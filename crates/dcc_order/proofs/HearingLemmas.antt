@@ -17,8 +17,7 @@ use Rattle.dcc_order.specs.HearingLaws.{NoHalvesHeard, OneListOfPackets}
 frames_in-append : (a b : List (ℕ × Seen)) → frames_in (a ++ b) ≡ frames_in a ++ frames_in b
 frames_in-append [] b = refl
 frames_in-append (at ∷ later) b =
-    ap (λ frames. frames_of at.1 ++ frames) (frames_in-append later b)
-    ∙ sym (append_assoc (frames_of at.1) (frames_in later) (frames_in b))
+    rw (frames_in-append later b) (sym (append_assoc (frames_of at.1) (frames_in later) (frames_in b)))
 
 frames_in-reported : (place : ℕ) (answer : Seen) → frames_in (report_at place answer) ≡ frames_of answer
 unfolding report_at

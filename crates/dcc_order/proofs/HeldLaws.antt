@@ -142,35 +142,29 @@ module _ {places : List Place} {count : ℕ} {others : List ℕ} (held : AreHeld
   ) refl
 
   -- a packet that is no member yet: it is put where its number is
+  abbrev put : Place → Place
+  put d = record (get_or (places ++ place count ∷ []) count d) { member = x }
+
   abbrev now : Place → List Place
-  now d = set (places ++ place count ∷ []) count (record (get_or (places ++ place count ∷ []) count d) { member = x })
+  now d = set (places ++ place count ∷ []) count (put d)
 
   here : count < length (places ++ place count ∷ [])
   here = omega (arith, longer count, held.within)
 
   pub new_members : (d : Place) → members_at (now d) (suc count) ≡ members ++ x ∷ []
-  new_members d =
-      rw (
-        take-suc-set (places ++ place count ∷ []) count
-            (record (get_or (places ++ place count ∷ []) count d) { member = x }) here,
-        same_front count,
-      )
-      (map-append (λ place. place.member) (take count places)
-      (record (get_or (places ++ place count ∷ []) count d) { member = x } ∷ []))
+  new_members d = rw (take-suc-set (places ++ place count ∷ []) count (put d) here, same_front count)
+      (map-append (λ place. place.member) (take count places) (put d ∷ []))
 
   new_numbers : (d : Place) → numbers_at (now d) ≡ numbers_at places ++ length members ∷ []
-  new_numbers d =
-      rw (
-        map-set_same (λ (place : Place). place.number) (places ++ place count ∷ []) count
-            (record (get_or (places ++ place count ∷ []) count d) { member = x }) d refl,
-        more_numbers count,
-        count_of places count held.within,
-      ) refl
+  new_numbers d = rw (
+    map-set_same (λ (place : Place). place.number) (places ++ place count ∷ []) count (put d) d refl,
+    more_numbers count,
+    count_of places count held.within,
+  ) refl
 
   pub new_held : (d : Place) → member_number members x ≡ length members → AreHeld (now d) (suc count) others
   new_held d none = record {
-    within = rw (length-set (places ++ place count ∷ []) count
-        (record (get_or (places ++ place count ∷ []) count d) { member = x })) here;
+    within = rw (length-set (places ++ place count ∷ []) count (put d)) here;
     members = rw (new_members d, new_numbers d, packets_new members (numbers_at places) x held.first_numbered)
         (new_member members (packets_of members (numbers_at places)) x held.members none);
     first_numbered = rw (new_members d, new_numbers d)

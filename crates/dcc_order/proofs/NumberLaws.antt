@@ -102,10 +102,8 @@ module _ (members : List Packet) (once : EachOnce members) (own rival : ℕ) (d 
   pub same_turns_counted : (first ≡ second → ⊥) → (left right : List Packet) →
       SameTurns left right first second ↔
       (turns_of own rival (map (member_number members) left) ≡ turns_of own rival (map (member_number members) right))
-  same_turns_counted apart left right = (
-    λ h. turns_counted apart left ∙ (turns_told first second left right).0 h ∙ sym (turns_counted apart right),
-    λ h. (turns_told first second left right).1 (sym (turns_counted apart left) ∙ h ∙ turns_counted apart right),
-  )
+  same_turns_counted apart left right =
+      rw (turns_counted apart left, turns_counted apart right) (turns_told first second left right)
 
 module _ (own rival : ℕ) where
   after_rival : (taken : Turns) → (rival_turn taken).rival_last ≡ true

@@ -4,11 +4,10 @@ use Rattle.dcc_wire.specs.Sending.{Sent, sent, sent_all, at_last_halves, AllFram
 use Rattle.dcc_wire.proofs.SendingLemmas.{seen-sent_all}
 use Rattle.dcc_packet.specs.Spelling.{spelling}
 use Rattle.dcc_packet.proofs.FrameSpellings as frames
-use Rattle.dcc_regs.specs.Result.{result}
 use Rattle.dcc_order.specs.Hearing.{frames_in, ArePackets}
 use Rattle.dcc_order.specs.SendingLaws.{SentPacket, spelled_out, SentPacketsAreHeard, NothingElseIsSeen}
 use Rattle.dcc_order.specs.SendingLaws.{SentPacketIsDone}
-use Rattle.dcc_order.proofs.HearingLemmas.{one_list_of_packets}
+use Rattle.dcc_order.proofs.WholeTheorem.{holds}
 
 all_frames : (sent : List SentPacket) → AllFrames (map spelled_out sent)
 unfolding AllFrames
@@ -40,4 +39,4 @@ sent_packet_is_done p timing halves who who' start now fits are heard =
     let all : ArePackets (p ∷ []) (halves ++ []) =
     subst (ArePackets (p ∷ [])) (alone (spelled_out one) ∙ ap (λ hs. hs ++ []) (sym are))
     (sent_packets_are_heard (one ∷ [])) in
-    heard.heard.registers ∙ ap (result who start) (one_list_of_packets (halves ++ []) heard.packets (p ∷ []) heard.seen all)
+    holds who start (halves ++ []) who' now (p ∷ []) all heard

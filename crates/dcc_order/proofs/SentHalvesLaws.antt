@@ -30,12 +30,12 @@ keeps_new more place Nothing some = absurd (some refl)
 keeps_new more place answer some = sym (last_seen-one Nothing more (place, answer))
 
 -- one half more has come
-one_more : (track halves left later : List ℕ) (framer next : Rest) (us : ℕ) (answer kept now : Seen)
+one_more : {track halves left later : List ℕ} {framer next : Rest} {us : ℕ} (answer : Seen) {kept now : Seen}
     → (c : HasComeBehind track halves left framer kept) → left ≡ us ∷ later → StandsForOneMore framer us next
     → ShowsAtOneMore framer us answer
     → now ≡ last_seen Nothing (c.more ++ report_at (length (track ++ c.come)) answer)
     → HasComeBehind track halves later next now
-one_more track halves left later framer next us answer kept now c is stands sees last =
+one_more {track = track} {later = later} {us = us} answer c is stands sees last =
     let whole : track ++ (c.come ++ us ∷ []) ≡ (track ++ c.come) ++ us ∷ [] =
     sym (append_assoc track c.come (us ∷ [])) in
     let place : ℕ = length (track ++ c.come) in
@@ -64,14 +64,14 @@ pub nothing_is_seen : NothingIsSeen
 unfolding IsBeingSent
 nothing_is_seen start framer next one left later us answer kept sending is quiet goes_on shows = λ track stands.
     let c = sending track stands in
-    one_more track (sent one.bytes one.timing) left later framer next us answer kept kept c is goes_on shows
+    one_more answer c is goes_on shows
     (keeps_old c.more (length (track ++ c.come)) answer kept c.last quiet)
 
 pub something_is_seen : SomethingIsSeen
 unfolding IsBeingSent
 something_is_seen start framer next one left later us answer kept sending is goes_on shows told = λ track stands.
     let c = sending track stands in
-    one_more track (sent one.bytes one.timing) left later framer next us answer kept answer c is goes_on shows
+    one_more answer c is goes_on shows
     (keeps_new c.more (length (track ++ c.come)) answer told)
 
 sent_all-more : (before : List Sent) (one : Sent)

@@ -40,9 +40,7 @@ opened false block write x (Block b w y) g =
 -- behind alike blocks a verdict that is settled is settled for the whole
 pub settled_behind : (le re : Bool) (j k : ℕ) (x y u w : Cut) (v : Verdict) → AlikeUpTo j x y u w
     → SettledFrom le re (k + j) u w v → SettledFrom le re k x y v
-settled_behind le re zero k x y u w v up s =
-    subst (λ c. SettledFrom le re k c y v) (sym up.0)
-    (subst (λ c. SettledFrom le re k u c v) (sym up.1) (subst (λ n. SettledFrom le re n u w v) (add-zero k) s))
+settled_behind le re zero k x y u w v up s = rw (up.0, up.1) (rw (add-zero k) at s)
 settled_behind le re (suc j) k (Block left write x) (Block right other y) u w v up s = λ p q f g.
     let first = opened le left write x p f in
     let second = opened re right other y q g in

@@ -12,7 +12,7 @@ use Rattle.dcc_regs.specs.Notes.{Note, note_of, IsHeardAndTold}
 use Rattle.dcc_regs.specs.Result.{RegisterMap, HasHeard}
 use Rattle.dcc_regs.specs.declared.register.Who.{Who}
 use Rattle.dcc_regs.proofs.InParts.{heard_more, heard_nothing}
-use Rattle.dcc_order.specs.Hearing.{AreSpelled, ArePackets, frames_of}
+use Rattle.dcc_order.specs.Hearing.{AreSpelled, frames_of}
 use Rattle.dcc_order.specs.ToldTracks.{IsTold, HaveCome, WereHeardAndTold, StandsForOneMore, ShowsAtOneMore, NoHalfHasCome, NoPacketHasCome, PacketIsTold}
 use Rattle.dcc_order.specs.ToldTracks.{PacketIsPassedOver, PacketIsHeardAndTold, TrackIsHeard, TrackIsTold}
 use Rattle.dcc_order.proofs.PieceLemmas.{take_more, take_all}
@@ -104,14 +104,11 @@ pub track_is_heard : {L : Type 0} (told : L → Note → L → Type 0) → Track
 unfolding HaveCome
 track_is_heard {L} told track n framer who who' start now a b come all = record {
   packets = come.packets;
-  seen = subst (λ halves. ArePackets come.packets halves) (take_all track n all) come.seen;
+  seen = rw (take_all track n all) at come.seen;
   heard = come.heard_all;
 }
 
 pub track_is_told : {L : Type 0} (told : L → Note → L → Type 0) → TrackIsTold told
 unfolding HaveCome
 track_is_told {L} told track n framer who who' start now a b packets come all are =
-    let same : come.packets ≡ packets =
-    one_list_of_packets track come.packets packets
-    (subst (λ halves. ArePackets come.packets halves) (take_all track n all) come.seen) are in
-    rw (sym same) come.told_all
+    rw (one_list_of_packets track packets come.packets are (rw (take_all track n all) at come.seen)) come.told_all

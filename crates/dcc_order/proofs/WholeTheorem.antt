@@ -10,7 +10,7 @@ use Rattle.dcc_order.proofs.AlikeCuts as alike
 use Rattle.dcc_order.proofs.HearingLemmas.{one_list_of_packets}
 
 -- the registers are the result of the packets that the halves hold
-holds : (who : Who) (start : RegisterMap) (halves : List ℕ) (who' : Who) (now : RegisterMap) (packets : List Packet)
+pub holds : (who : Who) (start : RegisterMap) (halves : List ℕ) (who' : Who) (now : RegisterMap) (packets : List Packet)
     → ArePackets packets halves
     → HasHeardHalves halves who start who' now → now ≡ result who start packets
 holds who start halves who' now packets are heard =

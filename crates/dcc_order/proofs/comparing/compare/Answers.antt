@@ -1,7 +1,5 @@
-use Rattle.std.proofs.Common.{arith, ◌≡◌, refl, sym, subst, ◌∙◌, None, Some, true, [], ◌∷◌, ◌++◌}
+use Rattle.std.proofs.Common.{arith, ◌≡◌, refl, ◌∙◌, true, [], ◌∷◌, ◌++◌}
 use Rattle.std.proofs.lemmas.Grind.{common_steps}
-use Rattle.dcc_order.specs.Comparisons.{StandsFor}
-use Rattle.dcc_order.specs.GivenLists.{with_item}
 use Rattle.dcc_order.specs.declared.verdict.Verdict.TheVariants.{Alike}
 use Rattle.dcc_order.proofs.AlikeCuts.{alike_lists}
 use Rattle.dcc_order.proofs.AlikeVerdicts.{alike_is}
@@ -25,8 +23,8 @@ items-preserved-then-left_rest-lt1 c =
     let before = c.items.invariant in
     record {
       lists = record before.lists { left_ended = true };
-      stands = subst (λ wants. StandsFor c.give.new.self (with_item wants None before.lists))
-          (sym c.wants.ensures.is ∙ c.in-Left.is) (c.in_ok-give-in-empty.ensures.stands before.lists before.stands);
+      stands = rw (← c.wants.ensures.is, c.in-Left.is) at
+          (c.in_ok-give-in-empty.ensures.stands before.lists before.stands);
       who_is = c.give.ensures.who ∙ before.who_is;
       left_side = record { parts = before.left_side.parts; may = grind (arith, common_steps); is = refl };
       right_side = before.right_side;
@@ -37,8 +35,7 @@ items-preserved-then-right_rest-lt1 c =
     let before = c.items.invariant in
     record {
       lists = record before.lists { right_ended = true };
-      stands = subst (λ wants. StandsFor c.give-in-empty-right_rest.new.self (with_item wants None before.lists))
-          (sym c.wants.ensures.is ∙ c.in-Right.is)
+      stands = rw (← c.wants.ensures.is, c.in-Right.is) at
           (c.in_ok-give-in-empty-right_rest.ensures.stands before.lists before.stands);
       who_is = c.give-in-empty-right_rest.ensures.who ∙ before.who_is;
       right_side = record { parts = before.right_side.parts; may = grind (arith, common_steps); is = refl };
@@ -50,9 +47,7 @@ items-preserved-in-len1-up c =
     let before = c.items.invariant in
     record {
       lists = record before.lists { left = before.lists.left ++ c.packet-item.result ∷ [] };
-      stands = subst
-          (λ wants. StandsFor c.give-in-len1-up.new.self (with_item wants (Some c.packet-item.result) before.lists))
-          (sym c.wants.ensures.is ∙ c.in-Left.is)
+      stands = rw (← c.wants.ensures.is, c.in-Left.is) at
           (c.in_ok-give-in-len1-up.ensures.stands before.lists before.stands);
       who_is = c.give-in-len1-up.ensures.who ∙ before.who_is;
       left_side =
@@ -69,9 +64,7 @@ items-preserved c =
     let before = c.items.invariant in
     record {
       lists = record before.lists { right = before.lists.right ++ c.packet-item-in-Right.result ∷ [] };
-      stands = subst
-          (λ wants. StandsFor c.give-in-len1-up-right_rest.new.self (with_item wants (Some c.packet-item-in-Right.result) before.lists))
-          (sym c.wants.ensures.is ∙ c.in-Right.is)
+      stands = rw (← c.wants.ensures.is, c.in-Right.is) at
           (c.in_ok-give-in-len1-up-right_rest.ensures.stands before.lists before.stands);
       who_is = c.give-in-len1-up-right_rest.ensures.who ∙ before.who_is;
       right_side =
