@@ -1,5 +1,6 @@
 -- Lists that are alike for a decoder leave the same registers.
-use Rattle.std.proofs.Common.{◌≡◌, ◌∙◌, refl, sym, ap, Bool, true, false, cond, List, [], ◌∷◌, ◌++◌, Option, Some, inl, inr}
+use Rattle.std.proofs.Common.{◌≡◌, ◌∙◌, refl, sym, ap, Bool, true, false, cond, List, [], ◌∷◌, ◌++◌, Option, Some, inl}
+use Rattle.std.proofs.Common.{inr, ℕ, zero, suc}
 use Rattle.std.specs.Prelude.{◌&&◌}
 use Rattle.std.proofs.lemmas.Bool.{cases_Bool, and_parts}
 use Rattle.std.specs.List.{AllByRecursion}
@@ -17,13 +18,10 @@ use Rattle.dcc_packet.proofs.SameFrames.{Decides-same}
 use Rattle.dcc_regs.proofs.OwnWrites.{sets-own_write}
 use Rattle.dcc_regs.proofs.RegisterStep.{overwritten-none}
 use Rattle.dcc_regs.proofs.ResultByParts.{State, step, state_after, start, read, read-state_after, state_after-append}
-use Rattle.dcc_regs.proofs.ResultByParts.{same_state, sets_bit}
-use Rattle.dcc_regs.proofs.ResultByParts.{overwritten-twice}
+use Rattle.dcc_regs.proofs.ResultByParts.{same_state, sets_bit, overwritten-twice}
 use Rattle.dcc_order.specs.AlikeLists.{begins_with_two, without_third_copies, Cut, LastBlock, Block, in_first_block}
-use Rattle.dcc_order.specs.AlikeLists.{cut, cut_for}
-use Rattle.dcc_order.specs.AlikeLists.{AlikeCuts, AlikeBlocks}
+use Rattle.dcc_order.specs.AlikeLists.{cut, cut_for, AlikeCuts, AlikeBlocks}
 use Rattle.dcc_order.specs.Laws.{AlikeListsLeaveTheSame, AlikeListsAgreeAfterEachBlock, through_block}
-use Rattle.std.proofs.Common.{ℕ, zero, suc}
 use Rattle.dcc_regs.specs.declared.register.Register.TheVariants.{CvBit}
 use Rattle.dcc_order.proofs.AlikeBlocks.{InBlock, alike_blocks}
 

@@ -1,7 +1,6 @@
 -- One more packet, or an end, of the lists that a comparison stands for.
-use Rattle.std.proofs.Common.{ℕ, zero, suc, ◌+◌, ◌^◌, ◌<◌, ◌≤◌, ◌≡◌, ◌∙◌, refl, sym, ap, subst, Bool, true, false}
-use Rattle.std.proofs.Common.{cond, List, [], ◌∷◌, ◌++◌, Option, Some, None, is_none, length, arith}
-use Rattle.std.proofs.Common.{add-one, inl, inr}
+use Rattle.std.proofs.Common.{ℕ, zero, suc, ◌+◌, ◌^◌, ◌<◌, ◌≤◌, ◌≡◌, ◌∙◌, refl, sym, ap, subst, Bool, true, false, cond}
+use Rattle.std.proofs.Common.{List, [], ◌∷◌, ◌++◌, Option, Some, None, is_none, length, arith, add-one, inl, inr}
 use Rattle.std.specs.Prelude.{Contains, ◌&&◌, fold}
 use Rattle.std.proofs.Math.Nat.{suc-min-suc, zero-add}
 use Rattle.std.proofs.lemmas.Bool.{cases_Bool}
@@ -22,10 +21,9 @@ use Rattle.dcc_order.specs.declared.wants.Wants.TheVariants.{Left, Right, Done}
 use Rattle.dcc_order.specs.AlikeLists.{Cut, LastBlock, Block, cut, without_third_copies, in_first_block, cut_for}
 use Rattle.dcc_order.specs.AlikeLists.{AlikeBlocks}
 use Rattle.dcc_order.specs.OneMore.{ends_with_two, cut_more}
-use Rattle.dcc_order.specs.GivenLists.{Lists, IsVerdictOfAll, writes_in, open_blocks_len}
-use Rattle.dcc_order.specs.GivenLists.{most_held}
-use Rattle.dcc_order.specs.Comparisons.{StandsFor, WantsLeft, WantsRight, Stage, AlikeUpTo, open_cut}
-use Rattle.dcc_order.specs.Comparisons.{EndAlike, IsVerdictAtEnds, last_heard, heard_next, nothing_heard}
+use Rattle.dcc_order.specs.GivenLists.{Lists, IsVerdictOfAll, writes_in, open_blocks_len, most_held}
+use Rattle.dcc_order.specs.Comparisons.{StandsFor, WantsLeft, WantsRight, Stage, AlikeUpTo, open_cut, EndAlike}
+use Rattle.dcc_order.specs.Comparisons.{IsVerdictAtEnds, last_heard, heard_next, nothing_heard}
 use Rattle.dcc_order.specs.Inner.ComparisonSteps.{heard_left, heard_right, joined_left, closed_left, begun_block}
 use Rattle.dcc_order.proofs.AlikeBlocks.{same_tells}
 use Rattle.dcc_order.proofs.CutTests.{length-capped, length-kept}

@@ -1,14 +1,12 @@
 -- How a cut list begins, and what that says of the verdict.
-use Rattle.std.proofs.Common.{◌≡◌, Bool, List, [], ◌∷◌, ℕ, ◌+◌, ◌≤◌}
-use Rattle.std.proofs.Common.{length, arith, inl, inr}
+use Rattle.std.proofs.Common.{◌≡◌, Bool, List, [], ◌∷◌, ℕ, ◌+◌, ◌≤◌, length, arith, inl, inr}
 use Rattle.std.proofs.lemmas.Bool.{cases_Bool}
 use Rattle.std.specs.Prelude.{◌⊎◌, ◌≢◌, ◌&&◌, filter}
 use Rattle.dcc_packet.specs.declared.packet.Packet.{Packet}
 use Rattle.dcc_regs.specs.Writes.{is_own_write}
 use Rattle.dcc_order.specs.declared.verdict.Verdict.{Verdict}
 use Rattle.dcc_order.specs.declared.verdict.Verdict.TheVariants.{Alike, Writes}
-use Rattle.dcc_order.specs.AlikeLists.{Cut, LastBlock, Block, AlikeCuts, AlikeBlocks}
-use Rattle.dcc_order.specs.AlikeLists.{without_third_copies}
+use Rattle.dcc_order.specs.AlikeLists.{Cut, LastBlock, Block, AlikeCuts, AlikeBlocks, without_third_copies}
 use Rattle.dcc_order.specs.AlikeLists.{begins_with_two}
 use Rattle.dcc_order.specs.Verdicts.{IsVerdictFrom, BlocksVerdict}
 

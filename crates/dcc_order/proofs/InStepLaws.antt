@@ -1,6 +1,6 @@
 -- Two lists that are given to a comparer as it wants them.
-use Rattle.std.proofs.Common.{◌≡◌, ◌∙◌, ℕ, ◌<◌, ◌≤◌, ◌++◌, ◌∷◌, Bool, true, false, Option, Some, None}
-use Rattle.std.proofs.Common.{List, [], length, take, sym, ap, subst, refl, arith, append-nil, append_assoc, length-append}
+use Rattle.std.proofs.Common.{◌≡◌, ◌∙◌, ℕ, ◌<◌, ◌≤◌, ◌++◌, ◌∷◌, Bool, true, false, Option, Some, None, List, [], length}
+use Rattle.std.proofs.Common.{take, sym, ap, subst, refl, arith, append-nil, append_assoc, length-append}
 use Rattle.std.specs.Prelude.{slice_get}
 use Rattle.std.proofs.lemmas.Grind.{common_steps}
 use Rattle.std.proofs.lemmas.Option.{slice_get_within}
@@ -12,9 +12,9 @@ use Rattle.dcc_order.specs.declared.wants.Wants.TheVariants.{Left, Right, Done}
 use Rattle.dcc_order.specs.Comparisons.{StandsFor, Stage}
 use Rattle.dcc_order.specs.GivenLists.{Lists, no_lists, with_item, MayFollow, IsVerdictOfAll}
 use Rattle.dcc_order.proofs.ComparisonLaws.{wants_left, wants_right}
-use Rattle.dcc_order.specs.InStep.{IsFront, IsInStep, ends_wanted, most_wanted, BecomesBy, NothingGivenYet, OneMoreOfLeft}
-use Rattle.dcc_order.specs.InStep.{OneMoreOfRight, LessIsWantedBehindLeft, LessIsWantedBehindRight, PlacesAreCounted}
-use Rattle.dcc_order.specs.InStep.{VerdictIsOfBoth, VerdictIsOfTheGiven, NoMoreIsGiven}
+use Rattle.dcc_order.specs.InStep.{IsFront, IsInStep, ends_wanted, most_wanted, BecomesBy, NothingGivenYet}
+use Rattle.dcc_order.specs.InStep.{OneMoreOfLeft, OneMoreOfRight, LessIsWantedBehindLeft, LessIsWantedBehindRight}
+use Rattle.dcc_order.specs.InStep.{PlacesAreCounted, VerdictIsOfBoth, VerdictIsOfTheGiven, NoMoreIsGiven}
 
 -- a list with one item more, and whether its end was given then
 abbrev with_more : Option Packet → List Packet → List Packet

@@ -1,6 +1,6 @@
 -- Packets found by the numbers of their frames.
-use Rattle.std.proofs.Common.{ℕ, suc, ◌+◌, ◌<◌, ◌≡◌, ◌∙◌, refl, sym, ap, true, false, cond, List, [], ◌∷◌, ◌++◌}
-use Rattle.std.proofs.Common.{Option, Some, length, arith, inl, inr}
+use Rattle.std.proofs.Common.{ℕ, suc, ◌+◌, ◌<◌, ◌≡◌, ◌∙◌, refl, sym, ap, true, false, cond, List, [], ◌∷◌, ◌++◌, Option}
+use Rattle.std.proofs.Common.{Some, length, arith, inl, inr}
 use Rattle.std.specs.Prelude.{nat_lt, slice_index}
 use Rattle.std.specs.List.{position}
 use Rattle.std.specs.Option.{unwrap_or}

@@ -1,6 +1,6 @@
 -- Turns, counted by the numbers of packets.
-use Rattle.std.proofs.Common.{ℕ, ◌<◌, ◌≤◌, ◌+◌, ◌≡◌, ◌∙◌, refl, sym, ap, true, false, List, []}
-use Rattle.std.proofs.Common.{◌∷◌, ◌++◌, length, eqb, get_or, map, arith, zero, inl, inr}
+use Rattle.std.proofs.Common.{ℕ, ◌<◌, ◌≤◌, ◌+◌, ◌≡◌, ◌∙◌, refl, sym, ap, true, false, List, [], ◌∷◌, ◌++◌, length, eqb}
+use Rattle.std.proofs.Common.{get_or, map, arith, zero, inl, inr}
 use Rattle.std.specs.Prelude.{◌||◌, ◌↔◌, ◌⊎◌, fold, Contains, IsTrue}
 use Rattle.std.specs.List.{AllByRecursion}
 use Rattle.std.proofs.lemmas.Bool.{cases_Bool, ne_eqb, eqb-true, eqb-false}

@@ -1,6 +1,5 @@
 -- The order of packets that conflict, by the numbers of the packets.
-use Rattle.std.proofs.Common.{ℕ, ◌<◌, ◌≡◌, ◌∙◌, sym, ap, subst, arith, None, inl, inr, List}
-use Rattle.std.proofs.Common.{length, get_or, map}
+use Rattle.std.proofs.Common.{ℕ, ◌<◌, ◌≡◌, ◌∙◌, sym, ap, subst, arith, None, inl, inr, List, length, get_or, map}
 use Rattle.std.specs.Prelude.{Contains, filter}
 use Rattle.std.proofs.Math.Path.{fun_ext}
 use Rattle.std.proofs.lemmas.Bool.{cases_order, cases_Bool}

@@ -1,6 +1,6 @@
 -- One half more of a piece.
-use Rattle.std.proofs.Common.{◌≡◌, ℕ, ◌+◌, ◌<◌, ◌≤◌, List, [], ◌∷◌, ◌++◌, length, take, slice_index_or, arith, ◌∙◌}
-use Rattle.std.proofs.Common.{ap, append_assoc}
+use Rattle.std.proofs.Common.{◌≡◌, ℕ, ◌+◌, ◌<◌, ◌≤◌, List, [], ◌∷◌, ◌++◌, length, take, slice_index_or, arith, ◌∙◌, ap}
+use Rattle.std.proofs.Common.{append_assoc}
 use Rattle.std.proofs.lemmas.Grind.{common_steps}
 
 pub take_more : (ds : List ℕ) (n : ℕ) → n < length ds → take n ds ++ slice_index_or ds n 0 ∷ [] ≡ take (n + 1) ds

@@ -1,6 +1,6 @@
 -- A track that comes half by half: a decoder hears it, and a listener is told what the decoder hears.
-use Rattle.std.proofs.Common.{Bool, ap, ◌∙◌, sym, ◌≡◌, ℕ, ◌+◌, ◌<◌, true, false, List, [], ◌∷◌, ◌++◌, length}
-use Rattle.std.proofs.Common.{take, slice_index_or, refl, subst}
+use Rattle.std.proofs.Common.{Bool, ap, ◌∙◌, sym, ◌≡◌, ℕ, ◌+◌, ◌<◌, true, false, List, [], ◌∷◌, ◌++◌, length, take}
+use Rattle.std.proofs.Common.{slice_index_or, refl, subst}
 use Rattle.std.proofs.lemmas.List.Elements.{filter-append}
 use Rattle.dcc_wire.specs.Framing.{Rest}
 use Rattle.dcc_wire.specs.declared.seen.Seen.{Seen}
@@ -13,8 +13,9 @@ use Rattle.dcc_regs.specs.Result.{RegisterMap, HasHeard}
 use Rattle.dcc_regs.specs.declared.register.Who.{Who}
 use Rattle.dcc_regs.proofs.InParts.{heard_more, heard_nothing}
 use Rattle.dcc_order.specs.Hearing.{AreSpelled, frames_of}
-use Rattle.dcc_order.specs.ToldTracks.{IsTold, HaveCome, WereHeardAndTold, StandsForOneMore, ShowsAtOneMore, NoHalfHasCome, NoPacketHasCome, PacketIsTold}
-use Rattle.dcc_order.specs.ToldTracks.{PacketIsPassedOver, PacketIsHeardAndTold, TrackIsHeard, TrackIsTold}
+use Rattle.dcc_order.specs.ToldTracks.{IsTold, HaveCome, WereHeardAndTold, StandsForOneMore, ShowsAtOneMore}
+use Rattle.dcc_order.specs.ToldTracks.{NoHalfHasCome, NoPacketHasCome, PacketIsTold, PacketIsPassedOver}
+use Rattle.dcc_order.specs.ToldTracks.{PacketIsHeardAndTold, TrackIsHeard, TrackIsTold}
 use Rattle.dcc_order.proofs.PieceLemmas.{take_more, take_all}
 use Rattle.dcc_order.proofs.HearingLemmas.{packets_more, no_packets, one_list_of_packets}
 

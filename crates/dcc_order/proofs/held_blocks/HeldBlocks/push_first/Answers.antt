@@ -5,8 +5,8 @@ use Rattle.dcc_packet.specs.declared.packet.Packet.TheVariants.{Idle}
 use Rattle.dcc_order.specs.declared.places.Place.{Place}
 use Rattle.dcc_order.specs.Held.{Held}
 use Rattle.dcc_order.proofs.IndexLaws.{known_index, new_index}
-use Rattle.dcc_order.proofs.HeldLaws.{number_is, is_known, is_new, known_held, known_view, known_members}
-use Rattle.dcc_order.proofs.HeldLaws.{new_held, new_view, new_members}
+use Rattle.dcc_order.proofs.HeldLaws.{number_is, is_known, is_new, known_held, known_view, known_members, new_held}
+use Rattle.dcc_order.proofs.HeldLaws.{new_view, new_members}
 use Rattle.dcc_order.proofs.held_blocks.HeldBlocks.push_first.Goals as goal
 
 abbrev nowhere : Place
