@@ -142,7 +142,8 @@ alike_lists who left right alike m r =
     read-state_after m (heard who left) r
     ∙ ap (λ s. read s r) (
     sym (state_after-cut_for who (start m) left)
-    ∙ alike_cuts who (start m) (cut_for who left) (cut_for who right) (well_cut_for who left) (well_cut_for who right) alike
+    ∙ alike_cuts who (start m) (cut_for who left) (cut_for who right) (well_cut_for who left)
+    (well_cut_for who right) alike
     ∙ state_after-cut_for who (start m) right)
     ∙ sym (read-state_after m (heard who right) r)
 
@@ -160,5 +161,6 @@ alike_through who s k x y lefts rights alike = absurd alike
 pub alike_after_each_block : AlikeListsAgreeAfterEachBlock
 alike_after_each_block who left right alike k m cv place =
     read-state_after m (through_block k (cut_for who left)) (CvBit cv place)
-    ∙ ap (λ s. read s (CvBit cv place)) (alike_through who (start m) k (cut_for who left) (cut_for who right) (well_cut_for who left) (well_cut_for who right) alike)
+    ∙ ap (λ s. read s (CvBit cv place)) (alike_through who (start m) k (cut_for who left) (cut_for who right)
+    (well_cut_for who left) (well_cut_for who right) alike)
     ∙ sym (read-state_after m (through_block k (cut_for who right)) (CvBit cv place))

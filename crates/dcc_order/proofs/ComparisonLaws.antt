@@ -118,7 +118,12 @@ writes_within (p ∷ l) = elim (cases_Bool (is_own_write p)) [
 
 writes_given : (who : Who) (l : List Packet) → writes_in (cut_for who l) ≤ length l
 writes_given who l =
-    omega (arith, writes_within (without_third_copies (heard who l)), length-capped (heard who l), length-kept (hears who) l)
+    omega (
+      arith,
+      writes_within (without_third_copies (heard who l)),
+      length-capped (heard who l),
+      length-kept (hears who) l,
+    )
 
 -- the open blocks are those behind the alike ones
 pub open_behind : (k : ℕ) (x y u w : Cut) → AlikeUpTo k x y u w → open_blocks_len x y ≡ open_blocks_len u w
@@ -158,7 +163,8 @@ module _ {c : Comparison} {lists : Lists} (s : StandsFor c lists) (p : Packet) w
   more_given n l e = rw (longer l p, e) refl
 
   -- the left side is wanted still: this was heard last, and the open block is this
-  left_stays : c.wants ≡ Left → {last : LastHeard} {x : Cut} (first : List Packet) → OneMore c.who lists.left p last x → length first ≤ length c.held.first + 1 →
+  left_stays : c.wants ≡ Left → {last : LastHeard} {x : Cut} (first : List Packet)
+      → OneMore c.who lists.left p last x → length first ≤ length c.held.first + 1 →
       AlikeUpTo c.block x (cut_for c.who lists.right) (LastBlock first) (LastBlock []) →
       StandsFor (record c { left_given = c.left_given + 1; left_heard = last; held = record c.held { first = first } })
       (left_more lists p)
@@ -226,9 +232,11 @@ module _ {c : Comparison} {lists : Lists} (s : StandsFor c lists) (p : Packet) w
       }
 
   -- the right side is wanted still
-  right_stays : c.wants ≡ Right → {last : LastHeard} {y : Cut} (second : List Packet) → OneMore c.who lists.right p last y → length second ≤ length c.held.second + 1 →
+  right_stays : c.wants ≡ Right → {last : LastHeard} {y : Cut} (second : List Packet)
+      → OneMore c.who lists.right p last y → length second ≤ length c.held.second + 1 →
       AlikeUpTo c.block (cut_for c.who lists.left) y (open_cut c.held.first c.left_end) (LastBlock second) →
-      StandsFor (record c { right_given = c.right_given + 1; right_heard = last; held = record c.held { second = second } })
+      StandsFor
+      (record c { right_given = c.right_given + 1; right_heard = last; held = record c.held { second = second } })
       (right_more lists p)
   right_stays e {last = last} second more fits up =
       let w = wants_right s e in record {
@@ -273,7 +281,9 @@ module _ {c : Comparison} {lists : Lists} (s : StandsFor c lists) (p : Packet) w
       (omega (arith, longer c.held.second p)) (right_up w false own)
 
   -- a verdict is settled by one more packet of the right list
-  right_done : c.wants ≡ Right → {last : LastHeard} {y : Cut} (z : Cut) (v : Verdict) → OneMore c.who lists.right p last y → AlikeUpTo c.block (cut_for c.who lists.left) y (open_cut c.held.first c.left_end) z
+  right_done : c.wants ≡ Right → {last : LastHeard} {y : Cut} (z : Cut) (v : Verdict)
+      → OneMore c.who lists.right p last y
+      → AlikeUpTo c.block (cut_for c.who lists.left) y (open_cut c.held.first c.left_end) z
       → SettledFrom lists.left_ended lists.right_ended c.block (open_cut c.held.first c.left_end) z v
       → (v ≡ Alike → ⊥) → StandsFor (heard_right (record c { wants = Done v }) p) (right_more lists p)
   right_done e z v more up settled apart = record {
@@ -423,7 +433,7 @@ held_fits c lists going left right s = by_wants c.wants s.stage going
         × (length c.held.first + length c.held.second ≡ most_held c.who lists)
     by_wants Left w going = (
       omega arith,
-      ap (λ l. length c.held.first + length l) w.none_yet ∙ sym (behind (LastBlock c.held.first) (LastBlock []) w.up_to),
+      rw w.none_yet (sym (behind (LastBlock c.held.first) (LastBlock []) w.up_to)),
     )
     by_wants Right w going = (
       omega arith,

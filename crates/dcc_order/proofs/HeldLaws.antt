@@ -60,11 +60,12 @@ packets_new members ns x all =
 packets_are_members : (members : List Packet) (ns : List ℕ) → Numbered members ns → (p : Packet)
     → Contains (packets_of members ns) p → (n : ℕ) × (n < length members) × Contains ns n × (get_or members n Idle ≡ p)
 packets_are_members members [] all p h = absurd (contains_none p h)
-packets_are_members members (n ∷ ns) all p h = elim (contains_cases (get_or members n Idle) (packets_of members ns) p h) [
-  | inl is ↦ (n, all.0, contains_head n ns, is)
-  | inr later ↦
-      (let m = packets_are_members members ns all.1 p later in (m.0, m.1, contains_tail n ns m.0 m.2, m.3))
-]
+packets_are_members members (n ∷ ns) all p h = elim
+    (contains_cases (get_or members n Idle) (packets_of members ns) p h) [
+      | inl is ↦ (n, all.0, contains_head n ns, is)
+      | inr later ↦
+          (let m = packets_are_members members ns all.1 p later in (m.0, m.1, contains_tail n ns m.0 m.2, m.3))
+    ]
 
 number_gives : (members : List Packet) (ns : List ℕ) (n : ℕ) → Contains ns n
     → Contains (packets_of members ns) (get_or members n Idle)
@@ -237,7 +238,8 @@ module _ {places : List Place} {count : ℕ} {others : List ℕ} (held : AreHeld
 
   member_at : (k : ℕ) (d : Packet) (e : Place) → k < count → get_or ms k d ≡ (get_or places k e).member
   member_at k d e below =
-      get_or-map (λ (place : Place). place.member) (take count places) k e d (simp length-take (omega (arith, held.within)))
+      get_or-map (λ (place : Place). place.member) (take count places) k e d
+      (simp length-take (omega (arith, held.within)))
       ∙ ap (λ (place : Place). place.member) (get_or-take count places k e below)
 
   -- any two packets that conflict take the same turns exactly where the number of one of them does with each before it

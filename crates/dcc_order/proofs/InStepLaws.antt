@@ -174,7 +174,8 @@ places_are_counted packets place (Some p) at few = omega (arith, slice_get_withi
 
 settled : {c : Comparison} {lists : Lists} (verdict : Verdict) → Done verdict ≡ c.wants → StandsFor c lists
     → IsVerdictOfAll c.who lists verdict
-settled {c = c} {lists = lists} verdict is stands = (subst (λ (w : Wants). Stage w c lists) (sym is) stands.stage).of_all
+settled {c = c} {lists = lists} verdict is stands =
+    (subst (λ (w : Wants). Stage w c lists) (sym is) stands.stage).of_all
 
 pub verdict_is_of_both : VerdictIsOfBoth
 unfolding IsInStep

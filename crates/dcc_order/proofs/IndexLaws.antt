@@ -1,5 +1,5 @@
 -- Packets found by the numbers of their frames.
-use Rattle.std.proofs.Common.{ℕ, suc, ◌+◌, ◌<◌, ◌≡◌, ◌∙◌, refl, sym, ap, true, false, cond, List, [], ◌∷◌, ◌++◌, Option}
+use Rattle.std.proofs.Common.{ℕ, suc, ◌<◌, ◌≡◌, ◌∙◌, refl, sym, ap, true, false, cond, List, [], ◌∷◌, ◌++◌, Option}
 use Rattle.std.proofs.Common.{Some, length, arith, inl, inr}
 use Rattle.std.specs.Prelude.{nat_lt, slice_index}
 use Rattle.std.specs.List.{position}
@@ -74,21 +74,13 @@ here members x inside = rw (lt_true (member_number members x) (length members) i
 -- another packet stays where it was found
 position-push : (members : List Packet) (x p : Packet) → same p x ≡ false
     → position (same p) (members ++ x ∷ []) ≡ position (same p) members
-position-push members x p apart = elim (cases_eq (member_number members p) (length members)) [
-  | inl is ↦ rw (
-    number-push_new members x p is,
-    apart,
-    lt_false (length members + 1) (length (members ++ x ∷ []))
-        (sym (length-append members (x ∷ []))),
-    lt_false (member_number members p) (length members) is,
-  ) refl
-  | inr other ↦ rw (
-    number-push_old members x p other,
-    lt_true (member_number members p) (length members) (omega (arith, number-within members p, other)),
-    lt_true (member_number members p) (length (members ++ x ∷ []))
-        (omega (arith, number-within members p, length-append members (x ∷ []))),
-  ) refl
-]
+position-push members x p apart =
+    let more = length-append members (x ∷ []) in
+    let within = number-within members p in
+    elim (cases_eq (member_number members p) (length members)) [
+      | inl is ↦ rw (number-push_new members x p is, apart, more) (grind (arith, nat_tests, is))
+      | inr other ↦ rw (number-push_old members x p other, more) (grind (arith, nat_tests, other, within))
+    ]
 
 -- the index after a number was put at the number of a packet's frame
 module _ (found then_found : ℕ → Option ℕ) (members : List Packet) (x : Packet) (key number : ℕ)

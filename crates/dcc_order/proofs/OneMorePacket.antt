@@ -37,7 +37,8 @@ copies p q r e =
     ((Decides-same p q).0 both.0, (Decides-same p r).0 both.1)
 
 left_out : (a b : Bool) (l : List Packet) (q p : Packet)
-    → cond a (cond b l (l ++ p ∷ [])) (q ∷ cond b l (l ++ p ∷ [])) ≡ cond b (cond a l (q ∷ l)) (cond a l (q ∷ l) ++ p ∷ [])
+    → cond a (cond b l (l ++ p ∷ [])) (q ∷ cond b l (l ++ p ∷ []))
+    ≡ cond b (cond a l (q ∷ l)) (cond a l (q ∷ l) ++ p ∷ [])
 left_out true true l q p = refl
 left_out true false l q p = refl
 left_out false true l q p = refl

@@ -38,7 +38,8 @@ one_half : {L : Type 0} {told : L → Note → L → Type 0} (track : List ℕ) 
     → AreSpelled shown (frames_of answer)
     → HasHeard shown who' now who'' after → IsTold told (heard who shown) b c
     → WereHeardAndTold told (take (n + 1) track) next who start who'' after a c
-one_half {told = told} track n answer shown {who = who} {a = a} {b = b} {c = c} come in_track stands sees spelled hear tell =
+one_half {told = told} track n answer shown {who = who} {a = a} {b = b} {c = c} come in_track stands sees spelled hear
+    tell =
     rw (← take_more track n in_track) (record {
       stands = stands (take n track) come.stands;
       packets = come.packets ++ shown;

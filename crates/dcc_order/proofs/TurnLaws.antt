@@ -119,8 +119,8 @@ snoc P none more l = go [] l none
 told : (p q : Packet) (block : List Packet) → Told p q (turns p q block) (summary p q block)
 told p q = snoc (λ block. Told p q (turns p q block) (summary p q block)) (refl, refl)
     (λ block x h. subst (Told p q (turns p q (block ++ x ∷ []))) (sym (summary-append p q block x))
-    (rw (turns-append p q block x) (told_more p q x (turns p q block) (summary p q block) h (is_one_of p q x) (is_repeated (summary p q block).last x)
-    refl refl)))
+    (rw (turns-append p q block x) (told_more p q x (turns p q block) (summary p q block) h (is_one_of p q x)
+    (is_repeated (summary p q block).last x) refl refl)))
 
 -- the summary is that of the turns alone
 summary_of_turns : (p q : Packet) (block : List Packet)
@@ -180,7 +180,10 @@ own_comes p q apart block =
 pub rival_comes : (p q : Packet) (block : List Packet)
     → turns_taken p q (block ++ q ∷ []) ≡ rival_turn (turns_taken p q block)
 rival_comes p q block = ap (shown q) (summary-append p q block q) ∙ rw (one_right p q)
-    (elim (cases_Bool (is_repeated (summary p q block).last q)) [ inl e ↦ rw (e, e) refl | inr e ↦ rw (e, same-refl q) refl ])
+    (elim (cases_Bool (is_repeated (summary p q block).last q)) [
+      | inl e ↦ rw (e, e) refl
+      | inr e ↦ rw (e, same-refl q) refl
+    ])
 
 -- another packet comes
 pub other_comes : (p q x : Packet) → is_one_of p q x ≡ false → (block : List Packet)
@@ -194,7 +197,18 @@ last_told p q None None n m f g e h = refl
 last_told p q None (Some z) n m f g e h = absurd (let high : 0 < m = g.1 in omega arith)
 last_told p q (Some y) None n m f g e h = absurd (let high : 0 < n = f.1 in omega arith)
 last_told p q (Some y) (Some z) n m f g e h = ap (λ x. Some x)
-    (grind (arith, same_tells y q, same_tells z q, same_tells p y, same_tells p z, same_tells q y, same_tells q z, f.0, g.0, h))
+    (grind (
+      arith,
+      same_tells y q,
+      same_tells z q,
+      same_tells p y,
+      same_tells p z,
+      same_tells q y,
+      same_tells q z,
+      f.0,
+      g.0,
+      h,
+    ))
 
 -- two packets take the same turns in two blocks exactly where they take as many, and the same has the last
 pub turns_told : (p q : Packet) (left right : List Packet)

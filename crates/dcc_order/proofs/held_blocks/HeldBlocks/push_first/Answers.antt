@@ -17,28 +17,20 @@ invariant_of-self-then-number-self c =
     let x = c.args.packet.now in
     let held = c.self.invariant.0 in
     let frame = c.number_of_frame-frame.ensures in
-    let found = number_is held x (get nat_cmp c.self.inside.index) _ _ c.self.invariant.1 frame.valid frame.number
-    c.number_at-number.ensures in
+    let index = get nat_cmp c.self.inside.index in
+    let found = number_is held x index _ _ c.self.invariant.1 frame.valid frame.number c.number_at-number.ensures in
+    let pushed = c.push_place.ensures.items in
+    let kept = c.reserve-3.ensures.items in
+    let put = c.set_member.ensures nowhere in
+    let more = add-one c.self.inside.count in
+    let longer = c.push_place.ensures.len in
     let fresh = is_new held x (sym found ∙ c.if-number-self.true) in (
-      rw (
-        c.set_member.ensures nowhere,
-        c.push_place.ensures.items,
-        c.reserve-3.ensures.items,
-        c.if-number-self.true,
-        add-one c.self.inside.count,
-      ) (new_held held x nowhere fresh),
-      rw (
-        c.set_member.ensures nowhere,
-        c.push_place.ensures.items,
-        c.reserve-3.ensures.items,
-        c.if-number-self.true,
-        add-one c.self.inside.count,
-        new_members held x nowhere,
-      )
-          (new_index (get nat_cmp c.self.inside.index) (get nat_cmp c.insert.new.self) _ x _ _ c.self.invariant.1 frame.valid frame.number
+      rw (put, pushed, kept, c.if-number-self.true, more) (new_held held x nowhere fresh),
+      rw (put, pushed, kept, c.if-number-self.true, more, new_members held x nowhere)
+          (new_index index (get nat_cmp c.insert.new.self) _ x _ _ c.self.invariant.1 frame.valid frame.number
           c.in_ok-insert.ensures.updates.0 (found ∙ fresh) fresh),
-      omega (arith, held.within, c.push_place.ensures.len, c.saturating_add-members.ensures, c.in_ok-reserve.ensures.ok),
-      omega (arith, held.within, c.push_place.ensures.len, c.saturating_add-members.ensures, c.in_ok-reserve-2.ensures.ok),
+      omega (arith, held.within, longer, c.saturating_add-members.ensures, c.in_ok-reserve.ensures.ok),
+      omega (arith, held.within, longer, c.saturating_add-members.ensures, c.in_ok-reserve-2.ensures.ok),
     )
 
 pub invariant_of-self-else-number-self : goal.invariant_of-self-else-number-self
@@ -46,18 +38,14 @@ invariant_of-self-else-number-self c =
     let x = c.args.packet.now in
     let held = c.self.invariant.0 in
     let frame = c.number_of_frame-frame.ensures in
-    let found = number_is held x (get nat_cmp c.self.inside.index) _ _ c.self.invariant.1 frame.valid frame.number
-    c.number_at-number.ensures in
+    let index = get nat_cmp c.self.inside.index in
+    let found = number_is held x index _ _ c.self.invariant.1 frame.valid frame.number c.number_at-number.ensures in
+    let pushed = c.push_place.ensures.items in
+    let kept = c.reserve-3.ensures.items in
     let inside = is_known held x (λ e. c.if-number-self.false (found ∙ e)) in (
-      rw (c.push_place.ensures.items, c.reserve-3.ensures.items, found)
-          (known_held held x inside),
-      rw (
-        c.push_place.ensures.items,
-        c.reserve-3.ensures.items,
-        found,
-        known_members held x _,
-      )
-          (known_index (get nat_cmp c.self.inside.index) (get nat_cmp c.insert.new.self) _ x _ _ c.self.invariant.1 frame.valid frame.number
+      rw (pushed, kept, found) (known_held held x inside),
+      rw (pushed, kept, found, known_members held x _)
+          (known_index index (get nat_cmp c.insert.new.self) _ x _ _ c.self.invariant.1 frame.valid frame.number
           c.in_ok-insert.ensures.updates.0 found inside),
       omega (arith, c.self.invariant.2, c.reserve.ensures),
       omega (arith, c.self.invariant.3, c.reserve-2.ensures),
@@ -68,16 +56,12 @@ returns-then-number-self-clause-ok c =
     let x = c.args.packet.now in
     let held = c.self.invariant.0 in
     let frame = c.number_of_frame-frame.ensures in
-    let found = number_is held x (get nat_cmp c.self.inside.index) _ _ c.self.invariant.1 frame.valid frame.number
-    c.number_at-number.ensures in
-    let fresh = is_new held x (sym found ∙ c.if-number-self.true) in
-    rw (
-      c.set_member.ensures nowhere,
-      c.push_place.ensures.items,
-      c.reserve-3.ensures.items,
-      c.if-number-self.true,
-      add-one c.self.inside.count,
-    ) (new_view held x nowhere)
+    let index = get nat_cmp c.self.inside.index in
+    let found = number_is held x index _ _ c.self.invariant.1 frame.valid frame.number c.number_at-number.ensures in
+    let pushed = c.push_place.ensures.items in
+    let kept = c.reserve-3.ensures.items in
+    let put = c.set_member.ensures nowhere in
+    rw (put, pushed, kept, c.if-number-self.true, add-one c.self.inside.count) (new_view held x nowhere)
     ∙ ap (λ (h : Held). let v : Held = record h { first = h.first ++ x ∷ [] } in v) c.self.view_is
 
 pub returns-else-number-self-clause-ok : goal.returns-else-number-self-clause-ok
@@ -85,9 +69,10 @@ returns-else-number-self-clause-ok c =
     let x = c.args.packet.now in
     let held = c.self.invariant.0 in
     let frame = c.number_of_frame-frame.ensures in
-    let found = number_is held x (get nat_cmp c.self.inside.index) _ _ c.self.invariant.1 frame.valid frame.number
-    c.number_at-number.ensures in
+    let index = get nat_cmp c.self.inside.index in
+    let found = number_is held x index _ _ c.self.invariant.1 frame.valid frame.number c.number_at-number.ensures in
+    let pushed = c.push_place.ensures.items in
+    let kept = c.reserve-3.ensures.items in
     let inside = is_known held x (λ e. c.if-number-self.false (found ∙ e)) in
-    rw (c.push_place.ensures.items, c.reserve-3.ensures.items, found)
-    (known_view held x inside)
+    rw (pushed, kept, found) (known_view held x inside)
     ∙ ap (λ (h : Held). let v : Held = record h { first = h.first ++ x ∷ [] } in v) c.self.view_is
