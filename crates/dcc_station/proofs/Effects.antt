@@ -1,19 +1,22 @@
 -- What a command leaves, whatever was pending before it.
-use Rattle.std.proofs.Common.{◌≡◌, ◌∙◌, refl, sym, ap, Bool, true, false, cond, List, [], ◌∷◌, ◌++◌, Option, Some, None}
+use Rattle.std.proofs.Common.{◌≡◌, refl, ap, Bool, true, false, cond, Option, Some, None}
 use Rattle.std.specs.Prelude.{◌&&◌, is_some}
 use Rattle.dcc_packet.specs.declared.packet.Packet.{Packet}
 use Rattle.dcc_regs.specs.declared.register.Register.{Register}
 use Rattle.dcc_regs.specs.declared.register.Register.TheVariants.{CvBit}
 use Rattle.dcc_regs.specs.declared.register.Value.{Value}
-use Rattle.dcc_regs.specs.Writes.{is_own_write}
+use Rattle.dcc_regs.specs.Writes.{is_own_write, writes_cv29}
 use Rattle.dcc_regs.specs.Result.{RegisterMap}
 use Rattle.dcc_regs.specs.Sets.{sets}
 use Rattle.dcc_regs.specs.Setting.{value_over, mode_in}
 use Rattle.dcc_regs.specs.Result.{mode_of, is_pending, left_pending}
+use Rattle.dcc_packet.proofs.SameFrames.{same-refl}
 use Rattle.dcc_regs.proofs.OwnWrites.{sets-own_write}
 use Rattle.dcc_regs.proofs.RegisterStep.{overwritten-none}
 use Rattle.dcc_regs.proofs.ResultByParts.{State, step, sets_bit, overwritten-twice}
 use Rattle.dcc_regs.specs.declared.register.Value.TheVariants.{Pending as PendingValue}
+use Rattle.dcc_station.specs.Commands.{is_refreshed}
+use Rattle.dcc_station.proofs.Tables.{mode_stays, refreshed_is_no_write}
 
 -- the registers but for what is pending. Where no write can be pending, none ever has an effect
 pub record Core : Type 0 where
@@ -36,16 +39,30 @@ effect c p = record {
   plain = λ r. value_over (c.plain r) (sets (mode_in c.bits) p r);
 }
 
-abbrev pub effects : Core → List Packet → Core
-effects c [] = c
-effects c (p ∷ later) = effects (effect c p) later
+-- one copy of a packet, which the decoder hears or not, and what it leaves in the end
+abbrev pub copied : Bool → State → Packet → State
+copied heard s p = cond heard (step s p) s
 
-pub effects-append : (c : Core) (a b : List Packet) → effects c (a ++ b) ≡ effects (effects c a) b
-effects-append c [] b = refl
-effects-append c (p ∷ a) b = effects-append (effect c p) a b
+abbrev pub then_effect : Bool → Core → Packet → Core
+then_effect heard c p = cond heard (effect c p) c
+
+-- where an own write is heard, it is pending, if a write can be
+abbrev pub Waits : Bool → State → Packet → Type 0
+Waits true s p = is_own_write p ≡ true → is_pending s.pending p ≡ is_some s.pending
+Waits false s p = Unit {0}
+
+pub waits : (heard : Bool) (s : State) (p : Packet) → Waits heard (copied heard s p) p
+waits false s p = tt
+waits true s p = by_case s.pending
+  where
+    by_case : (held : Option Value) → is_own_write p ≡ true
+        → is_pending (value_over held (Some (PendingValue (left_pending p)))) p
+        ≡ is_some (value_over held (Some (PendingValue (left_pending p))))
+    by_case None own = refl
+    by_case (Some v) own = rw own (same-refl p)
 
 -- a decoder that has a pending write has one from then on, and one that has none never gets it
-pub still_waits : (s : State) (p : Packet) → is_some (step s p).pending ≡ is_some s.pending
+still_waits : (s : State) (p : Packet) → is_some (step s p).pending ≡ is_some s.pending
 still_waits s p = by_case s.pending
   where
     by_case : (held : Option Value) → is_some (value_over held (Some (PendingValue (left_pending p)))) ≡ is_some held
@@ -53,67 +70,80 @@ still_waits s p = by_case s.pending
     by_case (Some v) = refl
 
 -- a packet that is no own write has its effect at once
-pub step_plain : (s : State) (p : Packet) → is_own_write p ≡ false → core (step s p) ≡ effect (core s) p
-step_plain s p other = same_core (core (step s p)) (effect (core s) p) (still_waits s p)
-    (λ r. ap (λ w. cond (w && is_pending s.pending p) (value_over (s.bits r) (sets_bit p r)) (s.bits r)) other
-    ∙ sym (ap (λ w. cond (w && is_some s.pending) (value_over (s.bits r) (sets_bit p r)) (s.bits r)) other))
-    (λ r. refl)
+pub at_once : (heard : Bool) (s : State) (p : Packet) → is_own_write p ≡ false
+    → core (copied heard s p) ≡ then_effect heard (core s) p
+at_once true s p other = same_core _ _ (still_waits s p) (λ r. rw other refl) (λ r. refl)
+at_once false s p other = refl
 
 -- an own write has its effect where it is pending, if a write can be
-pub step_pending : (s : State) (p : Packet) → is_pending s.pending p ≡ is_some s.pending
-    → core (step s p) ≡ effect (core s) p
-step_pending s p again = same_core (core (step s p)) (effect (core s) p) (still_waits s p)
-    (λ r. ap (λ t. cond (is_own_write p && t) (value_over (s.bits r) (sets_bit p r)) (s.bits r)) again)
-    (λ r. refl)
+pub at_last : (heard : Bool) (s : State) (p : Packet) → Waits heard s p
+    → core (copied heard s p) ≡ then_effect heard (core s) p
+at_last false s p waits = refl
+at_last true s p waits = by_kind (is_own_write p) refl
+  where
+    by_kind : (w : Bool) → is_own_write p ≡ w → core (step s p) ≡ effect (core s) p
+    by_kind true own = same_core _ _ (still_waits s p) (λ r. rw (waits own) refl) (λ r. refl)
+    by_kind false other = at_once true s p other
 
 -- what is pending is there
 pending_is_some : (held : Option Value) (p : Packet) → is_pending held p ≡ true → is_some held ≡ true
 pending_is_some None p e = cc
 pending_is_some (Some v) p e = refl
 
--- an own write sets no plain register
-pub effect_plain_own : (c : Core) (p : Packet) → is_own_write p ≡ true → (r : Register)
-    → (effect c p).plain r ≡ c.plain r
-effect_plain_own c p own r =
-    ap (value_over (c.plain r)) (sets-own_write (mode_in c.bits) p r own) ∙ overwritten-none (c.plain r)
+-- what a first write does, a second does alone
+twice_bits : (w b h : Bool) (v o : Option Value) → (b ≡ true → h ≡ true)
+    → cond (w && h) (value_over (cond (w && b) (value_over v o) v) o) (cond (w && b) (value_over v o) v)
+    ≡ cond (w && h) (value_over v o) v
+twice_bits false b h v o there = refl
+twice_bits true false h v o there = refl
+twice_bits true true true v o there = overwritten-twice v o
+twice_bits true true false v o there = absurd (let e : false ≡ true = there refl in cc)
+
+twice_plain : (m n : RegisterMap) (v : Option Value) (p : Packet) (r : Register)
+    → (is_own_write p ≡ false → mode_in n ≡ mode_in m)
+    → value_over (value_over v (sets (mode_in m) p r)) (sets (mode_in n) p r) ≡ value_over v (sets (mode_in m) p r)
+twice_plain m n v p r same = by_kind (is_own_write p) refl
+  where
+    by_kind : (w : Bool) → is_own_write p ≡ w
+        → value_over (value_over v (sets (mode_in m) p r)) (sets (mode_in n) p r) ≡ value_over v (sets (mode_in m) p r)
+    by_kind true own = rw (sets-own_write (mode_in n) p r own) (overwritten-none _)
+    by_kind false other = rw (same other) (overwritten-twice v _)
+
+pub mode_other : (c : Core) (p : Packet) → is_own_write p ≡ false → mode_in (effect c p).bits ≡ mode_in c.bits
+mode_other c p other = rw other refl
 
 -- a first copy leaves the effect of the next as it was
-pub effect_after_first : (s : State) (p : Packet) → is_own_write p ≡ true
-    → effect (core (step s p)) p ≡ effect (core s) p
-effect_after_first s p own = same_core (effect (core (step s p)) p) (effect (core s) p) (still_waits s p)
-    (λ r. ap (λ h. cond (is_own_write p && h) (value_over ((step s p).bits r) (sets_bit p r)) ((step s p).bits r))
-    (still_waits s p)
-    ∙ by_case r (is_own_write p) (is_pending s.pending p) (is_some s.pending) (pending_is_some s.pending p))
-    (λ r. effect_plain_own (core (step s p)) p own r
-    ∙ ap (value_over (s.plain r)) (sets-own_write (mode_in s.bits) p r own) ∙ overwritten-none (s.plain r)
-    ∙ sym (effect_plain_own (core s) p own r))
-  where
-    by_case : (r : Register) (w b h : Bool) → (b ≡ true → h ≡ true) →
-        cond (w && h) (value_over (cond (w && b) (value_over (s.bits r) (sets_bit p r)) (s.bits r)) (sets_bit p r))
-        (cond (w && b) (value_over (s.bits r) (sets_bit p r)) (s.bits r))
-        ≡ cond (w && h) (value_over (s.bits r) (sets_bit p r)) (s.bits r)
-    by_case r false b h there = refl
-    by_case r true false h there = refl
-    by_case r true true true there = overwritten-twice (s.bits r) (sets_bit p r)
-    by_case r true true false there = absurd (let e : false ≡ true = there refl in cc)
+pub after_first : (heard : Bool) (s : State) (p : Packet)
+    → then_effect heard (core (copied heard s p)) p ≡ then_effect heard (core s) p
+after_first false s p = refl
+after_first true s p = same_core _ _ (still_waits s p)
+    (λ r. rw (still_waits s p)
+    (twice_bits (is_own_write p) (is_pending s.pending p) (is_some s.pending) (s.bits r) (sets_bit p r)
+    (pending_is_some s.pending p)))
+    (λ r. twice_plain s.bits (step s p).bits (s.plain r) p r (λ other. rw other refl))
 
 -- a packet that has had its effect has none more
-pub effect_twice : (c : Core) (p : Packet) → effect (effect c p) p ≡ effect c p
-effect_twice c p = by_kind (is_own_write p) refl
-  where
-    written : (t : Bool) (v o : Option Value)
-        → cond t (value_over (cond t (value_over v o) v) o) (cond t (value_over v o) v) ≡ cond t (value_over v o) v
-    written true v o = overwritten-twice v o
-    written false v o = refl
+pub effect_twice : (heard : Bool) (c : Core) (p : Packet)
+    → then_effect heard (then_effect heard c p) p ≡ then_effect heard c p
+effect_twice false c p = refl
+effect_twice true c p = same_core _ _ refl
+    (λ r. twice_bits (is_own_write p) c.can_wait c.can_wait (c.bits r) (sets_bit p r) (λ e. e))
+    (λ r. twice_plain c.bits (effect c p).bits (c.plain r) p r (mode_other c p))
 
-    by_kind : (w : Bool) → is_own_write p ≡ w → effect (effect c p) p ≡ effect c p
-    by_kind true own = same_core (effect (effect c p) p) (effect c p) refl
-        (λ r. written (is_own_write p && c.can_wait) (c.bits r) (sets_bit p r))
-        (λ r. effect_plain_own (effect c p) p own r)
-    by_kind false other = same_core (effect (effect c p) p) (effect c p) refl
-        (λ r. written (is_own_write p && c.can_wait) (c.bits r) (sets_bit p r))
-        (λ r. ap (λ mode. value_over (value_over (c.plain r) (sets (mode_in c.bits) p r)) (sets mode p r))
-        (ap (λ w. mode_of
-        (cond (w && c.can_wait) (value_over (c.bits (CvBit 29 1)) (sets_bit p (CvBit 29 1)))
-        (c.bits (CvBit 29 1)))) other)
-        ∙ overwritten-twice (c.plain r) (sets (mode_in c.bits) p r))
+-- an own write sets no plain register, and where it does not write CV29 leaves the mode
+pub effect_plain_own : (c : Core) (p : Packet) → is_own_write p ≡ true → (r : Register)
+    → (effect c p).plain r ≡ c.plain r
+effect_plain_own c p own r = rw (sets-own_write (mode_in c.bits) p r own) (overwritten-none (c.plain r))
+
+pub mode_kept : (c : Core) (p : Packet) → writes_cv29 p ≡ false → mode_in (effect c p).bits ≡ mode_in c.bits
+mode_kept c p none = rw (mode_stays p none) (by_case (is_own_write p && c.can_wait))
+  where
+    by_case : (t : Bool)
+        → mode_of (cond t (value_over (c.bits (CvBit 29 1)) None) (c.bits (CvBit 29 1))) ≡ mode_in c.bits
+    by_case true = ap mode_of (overwritten-none (c.bits (CvBit 29 1)))
+    by_case false = refl
+
+-- an entry whose registers are at its values has no effect
+pub no_effect : (c : Core) (e : Packet) → is_refreshed e ≡ true
+    → ((r : Register) → value_over (c.plain r) (sets (mode_in c.bits) e r) ≡ c.plain r) → effect c e ≡ c
+no_effect c e fresh holds = same_core _ _ refl (λ r. rw (refreshed_is_no_write e fresh) refl) holds
