@@ -44,7 +44,8 @@ Judged true p e = SameAll p e
 Judged false p e = Ends p e
 
 -- it leaves the entry where three tests hold
-pub judged_three : (p e : Packet) (a b c : Bool) → (a ≡ true → b ≡ true → c ≡ true → SameAll p e) → (a ≡ false → Ends p e)
+pub judged_three : (p e : Packet) (a b c : Bool)
+    → (a ≡ true → b ≡ true → c ≡ true → SameAll p e) → (a ≡ false → Ends p e)
     → (b ≡ false → Ends p e) → (c ≡ false → Ends p e) → Judged (a && (b && c)) p e
 judged_three p e true true true all x y z = all refl refl refl
 judged_three p e true true false all x y z = z refl
@@ -70,5 +71,6 @@ only_three mode p e r h s w f d = absurd (cc)
 -- an entry sets no register but the speed, the direction and functions
 pub same_all : {p e : Packet} → is_refreshed e ≡ true
     → ((mode : SpeedMode) → Differ (sets mode p SpeedRegister) (sets mode e SpeedRegister) → ⊥)
-    → ((mode : SpeedMode) → Differ (sets mode p Direction) (sets mode e Direction) → ⊥) → SameFunctions p e → SameAll p e
+    → ((mode : SpeedMode) → Differ (sets mode p Direction) (sets mode e Direction) → ⊥)
+    → SameFunctions p e → SameAll p e
 same_all {p = p} {e = e} h s w f = record { at = λ mode r. only_three mode p e r h (s mode) (w mode) f }

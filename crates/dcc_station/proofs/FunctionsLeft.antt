@@ -71,7 +71,8 @@ one_group to own a b mode n d = either n 0
     (in_run mode (Loco own (Functions b)) (Loco to (Functions a)) b.group n refl some (differ-sym _ _ d)))
 
 -- the same bits of one group
-pub same_group : (to own : Address) (a b : GroupBits) → a ≡ b → SameFunctions (Loco to (Functions a)) (Loco own (Functions b))
+pub same_group : (to own : Address) (a b : GroupBits) → a ≡ b
+    → SameFunctions (Loco to (Functions a)) (Loco own (Functions b))
 same_group to own a b e mode n = same_differs Flag _ _ (ap (λ g. group_bit mode g n) e)
 
 -- a place at which two numbers have two bits
@@ -100,7 +101,9 @@ same_bit n m h k e = grind (arith, nat_tests)
 
 -- the functions of a group that its bits say, and F0
 place_is : (first count k : ℕ) (o : Option ℕ) → 1 ≤ first → k < count
-    → (if first + k == 0 then o else if nat_le first (first + k) && nat_lt (first + k) (first + count) then Some (first + k - first) else None)
+    → (if first + k == 0 then o
+    else if nat_le first (first + k) && nat_lt (first + k) (first + count)
+    then Some (first + k - first) else None)
     ≡ Some k
 place_is first count k o some low =
     let zero : (first + k == 0) ≡ false = grind (arith, nat_tests) in

@@ -1,5 +1,6 @@
 -- A command to all locomotives and an entry.
-use Rattle.std.proofs.Common.{◌≡◌, ◌∙◌, refl, sym, ap, subst, Bool, true, false, Option, Some, None, ℕ, ◌+◌, ◌/◌, ◌≤◌, ◌<◌, arith}
+use Rattle.std.proofs.Common.{◌≡◌, ◌∙◌, refl, sym, ap, subst, Bool, true, false, Option, Some, None, ℕ, ◌+◌, ◌/◌, ◌≤◌}
+use Rattle.std.proofs.Common.{◌<◌, arith}
 use Rattle.std.specs.Prelude.{option_map, ◌==◌, ◌||◌, ◌&&◌, not, nat_lt, if◌then◌else◌}
 use Rattle.std.proofs.lemmas.Bool.Decides.{nat_tests, Decides-eqb}
 use Rattle.dcc_packet.specs.declared.address.Address.{Address}
@@ -56,7 +57,8 @@ group_to_speed28 to own a f bits Steps28 n d = none_differs (option_map Flag (gr
 
 -- two commands for functions, of two groups
 pub other_group : (to own : Address) (a b : GroupBits) → is_refreshed (Loco own (Functions b)) ≡ true
-    → (first_function a.group == first_function b.group) ≡ false → SameAll (Loco to (Functions a)) (Loco own (Functions b))
+    → (first_function a.group == first_function b.group) ≡ false
+    → SameAll (Loco to (Functions a)) (Loco own (Functions b))
 other_group to own a b h e =
     kept_functions h (λ mode n d. not_equal _ _ e (ap first_function (one_group to own a b mode n d)))
 
@@ -79,7 +81,8 @@ judged_group to own a (Speed28 f bits) h =
     same_all h (λ mode d. d) (λ mode d. d) (group_to_speed28 to own a f bits)
 judged_group to own a (Speed128 f bits) h =
     same_all h (λ mode d. d) (λ mode d. d) (λ mode n. none_differs (option_map Flag (group_bit mode a n)))
-judged_group to own a (Functions b) h = by_tests (first_function a.group == first_function b.group) (a.bits == b.bits) refl refl
+judged_group to own a (Functions b) h =
+    by_tests (first_function a.group == first_function b.group) (a.bits == b.bits) refl refl
   where
     by_tests : (t u : Bool) → (first_function a.group == first_function b.group) ≡ t → (a.bits == b.bits) ≡ u
         → Judged (not t || (true && u)) (Loco to (Functions a)) (Loco own (Functions b))
@@ -93,7 +96,8 @@ pub judged_all : (own : Address) (what entry : What) → is_refreshed (Loco own 
     → Judged (kept_by_all what entry) (Loco Broadcast what) (Loco own entry)
 judged_all own Reset entry h = judged_reset Broadcast own entry h
 judged_all own (Speed28 f bits) entry h = judged_stop own f bits entry h
-judged_all own (Speed128 f bits) entry h = judged_speed (Loco Broadcast (Speed128 f bits)) bits.bits (Some f) own entry h
+judged_all own (Speed128 f bits) entry h =
+    judged_speed (Loco Broadcast (Speed128 f bits)) bits.bits (Some f) own entry h
     (record { speed = λ mode. refl; direction = refl }) (λ mode n d. d)
 judged_all own (Functions bits) entry h = judged_group Broadcast own bits entry h
 judged_all own what entry h = same_all h (λ mode d. d) (λ mode d. d) (λ mode n d. d)

@@ -24,7 +24,8 @@ use Rattle.dcc_station.specs.Sending.{Displaces}
 use Rattle.dcc_station.proofs.EntryDifferences.{not_equal, SameAll, Judged, same_all}
 use Rattle.dcc_station.proofs.SpeedLeft.{refreshed_one, kept_functions}
 use Rattle.dcc_station.proofs.ResetLeft.{judged_reset}
-use Rattle.dcc_station.proofs.LeftByAll.{group_to_speed28, other_group, first_same, other_bits, judged_group, judged_all}
+use Rattle.dcc_station.proofs.LeftByAll.{group_to_speed28, other_group, first_same, other_bits, judged_group}
+use Rattle.dcc_station.proofs.LeftByAll.{judged_all}
 
 -- what is told of a command and an entry, where it is, is right
 abbrev pub Told : Option Bool → Packet → Packet → Type 0
@@ -32,7 +33,8 @@ Told None p e = Unit {0}
 Told (Some true) p e = Displaces p e → ⊥
 Told (Some false) p e = Displaces p e
 
-pub told_same : {p e : Packet} → SameAll p e → (e ≡ p → ⊥) → ((writes_cv29 p ≡ true) × (address_of e ≡ address_of p) → ⊥)
+pub told_same : {p e : Packet} → SameAll p e → (e ≡ p → ⊥)
+    → ((writes_cv29 p ≡ true) × (address_of e ≡ address_of p) → ⊥)
     → Displaces p e → ⊥
 told_same {p = p} {e = e} same other cv gone = elim gone [
   | inl is ↦ other is
@@ -51,7 +53,8 @@ own_address Broadcast = (refl, refl)
 own_address (Short n) = let e = (Decides-eqb n.number n.number).1 refl in (e, e)
 own_address (Long n) = let e = (Decides-eqb n.number n.number).1 refl in (e, e)
 
-heard_by : (own to : Address) (what entry : What) → is_for (Some own) to ≡ true → HeardTogether (Loco to what) (Loco own entry)
+heard_by : (own to : Address) (what entry : What) → is_for (Some own) to ≡ true
+    → HeardTogether (Loco to what) (Loco own entry)
 heard_by own to what entry h = record { who = LocoWho (Some own); first = h; second = (own_address own).0 }
 
 -- a command to all is no entry, and has no address of one
@@ -64,18 +67,22 @@ pub told_all : (own : Address) (what entry : What) → is_refreshed (Loco own en
     → Told (Some (kept_by_all what entry)) (Loco Broadcast what) (Loco own entry)
 told_all own what entry h =
     told_by (kept_by_all what entry) (Loco Broadcast what) (Loco own entry) (heard_by own Broadcast what entry refl)
-    (judged_all own what entry h) (λ same. not_all own entry h (ap address_of same)) (λ both. not_all own entry h both.1)
+    (judged_all own what entry h) (λ same. not_all own entry h (ap address_of same))
+    (λ both. not_all own entry h both.1)
 
 -- an instruction that sets no speed or functions is no entry
-not_entry : (own : Address) (what entry : What) → is_refreshed (Loco own entry) ≡ true → sets_speed_or_functions what ≡ false
+not_entry : (own : Address) (what entry : What) → is_refreshed (Loco own entry) ≡ true
+    → sets_speed_or_functions what ≡ false
     → Loco own entry ≡ Loco own what → ⊥
 not_entry own what entry h none is = let k = (refreshed_one own what (sym (ap is_refreshed is) ∙ h)).1 in cc
 
 -- a command that sets no register of an entry ends it where it writes CV29
-told_write : (w : Bool) (own : Address) (what entry : What) → writes_mode what ≡ w → SameAll (Loco own what) (Loco own entry)
+told_write : (w : Bool) (own : Address) (what entry : What) → writes_mode what ≡ w
+    → SameAll (Loco own what) (Loco own entry)
     → (Loco own entry ≡ Loco own what → ⊥) → Told (Some (not w)) (Loco own what) (Loco own entry)
 told_write true own what entry e same other = inr (inr (e, refl))
-told_write false own what entry e same other = told_same same other (λ both. let k : true ≡ false = sym both.0 ∙ e in cc)
+told_write false own what entry e same other =
+    told_same same other (λ both. let k : true ≡ false = sym both.0 ∙ e in cc)
 
 told_groups : (own : Address) (a b : GroupBits) → is_refreshed (Loco own (Functions b)) ≡ true
     → Told (Some (group_kept true a (Functions b))) (Loco own (Functions a)) (Loco own (Functions b))
@@ -84,11 +91,13 @@ told_groups own a b h = by_tests (first_function a.group == first_function b.gro
     by_tests : (t u : Bool) → (first_function a.group == first_function b.group) ≡ t → (a.bits == b.bits) ≡ u
         → Told (Some (not t || (false && u))) (Loco own (Functions a)) (Loco own (Functions b))
     by_tests false u e f = told_same (other_group own own a b h e)
-        (λ is. not_equal _ _ e (let same : a ≡ b = cc in ap (λ (g : GroupBits). first_function g.group) same)) (λ both. cc)
+        (λ is. not_equal _ _ e (let same : a ≡ b = cc in ap (λ (g : GroupBits). first_function g.group) same))
+        (λ both. cc)
     by_tests true true e f = inl (ap (λ g. Loco own (Functions g))
         (sym (same_functions a b (first_same a b e) ((Decides-eqb a.bits b.bits).0 f))))
     by_tests true false e f = inr (inl (conflict_from (Loco own (Functions a)) (Loco own (Functions b))
-        (heard_by own own (Functions a) (Functions b) (own_address own).0) (other_bits own own a b (first_same a b e) f)))
+        (heard_by own own (Functions a) (Functions b) (own_address own).0)
+        (other_bits own own a b (first_same a b e) f)))
 
 pub told_one : (own : Address) (what entry : What) → is_refreshed (Loco own entry) ≡ true
     → Told (kept_by_one what entry) (Loco own what) (Loco own entry)

@@ -35,7 +35,8 @@ told_apart to own what entry one h apart gone = elim gone [
 told_named : (to own : Address) (what entry : What) → to ≢ Broadcast → is_refreshed (Loco own entry) ≡ true → (t : Bool)
     → same_address own to ≡ t → Told (if t then kept_by_one what entry else Some true) (Loco to what) (Loco own entry)
 told_named to own what entry one h true e =
-    subst (λ a. Told (kept_by_one what entry) (Loco a what) (Loco own entry)) (same_one own to e) (told_one own what entry h)
+    subst (λ a. Told (kept_by_one what entry) (Loco a what) (Loco own entry)) (same_one own to e)
+    (told_one own what entry h)
 told_named to own what entry one h false e = told_apart to own what entry one h
     (λ is. let k : true ≡ false = sym (own_address own).1 ∙ ap (same_address own) is ∙ e in cc)
 

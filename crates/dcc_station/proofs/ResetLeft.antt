@@ -22,14 +22,16 @@ use Rattle.dcc_station.specs.Commands.{is_refreshed}
 use Rattle.dcc_station.specs.Inner.Kept.{reset_kept}
 use Rattle.dcc_station.proofs.SpeedsAlike.{stops, apart28, apart126}
 use Rattle.dcc_station.proofs.EntryDifferences.{not_equal, Ends, Judged, judged_three, SameFunctions}
-use Rattle.dcc_station.proofs.SpeedLeft.{IsOne, refreshed_one, AsksSpeed, Shows, shows28, kept_speed, ended_by_speed, ended_by_way}
+use Rattle.dcc_station.proofs.SpeedLeft.{IsOne, refreshed_one, AsksSpeed, Shows, shows28, kept_speed, ended_by_speed}
+use Rattle.dcc_station.proofs.SpeedLeft.{ended_by_way}
 use Rattle.dcc_station.proofs.SpeedLeft.{kept_functions}
 use Rattle.dcc_station.proofs.FunctionsLeft.{last_is_68, apart_in_group}
 
 asks_reset : (to : Address) → AsksSpeed (Loco to Reset) 0 (Some true)
 asks_reset to = record { speed = λ mode. refl; direction = refl }
 
-same_off : (to : Address) (e : Packet) → ((mode : SpeedMode) (n : ℕ) → Off (function_set mode e n)) → SameFunctions (Loco to Reset) e
+same_off : (to : Address) (e : Packet) → ((mode : SpeedMode) (n : ℕ) → Off (function_set mode e n))
+    → SameFunctions (Loco to Reset) e
 same_off to e off mode n = never _ _ (off_by (nat_le n 68)) (off mode n)
 
 off_28 : (own : Address) (f : Bool) (bits : SpeedBits28) → bits.bits ≡ 0 → (mode : SpeedMode) (n : ℕ)
@@ -80,5 +82,6 @@ judged_reset to own (Functions bits) h =
     (λ mode n. rw ((Decides-eqb bits.bits 0).0 is) (zero_bits (function_place mode bits.group n)))))
     (λ none. absurd (cc)) (λ none. absurd (cc))
     (λ some. apart_in_group (Loco to Reset) 0 own bits (omega arith) (λ none. not_equal bits.bits 0 some (cc))
-    (λ k low. turned_off (first_function bits.group + k) k (let h = last_is_68 bits.group in omega arith)) (λ zero. refl))
+    (λ k low. turned_off (first_function bits.group + k) k (let h = last_is_68 bits.group in omega arith))
+    (λ zero. refl))
 judged_reset to own entry h = absurd (let k = (refreshed_one own entry h).1 in cc)

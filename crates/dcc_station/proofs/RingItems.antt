@@ -93,27 +93,14 @@ module _ {X : Type 0} where
       ∙ take-append-le (len - 1) (drop 1 all) (take 1 (drop start places)) few
       ∙ sym (drop-take 1 (len - 1) all) ∙ ap (λ n. drop 1 (take n all)) whole
 
-  front_of_take : (n : ℕ) (l : List X) → 0 < n → slice_get (take n l) 0 ≡ slice_get l 0
-  front_of_take zero l some = absurd (omega arith)
-  front_of_take (suc n) [] some = refl
-  front_of_take (suc n) (x ∷ l) some = refl
-
-  front_of_both : (l r : List X) → 0 < length l → slice_get (l ++ r) 0 ≡ slice_get l 0
-  front_of_both [] r some = absurd (omega arith)
-  front_of_both (x ∷ l) r some = refl
-
-  front_of_drop : (n : ℕ) (l : List X) → slice_get (drop n l) 0 ≡ slice_get l n
-  front_of_drop zero l = refl
-  front_of_drop (suc n) [] = refl
-  front_of_drop (suc n) (x ∷ l) = front_of_drop n l
-
   -- the front one stands at the start
   pub ring_front : (start len : ℕ) (places : List X) → start < length places → 0 < len
       → slice_get (ring_items start len places) 0 ≡ slice_get places start
   ring_front start len places inside some =
       let left : 0 < length (drop start places) = simp length-drop (omega arith) in
-      front_of_take len (turned start places) some ∙ front_of_both (drop start places) (take start places) left
-      ∙ front_of_drop start places
+      slice_get-take len (turned start places) 0 some
+      ∙ slice_get-append_left (drop start places) (take start places) 0 left
+      ∙ slice_get-drop start places 0 start (omega arith)
 
   -- the one so many behind the front one
   pub ring_get : (start len i at : ℕ) (places : List X) → start < length places → i < len → len ≤ length places

@@ -21,7 +21,8 @@ use Rattle.dcc_regs.specs.Speeds.{speed_set, direction_set, speed_of_126}
 use Rattle.dcc_station.specs.Commands.{is_refreshed, sets_speed_or_functions}
 use Rattle.dcc_station.specs.Inner.Kept.{way_kept, speed_kept}
 use Rattle.dcc_station.proofs.SpeedsAlike.{speed_in, stops, apart28, apart126}
-use Rattle.dcc_station.proofs.EntryDifferences.{none_differs, same_differs, some_differs, not_equal, SameAll, Ends, Judged}
+use Rattle.dcc_station.proofs.EntryDifferences.{none_differs, same_differs, some_differs, not_equal, SameAll, Ends}
+use Rattle.dcc_station.proofs.EntryDifferences.{Judged}
 use Rattle.dcc_station.proofs.EntryDifferences.{judged_three, SameFunctions, same_all}
 
 -- one locomotive's address
@@ -66,7 +67,8 @@ shows28 {own = own} {f = f} {bits = bits} h =
       direction = (shows_by Steps28 own f bits one).1;
     }
 
-way_same : (way : Option Bool) (f : Bool) → way_kept way f ≡ true → Differ (option_map Forward way) (Some (Forward f)) → ⊥
+way_same : (way : Option Bool) (f : Bool) → way_kept way f ≡ true
+    → Differ (option_map Forward way) (Some (Forward f)) → ⊥
 way_same None f h d = d
 way_same (Some true) true h d = d refl
 way_same (Some false) false h d = d refl
@@ -122,7 +124,8 @@ judged_speed p k way own (Speed128 f bits) h asks same =
     record { fresh = h; speed = λ mode. refl; direction = refl } in
     judged_three p (Loco own (Speed128 f bits)) true (bits.bits == k) (way_kept way f)
     (λ t is. kept_speed asks shows same (λ mode. ap speed_of_126 (sym ((Decides-eqb bits.bits k).0 is))))
-    (λ none. absurd (cc)) (λ apart. ended_by_speed asks shows (λ e. not_equal bits.bits k apart (apart126 k bits.bits e)))
+    (λ none. absurd (cc))
+    (λ apart. ended_by_speed asks shows (λ e. not_equal bits.bits k apart (apart126 k bits.bits e)))
     (λ back. ended_by_way asks shows back)
 judged_speed p k way own (Functions bits) h asks same = kept_functions h same
 judged_speed p k way own entry h asks same = absurd (let k = (refreshed_one own entry h).1 in cc)

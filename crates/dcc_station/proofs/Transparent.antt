@@ -30,7 +30,8 @@ use Rattle.dcc_regs.proofs.LawLemmas.{idle_is_unheard, values_are_decided}
 use Rattle.dcc_regs.proofs.ConflictLemmas.{conflict_from}
 use Rattle.dcc_regs.specs.Inner.ConflictParts.{Differ}
 use Rattle.dcc_station.specs.Sending.{EntriesAfter}
-use Rattle.dcc_station.proofs.Effects.{Core, core, effect, copied, then_effect, Waits, waits, at_once, at_last, mode_other}
+use Rattle.dcc_station.proofs.Effects.{Core, core, effect, copied, then_effect, Waits, waits, at_once, at_last}
+use Rattle.dcc_station.proofs.Effects.{mode_other}
 use Rattle.dcc_station.proofs.Effects.{after_first, effect_twice, effect_plain_own, mode_kept, no_effect}
 
 pub not_both : {b : Bool} → b ≡ true → b ≡ false → ⊥
@@ -47,7 +48,8 @@ all_dropped P (suc n) [] all = tt
 all_dropped P (suc n) (x ∷ l) all = all_dropped P n l all.1
 
 -- what does not differ from a value that stands stands after it
-no_difference : (v a b : Option Value) → (Differ a b → ⊥) → value_over v b ≡ v → value_over (value_over v a) b ≡ value_over v a
+no_difference : (v a b : Option Value) → (Differ a b → ⊥) → value_over v b ≡ v
+    → value_over (value_over v a) b ≡ value_over v a
 no_difference None a b same k = refl
 no_difference (Some v) None b same k = k
 no_difference (Some v) (Some u) None same k = refl
@@ -205,7 +207,8 @@ module _ (who : Who) where
         → core (copied (hears who p) (after_packets packets) p) ≡ c → core (after_packets (packets ++ p ∷ [])) ≡ c
     one_more packets p c is = ap core (run-more copied (start m) packets p) ∙ is
 
-    next_keeps : (waiting entries : List Packet) (sent : ℕ) (s : Sending) (commands packets : List Packet) (out : Packet)
+    next_keeps : (waiting entries : List Packet) (sent : ℕ) (s : Sending) (commands packets : List Packet)
+        (out : Packet)
         (new : Sending) → Invariant (record s { waiting = waiting; sent = sent; entries = entries }) commands packets
         → HandsOut waiting entries (record s { waiting = waiting; sent = sent; entries = entries }) out new
         → Invariant new commands (packets ++ out ∷ [])
@@ -301,7 +304,8 @@ refresh s done packets from whole who m r other =
     let inv = stands who m s (done ++ s.waiting) packets from in
     let same_done : done ≡ inv.done = append_cancel_right done inv.done s.waiting inv.split in
     read-state_after m (heard who packets) r
-    ∙ read_core (state_after (start m) (heard who packets)) (state_after (start m) (heard who (intended done))) r other (
+    ∙ read_core (state_after (start m) (heard who packets)) (state_after (start m) (heard who (intended done)))
+    r other (
     ap core (state_after-heard who (start m) packets)
     ∙ when_whole who m s.sent s.waiting inv.done inv.target (after_packets who m packets) whole inv.progress
     ∙ ap (asked who m) (sym same_done) ∙ sym (run-intended who (start m) done)

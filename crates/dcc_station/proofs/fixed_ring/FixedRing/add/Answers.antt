@@ -1,6 +1,5 @@
-use Rattle.std.proofs.Common.{◌<◌, ◌∙◌, ◌++◌, ◌∷◌, [], ℕ, List, length, sym, ap, subst, arith}
+use Rattle.std.proofs.Common.{◌<◌, ◌∙◌, ◌++◌, ◌∷◌, [], List, length, ap, arith}
 use Rattle.circular_buffer.specs.Buffer.{Buffer, buffer}
-use Rattle.circular_buffer.specs.Places.{Wraps}
 use Rattle.dcc_packet.specs.declared.packet.Packet.{Packet}
 use Rattle.dcc_station.proofs.RingItems.{length-ring, ring_pushed}
 use Rattle.dcc_station.proofs.fixed_ring.FixedRing.add.Goals as goal
@@ -16,6 +15,5 @@ returns g c =
     let same_capacity = ap (λ (b : Buffer Packet). b.capacity) c.self.view_is in
     let room : r.len < r.capacity = omega arith in
     ap (λ (l : List Packet). buffer l r.capacity)
-    (ring_pushed r.start r.len behind.result r.packets packet (omega arith) (omega arith)
-    (subst (λ (n : ℕ). Wraps r.start r.len n behind.result) (sym i.4) behind.ensures))
+    (ring_pushed r.start r.len behind.result r.packets packet (omega arith) (omega arith) (rw i.4 behind.ensures))
     ∙ ap (λ (b : Buffer Packet). buffer (b.items ++ packet ∷ []) b.capacity) c.self.view_is

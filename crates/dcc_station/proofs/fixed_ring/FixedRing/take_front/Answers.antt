@@ -1,8 +1,7 @@
-use Rattle.std.proofs.Common.{◌<◌, ◌∙◌, ℕ, List, length, drop, sym, ap, subst, arith}
+use Rattle.std.proofs.Common.{◌<◌, ◌∙◌, List, length, drop, sym, ap, arith}
 use Rattle.std.specs.Prelude.{slice_get}
 use Rattle.std.proofs.lemmas.Option.{slice_get-get_or}
 use Rattle.circular_buffer.specs.Buffer.{Buffer, buffer}
-use Rattle.circular_buffer.specs.Places.{Wraps}
 use Rattle.dcc_packet.specs.declared.packet.Packet.{Packet}
 use Rattle.dcc_station.proofs.RingItems.{length-ring, ring_front, ring_popped}
 use Rattle.dcc_station.proofs.fixed_ring.FixedRing.take_front.Goals as goal
@@ -16,8 +15,7 @@ returns-clause-others g c =
     let same_len = ap (λ (b : Buffer Packet). length b.items) c.self.view_is in
     let some : 0 < r.len = omega arith in
     ap (λ (l : List Packet). buffer l r.capacity)
-    (ring_popped r.start r.len next.result r.packets (omega arith) some (omega arith)
-    (subst (λ (n : ℕ). Wraps r.start 1 n next.result) (sym i.4) next.ensures))
+    (ring_popped r.start r.len next.result r.packets (omega arith) some (omega arith) (rw i.4 next.ensures))
     ∙ ap (λ (b : Buffer Packet). buffer (drop 1 b.items) b.capacity) c.self.view_is
 
 pub returns-clause-front : goal.returns-clause-front

@@ -1,4 +1,4 @@
-use Rattle.std.proofs.Common.{◌≡◌, ◌<◌, ◌∙◌, ℕ, Some, length, get_or, sym, ap, subst, arith}
+use Rattle.std.proofs.Common.{◌≡◌, ◌<◌, ◌∙◌, Some, length, get_or, sym, ap, subst, arith}
 use Rattle.std.specs.Prelude.{slice_get, IsTrue, ◌↔◌}
 use Rattle.std.proofs.lemmas.Option.{slice_get-get_or}
 use Rattle.circular_buffer.specs.Buffer.{Buffer}
@@ -18,8 +18,7 @@ returns g c = record {
       let same_len = ap (λ (b : Buffer Packet). length b.items) c.self.view_is in
       let inside : c.args.at < r.len = let h = c.requires.inside in omega arith in
       let x = get_or r.packets at.result c.index-self-place_behind.result in
-      let wraps : Wraps r.start c.args.at (length r.packets) at.result =
-      subst (λ (n : ℕ). Wraps r.start c.args.at n at.result) (sym i.4) at.ensures in
+      let wraps : Wraps r.start c.args.at (length r.packets) at.result = rw i.4 at.ensures in
       let some : Some x ≡ Some entry =
       sym (slice_get-get_or r.packets at.result c.index-self-place_behind.result wraps.0)
       ∙ sym (ring_get r.start r.len c.args.at at.result r.packets (omega arith) inside (omega arith) wraps)

@@ -1,4 +1,4 @@
-use Rattle.std.proofs.Common.{◌≡◌, ◌<◌, ◌∙◌, ℕ, List, Some, length, set, get_or, sym, ap, subst, arith}
+use Rattle.std.proofs.Common.{◌≡◌, ◌<◌, ◌∙◌, List, Some, length, set, get_or, sym, ap, arith}
 use Rattle.std.specs.Prelude.{slice_get}
 use Rattle.std.proofs.lemmas.Option.{slice_get-get_or}
 use Rattle.circular_buffer.specs.Buffer.{Buffer, buffer}
@@ -19,10 +19,8 @@ returns g c = record {
       let inside : c.args.from < r.len = let h = c.requires.inside in omega arith in
       let lower : c.args.to < r.len = let h = c.requires.order in omega arith in
       let x = get_or r.packets from.result c.index-self-from.result in
-      let wraps_from : Wraps r.start c.args.from (length r.packets) from.result =
-      subst (λ (n : ℕ). Wraps r.start c.args.from n from.result) (sym i.4) from.ensures in
-      let wraps_to : Wraps r.start c.args.to (length r.packets) to.result =
-      subst (λ (n : ℕ). Wraps r.start c.args.to n to.result) (sym i.4) to.ensures in
+      let wraps_from : Wraps r.start c.args.from (length r.packets) from.result = rw i.4 from.ensures in
+      let wraps_to : Wraps r.start c.args.to (length r.packets) to.result = rw i.4 to.ensures in
       let some : Some x ≡ Some packet =
       sym (slice_get-get_or r.packets from.result c.index-self-from.result wraps_from.0)
       ∙ sym (ring_get r.start r.len c.args.from from.result r.packets (omega arith) inside (omega arith) wraps_from)
