@@ -1,11 +1,12 @@
 -- A command that sets functions, and an entry that does.
-use Rattle.std.proofs.Common.{◌≡◌, ◌≢◌, ◌∙◌, refl, sym, ap, subst, true, false, Option, Some, None, inl, inr}
+use Rattle.std.proofs.Common.{◌≡◌, ◌≢◌, ◌∙◌, refl, sym, ap, true, false, Option, Some, None, inl, inr}
 use Rattle.std.proofs.Common.{ℕ, zero, suc, ◌⊎◌, ◌+◌, ◌-◌, ◌^◌, ◌<◌, ◌≤◌, arith}
 use Rattle.std.specs.Prelude.{option_map, ◌==◌, ◌&&◌, nat_lt, nat_le, if◌then◌else◌}
 use Rattle.std.specs.Int.{bit_at}
 use Rattle.std.proofs.lemmas.Bool.Decides.{nat_tests}
 use Rattle.std.proofs.lemmas.Nat.Bits.{same_from_bits_below, bit_at-lt}
 use Rattle.dcc_packet.specs.declared.address.Address.{Address}
+use Rattle.dcc_packet.specs.declared.address.Address.TheVariants.{Broadcast}
 use Rattle.dcc_packet.specs.declared.functions.Group.{Group}
 use Rattle.dcc_packet.specs.declared.functions.Group.TheVariants.{F0, F5, F9, F13, F21, F29, F37, F45, F53, F61}
 use Rattle.dcc_packet.specs.declared.functions.GroupBits.{GroupBits}
@@ -58,17 +59,19 @@ f0_group Steps28 b g o d = absurd d
 f0_group Steps14 b g o d = absurd d
 
 -- two commands for groups differ in one group alone
-pub one_group : (to own : Address) (a b : GroupBits) (mode : SpeedMode) (n : ℕ)
+pub one_group : (a b : GroupBits) (mode : SpeedMode) (n : ℕ)
     → Differ (option_map Flag (group_bit mode a n)) (option_map Flag (group_bit mode b n)) → a.group ≡ b.group
-one_group to own a b mode n d = either n 0
-    (λ is.
-    let first : Differ (option_map Flag (group_bit mode a 0)) (option_map Flag (group_bit mode b 0)) =
-    subst (λ k. Differ (option_map Flag (group_bit mode a k)) (option_map Flag (group_bit mode b k))) is d in
-    f0_group mode a.bits a.group _ first ∙ sym (f0_group mode b.bits b.group _ (differ-sym _ _ first)))
-    (λ some.
-    sym (of_run a.group n (in_run mode (Loco to (Functions a)) (Loco own (Functions b)) a.group n refl some d))
-    ∙ of_run b.group n
-    (in_run mode (Loco own (Functions b)) (Loco to (Functions a)) b.group n refl some (differ-sym _ _ d)))
+one_group a b mode n d = either n 0 (λ is. at_f0 a b d is ∙ sym (at_f0 b a (differ-sym _ _ d) is))
+    (λ some. sym (in_group a b d some) ∙ in_group b a (differ-sym _ _ d) some)
+  where
+    at_f0 : (a b : GroupBits) → Differ (option_map Flag (group_bit mode a n)) (option_map Flag (group_bit mode b n))
+        → n ≡ 0 → a.group ≡ F0
+    at_f0 a b d is = f0_group mode a.bits a.group _ (rw is at d)
+
+    in_group : (a b : GroupBits) → Differ (option_map Flag (group_bit mode a n)) (option_map Flag (group_bit mode b n))
+        → n ≢ 0 → group_at n ≡ a.group
+    in_group a b d some = of_run a.group n
+        (in_run mode (Loco Broadcast (Functions a)) (Loco Broadcast (Functions b)) a.group n refl some d)
 
 -- the same bits of one group
 pub same_group : (to own : Address) (a b : GroupBits) → a ≡ b

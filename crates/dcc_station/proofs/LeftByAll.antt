@@ -22,7 +22,7 @@ use Rattle.dcc_station.specs.Commands.{is_refreshed}
 use Rattle.dcc_station.specs.Inner.Kept.{speed_kept, group_kept, kept_by_all}
 use Rattle.dcc_station.proofs.SpeedsAlike.{stop_to_all, no_stop}
 use Rattle.dcc_station.proofs.EntryDifferences.{none_differs, not_equal, SameAll, Ends, Judged, SameFunctions, same_all}
-use Rattle.dcc_station.proofs.SpeedLeft.{refreshed_one, kept_functions, judged_speed}
+use Rattle.dcc_station.proofs.SpeedLeft.{refreshed_sets, kept_functions, judged_speed}
 use Rattle.dcc_station.proofs.FunctionsLeft.{same_first, one_group, same_group, says, says_f0, apart_in_group}
 use Rattle.dcc_station.proofs.ResetLeft.{judged_reset}
 
@@ -60,7 +60,7 @@ pub other_group : (to own : Address) (a b : GroupBits) → is_refreshed (Loco ow
     → (first_function a.group == first_function b.group) ≡ false
     → SameAll (Loco to (Functions a)) (Loco own (Functions b))
 other_group to own a b h e =
-    kept_functions h (λ mode n d. not_equal _ _ e (ap first_function (one_group to own a b mode n d)))
+    kept_functions h (λ mode n d. not_equal _ _ e (ap first_function (one_group a b mode n d)))
 
 pub first_same : (a b : GroupBits) → (first_function a.group == first_function b.group) ≡ true → a.group ≡ b.group
 first_same a b e = same_first a.group b.group ((Decides-eqb _ _).0 e)
@@ -90,7 +90,7 @@ judged_group to own a (Functions b) h =
     by_tests true true e f = kept_functions h
         (same_group to own a b (same_functions a b (first_same a b e) ((Decides-eqb a.bits b.bits).0 f)))
     by_tests true false e f = other_bits to own a b (first_same a b e) f
-judged_group to own a entry h = absurd (let k = (refreshed_one own entry h).1 in cc)
+judged_group to own a entry h = absurd (let k = refreshed_sets own entry h in cc)
 
 pub judged_all : (own : Address) (what entry : What) → is_refreshed (Loco own entry) ≡ true
     → Judged (kept_by_all what entry) (Loco Broadcast what) (Loco own entry)

@@ -22,7 +22,7 @@ use Rattle.dcc_station.specs.Commands.{is_refreshed, sets_speed_or_functions}
 use Rattle.dcc_station.specs.Inner.Kept.{reset_kept, group_kept, kept_by_all, kept_by_one}
 use Rattle.dcc_station.specs.Sending.{Displaces}
 use Rattle.dcc_station.proofs.EntryDifferences.{not_equal, SameAll, Judged, same_all}
-use Rattle.dcc_station.proofs.SpeedLeft.{refreshed_one, kept_functions}
+use Rattle.dcc_station.proofs.SpeedLeft.{refreshed_sets, kept_functions}
 use Rattle.dcc_station.proofs.ResetLeft.{judged_reset}
 use Rattle.dcc_station.proofs.LeftByAll.{group_to_speed28, other_group, first_same, other_bits, judged_group}
 use Rattle.dcc_station.proofs.LeftByAll.{judged_all}
@@ -59,9 +59,10 @@ heard_by own to what entry h = record { who = LocoWho (Some own); first = h; sec
 
 -- a command to all is no entry, and has no address of one
 pub not_all : (own : Address) (entry : What) → is_refreshed (Loco own entry) ≡ true → Some own ≡ Some Broadcast → ⊥
+unfolding is_refreshed
 not_all (Short own) entry h e = cc
 not_all (Long own) entry h e = cc
-not_all Broadcast entry h e = (refreshed_one Broadcast entry h).0
+not_all Broadcast entry h e = cc
 
 pub told_all : (own : Address) (what entry : What) → is_refreshed (Loco own entry) ≡ true
     → Told (Some (kept_by_all what entry)) (Loco Broadcast what) (Loco own entry)
@@ -74,7 +75,7 @@ told_all own what entry h =
 not_entry : (own : Address) (what entry : What) → is_refreshed (Loco own entry) ≡ true
     → sets_speed_or_functions what ≡ false
     → Loco own entry ≡ Loco own what → ⊥
-not_entry own what entry h none is = let k = (refreshed_one own what (sym (ap is_refreshed is) ∙ h)).1 in cc
+not_entry own what entry h none is = let k = refreshed_sets own what (sym (ap is_refreshed is) ∙ h) in cc
 
 -- a command that sets no register of an entry ends it where it writes CV29
 told_write : (w : Bool) (own : Address) (what entry : What) → writes_mode what ≡ w
@@ -109,7 +110,7 @@ told_one own (Functions a) (Speed28 f bits) h =
     told_same (judged_group own own a (Speed28 f bits) h) (λ e. cc) (λ both. cc)
 told_one own (Functions a) (Speed128 f bits) h =
     told_same (judged_group own own a (Speed128 f bits) h) (λ e. cc) (λ both. cc)
-told_one own (Functions a) entry h = absurd (let k = (refreshed_one own entry h).1 in cc)
+told_one own (Functions a) entry h = absurd (let k = refreshed_sets own entry h in cc)
 told_one own (Speed28 f bits) (Functions b) h = told_same
     (kept_functions h (λ mode n d. group_to_speed28 own own b f bits mode n (differ-sym _ _ d))) (λ e. cc) (λ both. cc)
 told_one own (Speed128 f bits) (Functions b) h = told_same (kept_functions h (λ mode n d. d)) (λ e. cc) (λ both. cc)

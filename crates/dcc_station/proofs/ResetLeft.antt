@@ -22,7 +22,7 @@ use Rattle.dcc_station.specs.Commands.{is_refreshed}
 use Rattle.dcc_station.specs.Inner.Kept.{reset_kept}
 use Rattle.dcc_station.proofs.SpeedsAlike.{stops, apart28, apart126}
 use Rattle.dcc_station.proofs.EntryDifferences.{not_equal, Ends, Judged, judged_three, SameFunctions}
-use Rattle.dcc_station.proofs.SpeedLeft.{IsOne, refreshed_one, AsksSpeed, Shows, shows28, kept_speed, ended_by_speed}
+use Rattle.dcc_station.proofs.SpeedLeft.{refreshed_sets, AsksSpeed, Shows, shows28, kept_speed, ended_by_speed}
 use Rattle.dcc_station.proofs.SpeedLeft.{ended_by_way}
 use Rattle.dcc_station.proofs.SpeedLeft.{kept_functions}
 use Rattle.dcc_station.proofs.FunctionsLeft.{last_is_68, apart_in_group}
@@ -46,12 +46,13 @@ zero_bits None = tt
 zero_bits (Some k) = ap (λ n. n == 1) (bit_at-zero k)
 
 -- the lowest bit is F0 where the speed is read for 14 steps
-ended_by_f0 : (to own : Address) (f : Bool) (bits : SpeedBits28) → IsOne own → bits.bits % 2 ≡ 1
-    → Ends (Loco to Reset) (Loco own (Speed28 f bits))
-ended_by_f0 to (Short own) f bits one odd =
+ended_by_f0 : (to own : Address) (f : Bool) (bits : SpeedBits28) → is_refreshed (Loco own (Speed28 f bits)) ≡ true
+    → bits.bits % 2 ≡ 1 → Ends (Loco to Reset) (Loco own (Speed28 f bits))
+unfolding is_refreshed
+ended_by_f0 to (Short own) f bits h odd =
     (Steps14, record { register = Function 0; differ = rw odd (λ e. cc) })
-ended_by_f0 to (Long own) f bits one odd = (Steps14, record { register = Function 0; differ = rw odd (λ e. cc) })
-ended_by_f0 to Broadcast f bits one odd = absurd one
+ended_by_f0 to (Long own) f bits h odd = (Steps14, record { register = Function 0; differ = rw odd (λ e. cc) })
+ended_by_f0 to Broadcast f bits h odd = absurd (cc)
 
 turned_off : (n k : ℕ) → n ≤ 68 → (if nat_le n 68 then Some false else None) ≡ Some (is_one 0 k)
 turned_off n k low =
@@ -66,7 +67,7 @@ judged_reset to own (Speed28 f bits) h =
     (λ mode. stops mode 0 bits.bits (omega arith) (omega arith)) on)
     (λ none. absurd (cc)) (λ back. ended_by_way (asks_reset to) (shows28 h) back)
     (λ is. let some = not_equal bits.bits 0 is in either (bits.bits / 2) 0
-    (λ half. ended_by_f0 to own f bits (refreshed_one own (Speed28 f bits) h).0 (omega arith))
+    (λ half. ended_by_f0 to own f bits h (omega arith))
     (λ apart. ended_by_speed (asks_reset to) (shows28 h) (λ e. apart (apart28 0 bits.bits e).1)))
 judged_reset to own (Speed128 f bits) h =
     let shows : Shows (Loco own (Speed128 f bits)) (λ mode. speed_of_126 bits.bits) f =
@@ -84,4 +85,4 @@ judged_reset to own (Functions bits) h =
     (λ some. apart_in_group (Loco to Reset) 0 own bits (omega arith) (λ none. not_equal bits.bits 0 some (cc))
     (λ k low. turned_off (first_function bits.group + k) k (let h = last_is_68 bits.group in omega arith))
     (λ zero. refl))
-judged_reset to own entry h = absurd (let k = (refreshed_one own entry h).1 in cc)
+judged_reset to own entry h = absurd (let k = refreshed_sets own entry h in cc)

@@ -25,18 +25,12 @@ use Rattle.dcc_station.proofs.EntryDifferences.{none_differs, same_differs, some
 use Rattle.dcc_station.proofs.EntryDifferences.{Judged}
 use Rattle.dcc_station.proofs.EntryDifferences.{judged_three, SameFunctions, same_all}
 
--- one locomotive's address
-abbrev pub IsOne : Address → Type 0
-IsOne Broadcast = ⊥
-IsOne (Short own) = Unit {0}
-IsOne (Long own) = Unit {0}
-
-pub refreshed_one : (own : Address) (entry : What) → is_refreshed (Loco own entry) ≡ true
-    → IsOne own × (sets_speed_or_functions entry ≡ true)
+pub refreshed_sets : (own : Address) (entry : What) → is_refreshed (Loco own entry) ≡ true
+    → sets_speed_or_functions entry ≡ true
 unfolding is_refreshed
-refreshed_one Broadcast entry h = absurd (cc)
-refreshed_one (Short own) entry h = (tt, h)
-refreshed_one (Long own) entry h = (tt, h)
+refreshed_sets Broadcast entry h = absurd (cc)
+refreshed_sets (Short own) entry h = h
+refreshed_sets (Long own) entry h = h
 
 -- a packet sets this speed in either mode, and perhaps a direction
 pub record AsksSpeed (p : Packet) (k : ℕ) (way : Option Bool) : Type 0 where
@@ -49,23 +43,24 @@ pub record Shows (e : Packet) (speeds : SpeedMode → Speed) (f : Bool) : Type 0
   pub speed : (mode : SpeedMode) → speed_set mode e ≡ Some (speeds mode)
   pub direction : direction_set e ≡ Some f
 
-shows_by : (mode : SpeedMode) (own : Address) (f : Bool) (bits : SpeedBits28) → IsOne own
+shows_by : (mode : SpeedMode) (own : Address) (f : Bool) (bits : SpeedBits28)
+    → is_refreshed (Loco own (Speed28 f bits)) ≡ true
     → (speed_set mode (Loco own (Speed28 f bits)) ≡ Some (speed_in bits.bits mode))
     × (direction_set (Loco own (Speed28 f bits)) ≡ Some f)
-shows_by Steps14 (Short own) f bits one = (refl, refl)
-shows_by Steps14 (Long own) f bits one = (refl, refl)
-shows_by Steps28 (Short own) f bits one = (refl, refl)
-shows_by Steps28 (Long own) f bits one = (refl, refl)
-shows_by mode Broadcast f bits one = absurd one
+unfolding is_refreshed
+shows_by Steps14 (Short own) f bits h = (refl, refl)
+shows_by Steps14 (Long own) f bits h = (refl, refl)
+shows_by Steps28 (Short own) f bits h = (refl, refl)
+shows_by Steps28 (Long own) f bits h = (refl, refl)
+shows_by mode Broadcast f bits h = absurd (cc)
 
 pub shows28 : {own : Address} {f : Bool} {bits : SpeedBits28} → is_refreshed (Loco own (Speed28 f bits)) ≡ true
     → Shows (Loco own (Speed28 f bits)) (speed_in bits.bits) f
-shows28 {own = own} {f = f} {bits = bits} h =
-    let one = (refreshed_one own (Speed28 f bits) h).0 in record {
-      fresh = h;
-      speed = λ mode. (shows_by mode own f bits one).0;
-      direction = (shows_by Steps28 own f bits one).1;
-    }
+shows28 {own = own} {f = f} {bits = bits} h = record {
+  fresh = h;
+  speed = λ mode. (shows_by mode own f bits h).0;
+  direction = (shows_by Steps28 own f bits h).1;
+}
 
 way_same : (way : Option Bool) (f : Bool) → way_kept way f ≡ true
     → Differ (option_map Forward way) (Some (Forward f)) → ⊥
@@ -128,4 +123,4 @@ judged_speed p k way own (Speed128 f bits) h asks same =
     (λ apart. ended_by_speed asks shows (λ e. not_equal bits.bits k apart (apart126 k bits.bits e)))
     (λ back. ended_by_way asks shows back)
 judged_speed p k way own (Functions bits) h asks same = kept_functions h same
-judged_speed p k way own entry h asks same = absurd (let k = (refreshed_one own entry h).1 in cc)
+judged_speed p k way own entry h asks same = absurd (let k = refreshed_sets own entry h in cc)

@@ -14,22 +14,20 @@ use Rattle.dcc_regs.specs.declared.register.Register.TheVariants as Register'
 use Rattle.dcc_regs.specs.declared.register.Value.{Value}
 use Rattle.dcc_regs.specs.declared.register.Who.{Who}
 use Rattle.dcc_regs.specs.declared.register.Who.TheVariants.{Loco}
-use Rattle.dcc_regs.specs.Writes.{is_own_write}
+use Rattle.dcc_regs.specs.Writes.{is_own_write, writes_cv29}
 use Rattle.dcc_regs.specs.Result.{RegisterMap}
 use Rattle.dcc_regs.specs.Heard.{hears, heard}
 use Rattle.dcc_regs.specs.Sets.{sets}
 use Rattle.dcc_regs.specs.Setting.{value_over, mode_in}
 use Rattle.dcc_regs.proofs.ResultByParts.{read, read-state_after, State, step, state_after, start}
-use Rattle.dcc_station.specs.Sending.{Sending, copies, Displaces, Leaves, with_entry, Refreshes, HandsOut}
+use Rattle.dcc_station.specs.Sending.{Sending, copies, Displaces, Leaves, with_entry, Refreshes, EntriesAfter, HandsOut}
 use Rattle.dcc_station.specs.Commands.{is_refreshed}
-use Rattle.dcc_regs.specs.Writes.{writes_cv29}
 use Rattle.dcc_station.specs.Refresh.{StandsFor, made, accepts, hands_out, intended, RefreshIsTransparent}
 use Rattle.dcc_station.specs.Refresh.{TransparentWhereNothingWaits, WaitingIsTheEnd}
 use Rattle.dcc_station.proofs.Tables.{refreshed_address, refreshed_is_no_write}
 use Rattle.dcc_regs.proofs.LawLemmas.{idle_is_unheard, values_are_decided}
 use Rattle.dcc_regs.proofs.ConflictLemmas.{conflict_from}
 use Rattle.dcc_regs.specs.Inner.ConflictParts.{Differ}
-use Rattle.dcc_station.specs.Sending.{EntriesAfter}
 use Rattle.dcc_station.proofs.Effects.{Core, core, effect, copied, then_effect, Waits, waits, at_once, at_last}
 use Rattle.dcc_station.proofs.Effects.{mode_other}
 use Rattle.dcc_station.proofs.Effects.{after_first, effect_twice, effect_plain_own, mode_kept, no_effect}
@@ -60,7 +58,7 @@ no_difference (Some v) (Some u) (Some w) same k = elim (values_are_decided u w) 
 
 module _ (who : Who) where
   -- an entry is a packet that is refreshed, and whose registers are at its values in a decoder that hears it
-  abbrev pub Entry : Core → Packet → Type 0
+  abbrev Entry : Core → Packet → Type 0
   Entry c e = (is_refreshed e ≡ true) × (then_effect (hears who e) c e ≡ c)
 
   -- an entry that does not conflict with a packet holds after it
@@ -108,7 +106,7 @@ module _ (who : Who) where
       by_kind false e = stay
 
   -- packets one after the other, each of which the decoder hears or not
-  abbrev pub run : {S : Type 0} → (Bool → S → Packet → S) → S → List Packet → S
+  abbrev run : {S : Type 0} → (Bool → S → Packet → S) → S → List Packet → S
   run act s [] = s
   run act s (p ∷ later) = run act (act (hears who p) s p) later
 
@@ -117,7 +115,7 @@ module _ (who : Who) where
   run-more act s [] p = refl
   run-more act s (q ∷ l) p = run-more act (act (hears who q) s q) l p
 
-  pub state_after-heard : (s : State) (l : List Packet) → state_after s (heard who l) ≡ run copied s l
+  state_after-heard : (s : State) (l : List Packet) → state_after s (heard who l) ≡ run copied s l
   state_after-heard s [] = refl
   state_after-heard s (p ∷ l) = by_case (hears who p) (λ u. state_after-heard u l)
     where
@@ -127,7 +125,7 @@ module _ (who : Who) where
       by_case false more = more s
 
   -- two copies of each own write have its effect, whatever was pending
-  pub run-intended : (s : State) (l : List Packet) → core (run copied s (intended l)) ≡ run then_effect (core s) l
+  run-intended : (s : State) (l : List Packet) → core (run copied s (intended l)) ≡ run then_effect (core s) l
   run-intended s [] = refl
   run-intended s (p ∷ l) = by_kind (hears who p) (is_own_write p) refl (λ u. run-intended u l)
     where
@@ -142,30 +140,30 @@ module _ (who : Who) where
           more (copied (hears who p) s p) ∙ ap (λ c. run then_effect c l) (at_once (hears who p) s p other)
 
   -- at least one copy of a packet was sent: one more leaves c, the effect of the packet
-  abbrev pub Sent : Packet → Core → State → Type 0
+  abbrev Sent : Packet → Core → State → Type 0
   Sent p c s = (then_effect (hears who p) (core s) p ≡ c) × Waits (hears who p) s p
 
   module _ (m : RegisterMap) where
-    abbrev pub after_packets : List Packet → State
+    abbrev after_packets : List Packet → State
     after_packets packets = run copied (start m) packets
 
     -- what commands ask for
-    abbrev pub asked : List Packet → Core
+    abbrev asked : List Packet → Core
     asked commands = run then_effect (core (start m)) commands
 
     -- how far the first command that waits is sent, where the commands before it leave c
-    abbrev pub Progress : ℕ → List Packet → List Packet → Core → State → Type 0
+    abbrev Progress : ℕ → List Packet → List Packet → Core → State → Type 0
     Progress zero waiting done c s = (core s ≡ c) × (asked done ≡ c)
     Progress (suc sent) [] done c s = ⊥
     Progress (suc sent) (p ∷ rest) done c s = Sent p c s × (asked (done ++ p ∷ []) ≡ c)
 
-    pub record Invariant (s : Sending) (commands packets : List Packet) : Type 0 where
-      pub done : List Packet
-      pub target : Core
-      pub split : commands ≡ done ++ s.waiting
-      pub progress : Progress s.sent s.waiting done target (after_packets packets)
-      pub entries : AllByRecursion (Entry target) s.entries
-      pub some : 0 < s.repeats
+    record Invariant (s : Sending) (commands packets : List Packet) : Type 0 where
+      done : List Packet
+      target : Core
+      split : commands ≡ done ++ s.waiting
+      progress : Progress s.sent s.waiting done target (after_packets packets)
+      entries : AllByRecursion (Entry target) s.entries
+      some : 0 < s.repeats
 
     only_one : (repeats : ℕ) (p : Packet) → 0 < repeats → (nat_le (copies repeats p) (0 + 1)) ≡ true
         → is_own_write p ≡ false
@@ -272,7 +270,7 @@ module _ (who : Who) where
     more_waits (suc sent) [] done c s p progress = absurd progress
     more_waits (suc sent) (q ∷ rest) done c s p progress = progress
 
-    pub stands : (s : Sending) (commands packets : List Packet) → StandsFor s commands packets
+    stands : (s : Sending) (commands packets : List Packet) → StandsFor s commands packets
         → Invariant s commands packets
     stands _ _ _ (made queue slots repeats some) =
         record { done = []; target = core (start m); split = refl; progress = (refl, refl); entries = tt; some = some }

@@ -20,13 +20,16 @@ loop-at-preserved g c =
     let long = passed.same_length in
     let inside : c.loop-at.at < length (g.R.PacketRing.buffer c.args.entries.now).items = omega arith in
     let e = get_or now.items c.loop-at.at Idle in
-    let found : slice_get now.items c.loop-at.at ≡ Some e = slice_get-get_or now.items c.loop-at.at Idle (omega arith) in
+    let found : slice_get now.items c.loop-at.at ≡ Some e =
+    slice_get-get_or now.items c.loop-at.at Idle (omega arith) in
     let judged = c.is_displaced.ensures.displaces e found in
     elim c.if-not-is_displaced.branch [
       | then-not-is_displaced w ↦ (
           let is = ap g.R.PacketRing.buffer w.entries-is ∙ w.move_forward.ensures.items e found in
-          rw (is, w.kept-is)
-          (passed_kept passed inside found (λ gone. not_both (judged.1 gone) w.if-not-is_displaced.true), c.loop-at.invariant.1))
+          rw (is, w.kept-is) (
+            passed_kept passed inside found (λ gone. not_both (judged.1 gone) w.if-not-is_displaced.true),
+            c.loop-at.invariant.1,
+          ))
       | else-not-is_displaced w ↦ (
           let is = ap g.R.PacketRing.buffer w.entries-is in
           rw (is, w.kept-is)

@@ -14,4 +14,5 @@ returns-clause-next g c =
     (sending_over (g.Q.PacketRing.buffer c.count_copy.new.waiting) c.count_copy.new.sent after c.args.repeats)
     c.requires.first after.items c.change_entries.ensures.entries
     (c.count_copy.ensures.counts after
-    ∙ ap (λ n. sent_once_more (record (sending_over waiting c.args.sent.now after c.args.repeats) { slots = n }) c.args.command (drop 1 waiting.items) after.items) c.change_entries.ensures.capacity)
+    ∙ ap (λ n. sent_once_more (record (sending_over waiting c.args.sent.now after c.args.repeats) { slots = n })
+    c.args.command (drop 1 waiting.items) after.items) c.change_entries.ensures.capacity)

@@ -1,6 +1,6 @@
-use Rattle.std.proofs.Common.{◌∙◌, sym, ap}
+use Rattle.std.proofs.Common.{◌∙◌, sym, ap, arith}
 use Rattle.circular_buffer.specs.Buffer.{Buffer, buffer, keep_last}
-use Rattle.std.proofs.Common.{◌++◌, ◌∷◌, [], List, ℕ, ◌≤◌, subst}
+use Rattle.std.proofs.Common.{◌++◌, ◌∷◌, [], List}
 use Rattle.dcc_packet.specs.declared.packet.Packet.{Packet}
 use Rattle.dcc_station.proofs.RingItems.{turned_front}
 use Rattle.dcc_station.proofs.ring.HeapCircularBufferPacketPacketRing.rotate.Goals as goal
@@ -8,7 +8,10 @@ use Rattle.dcc_station.proofs.ring.HeapCircularBufferPacketPacketRing.rotate.Goa
 pub returns-in-Some : goal.returns-in-Some
 returns-in-Some c =
     let old = c.args.self.now in
+    let front = c.in-Some.front in
+    let fits = c.len-len.ensures.within.0 in
     c.push_back.ensures.items
-    ∙ ap (λ (b : Buffer Packet). buffer (keep_last b.capacity (b.items ++ c.in-Some.front ∷ [])) b.capacity) c.in-Some.ensures.items
+    ∙ ap (λ (b : Buffer Packet). buffer (keep_last b.capacity (b.items ++ front ∷ [])) b.capacity)
+    c.in-Some.ensures.items
     ∙ ap (λ (l : List Packet). buffer l old.capacity)
-    (turned_front old.capacity old.items c.in-Some.front (subst (λ (n : ℕ). n ≤ old.capacity) c.len-len.ensures.len c.len-len.ensures.within.0) (sym c.in-Some.ensures.value))
+    (turned_front old.capacity old.items front (omega arith) (sym c.in-Some.ensures.value))

@@ -1,10 +1,7 @@
-use Rattle.std.proofs.Common.{◌++◌, ◌∷◌, [], Result, Ok, Err, sym, subst}
+use Rattle.std.proofs.Common.{Result, Ok, Err}
 use Rattle.std.specs.Prelude.{OnOk}
-use Rattle.circular_buffer.specs.Buffer.{Buffer}
-use Rattle.dcc_packet.specs.declared.packet.Packet.{Packet}
-use Rattle.dcc_station.specs.Refresh.{StandsFor, accepts}
+use Rattle.dcc_station.specs.Refresh.{accepts}
 use Rattle.dcc_station.specs.Rings.{sending_over}
-use Rattle.dcc_station.specs.Sending.{Sending}
 use Rattle.dcc_station.proofs.station.StationOver.command.Goals as goal
 
 where_ok : {A E P Q R : Type 0} (r : Result A E) → (P → Q → R) → OnOk r P → OnOk r Q → OnOk r R
@@ -17,9 +14,6 @@ returns-clause-stands g c =
     let waiting = g.Q.PacketRing.buffer r.commands in
     let entries = g.S.PacketRing.buffer r.entries in
     let packet = c.args.packet in
-    where_ok c.take_command.result (λ ok room. λ commands packets from.
-    subst (λ (b : Buffer Packet). StandsFor (sending_over b r.sent entries r.repeats) (commands ++ packet ∷ []) packets)
-    (sym ok)
-    (accepts (sending_over waiting r.sent entries r.repeats) commands packets packet
-    (subst (λ (s : Sending). StandsFor s commands packets) (sym c.self.view_is) from) room.0 room.1))
-    c.take_command.ensures.ok c.take_command.ensures.room
+    where_ok c.take_command.result (λ ok room. λ commands packets from. rw ok
+    (accepts (sending_over waiting r.sent entries r.repeats) commands packets packet (rw c.self.view_is from)
+    room.0 room.1)) c.take_command.ensures.ok c.take_command.ensures.room
