@@ -20,7 +20,7 @@ use Rattle.dcc_io.specs.NextLine.{has_line_feed, lines_within, IsOneLine, EndsLi
 use Rattle.dcc_io.specs.NextLine.{MeetsBadLine, AnswersLine}
 use Rattle.dcc_io.specs.Took.{CountsLines, Uses, Took}
 use Rattle.dcc_io.proofs.PassedLemmas.{or_false}
-use Rattle.dcc_io.proofs.TookLemmas.{fails_to_read, has_too_many, lines_at_failure, lines_at_overflow}
+use Rattle.dcc_io.proofs.TookLemmas.{fails_to_read, has_too_many}
 
 and_false : (a b : Bool) → (a && b) ≡ false → (a ≡ false) ⊎ (b ≡ false)
 and_false true b h = inr h
@@ -149,18 +149,10 @@ OpensLine-bad old now mid new line byte number opens takes no_end fails is_numbe
 -- no byte more of a line could be read
 pub line_stops : (old now new : InputState) (line : List ℕ) (fault : KeptFault) → OpensLine old line now
     → AnswersByte now (Err fault) new → AnswersLine old (Err fault) new
-line_stops old now new line Read opens answer = (
-  fails_to_read (λ used. used ≡ line) IsOneLine old now new opens.took answer
-      (λ used is. subst IsOneLine (sym is) opens.is_line),
-  answer.fault,
-  lines_at_failure (λ used. used ≡ line) old now new opens.took answer,
-)
-line_stops old now new line TooMuch opens answer = (
-  has_too_many (λ used. used ≡ line) IsOneLine old now new opens.took answer
-      (λ used is. subst IsOneLine (sym is) opens.is_line),
-  answer.fault,
-  lines_at_overflow (λ used. used ≡ line) old now new opens.took answer,
-)
+line_stops old now new line Read opens answer =
+    fails_to_read opens.took answer (λ used is. subst IsOneLine (sym is) opens.is_line)
+line_stops old now new line TooMuch opens answer =
+    has_too_many opens.took answer (λ used is. subst IsOneLine (sym is) opens.is_line)
 line_stops old now new line (Number number) opens answer = absurd answer
 line_stops old now new line (Line number why) opens answer = absurd answer
 

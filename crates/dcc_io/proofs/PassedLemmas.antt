@@ -4,7 +4,7 @@ use Rattle.std.proofs.Common.{refl, sym, ap, ◌∙◌, subst, cond, eqb, arith,
 use Rattle.std.proofs.lemmas.List.{append-nil}
 use Rattle.dcc_io.specs.declared.word.RunWord.{RunWord}
 use Rattle.dcc_io.specs.declared.fault.KeptFault.{KeptFault}
-use Rattle.dcc_io.specs.declared.fault.KeptFault.TheVariants.{Number, Line, Read, TooMuch}
+use Rattle.dcc_io.specs.declared.fault.KeptFault.TheVariants.{Read, TooMuch}
 use Rattle.dcc_io.specs.TextPlace.{TextPlace, line_behind, lines_with}
 use Rattle.dcc_io.specs.ReaderState.{IsAtEnd}
 use Rattle.dcc_io.specs.InputState.{InputState, TakesByte, AnswersByte}
@@ -14,8 +14,7 @@ use Rattle.dcc_io.specs.Took.{Uses, Took}
 use Rattle.dcc_io.specs.PassedWords.{Passed, IsBeforeWord, EndsWord, AnswersWord}
 use Rattle.dcc_io.proofs.WordsLemmas.{eqb_line_feed, behind, opened, opened-none, opened-word, opened-gap, ended}
 use Rattle.dcc_io.proofs.TookLemmas.{if_some_map, if_some_all, Took-map, Took-closed, Took-join}
-use Rattle.dcc_io.proofs.TookLemmas.{told_behind, took_byte, fails_to_read, has_too_many, lines_at_failure}
-use Rattle.dcc_io.proofs.TookLemmas.{lines_at_overflow}
+use Rattle.dcc_io.proofs.TookLemmas.{told_behind, took_byte, fails_to_read, has_too_many}
 
 -- these bytes end in the front of a word
 abbrev pub IsOpenBehind : InputState → InputState → List ℕ → List ℕ → Type 0
@@ -52,16 +51,7 @@ pub record TakesNoted (old : InputState) (byte : ℕ) (new : InputState) : Type 
 
 abbrev pub noted : InputState → ℕ → InputState
 noted mid byte =
-    record {
-      text = mid.text;
-      ahead = mid.ahead;
-      place = record { line = mid.place.line; in_comment = comments mid.place.in_comment byte };
-      lines = mid.lines;
-      halves = mid.halves;
-      bytes = mid.bytes;
-      fault = mid.fault;
-      failures = mid.failures;
-    }
+    record mid { place = record { line = mid.place.line; in_comment = comments mid.place.in_comment byte } }
 
 pub takes_noted : (old mid new : InputState) (byte : ℕ) → TakesByte old byte mid → new ≡ noted mid byte
     → TakesNoted old byte new
@@ -156,21 +146,25 @@ Passed-gap old now new so_far byte opens takes gap empty =
     (ap (ended now.place.line) (no_bytes opens.word empty))
     (Passed-ended old now new so_far byte opens takes gap)
 
+-- where no word is open and none has ended, none is open
+Opens-none : (old now new : InputState) (so_far : RunWord) (opens : Opens old so_far now)
+    → is_some_byte opens.word ≡ false → Passed old [] new → Opens old so_far new
+Opens-none old now new so_far opens empty passed = record {
+  word = [];
+  spelled = subst (λ (word : List ℕ). Spells so_far word) (no_bytes opens.word empty) opens.spelled;
+  took = Took-map passed.took (λ used passes more. passes more ∙ sym (opened-none new.place more));
+  halves = passed.halves;
+  closed = if_some_all (λ rest. rest ≡ [] → no_word ≡ []) new.text (λ rest none. refl);
+  lines = if_some_all (λ rest. is_some_byte no_word ≡ true → new.lines ≡ new.place.line) new.text (λ rest some. cc);
+}
+
 -- a gap where no word is open
 pub Opens-gap : (old now new : InputState) (so_far : RunWord) (byte : ℕ) (opens : Opens old so_far now)
     → TakesNoted now byte new
     → (comments now.place.in_comment byte || is_gap byte) ≡ true → is_some_byte opens.word ≡ false
     → Opens old so_far new
 Opens-gap old now new so_far byte opens takes gap empty =
-    let passed = Passed-gap old now new so_far byte opens takes gap empty in
-    record {
-      word = [];
-      spelled = subst (λ (word : List ℕ). Spells so_far word) (no_bytes opens.word empty) opens.spelled;
-      took = Took-map passed.took (λ used passes more. passes more ∙ sym (opened-none new.place more));
-      halves = passed.halves;
-      closed = if_some_all (λ rest. rest ≡ [] → no_word ≡ []) new.text (λ rest none. refl);
-      lines = if_some_all (λ rest. is_some_byte no_word ≡ true → new.lines ≡ new.place.line) new.text (λ rest some. cc);
-    }
+    Opens-none old now new so_far opens empty (Passed-gap old now new so_far byte opens takes gap empty)
 
 ended-some : (line : ℕ) (word : List ℕ) → is_some_byte word ≡ true
     → ended line word ≡ record { line = line; bytes = word } ∷ []
@@ -232,20 +226,11 @@ before_word old now word used goes_on = ap (ended_words old.place) (sym (append-
 
 pub answers_err : (old now new : InputState) (so_far : RunWord) (fault : KeptFault) → Opens old so_far now
     → AnswersByte now (Err fault) new → AnswersWord old (Err fault) new
-answers_err old now new so_far Read opens answer = (
-  fails_to_read (IsOpenBehind old now opens.word) (IsBeforeWord old) old now new opens.took answer
-      (before_word old now opens.word),
-  answer.fault,
-  lines_at_failure (IsOpenBehind old now opens.word) old now new opens.took answer,
-)
-answers_err old now new so_far TooMuch opens answer = (
-  has_too_many (IsOpenBehind old now opens.word) (IsBeforeWord old) old now new opens.took answer
-      (before_word old now opens.word),
-  answer.fault,
-  lines_at_overflow (IsOpenBehind old now opens.word) old now new opens.took answer,
-)
-answers_err old now new so_far (Number line) opens answer = answer
-answers_err old now new so_far (Line line fault) opens answer = answer
+answers_err old now new so_far Read opens answer =
+    fails_to_read opens.took answer (before_word old now opens.word)
+answers_err old now new so_far TooMuch opens answer =
+    has_too_many opens.took answer (before_word old now opens.word)
+answers_err old now new so_far fault opens answer = absurd answer
 
 pub from_not_true : (b result : Bool) → result ≡ not b → result ≡ true → b ≡ false
 from_not_true true result is_not told = cc
@@ -283,12 +268,4 @@ ends_behind_gaps old mid new line so_far gaps ends = record {
 pub Opens-gaps : (old now mid new : InputState) (so_far : RunWord) (opens : Opens old so_far now)
     → is_some_byte opens.word ≡ false → Passed old [] mid → Passed mid [] new → Opens old so_far new
 Opens-gaps old now mid new so_far opens empty first next =
-    let passed = Passed-join old mid new [] [] first next in
-    record {
-      word = [];
-      spelled = subst (λ (word : List ℕ). Spells so_far word) (no_bytes opens.word empty) opens.spelled;
-      took = Took-map passed.took (λ used passes more. passes more ∙ sym (opened-none new.place more));
-      halves = passed.halves;
-      closed = if_some_all (λ rest. rest ≡ [] → no_word ≡ []) new.text (λ rest none. refl);
-      lines = if_some_all (λ rest. is_some_byte no_word ≡ true → new.lines ≡ new.place.line) new.text (λ rest some. cc);
-    }
+    Opens-none old now new so_far opens empty (Passed-join old mid new [] [] first next)

@@ -1,13 +1,13 @@
 -- Bytes that were read of an input, one step after the other.
-use Rattle.std.proofs.Common.{zero, suc, ◌≡◌, ℕ, ◌+◌, ◌-◌, ◌<◌, ◌≤◌, List, [], ◌∷◌, ◌++◌, length, take, Bool, true}
+use Rattle.std.proofs.Common.{zero, suc, ◌≡◌, ℕ, ◌+◌, ◌-◌, ◌<◌, List, [], ◌∷◌, ◌++◌, length, take, Bool, true}
 use Rattle.std.proofs.Common.{false, nat_le, Option, None, Some, refl, sym, ap, ◌∙◌, subst, arith, append_assoc}
 use Rattle.std.proofs.Common.{length-append, cond, IfSome, IsSomeAnd}
-use Rattle.std.proofs.Math.Seq.{take-append-add, take-append_seam}
+use Rattle.std.proofs.Math.Seq.{take-append-add}
 use Rattle.std.proofs.lemmas.List.{append-nil}
 use Rattle.std.proofs.lemmas.Bool.Decides.{nat_tests}
 use Rattle.std.specs.Io.KnownBytes.{Keeps}
 use Rattle.dcc_io.specs.declared.fault.KeptFault.{KeptFault}
-use Rattle.dcc_io.specs.declared.fault.KeptFault.TheVariants.{Number, Line, Read, TooMuch}
+use Rattle.dcc_io.specs.declared.fault.KeptFault.TheVariants.{Read, TooMuch}
 use Rattle.dcc_io.specs.TextPlace.{line_behind, lines_with, lines_through}
 use Rattle.dcc_io.specs.Failures.{one_more}
 use Rattle.dcc_io.specs.ReaderState.{BeginsWith, IsAtEnd}
@@ -26,7 +26,7 @@ if_some_all P None all = tt
 if_some_all P (Some bytes) all = all bytes
 
 -- what holds of the text and its rest, in other words
-pub map_same : (P Q : List ℕ → List ℕ → Type 0) (whole rest : Option (List ℕ))
+map_same : (P Q : List ℕ → List ℕ → Type 0) (whole rest : Option (List ℕ))
     → ((text more : List ℕ) → P text more → Q text more)
     → IfSome whole (λ text. IsSomeAnd rest (λ more. P text more))
     → IfSome whole (λ text. IsSomeAnd rest (λ more. Q text more))
@@ -43,7 +43,7 @@ map_text P R (Some text) None each before = absurd before
 map_text P R (Some text) (Some more) each before = each text more before
 
 -- what holds of a text and its rest, and of that rest and its own
-pub join_both : (P Q R : List ℕ → List ℕ → Type 0) (whole mid rest : Option (List ℕ))
+join_both : (P Q R : List ℕ → List ℕ → Type 0) (whole mid rest : Option (List ℕ))
     → ((text between more : List ℕ) → P text between → Q between more → R text more)
     → IfSome whole (λ text. IsSomeAnd mid (λ between. P text between))
     → IfSome mid (λ between. IsSomeAnd rest (λ more. Q between more))
@@ -53,13 +53,21 @@ join_both P Q R (Some text) None rest each before behind = absurd before
 join_both P Q R (Some text) (Some between) None each before behind = absurd behind
 join_both P Q R (Some text) (Some between) (Some more) each before behind = each text between more before behind
 
+-- a fact of the rest beside one of the text and its rest
+with_rest : (P : List ℕ → List ℕ → Type 0) (Q : List ℕ → Type 0) (whole rest : Option (List ℕ))
+    → IfSome whole (λ text. IsSomeAnd rest (λ more. P text more)) → IfSome rest Q
+    → IfSome whole (λ text. IsSomeAnd rest (λ more. P text more × Q more))
+with_rest P Q None rest facts fact = tt
+with_rest P Q (Some text) None facts fact = absurd facts
+with_rest P Q (Some text) (Some more) facts fact = (facts, fact)
+
 -- what holds of a text and its rest, and of that rest
-pub join_whole : (P : List ℕ → List ℕ → Type 0) (Q R : List ℕ → Type 0) (whole mid : Option (List ℕ))
+join_whole : (P : List ℕ → List ℕ → Type 0) (Q R : List ℕ → Type 0) (whole mid : Option (List ℕ))
     → ((text between : List ℕ) → P text between → Q between → R text)
     → IfSome whole (λ text. IsSomeAnd mid (λ between. P text between)) → IfSome mid Q → IfSome whole R
-join_whole P Q R None mid each before behind = tt
-join_whole P Q R (Some text) None each before behind = absurd before
-join_whole P Q R (Some text) (Some between) each before behind = each text between before behind
+join_whole P Q R whole mid each before behind =
+    map_text (λ text between. P text between × Q between) R whole mid
+    (λ text between both. each text between both.0 both.1) (with_rest P Q whole mid before behind)
 
 -- what holds of the text and its rest, after nothing was taken
 map_kept : (P Q : List ℕ → List ℕ → Type 0) (whole rest new : Option (List ℕ))
@@ -115,34 +123,26 @@ Took-start {P = P} input fault none =
           counts = λ some next more. refl;
         }
 
-abbrev pub with_left : InputState → ℕ → InputState
-with_left input left =
-    record {
-      text = input.text;
-      ahead = input.ahead;
-      place = input.place;
-      lines = input.lines;
-      halves = left;
-      bytes = input.bytes;
-      fault = input.fault;
-      failures = input.failures;
-    }
+abbrev with_left : InputState → ℕ → InputState
+with_left input left = record input { halves = left }
 
 -- another fact of the same bytes, and another count of halves, of which nothing is said
+Uses-counted : {P Q : List ℕ → Type 0} {old new : InputState} {text rest : List ℕ} (left : ℕ)
+    (uses : Uses P old new text rest) → Q uses.used → Uses Q old (with_left new left) text rest
+Uses-counted left uses is = record {
+  used = uses.used;
+  whole = uses.whole;
+  is = is;
+  bytes = uses.bytes;
+  room = uses.room;
+  lines = uses.lines;
+  counts = uses.counts;
+}
+
 pub Took-counted : {P Q : List ℕ → Type 0} {old new : InputState} (left : ℕ) → Took P old new
     → ((used : List ℕ) → P used → Q used) → Took Q old (with_left new left)
-Took-counted {P = P} {Q = Q} {old = old} {new = new} left took each = record {
-  text = map_same (Uses P old new) (Uses Q old (with_left new left)) old.text new.text
-      (λ text rest uses. record {
-        used = uses.used;
-        whole = uses.whole;
-        is = each uses.used uses.is;
-        bytes = uses.bytes;
-        room = uses.room;
-        lines = uses.lines;
-        counts = uses.counts;
-      })
-      took.text;
+Took-counted left took each = record {
+  text = map_same _ _ _ _ (λ text rest uses. Uses-counted left uses (each uses.used uses.is)) took.text;
   bytes = took.bytes;
   fault = took.fault;
   failures = took.failures;
@@ -156,27 +156,14 @@ Took-map {new = new} took each = Took-counted new.halves took each
 pub Took-closed : {P Q : List ℕ → Type 0} {old new : InputState} (K : Type 0) → Took P old new
     → IfSome new.text (λ rest. rest ≡ [] → K) → IsAtEnd new.text → ((used : List ℕ) → K → P used → Q used)
     → Took Q old new
-Took-closed {P = P} {Q = Q} {old = old} {new = new} K took closed at_end each = record {
-  text = go old.text new.text took.text closed at_end;
+Took-closed {P = P} {old = old} {new = new} K took closed at_end each = record {
+  text = map_same (λ text rest. (Uses P old new text rest × (rest ≡ [] → K)) × (rest ≡ [])) _ _ _
+      (λ text rest uses. Uses-counted new.halves uses.0.0 (each uses.0.0.used (uses.0.1 uses.1) uses.0.0.is))
+      (with_rest _ _ _ _ (with_rest _ _ _ _ took.text closed) at_end);
   bytes = took.bytes;
   fault = took.fault;
   failures = took.failures;
 }
-  where
-    go : (x y : Option (List ℕ)) → IfSome x (λ text. IsSomeAnd y (λ rest. Uses P old new text rest))
-        → IfSome y (λ rest. rest ≡ [] → K) → IsAtEnd y
-        → IfSome x (λ text. IsSomeAnd y (λ rest. Uses Q old new text rest))
-    go None y uses known end = tt
-    go (Some text) None uses known end = absurd uses
-    go (Some text) (Some rest) uses known end = record {
-      used = uses.used;
-      whole = uses.whole;
-      is = each uses.used (known end) uses.is;
-      bytes = uses.bytes;
-      room = uses.room;
-      lines = uses.lines;
-      counts = uses.counts;
-    }
 
 -- a byte more leaves the number of all lines
 step_lines : (old new : InputState) (byte : ℕ) (rest : List ℕ)
@@ -222,114 +209,64 @@ took_byte old new byte begins lines line bytes room fault failures = record {
       counts = λ some. counts_byte old new byte rest some with_rest line;
     }
 
--- the lines of the bytes that were used, where more is to come
-pub lines_of_used : {P : List ℕ → Type 0} {old new : InputState} {text rest : List ℕ}
-    (uses : Uses P old new text rest) → 0 < length rest → new.lines ≡ lines_up_to old uses.used
-lines_of_used uses some = uses.counts some 10 []
+-- what may be taken of a text that is longer, told of its rest
+cut_behind : {P : List ℕ → Type 0} {old mid : InputState} {text rest : List ℕ} (uses : Uses P old mid text rest)
+    → mid.bytes < length rest
+    → (old.bytes < length text) × (take (old.bytes - 1) text ≡ uses.used ++ take (mid.bytes - 1) rest)
+cut_behind {old = old} {mid = mid} {text = text} {rest = rest} uses longer =
+    let whole : length text ≡ length uses.used + length rest = ap length uses.whole ∙ length-append uses.used rest in (
+      omega (arith, whole, uses.bytes, longer),
+      rw (count_more old.bytes mid.bytes (length uses.used) rest uses.bytes longer uses.room, uses.whole)
+          (take-append-add uses.used rest (mid.bytes - 1)),
+    )
 
--- a fact of the rest beside one of the text and its rest
-pub with_rest : (P : List ℕ → List ℕ → Type 0) (Q : List ℕ → Type 0) (whole rest : Option (List ℕ))
-    → IfSome whole (λ text. IsSomeAnd rest (λ more. P text more)) → IfSome rest Q
-    → IfSome whole (λ text. IsSomeAnd rest (λ more. P text more × Q more))
-with_rest P Q None rest facts fact = tt
-with_rest P Q (Some text) None facts fact = absurd facts
-with_rest P Q (Some text) (Some more) facts fact = (facts, fact)
-
--- a read failed behind bytes that were read
-pub fails_to_read : (P Q : List ℕ → Type 0) (old now new : InputState) → Took P old now → FailsToRead now new
-    → ((used : List ℕ) → P used → Q used) → FailsBehind Q old new
-fails_to_read P Q old now new took fails each = (
-  fails.failures ∙ ap one_more took.failures,
-  fails.ahead,
-  map_kept (Uses P old now) (λ text rest. (used : List ℕ) × (text ≡ used ++ rest) × Q used) old.text now.text new.text
-      (λ text more uses. (uses.used, uses.whole, each uses.used uses.is)) took.text fails.text,
+-- a read failed behind bytes that were read, with the lines of those
+pub fails_to_read : {P Q : List ℕ → Type 0} {old now new : InputState} → Took P old now → FailsToRead now new
+    → ((used : List ℕ) → P used → Q used) → FailsBehind Q old new × (new.fault ≡ Some Read) × LinesAt old Read new
+fails_to_read {old = old} {now = now} {new = new} took fails each = (
+  (
+    fails.failures ∙ ap one_more took.failures,
+    fails.ahead,
+    map_kept _ _ old.text now.text new.text (λ text more uses. (uses.used, uses.whole, each uses.used uses.is))
+        took.text fails.text,
+  ),
+  fails.fault,
+  map_kept _ (UsesLines old new) old.text now.text new.text
+      (λ text rest uses. record {
+        used = uses.0.used;
+        whole = uses.0.whole;
+        more = uses.1;
+        lines = fails.lines ∙ uses.0.counts uses.1 10 [];
+      }) (with_rest _ _ _ _ took.text fails.more) fails.text,
 )
-
--- the lines that were used when a read failed
-pub lines_at_failure : (P : List ℕ → Type 0) (old now new : InputState) → Took P old now → FailsToRead now new
-    → LinesAt old Read new
-lines_at_failure P old now new took fails =
-    map_kept (λ text rest. Uses P old now text rest × (0 < length rest))
-    (UsesLines old new) old.text now.text new.text
-    (λ text rest uses. record {
-      used = uses.0.used;
-      whole = uses.0.whole;
-      more = uses.1;
-      lines = fails.lines ∙ lines_of_used uses.0 uses.1;
-    }) (with_rest (Uses P old now) (λ rest. 0 < length rest) old.text now.text took.text fails.more) fails.text
-
--- how many bytes were used where one more would be too many
-count_used : (most left used : ℕ) (more : List ℕ) → left + used ≡ most → left ≤ 1 → left < length more
-    → (0 < used → left ≡ 0 → more ≡ []) → most - 1 ≡ used
-count_used most zero zero more total few some room = omega arith
-count_used most zero (suc used) more total few some room =
-    let none : length more ≡ 0 = ap length (room (omega arith) refl) in absurd (omega arith)
-count_used most (suc left) used more total few some room = omega arith
 
 -- behind bytes that were read, more are left than may be taken
-pub has_too_many : (P Q : List ℕ → Type 0) (old now new : InputState) → Took P old now → HasMoreBytes now new
-    → ((used : List ℕ) → P used → Q used) → OverflowsBehind Q old new
-has_too_many P Q old now new took has_more each = (
-  has_more.failures ∙ took.failures,
-  join_whole (Uses P old now) (λ more. now.bytes < length more)
-      (λ text. (old.bytes < length text) × Q (take (old.bytes - 1) text)) old.text now.text over took.text
-      has_more.text,
+pub has_too_many : {P Q : List ℕ → Type 0} {old now new : InputState} → Took P old now → HasMoreBytes now new
+    → ((used : List ℕ) → P used → Q used)
+    → OverflowsBehind Q old new × (new.fault ≡ Some TooMuch) × LinesAt old TooMuch new
+has_too_many {P = P} {Q = Q} {old = old} {now = now} {new = new} took has_more each = (
+  (has_more.failures ∙ took.failures, if_some_map _ _ old.text (λ text over. (over.0, over.1.0)) over),
+  has_more.fault,
+  if_some_map _ _ old.text (λ text over. (over.0, over.1.1)) over,
 )
   where
-    over : (text more : List ℕ) → Uses P old now text more → now.bytes < length more
-        → (old.bytes < length text) × Q (take (old.bytes - 1) text)
-    over text more uses longer =
-        let count = count_used old.bytes now.bytes (length uses.used) more uses.bytes has_more.bytes longer
-        uses.room in
-        let whole : length text ≡ length uses.used + length more =
-        ap length uses.whole ∙ length-append uses.used more in
-        let front : take (old.bytes - 1) text ≡ uses.used =
-        ap (λ n. take n text) count ∙ ap (take (length uses.used)) uses.whole
-        ∙ take-append_seam uses.used more in (
-          omega (arith, whole, uses.bytes, longer),
-          subst Q (sym front) (each uses.used uses.is),
-        )
+    over : IfSome old.text (λ text. (old.bytes < length text) × (Q (take (old.bytes - 1) text)
+        × (new.lines ≡ lines_up_to old (take (old.bytes - 1) text))))
+    over = join_whole (Uses P old now) (λ more. now.bytes < length more) _ old.text now.text
+        (λ text more uses longer.
+        let cut = cut_behind uses longer in
+        let all : now.bytes - 1 ≡ 0 = let few = has_more.bytes in omega arith in
+        let front : take (old.bytes - 1) text ≡ uses.used = cut.1 ∙ rw all (append-nil uses.used) in (
+          cut.0,
+          rw front (each uses.used uses.is, has_more.lines ∙ uses.counts (omega (arith, longer)) 10 []),
+        )) took.text has_more.text
 
--- the lines that were used when there were more bytes than may be taken
-pub lines_at_overflow : (P : List ℕ → Type 0) (old now new : InputState) → Took P old now → HasMoreBytes now new
-    → LinesAt old TooMuch new
-lines_at_overflow P old now new took has_more =
-    join_whole (Uses P old now) (λ more. now.bytes < length more)
-    (λ text. (old.bytes < length text) × (new.lines ≡ lines_up_to old (take (old.bytes - 1) text))) old.text now.text
-    over took.text has_more.text
-  where
-    over : (text more : List ℕ) → Uses P old now text more → now.bytes < length more
-        → (old.bytes < length text) × (new.lines ≡ lines_up_to old (take (old.bytes - 1) text))
-    over text more uses longer =
-        let count = count_used old.bytes now.bytes (length uses.used) more uses.bytes has_more.bytes longer
-        uses.room in
-        let whole : length text ≡ length uses.used + length more =
-        ap length uses.whole ∙ length-append uses.used more in
-        let front : take (old.bytes - 1) text ≡ uses.used =
-        ap (λ n. take n text) count ∙ ap (take (length uses.used)) uses.whole
-        ∙ take-append_seam uses.used more in (
-          omega (arith, whole, uses.bytes, longer),
-          has_more.lines ∙ lines_of_used uses (omega (arith, longer))
-              ∙ ap (λ (bytes : List ℕ). lines_up_to old bytes) (sym front),
-        )
-
--- the lines of bytes, and then of those behind them
-pub counts_behind : (old mid new : InputState) (front back : List ℕ) → CountsLines old front mid
-    → CountsLines mid back new → CountsLines old (front ++ back) new
-counts_behind old mid new front [] first second = λ next more.
-    second next more ∙ first next more
-    ∙ ap (λ (bytes : List ℕ). all_lines old (bytes ++ next ∷ more)) (sym (append-nil front))
-counts_behind old mid new front (byte ∷ back) first second = λ next more.
-    second next more ∙ first byte (back ++ next ∷ more)
-    ∙ ap (λ (bytes : List ℕ). all_lines old bytes) (sym (append_assoc front (byte ∷ back) (next ∷ more)))
-
-lines_behind : (old mid : InputState) (front back : List ℕ) → CountsLines old front mid
-    → lines_up_to mid back ≡ lines_up_to old (front ++ back)
-lines_behind old mid front [] counts =
-    counts 10 [] ∙ ap (λ (bytes : List ℕ). lines_up_to old bytes) (sym (append-nil front))
-lines_behind old mid front (byte ∷ back) counts =
-    counts byte (back ++ 10 ∷ [])
-    ∙ ap (λ (bytes : List ℕ). all_lines old bytes) (sym (append_assoc front (byte ∷ back) (10 ∷ [])))
+-- the lines of bytes, and then of those behind them, before something else
+counts_on : (old mid : InputState) (front back : List ℕ) → CountsLines old front mid → (next : ℕ) (more : List ℕ)
+    → all_lines mid (back ++ next ∷ more) ≡ all_lines old ((front ++ back) ++ next ∷ more)
+counts_on old mid front [] first next more = rw (append-nil front) (first next more)
+counts_on old mid front (byte ∷ back) first next more =
+    rw (append_assoc front (byte ∷ back) (next ∷ more)) (first byte (back ++ next ∷ more))
 
 some_before : (front rest : List ℕ) → 0 < length rest → 0 < length (front ++ rest)
 some_before [] rest some = some
@@ -342,11 +279,6 @@ room_of p [] y z bytes left whole total first second some none =
     sym whole ∙ first (subst (λ (l : List ℕ). 0 < length l) (append-nil p) some) (omega (arith, total, none))
 room_of p (x ∷ q) y z bytes left whole total first second some none = second (omega arith) none
 
-split_at : (front back text between rest : List ℕ) → text ≡ front ++ between → between ≡ back ++ rest
-    → text ≡ (front ++ back) ++ rest
-split_at front back text between rest first second =
-    first ∙ ap (λ (bytes : List ℕ). front ++ bytes) second ∙ sym (append_assoc front back rest)
-
 module _ {P : List ℕ → Type 0} {old mid : InputState} (front : Took P old mid) where
   -- what was read, and then what was read behind it
   pub Took-join : {Q R : List ℕ → Type 0} {new : InputState} → Took Q mid new
@@ -355,14 +287,13 @@ module _ {P : List ℕ → Type 0} {old mid : InputState} (front : Took P old mi
     text = join_both (Uses P old mid) (Uses Q mid new) (Uses R old new) old.text mid.text new.text
         (λ text between rest a b. record {
           used = a.used ++ b.used;
-          whole = split_at a.used b.used text between rest a.whole b.whole;
+          whole = rw (a.whole, b.whole) (sym (append_assoc a.used b.used rest));
           is = each a.used b.used a.is b.is;
           bytes = simp length-append (omega (arith, a.bytes, b.bytes));
           room = room_of a.used b.used between rest mid.bytes new.bytes b.whole b.bytes a.room b.room;
           lines = b.lines ∙ a.lines;
-          counts = λ some. counts_behind old mid new a.used b.used
-              (a.counts (subst (λ (bytes : List ℕ). 0 < length bytes) (sym b.whole) (some_before b.used rest some)))
-              (b.counts some);
+          counts = λ some next more. b.counts some next more
+              ∙ counts_on old mid a.used b.used (a.counts (rw b.whole (some_before b.used rest some))) next more;
         })
         front.text back.text;
     bytes = omega (arith, front.bytes, back.bytes);
@@ -385,43 +316,32 @@ module _ {P : List ℕ → Type 0} {old mid : InputState} (front : Took P old mi
         (λ text rest. (used : List ℕ) × (text ≡ used ++ rest) × R used) old.text mid.text new.text
         (λ text between rest a b. (
           a.used ++ b.0,
-          split_at a.used b.0 text between rest a.whole b.1,
+          rw (a.whole, b.1) (sym (append_assoc a.used b.0 rest)),
           each a.used b.0 a.is b.2,
         )) front.text fails.2,
   )
 
   -- the lines that were used when a fault came, told from further back
   pub LinesAt-behind : (new : InputState) (fault : KeptFault) → LinesAt mid fault new → LinesAt old fault new
-  LinesAt-behind new (Number line) lines =
-      told_behind (λ text. new.lines ≡ line) (λ text. new.lines ≡ line) (λ text rest uses same. same) lines
-  LinesAt-behind new (Line line why) lines =
-      told_behind (λ text. new.lines ≡ line) (λ text. new.lines ≡ line) (λ text rest uses same. same) lines
   LinesAt-behind new Read lines =
       join_both (Uses P old mid) (UsesLines mid new) (UsesLines old new) old.text mid.text new.text
       (λ text between rest a b.
-      let some : 0 < length between =
-      subst (λ (bytes : List ℕ). 0 < length bytes) (sym b.whole) (some_before b.used rest b.more) in
       record {
         used = a.used ++ b.used;
-        whole = split_at a.used b.used text between rest a.whole b.whole;
+        whole = rw (a.whole, b.whole) (sym (append_assoc a.used b.used rest));
         more = b.more;
-        lines = b.lines ∙ lines_behind old mid a.used b.used (a.counts some);
+        lines = b.lines
+            ∙ counts_on old mid a.used b.used (a.counts (rw b.whole (some_before b.used rest b.more))) 10 [];
       }) front.text lines
   LinesAt-behind new TooMuch lines =
       told_behind (λ text. (mid.bytes < length text) × (new.lines ≡ lines_up_to mid (take (mid.bytes - 1) text)))
       (λ text. (old.bytes < length text) × (new.lines ≡ lines_up_to old (take (old.bytes - 1) text)))
       (λ text rest uses over.
-      let longer = over.0 in
-      let whole : length text ≡ length uses.used + length rest =
-      ap length uses.whole ∙ length-append uses.used rest in
-      let count = count_more old.bytes mid.bytes (length uses.used) rest uses.bytes longer uses.room in
-      let cut : take (old.bytes - 1) text ≡ uses.used ++ take (mid.bytes - 1) rest =
-      ap (λ n. take n text) count ∙ ap (take (length uses.used + (mid.bytes - 1))) uses.whole
-      ∙ take-append-add uses.used rest (mid.bytes - 1) in (
-        omega (arith, whole, uses.bytes, longer),
-        over.1 ∙ lines_behind old mid uses.used (take (mid.bytes - 1) rest) (uses.counts (omega (arith, longer)))
-            ∙ ap (λ (bytes : List ℕ). lines_up_to old bytes) (sym cut),
+      let cut = cut_behind uses over.0 in (
+        cut.0,
+        rw cut.1 (over.1 ∙ counts_on old mid uses.used _ (uses.counts (omega (arith, over.0))) 10 []),
       )) lines
+  LinesAt-behind new fault lines = told_behind _ _ (λ text rest uses same. same) lines
 
   -- what stops the rest stops the whole
   pub Stops-behind : (F G Q R : List ℕ → Type 0) (new : InputState) (fault : KeptFault) → Stops F Q mid fault new
@@ -429,9 +349,7 @@ module _ {P : List ℕ → Type 0} {old mid : InputState} (front : Took P old mi
       → ((text rest : List ℕ) → Uses P old mid text rest → Q rest → R text)
       → Stops G R old fault new
   Stops-behind F G Q R new Read stops fails says = fails_behind F G new stops fails
-  Stops-behind F G Q R new TooMuch stops fails says = (stops.0 ∙ front.failures, told_behind Q R says stops.1)
-  Stops-behind F G Q R new (Number line) stops fails says = (stops.0 ∙ front.failures, told_behind Q R says stops.1)
-  Stops-behind F G Q R new (Line line why) stops fails says = (stops.0 ∙ front.failures, told_behind Q R says stops.1)
+  Stops-behind F G Q R new fault stops fails says = (stops.0 ∙ front.failures, told_behind Q R says stops.1)
 
 -- what stops an input, in other words
 pub Stops-map : (F G Q R : List ℕ → Type 0) (old new : InputState) (fault : KeptFault) → Stops F Q old fault new
@@ -443,9 +361,7 @@ Stops-map F G Q R old new Read stops fails says = (
       (λ text rest. (used : List ℕ) × (text ≡ used ++ rest) × G used) old.text new.text
       (λ text rest behind. (behind.0, behind.1, fails behind.0 behind.2)) stops.2,
 )
-Stops-map F G Q R old new TooMuch stops fails says = (stops.0, if_some_map Q R old.text says stops.1)
-Stops-map F G Q R old new (Number line) stops fails says = (stops.0, if_some_map Q R old.text says stops.1)
-Stops-map F G Q R old new (Line line why) stops fails says = (stops.0, if_some_map Q R old.text says stops.1)
+Stops-map F G Q R old new fault stops fails says = (stops.0, if_some_map Q R old.text says stops.1)
 
 -- what is said of the bytes that may be taken, where there are more
 pub overflows : {A : Type 0} (P : List ℕ → Type 0) (said : List ℕ → Option KeptFault → A) (x : A)
@@ -471,11 +387,8 @@ within_limit-front old said x text front rest whole fits each = go (nat_le (leng
         ∙ take-append-add front rest (old.bytes - 1 - length front)
 
     go : (within : Bool) → nat_le (length text) old.bytes ≡ within → within_limit said old text ≡ x
-    go true within = rw within (ap (λ (bytes : List ℕ). said bytes None) whole ∙ each rest None)
-    go false within =
-        rw within
-        (ap (λ (bytes : List ℕ). said bytes (Some TooMuch)) cut
-        ∙ each (take (old.bytes - 1 - length front) rest) (Some TooMuch))
+    go true within = rw (within, whole) (each rest None)
+    go false within = rw (within, cut) (each _ (Some TooMuch))
 
 -- what is said of the text, told of its rest
 pub within_limit-used : {A : Type 0} {P : List ℕ → Type 0} (old new : InputState)
@@ -490,13 +403,6 @@ within_limit-used old new said rest_said text rest uses each = go (nat_le (lengt
 
     go : (within : Bool) → nat_le (length rest) new.bytes ≡ within
         → within_limit said old text ≡ within_limit rest_said new rest
-    go true within =
-        rw (test, within) (ap (λ (bytes : List ℕ). said bytes None) uses.whole ∙ each rest None)
+    go true within = rw (test, within, uses.whole) (each rest None)
     go false within =
-        let count = count_more old.bytes new.bytes (length uses.used) rest uses.bytes
-        (above_limit (length rest) new.bytes within) uses.room in
-        let front : take (old.bytes - 1) text ≡ uses.used ++ take (new.bytes - 1) rest =
-        ap (λ n. take n text) count ∙ ap (take (length uses.used + (new.bytes - 1))) uses.whole
-        ∙ take-append-add uses.used rest (new.bytes - 1) in
-        rw (test, within)
-        (ap (λ (bytes : List ℕ). said bytes (Some TooMuch)) front ∙ each (take (new.bytes - 1) rest) (Some TooMuch))
+        rw (test, within, (cut_behind uses (above_limit (length rest) new.bytes within)).1) (each _ (Some TooMuch))
