@@ -1,10 +1,9 @@
 -- A line that is being read, and what ends it.
-use Rattle.std.proofs.Common.{zero, suc, ◌≡◌, ℕ, ◌+◌, ◌<◌, ◌≤◌, List, [], ◌∷◌, ◌++◌, length, Bool, true}
+use Rattle.std.proofs.Common.{zero, suc, ◌≡◌, ℕ, ◌+◌, ◌<◌, List, [], ◌∷◌, ◌++◌, length, Bool, true}
 use Rattle.std.proofs.Common.{false, eqb, Option, None, Some, Err, refl, sym, ap, ◌∙◌, subst, arith, append_assoc}
-use Rattle.std.proofs.Common.{length-append, ◌&&◌, ◌⊎◌, inl, inr, IfSome, IsSomeAnd}
+use Rattle.std.proofs.Common.{length-append, ◌&&◌, IfSome, IsSomeAnd}
 use Rattle.std.proofs.Math.Dec.{leb}
-use Rattle.std.proofs.lemmas.Bool.{lt-leb}
-use Rattle.std.proofs.lemmas.Bool.Decides.{leb_tells}
+use Rattle.std.proofs.lemmas.Bool.Decides.{nat_tests}
 use Rattle.std.proofs.lemmas.List.Folds.{list_all-append, list_any-append}
 use Rattle.std.specs.Char.{is_ascii}
 use Rattle.std.specs.List.{list_all}
@@ -20,18 +19,17 @@ use Rattle.dcc_io.specs.NextLine.{has_line_feed, lines_within, IsOneLine, EndsLi
 use Rattle.dcc_io.specs.NextLine.{MeetsBadLine, AnswersLine}
 use Rattle.dcc_io.specs.Took.{CountsLines, Uses, Took}
 use Rattle.dcc_io.proofs.PassedLemmas.{or_false}
-use Rattle.dcc_io.proofs.TookLemmas.{fails_to_read, has_too_many}
+use Rattle.dcc_io.proofs.TookLemmas.{if_some_map, fails_to_read, has_too_many}
 
-and_false : (a b : Bool) → (a && b) ≡ false → (a ≡ false) ⊎ (b ≡ false)
-and_false true b h = inr h
-and_false false b h = inl refl
+-- where one of two tests fails, one of two that are no easier does
+and_false : (a a' b b' : Bool) → (a' ≡ true → a ≡ true) → (b' ≡ true → b ≡ true) → (a && b) ≡ false → (a' && b') ≡ false
+and_false a false b b' first second none = refl
+and_false a true b false first second none = refl
+and_false a true b true first second none = let clash = rw (first refl, second refl) at none in cc
 
-and_none : (a : Bool) → (a && false) ≡ false
-and_none true = refl
-and_none false = refl
-
-above : (a b : ℕ) → b < a → leb a b ≡ false
-above a b h = lt-leb a b h
+and_left : (a b : Bool) → (a && b) ≡ true → a ≡ true
+and_left true b both = refl
+and_left false b both = cc
 
 no_feed-more : (line : List ℕ) (byte : ℕ) → has_line_feed line ≡ false → eqb byte 10 ≡ false
     → has_line_feed (line ++ byte ∷ []) ≡ false
@@ -39,34 +37,27 @@ no_feed-more line byte one no_end = list_any-append (λ (b : ℕ). eqb b 10) lin
 
 -- a byte too many or past ASCII makes the line bad, whatever follows
 pub bad-more : (line more : List ℕ) → is_good line ≡ false → is_good (line ++ more) ≡ false
-bad-more line more bad = go (and_false (nat_le (length line) 512) (list_all is_ascii line) bad)
+bad-more line more bad = and_false _ _ _ _ short ascii bad
   where
-    long : nat_le (length line) 512 ≡ false → 512 < length line
-    long h = at (leb_tells (length line) 512)
-      where
-        at : ((leb (length line) 512 ≡ true) × (length line ≤ 512))
-            ⊎ ((leb (length line) 512 ≡ false) × (512 < length line)) → 512 < length line
-        at (inl within) = let clash : true ≡ false = sym within.0 ∙ h in cc
-        at (inr past) = past.1
+    short : nat_le (length (line ++ more)) 512 ≡ true → nat_le (length line) 512 ≡ true
+    short within = let within = rw (length-append line more) at within in grind (arith, nat_tests)
 
-    go : (nat_le (length line) 512 ≡ false) ⊎ (list_all is_ascii line ≡ false) → is_good (line ++ more) ≡ false
-    go (inl h) =
-        let bound = long h in
-        let len : 512 < length (line ++ more) = simp length-append (omega arith) in
-        rw (above (length (line ++ more)) 512 len) refl
-    go (inr h) =
-        let all : list_all is_ascii (line ++ more) ≡ false = list_all-append is_ascii line more ∙ rw h refl in
-        rw all (and_none (nat_le (length (line ++ more)) 512))
+    ascii : list_all is_ascii (line ++ more) ≡ true → list_all is_ascii line ≡ true
+    ascii all = and_left _ _ (rw (list_all-append is_ascii line more) at all)
 
-bad-byte : (line : List ℕ) (byte : ℕ) → (512 ≤ length line) ⊎ (is_ascii byte ≡ false)
+bad-byte : (line : List ℕ) (byte : ℕ) → (nat_lt (length line) 512 && is_ascii byte) ≡ false
     → is_good (line ++ byte ∷ []) ≡ false
-bad-byte line byte (inl full) =
-    let len : 512 < length (line ++ byte ∷ []) = simp length-append (omega arith) in
-    rw (above (length (line ++ byte ∷ [])) 512 len) refl
-bad-byte line byte (inr past) =
-    let all : list_all is_ascii (line ++ byte ∷ []) ≡ false =
-    list_all-append is_ascii line (byte ∷ []) ∙ rw past (and_none (list_all is_ascii line)) in
-    rw all (and_none (nat_le (length (line ++ byte ∷ [])) 512))
+bad-byte line byte fails = and_false _ _ _ _ short ascii fails
+  where
+    short : nat_le (length (line ++ byte ∷ [])) 512 ≡ true → nat_lt (length line) 512 ≡ true
+    short within = let within = rw (length-append line (byte ∷ [])) at within in grind (arith, nat_tests)
+
+    ascii : list_all is_ascii (line ++ byte ∷ []) ≡ true → is_ascii byte ≡ true
+    ascii all = and_left _ true (last _ _ (rw (list_all-append is_ascii line (byte ∷ [])) at all))
+      where
+        last : (a b : Bool) → (a && b) ≡ true → b ≡ true
+        last true b both = both
+        last false b both = cc
 
 -- bytes were used, which begin a line
 pub record OpensLine (old : InputState) (line : List ℕ) (now : InputState) : Type 0 where
@@ -91,60 +82,43 @@ pub OpensLine-bad : (old now mid new : InputState) (line : List ℕ) (byte numbe
     → new ≡ record mid { fault = Some (Line number faults.Word) } → MeetsBadLine old number new
 OpensLine-bad old now mid new line byte number opens takes no_end fails is_number is_new = rw is_new record {
   at = is_number;
-  text = go old.text now.text mid.text opens.text takes.text takes.last takes.room;
+  text = if_some_map _ _ old.text (λ text found. found.0) found;
   fault = refl;
-  lines = on_line old.text now.text mid.text opens.text takes.text takes.last takes.lines;
+  lines = if_some_map _ _ old.text (λ text found. found.1) found;
   failures = takes.failures ∙ opens.failures;
 }
   where
-    full : nat_lt (length line) 512 ≡ false → 512 ≤ length line
-    full h = at (leb_tells (suc (length line)) 512)
-      where
-        at : ((leb (suc (length line)) 512 ≡ true) × (suc (length line) ≤ 512))
-            ⊎ ((leb (suc (length line)) 512 ≡ false) × (512 < suc (length line))) → 512 ≤ length line
-        at (inl within) = let clash : true ≡ false = sym within.0 ∙ h in cc
-        at (inr past) = let more = past.1 in omega arith
-
-    why : (nat_lt (length line) 512 ≡ false) ⊎ (is_ascii byte ≡ false) → (512 ≤ length line) ⊎ (is_ascii byte ≡ false)
-    why (inl h) = inl (full h)
-    why (inr h) = inr h
-
     not_end : byte ≡ 10 → ⊥
     not_end is_end = let clash : true ≡ false = sym (rw is_end refl) ∙ no_end in cc
 
-    on_line : (whole rest after : Option (List ℕ))
-        → IfSome whole (λ text. IsSomeAnd rest (λ more. LineIn old now line text more)) → BeginsWith rest byte after
-        → IfSome after (λ left. left ≡ [] → byte ≡ 10)
-        → IfSome after (λ left. mid.lines ≡ lines_with now.lines now.place.line left)
-        → IfSome whole (λ text. mid.lines ≡ number)
-    on_line None rest after before taken last lines = tt
-    on_line (Some text) None after before taken last lines = absurd before
-    on_line (Some text) (Some more) None before taken last lines = absurd taken
-    on_line (Some text) (Some more) (Some []) before taken last lines = absurd (not_end (last refl))
-    on_line (Some text) (Some more) (Some (next ∷ left)) before taken last lines =
-        lines ∙ ap (λ (place : TextPlace). place.line) opens.place ∙ sym is_number
-
-    some_left : (left : ℕ) (rest : List ℕ) → (rest ≡ [] → byte ≡ 10) → (left ≡ 0 → rest ≡ []) → 0 < left
-    some_left zero rest last room = absurd (not_end (last (room refl)))
-    some_left (suc left) rest last room = omega arith
+    some_left : (n next : ℕ) (left : List ℕ) → (n ≡ 0 → next ∷ left ≡ []) → 0 < n
+    some_left zero next left room = let clash = room refl in cc
+    some_left (suc n) next left room = omega arith
 
     go : (whole rest after : Option (List ℕ))
         → IfSome whole (λ text. IsSomeAnd rest (λ more. LineIn old now line text more)) → BeginsWith rest byte after
-        → IfSome after (λ left. left ≡ [] → byte ≡ 10) → (mid.bytes ≡ 0 → IsAtEnd after) → IfSome whole (IsBadAt old)
-    go None rest after before taken last room = tt
-    go (Some text) None after before taken last room = absurd before
-    go (Some text) (Some more) None before taken last room = absurd taken
-    go (Some text) (Some more) (Some fewer) before taken last room =
-        let left = some_left mid.bytes fewer last room in
-        record {
-          line = line ++ byte ∷ [];
-          rest = fewer;
-          whole = before.whole ∙ ap (λ (bytes : List ℕ). bytes ++ more) before.is
-              ∙ ap (λ (bytes : List ℕ). line ++ bytes) taken ∙ sym (append_assoc line (byte ∷ []) fewer);
-          bad = bad-byte line byte (why (and_false (nat_lt (length line) 512) (is_ascii byte) fails));
-          one = no_feed-more line byte opens.is_line.one no_end;
-          within = simp length-append (omega (arith, opens.count, takes.bytes, left));
-        }
+        → IfSome after (λ left. left ≡ [] → byte ≡ 10)
+        → IfSome after (λ left. mid.lines ≡ lines_with now.lines now.place.line left) → (mid.bytes ≡ 0 → IsAtEnd after)
+        → IfSome whole (λ text. IsBadAt old text × (mid.lines ≡ number))
+    go None rest after before taken last lines room = tt
+    go (Some text) None after before taken last lines room = absurd before
+    go (Some text) (Some more) None before taken last lines room = absurd taken
+    go (Some text) (Some more) (Some []) before taken last lines room = absurd (not_end (last refl))
+    go (Some text) (Some more) (Some (next ∷ left)) before taken last lines room =
+        let some = some_left mid.bytes next left room in (
+          record {
+            line = line ++ byte ∷ [];
+            rest = next ∷ left;
+            whole = rw (before.whole, before.is, taken) (sym (append_assoc line (byte ∷ []) (next ∷ left)));
+            bad = bad-byte line byte fails;
+            one = no_feed-more line byte opens.is_line.one no_end;
+            within = simp length-append (omega (arith, opens.count, takes.bytes, some));
+          },
+          lines ∙ ap (λ (place : TextPlace). place.line) opens.place ∙ sym is_number,
+        )
+
+    found : IfSome old.text (λ text. IsBadAt old text × (mid.lines ≡ number))
+    found = go old.text now.text mid.text opens.text takes.text takes.last takes.lines takes.room
 
 -- no byte more of a line could be read
 pub line_stops : (old now new : InputState) (line : List ℕ) (fault : KeptFault) → OpensLine old line now
@@ -180,9 +154,7 @@ kept_lines : (old new : InputState) (line text rest : List ℕ) → has_line_fee
     → new.lines ≡ lines_with (lines_within old.lines old.place.line line) old.place.line rest
     → all_lines new rest ≡ all_lines old text
 kept_lines old new line text rest one whole at lines =
-    ap (λ n. lines_through n new.place.line rest) lines
-    ∙ ap (λ n. lines_through (lines_with (lines_within old.lines old.place.line line) old.place.line rest) n rest) at
-    ∙ sym (lines_of_line old.lines old.place.line line rest one) ∙ ap (λ (xs : List ℕ). all_lines old xs) (sym whole)
+    rw (lines, at, whole) (sym (lines_of_line old.lines old.place.line line rest one))
 
 -- whatever follows the line
 counts_line : (old new : InputState) (line rest : List ℕ) → has_line_feed line ≡ false → 0 < length rest
@@ -191,8 +163,8 @@ counts_line : (old new : InputState) (line rest : List ℕ) → has_line_feed li
     → CountsLines old (line ++ 10 ∷ []) new
 counts_line old new line [] one some at lines = absurd (omega (arith, some))
 counts_line old new line (first ∷ rest) one some at lines = λ next more.
-    kept_lines old new line (line ++ 10 ∷ next ∷ more) (next ∷ more) one refl at lines
-    ∙ ap (λ (xs : List ℕ). all_lines old xs) (sym (append_assoc line (10 ∷ []) (next ∷ more)))
+    rw (append_assoc line (10 ∷ []) (next ∷ more))
+    (kept_lines old new line (line ++ 10 ∷ next ∷ more) (next ∷ more) one refl at lines)
 
 -- these bytes are a line and its line feed, and a line that has bytes is the last that was used
 abbrev pub IsThrough : InputState → InputState → List ℕ → List ℕ → Type 0
