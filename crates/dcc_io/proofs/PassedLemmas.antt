@@ -1,6 +1,6 @@
 -- A word that is being read, and what ends it.
 use Rattle.std.proofs.Common.{◌≡◌, ℕ, ◌<◌, ◌≤◌, List, [], ◌∷◌, ◌++◌, Bool, true, false, not, Ok, Err}
-use Rattle.std.proofs.Common.{refl, sym, ap, ◌∙◌, subst, arith, append_assoc, ◌||◌, IfSome, IsSomeAnd, Option, None, Some}
+use Rattle.std.proofs.Common.{refl, sym, ap, ◌∙◌, subst, arith, append_assoc, ◌||◌, ◌&&◌, IfSome, IsSomeAnd, Option, None, Some}
 use Rattle.std.proofs.lemmas.List.{append-nil}
 use Rattle.std.proofs.lemmas.Bool.Decides.{nat_tests}
 use Rattle.dcc_io.specs.declared.word.RunWord.{RunWord}
@@ -74,6 +74,10 @@ takes_noted {old = old} {byte = byte} mid is_byte answer is_new is_told is_gap =
 pub or_false : (a b : Bool) → (a || b) ≡ false → (a ≡ false) × (b ≡ false)
 or_false true b h = cc
 or_false false b h = (refl, h)
+
+pub both : (a b : Bool) → (a && b) ≡ true → (a ≡ true) × (b ≡ true)
+both true b all = (refl, all)
+both false b all = cc
 
 line_feed_is_gap : (byte : ℕ) → byte ≡ 10 → is_gap byte ≡ true
 unfolding is_gap
