@@ -1,5 +1,5 @@
 -- Bytes that are held behind those that were written.
-use Rattle.std.proofs.Common.{ℕ, List, [], ◌++◌, refl, sym, ap, ◌∙◌, subst, append_assoc}
+use Rattle.std.proofs.Common.{ℕ, List, [], ◌++◌, refl, sym, append_assoc}
 use Rattle.std.specs.Io.KnownBytes.{Appends}
 use Rattle.dcc_io.specs.WriterState.{WriterState}
 use Rattle.dcc_io.specs.WrittenBytes.{AppendsFront}
@@ -10,24 +10,27 @@ use Rattle.dcc_io.proofs.WrittenLemmas.{Appends-none, Appends-append}
 pub Holds-same : (before : WriterState) (bytes : List ℕ) → Holds before before bytes bytes
 Holds-same before bytes = record { written = []; whole = refl; appended = Appends-none before }
 
-pub Holds-append : (before mid after : WriterState) (bytes held more later : List ℕ) → Holds before mid bytes held
-    → Holds mid after (held ++ more) later → Holds before after (bytes ++ more) later
-Holds-append before mid after bytes held more later first second = record {
-  written = first.written ++ second.written;
-  whole = ap (λ (xs : List ℕ). xs ++ more) first.whole ∙ append_assoc first.written held more
-      ∙ ap (λ (xs : List ℕ). first.written ++ xs) second.whole
-      ∙ sym (append_assoc first.written second.written later);
-  appended = Appends-append before mid after first.written second.written first.appended second.appended;
+-- more bytes follow
+Holds-more : {before mid : WriterState} {bytes held : List ℕ} (more : List ℕ) → Holds before mid bytes held
+    → Holds before mid (bytes ++ more) (held ++ more)
+Holds-more {held = held} more holds = record {
+  written = holds.written;
+  whole = rw holds.whole (append_assoc holds.written held more);
+  appended = holds.appended;
 }
 
 pub Holds-wrote : (before mid after : WriterState) (bytes held later : List ℕ) → Holds before mid bytes held
     → Holds mid after held later → Holds before after bytes later
 Holds-wrote before mid after bytes held later first second = record {
   written = first.written ++ second.written;
-  whole = first.whole ∙ ap (λ (xs : List ℕ). first.written ++ xs) second.whole
-      ∙ sym (append_assoc first.written second.written later);
+  whole = rw (first.whole, second.whole) (sym (append_assoc first.written second.written later));
   appended = Appends-append before mid after first.written second.written first.appended second.appended;
 }
+
+pub Holds-append : (before mid after : WriterState) (bytes held more later : List ℕ) → Holds before mid bytes held
+    → Holds mid after (held ++ more) later → Holds before after (bytes ++ more) later
+Holds-append before mid after bytes held more later first second =
+    Holds-wrote before mid after (bytes ++ more) (held ++ more) later (Holds-more more first) second
 
 -- a write failed
 pub Holds-fails : (before mid after : WriterState) (bytes held : List ℕ) → Holds before mid bytes held
@@ -35,25 +38,17 @@ pub Holds-fails : (before mid after : WriterState) (bytes held : List ℕ) → H
 Holds-fails before mid after bytes held first second = record {
   front = first.written ++ second.front;
   rest = second.rest;
-  whole = first.whole ∙ ap (λ (xs : List ℕ). first.written ++ xs) second.whole
-      ∙ sym (append_assoc first.written second.front second.rest);
+  whole = rw (first.whole, second.whole) (sym (append_assoc first.written second.front second.rest));
   written = Appends-append before mid after first.written second.front first.appended second.written;
 }
 
 pub Holds-fails_with : (before mid after : WriterState) (bytes held more : List ℕ) → Holds before mid bytes held
     → AppendsFront mid after (held ++ more) → AppendsFront before after (bytes ++ more)
-Holds-fails_with before mid after bytes held more first second = record {
-  front = first.written ++ second.front;
-  rest = second.rest;
-  whole = ap (λ (xs : List ℕ). xs ++ more) first.whole ∙ append_assoc first.written held more
-      ∙ ap (λ (xs : List ℕ). first.written ++ xs) second.whole
-      ∙ sym (append_assoc first.written second.front second.rest);
-  written = Appends-append before mid after first.written second.front first.appended second.written;
-}
+Holds-fails_with before mid after bytes held more first second =
+    Holds-fails before mid after (bytes ++ more) (held ++ more) (Holds-more more first) second
 
 -- what was still held was written
 pub Holds-rest : (before mid after : WriterState) (bytes held : List ℕ) → Holds before mid bytes held
     → Appends mid.contents after.contents held → Appends before.contents after.contents bytes
 Holds-rest before mid after bytes held first wrote =
-    subst (λ (xs : List ℕ). Appends before.contents after.contents xs) (sym first.whole)
-    (Appends-append before mid after first.written held first.appended wrote)
+    rw first.whole (Appends-append before mid after first.written held first.appended wrote)

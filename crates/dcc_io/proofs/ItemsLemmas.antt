@@ -1,9 +1,9 @@
 -- Items of an input, read one after the other.
-use Rattle.std.proofs.Common.{◌≡◌, ℕ, ◌-◌, List, [], ◌++◌, take, length, nat_le, Bool, true, false, cond, Option, None}
+use Rattle.std.proofs.Common.{◌≡◌, ℕ, List, [], ◌++◌, length, nat_le, Bool, true, false, cond, Option, None}
 use Rattle.std.proofs.Common.{Some, refl, sym, ap, ◌∙◌, subst, append_assoc, IfSome}
 use Rattle.std.proofs.lemmas.List.{append-nil}
 use Rattle.dcc_io.specs.declared.fault.KeptFault.{KeptFault}
-use Rattle.dcc_io.specs.declared.fault.KeptFault.TheVariants.{Number, Line, Read, TooMuch}
+use Rattle.dcc_io.specs.declared.fault.KeptFault.TheVariants.{Read}
 use Rattle.dcc_io.specs.Failures.{HasRisen}
 use Rattle.dcc_io.specs.ReaderState.{IsAtEnd}
 use Rattle.dcc_io.specs.InputState.{InputState, all_lines, UsesAllLines}
@@ -34,22 +34,17 @@ module _ {A : Type 0} (grammar : Grammar A) where
       → in_text grammar old text ≡ items_behind items (in_text grammar new rest)
   in_whole old new items text rest gives =
       within_limit-used old new (grammar old) (λ bytes last. items_behind items (grammar new bytes last)) text rest
-      gives
-      gives.is
-      ∙ either (nat_le (length rest) new.bytes)
+      gives gives.is ∙ either (nat_le (length rest) new.bytes) _ _
     where
-      either : (within : Bool)
-          → cond within (items_behind items (grammar new rest None))
-          (items_behind items (grammar new (take (new.bytes - 1) rest) (Some TooMuch)))
-          ≡ items_behind items
-          (cond within (grammar new rest None) (grammar new (take (new.bytes - 1) rest) (Some TooMuch)))
-      either true = refl
-      either false = refl
+      either : (b : Bool) (x y : Items A)
+          → cond b (items_behind items x) (items_behind items y) ≡ items_behind items (cond b x y)
+      either true x y = refl
+      either false x y = refl
 
   -- items, and then no more before this fault
   ends_with : (items : Items A) (fault : Option KeptFault) (said : List A) (fact : List A → Type 0)
       → items ≡ items_behind said (only_fault fault) → fact said → EndsWith fault fact items
-  ends_with items fault said fact whole holds = rw whole (refl, subst fact (sym (append-nil said)) holds)
+  ends_with items fault said fact whole holds = rw (whole, append-nil said) (refl, holds)
 
   pub up_to_fault : (start now : InputState) (said : List A) (fault : Option KeptFault) (fact : List A → Type 0)
       → Gave grammar start said now
@@ -65,12 +60,6 @@ module _ {A : Type 0} (grammar : Grammar A) where
   pub reads_up_to : (start now new : InputState) (fault : KeptFault) (said : List A) (fact : List A → Type 0)
       → Gave grammar start said now → StopsAt grammar now fault new → fact said
       → ReadsUpTo grammar start (Some fault) new fact
-  reads_up_to start now new (Number line) said fact gave stops holds =
-      (up_to_fault start now said (Some (Number line)) fact gave stops.1 holds, stops.0 ∙ gave.failures)
-  reads_up_to start now new (Line line fault) said fact gave stops holds =
-      (up_to_fault start now said (Some (Line line fault)) fact gave stops.1 holds, stops.0 ∙ gave.failures)
-  reads_up_to start now new TooMuch said fact gave stops holds =
-      (up_to_fault start now said (Some TooMuch) fact gave stops.1 holds, stops.0 ∙ gave.failures)
   reads_up_to start now new Read said fact gave stops holds =
       let fails = fails_behind gave (λ used. before_failure grammar now used ≡ only_fault (Some Read))
       (λ used. EndsWith (Some Read) fact (before_failure grammar start used)) new stops
@@ -80,24 +69,22 @@ module _ {A : Type 0} (grammar : Grammar A) where
         fails.1,
         subst (λ (n : ℕ). HasRisen start.failures n) (sym fails.0) (HasRisen-one_more start.failures),
       )
+  reads_up_to start now new fault said fact gave stops holds =
+      (up_to_fault start now said (Some fault) fact gave stops.1 holds, stops.0 ∙ gave.failures)
 
   -- all that is said, told from further back
   pub all_behind : (start now : InputState) → Gave grammar start [] now
       → IfSome now.text (λ text. in_text grammar now text ≡ only_fault None)
       → IfSome start.text (λ text. in_text grammar start text ≡ only_fault None)
-  all_behind start now gave none =
-      told_behind gave (λ text. in_text grammar now text ≡ only_fault None)
-      (λ text. in_text grammar start text ≡ only_fault None)
-      (λ text rest gives none. in_whole start now [] text rest gives ∙ ap (items_behind []) none) none
+  all_behind start now gave =
+      told_behind gave _ _
+      (λ text rest gives none. in_whole start now [] text rest gives ∙ ap (items_behind []) none)
 
   -- the state at a fault may be told from further back, where nothing was said in between
   pub StopsAt-behind : (start now new : InputState) (fault : KeptFault) → Gave grammar start [] now
       → StopsAt grammar now fault new → StopsAt grammar start fault new
   StopsAt-behind start now new fault gave stops =
-      Stops-behind gave (λ used. before_failure grammar now used ≡ only_fault (Some Read))
-      (λ used. before_failure grammar start used ≡ only_fault (Some Read))
-      (λ text. in_text grammar now text ≡ only_fault (Some fault))
-      (λ text. in_text grammar start text ≡ only_fault (Some fault)) new fault stops
+      Stops-behind gave _ _ _ _ new fault stops
       (λ front back say none. say back (Some Read) ∙ ap (items_behind []) none)
       (λ text rest gives none. in_whole start now [] text rest gives ∙ ap (items_behind []) none)
 

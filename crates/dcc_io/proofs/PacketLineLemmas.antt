@@ -1,12 +1,13 @@
 -- What lines say of packets, or of anything else.
 use Rattle.std.proofs.Common.{◌≡◌, ℕ, ◌+◌, List, [], ◌∷◌, ◌++◌, length, Bool, true, false, eqb}
 use Rattle.std.proofs.Common.{nat_le, Option, None, Some, Ok, Err, refl, sym, ap, ◌∙◌, append_assoc, IfSome}
+use Rattle.std.proofs.lemmas.List.{append-nil}
 use Rattle.dcc_packet.specs.declared.fault.PacketFault.{PacketFault}
 use Rattle.dcc_packet.specs.declared.fault.PacketFault.TheVariants as faults
 use Rattle.dcc_packet.specs.Words.{words}
 use Rattle.dcc_io.specs.declared.fault.KeptFault.{KeptFault}
 use Rattle.dcc_io.specs.declared.fault.KeptFault.TheVariants.{Line, Read, TooMuch}
-use Rattle.dcc_io.specs.TextPlace.{TextPlace, lines_with}
+use Rattle.dcc_io.specs.TextPlace.{lines_with}
 use Rattle.dcc_io.specs.ReaderState.{IsAtEnd}
 use Rattle.dcc_io.specs.InputState.{InputState}
 use Rattle.dcc_io.specs.NumberedLines.{NumberedLine, lines_from, onto_first_line, is_good}
@@ -24,9 +25,14 @@ use Rattle.dcc_io.proofs.LineLemmas.{bad-more, IsThrough, took_line}
 abbrev numbered : ℕ → List ℕ → NumberedLine
 numbered number bytes = record { number = number; bytes = bytes }
 
-lines_from-byte : (number byte : ℕ) (text : List ℕ) (lines : List NumberedLine) → eqb byte 10 ≡ false
-    → lines_from number text ≡ lines → lines_from number (byte ∷ text) ≡ onto_first_line byte lines
-lines_from-byte number byte text lines inner is = rw inner (ap (onto_first_line byte) is)
+-- bytes of one line go on as the first line of what follows them
+lines_from-front : (number : ℕ) (line rest tail : List ℕ) (others : List NumberedLine) → has_line_feed line ≡ false
+    → lines_from number rest ≡ numbered number tail ∷ others
+    → lines_from number (line ++ rest) ≡ numbered number (line ++ tail) ∷ others
+lines_from-front number [] rest tail others one is = is
+lines_from-front number (byte ∷ line) rest tail others one is =
+    let parts = or_false (eqb byte 10) (has_line_feed line) one in
+    rw parts.0 (ap (onto_first_line byte) (lines_from-front number line rest tail others parts.1 is))
 
 -- a text has a first line
 record Begins (number : ℕ) (text : List ℕ) : Type 0 where
@@ -45,36 +51,12 @@ begins number (byte ∷ text) = go (eqb byte 10) refl (begins number text)
 
 lines_from-line : (number : ℕ) (line rest : List ℕ) → has_line_feed line ≡ false
     → lines_from number (line ++ 10 ∷ rest) ≡ numbered number line ∷ lines_from (number + 1) rest
-lines_from-line number [] rest one = refl
-lines_from-line number (byte ∷ line) rest one =
-    let parts = or_false (eqb byte 10) (has_line_feed line) one in
-    rw parts.0 (ap (onto_first_line byte) (lines_from-line number line rest parts.1))
+lines_from-line number line rest one =
+    rw (append-nil line) at (lines_from-front number line (10 ∷ rest) [] _ one refl)
 
 lines_from-open : (number : ℕ) (line : List ℕ) → has_line_feed line ≡ false
     → lines_from number line ≡ numbered number line ∷ []
-lines_from-open number [] one = refl
-lines_from-open number (byte ∷ line) one =
-    let parts = or_false (eqb byte 10) (has_line_feed line) one in
-    rw parts.0 (ap (onto_first_line byte) (lines_from-open number line parts.1))
-
--- bytes of one line go on as the first line of what follows them
-record GoesOn (number : ℕ) (line rest : List ℕ) : Type 0 where
-  tail : List ℕ
-  others : List NumberedLine
-  is : lines_from number (line ++ rest) ≡ numbered number (line ++ tail) ∷ others
-
-goes_on : (number : ℕ) (line rest : List ℕ) → has_line_feed line ≡ false → GoesOn number line rest
-goes_on number [] rest one =
-    let first = begins number rest in record { tail = first.bytes; others = first.others; is = first.is }
-goes_on number (byte ∷ line) rest one =
-    let parts = or_false (eqb byte 10) (has_line_feed line) one in
-    let later = goes_on number line rest parts.1 in
-    record {
-      tail = later.tail;
-      others = later.others;
-      is = lines_from-byte number byte (line ++ rest) (numbered number (line ++ later.tail) ∷ later.others)
-          parts.0 later.is;
-    }
+lines_from-open number line one = rw (append-nil line) at (lines_from-front number line [] [] [] one refl)
 
 module _ {A B : Type 0} (saying : Saying A B) where
   -- a line that has ended, and the lines behind it
@@ -89,77 +71,65 @@ module _ {A B : Type 0} (saying : Saying A B) where
   items_of-bad line [] last bad = rw bad refl
   items_of-bad line (next ∷ others) last bad = rw bad refl
 
-  -- what an input says from a line on
-  from_line : (old new : InputState) (number : ℕ) (line : List ℕ) → EndsLine old number line new → (more : List ℕ)
-      (last : Option KeptFault)
-      → lines_by saying old ((line ++ 10 ∷ []) ++ more) last ≡ behind_line saying (numbered old.place.line line)
-      (lines_by saying new more last)
-  from_line old new number line ends more last =
-      ap (λ bytes. items_of saying (lines_from old.place.line bytes) last) (append_assoc line (10 ∷ []) more)
-      ∙ ap (λ lines. items_of saying lines last) (lines_from-line old.place.line line more ends.is_line.one)
-      ∙ items_of-line (numbered old.place.line line) (old.place.line + 1) more last
-      ∙ ap (λ (place : TextPlace). behind_line saying (numbered old.place.line line)
-      (items_of saying (lines_from place.line more) last)) (sym ends.next)
+  module _ {old mid : InputState} {number : ℕ} {line : List ℕ} (ends : EndsLine old number line mid) where
+    -- what an input says from a line on
+    from_line : (more : List ℕ) (last : Option KeptFault)
+        → lines_by saying old ((line ++ 10 ∷ []) ++ more) last ≡ behind_line saying (numbered old.place.line line)
+        (lines_by saying mid more last)
+    from_line more last =
+        rw (append_assoc line (10 ∷ []) more, lines_from-line old.place.line line more ends.is_line.one, ends.next)
+        (items_of-line (numbered old.place.line line) (old.place.line + 1) more last)
 
-  -- a line that says these items was taken
-  gave_line : (old new : InputState) (number : ℕ) (line : List ℕ) (items : List A) → EndsLine old number line new
-      → ((rest : Items A) → behind_line saying (numbered old.place.line line) rest ≡ items_behind items rest)
-      → Gave (lines_by saying) old items new
-  gave_line old new number line items ends says =
-      Took-map (took_line old new number line ends)
-      (λ used is more last. ap (λ bytes. lines_by saying old (bytes ++ more) last) is.0
-      ∙ from_line old new number line ends more last ∙ says (lines_by saying new more last))
+    -- a line that says these items was taken
+    gave_line : (items : List A)
+        → ((rest : Items A) → behind_line saying (numbered old.place.line line) rest ≡ items_behind items rest)
+        → Gave (lines_by saying) old items mid
+    gave_line items says =
+        Took-map (took_line old mid number line ends)
+        (λ used is more last. rw is.0 (from_line more last ∙ says (lines_by saying mid more last)))
 
-  -- a line that says nothing
-  pub Gave-skipped : (old new : InputState) (number : ℕ) (line : List ℕ) → EndsLine old number line new
-      → is_skipped line ≡ true → Gave (lines_by saying) old [] new
-  Gave-skipped old new number line ends skipped =
-      gave_line old new number line [] ends (λ rest. rw (ends.is_line.good, skipped) refl)
+    -- a line that says nothing
+    pub Gave-skipped : is_skipped line ≡ true → Gave (lines_by saying) old [] mid
+    Gave-skipped skipped = gave_line [] (λ rest. rw (ends.is_line.good, skipped) refl)
 
-  -- a line whose words say this
-  pub Gave-said : (old new : InputState) (number : ℕ) (line : List ℕ) (says : B) → EndsLine old number line new
-      → is_skipped line ≡ false → saying.said (words line) ≡ Ok says
-      → Gave (lines_by saying) old (saying.items says) new
-  Gave-said old new number line says ends some is =
-      gave_line old new number line (saying.items says) ends (λ rest. rw (ends.is_line.good, some, is) refl)
+    -- a line whose words say this
+    pub Gave-said : (says : B) → is_skipped line ≡ false → saying.said (words line) ≡ Ok says
+        → Gave (lines_by saying) old (saying.items says) mid
+    Gave-said says some is = gave_line (saying.items says) (λ rest. rw (ends.is_line.good, some, is) refl)
 
-  -- a line whose words are refused
-  pub stops_at_words : (old mid new : InputState) (number : ℕ) (line : List ℕ) (fault : PacketFault)
-      → EndsLine old number line mid → is_skipped line ≡ false → saying.said (words line) ≡ Err fault
-      → new ≡ record mid { fault = Some (Line number fault) }
-      → StopsAt (lines_by saying) old (Line number fault) new × (new.fault ≡ Some (Line number fault))
-      × LinesAt old (Line number fault) new
-  stops_at_words old mid new number line fault ends some says is_new =
-      rw is_new (
-        (
-          ends.failures,
-          map_text (Uses (IsThrough old mid line) old mid)
-              (λ text. items_in saying old text ≡ only_fault (Some (Line number fault))) old.text mid.text stopped
-              (took_line old mid number line ends).text,
-        ),
-        refl,
-        map_text (λ text rest. mid.lines ≡ last_line rest) (λ text. mid.lines ≡ number) old.text mid.text
-            (λ text rest lines. lines ∙ on_line line rest some ∙ sym ends.at) ends.lines,
-      )
-    where
-      last_line : List ℕ → ℕ
-      last_line rest = lines_with (lines_within old.lines old.place.line line) old.place.line rest
+    -- a line whose words are refused
+    pub stops_at_words : {new : InputState} {fault : PacketFault} → is_skipped line ≡ false
+        → saying.said (words line) ≡ Err fault → new ≡ record mid { fault = Some (Line number fault) }
+        → StopsAt (lines_by saying) old (Line number fault) new × (new.fault ≡ Some (Line number fault))
+        × LinesAt old (Line number fault) new
+    stops_at_words {fault = fault} some says is_new =
+        rw is_new (
+          (
+            ends.failures,
+            map_text (Uses (IsThrough old mid line) old mid) _ old.text mid.text stopped
+                (took_line old mid number line ends).text,
+          ),
+          refl,
+          map_text (λ text rest. mid.lines ≡ last_line rest) _ old.text mid.text
+              (λ text rest lines. lines ∙ on_line line rest some ∙ sym ends.at) ends.lines,
+        )
+      where
+        last_line : List ℕ → ℕ
+        last_line rest = lines_with (lines_within old.lines old.place.line line) old.place.line rest
 
-      on_line : (front rest : List ℕ) → is_skipped front ≡ false
-          → lines_with (lines_within old.lines old.place.line front) old.place.line rest ≡ old.place.line
-      on_line [] rest says = cc
-      on_line (byte ∷ front) [] says = refl
-      on_line (byte ∷ front) (next ∷ rest) says = refl
+        on_line : (front rest : List ℕ) → is_skipped front ≡ false
+            → lines_with (lines_within old.lines old.place.line front) old.place.line rest ≡ old.place.line
+        on_line [] rest says = cc
+        on_line (byte ∷ front) [] says = refl
+        on_line (byte ∷ front) (next ∷ rest) says = refl
 
-      stopped : (text rest : List ℕ) → Uses (IsThrough old mid line) old mid text rest
-          → items_in saying old text ≡ only_fault (Some (Line number fault))
-      stopped text rest uses =
-          within_limit-used old mid (lines_by saying old) (λ bytes last. only_fault (Some (Line number fault))) text
-          rest uses
-          (λ more last. ap (λ bytes. lines_by saying old (bytes ++ more) last) uses.is.0
-          ∙ from_line old mid number line ends more last
-          ∙ rw (ends.is_line.good, some, says) (ap (λ n. only_fault (Some (Line n fault))) (sym ends.at)))
-          ∙ same_cond (nat_le (length rest) mid.bytes) (only_fault (Some (Line number fault)))
+        stopped : (text rest : List ℕ) → Uses (IsThrough old mid line) old mid text rest
+            → items_in saying old text ≡ only_fault (Some (Line number fault))
+        stopped text rest uses =
+            within_limit-used old mid (lines_by saying old) (λ bytes last. only_fault (Some (Line number fault))) text
+            rest uses
+            (λ more last. rw uses.is.0 (from_line more last ∙ rw (ends.is_line.good, some, says, ends.at) refl))
+            ∙ same_cond (nat_le (length rest) mid.bytes) (only_fault (Some (Line number fault)))
 
   -- the text has ended
   pub Gave-end : (old new : InputState) → EndsText old new
@@ -167,8 +137,7 @@ module _ {A B : Type 0} (saying : Saying A B) where
       × IfSome old.text (λ text. items_in saying old text ≡ only_fault None)
   Gave-end old new ends = (
     Took-map ends.took
-        (λ used none more last. ap (λ bytes. lines_by saying old (bytes ++ more) last) none
-        ∙ ap (λ (place : TextPlace). items_of saying (lines_from place.line more) last) (sym ends.place)),
+        (λ used none more last. rw (none, ends.place) refl),
     ends.at_end,
     map_text (λ text rest. (text ≡ []) × (rest ≡ [])) (λ text. items_in saying old text ≡ only_fault None) old.text
         new.text (λ text rest none. ap (items_in saying old) none.0 ∙ rw (zero_fits old.bytes) refl) ends.text,
@@ -194,15 +163,15 @@ module _ {A B : Type 0} (saying : Saying A B) where
           (last : Option KeptFault)
           → lines_by saying old (line ++ more) last ≡ only_fault (Some (Line number faults.Word))
       bad_here line bad one more last =
-          let first = goes_on old.place.line line more one in
-          ap (λ lines. items_of saying lines last) first.is
-          ∙ items_of-bad (numbered old.place.line (line ++ first.tail)) first.others last (bad-more line first.tail bad)
-          ∙ ap (λ n. only_fault (Some (Line n faults.Word))) (sym meets.at)
+          let first = begins old.place.line more in
+          rw (lines_from-front old.place.line line more first.bytes first.others one first.is, meets.at)
+          (items_of-bad (numbered old.place.line (line ++ first.bytes)) first.others last
+          (bad-more line first.bytes bad))
 
   open_says : (number : ℕ) (line : List ℕ) (last : Option KeptFault) → IsOneLine line
       → items_of saying (lines_from number line) last ≡ only_fault last
   open_says number line last is_line =
-      ap (λ lines. items_of saying lines last) (lines_from-open number line is_line.one) ∙ rw is_line.good refl
+      rw (lines_from-open number line is_line.one, is_line.good) refl
 
   pub stops_in_line : (old new : InputState) → FailsInLine old new
       → StopsAt (lines_by saying) old Read new × (new.fault ≡ Some Read) × LinesAt old Read new

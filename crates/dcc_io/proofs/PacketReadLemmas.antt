@@ -38,14 +38,14 @@ module _ {A B C : Type 0} (saying : Saying A B) (as_said : C → B) where
       → Gave (lines_by saying) old [] new
   Gave-passed old now new line gave ends skipped =
       Gave-append (lines_by saying) old now new [] [] gave
-      (Gave-skipped saying now new line.number line.text.bytes ends skipped)
+      (Gave-skipped saying ends skipped)
 
   -- the same of one that stood whole at hand
   pub Gave-skipped_line : (old now new : InputState) → Gave (lines_by saying) old [] now → SkipsLine now new
       → Gave (lines_by saying) old [] new
   Gave-skipped_line old now new gave skips =
       Gave-append (lines_by saying) old now new [] [] gave
-      (Gave-skipped saying now new now.place.line skips.line skips.ends skips.skipped)
+      (Gave-skipped saying skips.ends skips.skipped)
 
   -- a line with words was read
   pub answers_said : (old now mid new : InputState) (line : TextLine) (result : Result (Option C) KeptFault)
@@ -53,7 +53,7 @@ module _ {A B C : Type 0} (saying : Saying A B) (as_said : C → B) where
       → EndsLine now line.number line.text.bytes mid → is_skipped line.text.bytes ≡ false
       → ReadsSaid saying as_said mid line result new → AnswersSaid saying as_said old result new
   answers_said old now mid new line (Ok (Some says)) gave ends some reads =
-      let said = Gave-said saying now mid line.number line.text.bytes (as_said says) ends some reads.0 in
+      let said = Gave-said saying ends (as_said says) some reads.0 in
       let bytes = gave.bytes in
       rw reads.1 (
         Gave-append (lines_by saying) old now mid [] (saying.items (as_said says)) gave said,
@@ -61,7 +61,7 @@ module _ {A B C : Type 0} (saying : Saying A B) (as_said : C → B) where
       )
   answers_said old now mid new line (Ok None) gave ends some reads = absurd reads
   answers_said old now mid new line (Err answer) gave ends some reads =
-      let stops = stops_at_words saying now mid new line.number line.text.bytes reads.0 ends some reads.2 reads.3 in
+      let stops = stops_at_words saying ends some reads.2 reads.3 in
       subst (λ (kept : KeptFault). AnswersSaid saying as_said old (Err kept) new) (sym reads.1)
       (behind_said old now new (Line line.number reads.0) gave stops)
 
@@ -70,7 +70,7 @@ module _ {A B C : Type 0} (saying : Saying A B) (as_said : C → B) where
       → is_skipped line ≡ false → saying.said (words line) ≡ Ok (as_said says)
       → AnswersSaid saying as_said old (Ok (Some says)) new
   answers_line old new line says ends some is =
-      (Gave-said saying old new old.place.line line (as_said says) ends some is, omega (arith, ends.bytes))
+      (Gave-said saying ends (as_said says) some is, omega (arith, ends.bytes))
 
   -- there is no line more
   pub answers_none : (old now new : InputState) → Gave (lines_by saying) old [] now → EndsText now new

@@ -1,34 +1,23 @@
 -- One write after another.
-use Rattle.std.proofs.Common.{zero, suc, if◌then◌else◌, ◌≡◌, ℕ, ◌+◌, ◌-◌, ◌<◌, ◌≤◌, false, eqb, length-drop, List, []}
-use Rattle.std.proofs.Common.{◌++◌, length, take, drop, true, nat_lt, Option, None, Some, refl, sym, ap, ◌∙◌, subst}
+use Rattle.std.proofs.Common.{zero, suc, if◌then◌else◌, ◌≡◌, ℕ, ◌+◌, ◌-◌, ◌<◌, ◌≤◌, length-drop, List, []}
+use Rattle.std.proofs.Common.{◌++◌, length, take, drop, Option, None, Some, refl, sym, ap, ◌∙◌}
 use Rattle.std.proofs.Common.{arith, append_assoc}
 use Rattle.std.proofs.lemmas.List.{append-nil, take-append-drop, take_rest, length-take}
 use Rattle.std.proofs.Math.Seq.{take-append-add}
 use Rattle.std.proofs.lemmas.Bool.Decides.{nat_tests}
 use Rattle.std.specs.Io.KnownBytes.{Appends, Keeps}
+use Rattle.std.proofs.KnownBytes.{Appends-nil, Appends-trans}
 use Rattle.dcc_io.specs.Failures.{one_more, moves_on, HasRisen}
 use Rattle.dcc_io.specs.WriterState.{WriterState}
 use Rattle.dcc_io.specs.WrittenBytes.{AppendsFront}
 
 pub Appends-none : (before : WriterState) → Appends before.contents before.contents []
-Appends-none before = go before.contents
-  where
-    go : (before : Option (List ℕ)) → Appends before before []
-    go None = tt
-    go (Some xs) = sym (append-nil xs)
-
-added : (before mid after : Option (List ℕ)) (xs ys : List ℕ) → Appends before mid xs → Appends mid after ys
-    → Appends before after (xs ++ ys)
-added None mid after xs ys first second = tt
-added (Some bs) None after xs ys first second = absurd first
-added (Some bs) (Some cs) None xs ys first second = absurd second
-added (Some bs) (Some cs) (Some ds) xs ys first second =
-    second ∙ ap (λ (zs : List ℕ). zs ++ ys) first ∙ append_assoc bs xs ys
+Appends-none before = Appends-nil before.contents
 
 pub Appends-append : (before mid after : WriterState) (xs ys : List ℕ) → Appends before.contents mid.contents xs
     → Appends mid.contents after.contents ys → Appends before.contents after.contents (xs ++ ys)
 Appends-append before mid after xs ys first second =
-    added before.contents mid.contents after.contents xs ys first second
+    Appends-trans before.contents mid.contents after.contents xs ys first second
 
 kept : (before mid after : Option (List ℕ)) (xs : List ℕ) → Appends before mid xs → Keeps mid after
     → Appends before after xs
@@ -45,15 +34,21 @@ Appends-keeps before mid after xs first second =
 pub HasRisen-one_more : (n : ℕ) → HasRisen n (one_more n)
 HasRisen-one_more n = λ below. grind (arith, nat_tests)
 
-pub stops_writing : (before mid after : WriterState) (bytes : List ℕ) (done : ℕ)
-    → Appends before.contents mid.contents (take done bytes) → Keeps mid.contents after.contents
-    → AppendsFront before after bytes
-stops_writing before mid after bytes done first kept = record {
+-- so many of the bytes were written
+front_of : (before after : WriterState) (bytes : List ℕ) (done : ℕ)
+    → Appends before.contents after.contents (take done bytes) → AppendsFront before after bytes
+front_of before after bytes done wrote = record {
   front = take done bytes;
   rest = drop done bytes;
   whole = sym (take-append-drop done bytes);
-  written = Appends-keeps before mid after (take done bytes) first kept;
+  written = wrote;
 }
+
+pub stops_writing : (before mid after : WriterState) (bytes : List ℕ) (done : ℕ)
+    → Appends before.contents mid.contents (take done bytes) → Keeps mid.contents after.contents
+    → AppendsFront before after bytes
+stops_writing before mid after bytes done first kept =
+    front_of before after bytes done (Appends-keeps before mid after (take done bytes) first kept)
 
 -- what a further call takes
 next_taken : (bytes : List ℕ) (done count : ℕ) → done ≤ length bytes
@@ -69,17 +64,11 @@ next_taken bytes done count within fits =
 -- a write that took a byte is none that counts
 pub taken_some : (n count : ℕ) (bytes : List ℕ) → (count ≡ 0 → ⊥) → (if moves_on count bytes then n else one_more n) ≡ n
 taken_some n zero bytes some = absurd (some refl)
-taken_some n (suc count) bytes some = rw (positive count) refl
-  where
-    positive : (k : ℕ) → nat_lt 0 (suc k) ≡ true
-    positive k = grind (arith, nat_tests)
+taken_some n (suc count) bytes some = grind (arith, nat_tests)
 
 -- one that took none of some bytes counts
 pub taken_none : (n : ℕ) (bytes : List ℕ) → 0 < length bytes → (if moves_on 0 bytes then n else one_more n) ≡ one_more n
-taken_none n bytes some = rw (not_empty (length bytes) some) refl
-  where
-    not_empty : (k : ℕ) → 0 < k → eqb k 0 ≡ false
-    not_empty k some = grind (arith, nat_tests)
+taken_none n bytes some = grind (arith, nat_tests)
 
 -- what is left to write, while some is
 pub some_left : (bytes : List ℕ) (done : ℕ) → done < length bytes
@@ -92,22 +81,15 @@ pub goes_on_writing : (before mid after : WriterState) (bytes : List ℕ) (done 
     → Appends mid.contents after.contents (take count (take (length bytes - done) (drop done bytes)))
     → Appends before.contents after.contents (take (done + count) bytes)
 goes_on_writing before mid after bytes done count within fits first second =
-    subst (λ (front : List ℕ). Appends before.contents after.contents front)
-    (sym (next_taken bytes done count within fits))
-    (Appends-append before mid after _ _ first second)
+    rw (next_taken bytes done count within fits) (Appends-append before mid after _ _ first second)
 
 -- a write that took no byte
 pub stops_at_none : (before mid after : WriterState) (bytes : List ℕ) (done : ℕ)
     → Appends before.contents mid.contents (take done bytes) → Appends mid.contents after.contents []
     → AppendsFront before after bytes
-stops_at_none before mid after bytes done first none = record {
-  front = take done bytes;
-  rest = drop done bytes;
-  whole = sym (take-append-drop done bytes);
-  written =
-      subst (λ (front : List ℕ). Appends before.contents after.contents front) (append-nil (take done bytes))
-      (Appends-append before mid after (take done bytes) [] first none);
-}
+stops_at_none before mid after bytes done first none =
+    front_of before after bytes done
+    (rw (append-nil (take done bytes)) at (Appends-append before mid after (take done bytes) [] first none))
 
 -- what was written, and a front of what comes
 pub front_behind : (before mid after : WriterState) (bytes more : List ℕ) → Appends before.contents mid.contents bytes
@@ -115,7 +97,7 @@ pub front_behind : (before mid after : WriterState) (bytes more : List ℕ) → 
 front_behind before mid after bytes more first second = record {
   front = bytes ++ second.front;
   rest = second.rest;
-  whole = ap (λ (xs : List ℕ). bytes ++ xs) second.whole ∙ sym (append_assoc bytes second.front second.rest);
+  whole = rw second.whole (sym (append_assoc bytes second.front second.rest));
   written = Appends-append before mid after bytes second.front first second.written;
 }
 
@@ -125,6 +107,6 @@ pub AppendsFront-more : (before after : WriterState) (bytes more : List ℕ) →
 AppendsFront-more before after bytes more front = record {
   front = front.front;
   rest = front.rest ++ more;
-  whole = ap (λ (xs : List ℕ). xs ++ more) front.whole ∙ append_assoc front.front front.rest more;
+  whole = rw front.whole (append_assoc front.front front.rest more);
   written = front.written;
 }
