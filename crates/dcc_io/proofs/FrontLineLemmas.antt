@@ -1,10 +1,10 @@
 -- A line at the front of the bytes that were read.
-use Rattle.std.proofs.Common.{suc, ◌≡◌, ℕ, ◌+◌, ◌-◌, ◌<◌, ◌≤◌, List, [], ◌∷◌, ◌++◌, length, take, drop, get_or, Bool}
-use Rattle.std.proofs.Common.{true, false, Option, None, Some, refl, sym, ap, ◌∙◌, arith, append_assoc, add-one}
-use Rattle.std.proofs.Common.{drop-cons, IfSome, IsSomeAnd}
+use Rattle.std.proofs.Common.{◌≡◌, ℕ, ◌+◌, ◌-◌, ◌<◌, ◌≤◌, List, [], ◌∷◌, ◌++◌, length, take, drop, get_or, Bool}
+use Rattle.std.proofs.Common.{true, false, Option, None, Some, refl, sym, ap, ◌∙◌, arith, append_assoc}
+use Rattle.std.proofs.Common.{IfSome, IsSomeAnd}
 use Rattle.std.proofs.Math.Seq.{take-append-add}
 use Rattle.std.proofs.lemmas.Bool.{le-leb}
-use Rattle.std.proofs.lemmas.List.{take-append-drop, length-take-le}
+use Rattle.std.proofs.lemmas.List.{drop_more, take-append-drop, length-take-le}
 use Rattle.std.specs.Char.{is_ascii}
 use Rattle.std.specs.List.{list_all}
 use Rattle.std.specs.Io.KnownBytes.{Consumes}
@@ -45,8 +45,7 @@ begins_with_ended bytes len ended = record {
 }
   where
     rest : drop len bytes ≡ 10 ∷ drop (len + 1) bytes
-    rest = drop-cons bytes len 0 ended.inside ∙ ap (λ byte. byte ∷ drop (suc len) bytes) ended.ends
-        ∙ ap (λ n. 10 ∷ drop n bytes) (sym (add-one len))
+    rest = rw ended.ends at (drop_more bytes len 0 ended.inside)
 
 -- a line with its line feed is the front of the bytes
 line_of_front : (bytes line : List ℕ) (n : ℕ) → n ≡ length line + 1 → BeginsWithLine bytes line
@@ -83,10 +82,8 @@ takes_line_at source later line lines halves bytes len in_comment closed fault t
     whole None ys taken = tt
     whole (Some xs) None taken = absurd taken
     whole (Some xs) (Some ys) taken =
-        ap (λ (zs : List ℕ). zs ++ 10 ∷ [])
-        (taken ∙ ap (λ (zs : List ℕ). zs ++ ys)
-        (line_of_front source.ahead text (len + 1) (omega (arith, count)) front))
-        ∙ append_assoc (text ++ 10 ∷ []) ys (10 ∷ []) ∙ append_assoc text (10 ∷ []) (ys ++ 10 ∷ [])
+        rw (taken, line_of_front source.ahead text (len + 1) (omega (arith, count)) front)
+        (append_assoc (text ++ 10 ∷ []) ys (10 ∷ []) ∙ append_assoc text (10 ∷ []) (ys ++ 10 ∷ []))
 
     used : (xs ys : Option (List ℕ)) → Consumes xs ys (take (len + 1) source.ahead)
         → IfSome (closed_text false xs)

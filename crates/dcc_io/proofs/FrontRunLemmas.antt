@@ -1,8 +1,8 @@
 -- A run at the front of some bytes.
-use Rattle.std.proofs.Common.{◌≡◌, ℕ, suc, ◌+◌, ◌<◌, ◌≤◌, List, [], ◌∷◌, ◌++◌, take, drop, get_or, length, Bool}
-use Rattle.std.proofs.Common.{true, false, cond, eqb, nat_lt, nat_le, ◌&&◌, min, Some, refl, sym, ap, ◌∙◌}
+use Rattle.std.proofs.Common.{◌≡◌, ℕ, suc, ◌+◌, ◌<◌, ◌≤◌, List, ◌∷◌, ◌++◌, take, drop, get_or, length}
+use Rattle.std.proofs.Common.{true, eqb, nat_lt, nat_le, min, Some, refl, sym, ap, ◌∙◌}
 use Rattle.std.proofs.Common.{arith, length-drop}
-use Rattle.std.proofs.lemmas.List.{take-append-drop, drop_more, get_or-drop, length-take-le}
+use Rattle.std.proofs.lemmas.List.{append-nil, take-append-drop, drop_more, get_or-drop, length-take-le}
 use Rattle.std.proofs.lemmas.List.Folds.{list_all-append}
 use Rattle.std.proofs.lemmas.Bool.Decides.{nat_tests}
 use Rattle.std.proofs.Math.Seq.{take-append-add}
@@ -12,26 +12,14 @@ use Rattle.dcc_io.specs.Words.{is_gap, duration_of, count_of, before_star, behin
 use Rattle.dcc_io.specs.Inner.FrontRuns.{IsFrontRun, SpellsNumber}
 use Rattle.dcc_io.specs.Inner.FrontWords.{is_plain}
 use Rattle.dcc_io.proofs.FrontLemmas.{plain_digits}
+use Rattle.dcc_io.proofs.SpellsLemmas.{behind_no_star, no_star_in}
 
 -- digits, and a `*` behind them
 star_behind_digits : (word count : List ℕ) → list_all is_ascii_digit word ≡ true
     → (before_star (word ++ 42 ∷ count) ≡ word) × (behind_star (word ++ 42 ∷ count) ≡ Some count)
-star_behind_digits [] count digits = (refl, refl)
-star_behind_digits (byte ∷ word) count digits =
-    go (eqb byte 42) refl (is_ascii_digit byte) refl (star_behind_digits word count) digits
-  where
-    not_both : eqb byte 42 ≡ true → is_ascii_digit byte ≡ true → ⊥
-    not_both star digit = grind (arith, nat_tests)
-
-    go : (star : Bool) → eqb byte 42 ≡ star → (digit : Bool) → is_ascii_digit byte ≡ digit
-        → (list_all is_ascii_digit word ≡ true
-        → (before_star (word ++ 42 ∷ count) ≡ word) × (behind_star (word ++ 42 ∷ count) ≡ Some count))
-        → (digit && list_all is_ascii_digit word) ≡ true
-        → (cond star [] (byte ∷ before_star (word ++ 42 ∷ count)) ≡ byte ∷ word)
-        × (cond star (Some (word ++ 42 ∷ count)) (behind_star (word ++ 42 ∷ count)) ≡ Some count)
-    go true is true at rest all = absurd (not_both is at)
-    go false is true at rest all = let more = rest all in (ap (λ (l : List ℕ). byte ∷ l) more.0, more.1)
-    go star is false at rest all = cc
+star_behind_digits word count digits =
+    let here = behind_no_star word (42 ∷ count) (no_star_in is_ascii_digit word refl digits) in
+    (here.0 ∙ append-nil word, here.1)
 
 duration_is : (word : List ℕ) (number us : ℕ) → SpellsNumber number word → 0 < length word → length word ≤ 10
     → us ≡ min number 65535 → duration_of word ≡ Some us

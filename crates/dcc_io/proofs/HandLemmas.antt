@@ -1,8 +1,10 @@
 -- A word that has ended in the bytes at hand.
 use Rattle.std.proofs.Common.{◌≡◌, ◌≢◌, ℕ, List, [], ◌∷◌, ◌++◌, drop, get_or, length, ◌<◌, ◌+◌, Bool, true, false}
-use Rattle.std.proofs.Common.{refl, sym, ap, ◌∙◌, subst, ◌||◌, add-one, drop-cons}
+use Rattle.std.proofs.Common.{refl, sym, ap, ◌∙◌, subst, ◌||◌}
 use Rattle.dcc_io.specs.TextPlace.{TextPlace, line_behind}
 use Rattle.dcc_io.specs.Words.{Word, is_gap, comments, ended_words, is_some_byte}
+use Rattle.std.proofs.lemmas.List.{drop_more}
+use Rattle.dcc_io.proofs.PassedLemmas.{or_false, no_bytes}
 use Rattle.dcc_io.proofs.WordsLemmas.{behind, opened, opened-none, opened-word, opened-gap, ended}
 
 abbrev pub outside : ℕ → TextPlace
@@ -19,19 +21,11 @@ some_behind : (word : List ℕ) (byte : ℕ) → is_some_byte (word ++ byte ∷ 
 some_behind [] byte = refl
 some_behind (first ∷ word) byte = refl
 
-no_bytes : (word : List ℕ) → false ≡ is_some_byte word → word ≡ []
-no_bytes [] none = refl
-no_bytes (byte ∷ word) none = cc
-
 ends_some : (line : ℕ) (word : List ℕ) (more : List Word) → true ≡ is_some_byte word → ended line word ++ more ≢ []
 ends_some line [] more some = λ none. cc
 ends_some line (byte ∷ word) more some = λ none. cc
 
-neither : (a b : Bool) → (a || b) ≡ false → (a ≡ false) × (b ≡ false)
-neither true b none = cc
-neither false b none = (refl, none)
-
-module _ (start : TextPlace) (bytes rest : List ℕ) (byte : ℕ) (in_comment in_word : Bool)
+module _ {start : TextPlace} {bytes rest : List ℕ} {byte : ℕ} {in_comment in_word : Bool}
     (looks : LooksAt start bytes (byte ∷ rest) in_comment in_word) where
   at_place : TextPlace
   at_place = record { line = looks.at; in_comment = in_comment }
@@ -40,7 +34,7 @@ module _ (start : TextPlace) (bytes rest : List ℕ) (byte : ℕ) (in_comment in
       → LooksAt start bytes rest (comments in_comment byte) true
   unfolding at_place
   LooksAt-word no_end =
-      let both = neither (comments in_comment byte) (is_gap byte) no_end in
+      let both = or_false (comments in_comment byte) (is_gap byte) no_end in
       record {
         at = line_behind looks.at byte;
         word = looks.word ++ byte ∷ [];
@@ -52,7 +46,7 @@ module _ (start : TextPlace) (bytes rest : List ℕ) (byte : ℕ) (in_comment in
       → LooksAt start bytes rest (comments in_comment byte) in_word
   unfolding at_place
   LooksAt-gap none ends =
-      let empty = no_bytes looks.word (sym none ∙ looks.is_word) in
+      let empty = no_bytes looks.word (sym looks.is_word ∙ none) in
       record {
         at = line_behind looks.at byte;
         word = [];
@@ -84,34 +78,24 @@ looks_at_start first bytes line =
       is_word = refl;
     }
 
-at_byte : (start : TextPlace) (bytes : List ℕ) (index : ℕ) (in_comment in_word : Bool) → index < length bytes
-    → LooksAt start bytes (drop index bytes) in_comment in_word
-    → LooksAt start bytes (get_or bytes index 0 ∷ drop (index + 1) bytes) in_comment in_word
-at_byte start bytes index in_comment in_word inside looks =
-    subst (λ (rest : List ℕ). LooksAt start bytes rest in_comment in_word)
-    (drop-cons bytes index 0 inside ∙ ap (λ n. get_or bytes index 0 ∷ drop n bytes) (sym (add-one index))) looks
-
 module _ (first : Bool) (bytes : List ℕ) (index : ℕ) (in_comment in_word : Bool) (inside : index < length bytes)
     (looks : LooksBehind first bytes index in_comment in_word) where
   next_at : (line : ℕ)
       → LooksAt (record { line = line; in_comment = first }) bytes (get_or bytes index 0 ∷ drop (index + 1) bytes)
       in_comment in_word
-  next_at line = at_byte (record { line = line; in_comment = first }) bytes index in_comment in_word inside (looks line)
+  next_at line = rw (drop_more bytes index 0 inside) at (looks line)
 
   pub word_behind : (comments in_comment (get_or bytes index 0) || is_gap (get_or bytes index 0)) ≡ false
       → LooksBehind first bytes (index + 1) (comments in_comment (get_or bytes index 0)) true
   word_behind no_end = λ line.
-      LooksAt-word (record { line = line; in_comment = first }) bytes (drop (index + 1) bytes) (get_or bytes index 0)
-      in_comment in_word (next_at line) no_end
+      LooksAt-word (next_at line) no_end
 
   pub gap_behind : in_word ≡ false → (comments in_comment (get_or bytes index 0) || is_gap (get_or bytes index 0)) ≡ true
       → LooksBehind first bytes (index + 1) (comments in_comment (get_or bytes index 0)) in_word
   gap_behind none ends = λ line.
-      LooksAt-gap (record { line = line; in_comment = first }) bytes (drop (index + 1) bytes) (get_or bytes index 0)
-      in_comment in_word (next_at line) none ends
+      LooksAt-gap (next_at line) none ends
 
   pub found_behind : (line : ℕ) → (comments in_comment (get_or bytes index 0) || is_gap (get_or bytes index 0)) ≡ true
       → in_word ≡ true → ended_words (record { line = line; in_comment = first }) bytes ≢ []
   found_behind line ends some =
-      finds_word (record { line = line; in_comment = first }) bytes (drop (index + 1) bytes) (get_or bytes index 0)
-      in_comment in_word (next_at line) ends some
+      finds_word (next_at line) ends some

@@ -2,6 +2,8 @@
 use Rattle.std.proofs.Common.{◌≡◌, ◌≢◌, ℕ, ◌+◌, ◌-◌, ◌*◌, ◌≤◌, List, [], ◌∷◌, ◌++◌, Bool, true, false, cond, Option}
 use Rattle.std.proofs.Common.{None, Some, length, min, refl, sym, ap, ◌∙◌, subst, arith, length-append, eqb, ◌&&◌}
 use Rattle.std.proofs.lemmas.List.Folds.{list_all-append}
+use Rattle.std.proofs.lemmas.List.{append-nil}
+use Rattle.dcc_io.proofs.PassedLemmas.{both}
 use Rattle.std.proofs.lemmas.Bool.{ne_eqb}
 use Rattle.std.proofs.lemmas.Bool.Decides.{nat_tests}
 use Rattle.std.specs.List.{list_all}
@@ -52,36 +54,45 @@ AreDigits-digit old new bytes byte low high len same capped digits =
       capped = λ all. let before = digits.capped (sym same ∙ all) in rw value (omega arith);
     }
 
+no_star_first : (byte : ℕ) (word : List ℕ) → behind_star (byte ∷ word) ≡ None → eqb byte 42 ≡ false
+no_star_first byte word none = go (eqb byte 42) none
+  where
+    go : (star : Bool) → cond star (Some word) (behind_star word) ≡ None → star ≡ false
+    go true none = cc
+    go false none = refl
+
+-- what follows bytes among which there is no `*`
+pub behind_no_star : (word rest : List ℕ) → behind_star word ≡ None
+    → (before_star (word ++ rest) ≡ word ++ before_star rest) × (behind_star (word ++ rest) ≡ behind_star rest)
+behind_no_star [] rest none = (refl, refl)
+behind_no_star (byte ∷ word) rest none =
+    let apart = no_star_first byte word none in
+    let more = behind_no_star word rest (rw apart at none) in rw apart (ap (λ (l : List ℕ). byte ∷ l) more.0, more.1)
+
+before_all : (word : List ℕ) → behind_star word ≡ None → before_star word ≡ word
+before_all word none = rw (append-nil word) at (behind_no_star word [] none).0
+
+-- bytes that pass a test which `*` does not
+pub no_star_in : (test : ℕ → Bool) (word : List ℕ) → test 42 ≡ false → list_all test word ≡ true
+    → behind_star word ≡ None
+no_star_in test [] other all = refl
+no_star_in test (byte ∷ word) other all =
+    let parts = both (test byte) (list_all test word) all in
+    let apart = ne_eqb byte 42 (λ same. let clash : true ≡ false = sym parts.0 ∙ ap test same ∙ other in cc) in
+    rw apart (no_star_in test word other parts.1)
+
 -- a `*` behind a word, or another byte
 pub star_behind : (word : List ℕ) → behind_star word ≡ None
     → (before_star (word ++ 42 ∷ []) ≡ before_star word) × (behind_star (word ++ 42 ∷ []) ≡ Some [])
-star_behind [] none = (refl, refl)
-star_behind (byte ∷ word) none = go (eqb byte 42) (star_behind word) none
-  where
-    go : (star : Bool)
-        → (behind_star word ≡ None
-        → (before_star (word ++ 42 ∷ []) ≡ before_star word) × (behind_star (word ++ 42 ∷ []) ≡ Some []))
-        → cond star (Some word) (behind_star word) ≡ None
-        → (cond star [] (byte ∷ before_star (word ++ 42 ∷ [])) ≡ cond star [] (byte ∷ before_star word))
-        × (cond star (Some (word ++ 42 ∷ [])) (behind_star (word ++ 42 ∷ [])) ≡ Some [])
-    go true rest none = cc
-    go false rest none = let more = rest none in (ap (λ (l : List ℕ). byte ∷ l) more.0, more.1)
+star_behind word none =
+    let here = behind_no_star word (42 ∷ []) none in
+    (here.0 ∙ append-nil word ∙ sym (before_all word none), here.1)
 
 pub byte_behind : (word : List ℕ) (byte : ℕ) → eqb byte 42 ≡ false → behind_star word ≡ None
     → (before_star (word ++ byte ∷ []) ≡ before_star word ++ byte ∷ []) × (behind_star (word ++ byte ∷ []) ≡ None)
-byte_behind [] byte other none = (rw other refl, rw other refl)
-byte_behind (first ∷ word) byte other none = go (eqb first 42) (byte_behind word byte other) none
-  where
-    go : (star : Bool)
-        → (behind_star word ≡ None
-        → (before_star (word ++ byte ∷ []) ≡ before_star word ++ byte ∷ [])
-        × (behind_star (word ++ byte ∷ []) ≡ None))
-        → cond star (Some word) (behind_star word) ≡ None
-        → (cond star [] (first ∷ before_star (word ++ byte ∷ [])) ≡ cond star [] (first ∷ before_star word)
-        ++ byte ∷ [])
-        × (cond star (Some (word ++ byte ∷ [])) (behind_star (word ++ byte ∷ [])) ≡ None)
-    go true rest none = cc
-    go false rest none = let more = rest none in (ap (λ (l : List ℕ). first ∷ l) more.0, more.1)
+byte_behind word byte other none =
+    let here = behind_no_star word (byte ∷ []) none in
+    rw (before_all word none) (rw other at here.0, rw other at here.1)
 
 pub count_behind : (word count : List ℕ) (byte : ℕ) → behind_star word ≡ Some count
     → (before_star (word ++ byte ∷ []) ≡ before_star word)
@@ -98,21 +109,6 @@ count_behind (first ∷ word) count byte some = go (eqb first 42) (count_behind 
         × (cond star (Some (word ++ byte ∷ [])) (behind_star (word ++ byte ∷ [])) ≡ Some (count ++ byte ∷ []))
     go true rest some = (refl, ap (λ (o : Option (List ℕ)). option_map (λ l. l ++ byte ∷ []) o) some)
     go false rest some = let more = rest some in (ap (λ (l : List ℕ). first ∷ l) more.0, more.1)
-
--- a word of dashes has no `*`
-pub dashes_before : (word : List ℕ) → list_all is_dash word ≡ true → before_star word ≡ word
-dashes_before [] dashes = refl
-dashes_before (byte ∷ word) dashes = go (eqb byte 42) refl (eqb byte 45) refl (dashes_before word) dashes
-  where
-    not_both : eqb byte 42 ≡ true → eqb byte 45 ≡ true → ⊥
-    not_both star dash = grind (arith, nat_tests)
-
-    go : (star : Bool) → eqb byte 42 ≡ star → (dash : Bool) → eqb byte 45 ≡ dash
-        → (list_all is_dash word ≡ true → before_star word ≡ word) → (dash && list_all is_dash word) ≡ true
-        → cond star [] (byte ∷ before_star word) ≡ byte ∷ word
-    go true is true at rest all = absurd (not_both is at)
-    go false is true at rest all = ap (λ (l : List ℕ). byte ∷ l) (rest all)
-    go star is false at rest all = cc
 
 -- one more byte of the count
 pub Spells-count : (old new : RunWord) (count more : Digits) (word : List ℕ) (byte : ℕ) → old.count ≡ Some count
@@ -179,6 +175,6 @@ mark_of so_far word len dashes len_is spells =
     let all : list_all is_dash word ≡ true = sym spells.all_dashes ∙ dashes in
     let count : len ≡ min (length word) 11 =
     len_is (before_star word) spells.duration
-    ∙ ap (λ (l : List ℕ). min (length l) 11) (dashes_before word all) in
+    ∙ ap (λ (l : List ℕ). min (length l) 11) (before_all word (no_star_in is_dash word refl all)) in
     same_three len (length word) count ∙ sym (and-true (eqb (length word) 3))
     ∙ ap (λ b. eqb (length word) 3 && b) (sym all)
