@@ -10,7 +10,6 @@ use Rattle.dcc_wire.specs.Framing.{StandsFor}
 use Rattle.dcc_wire.specs.declared.framer.Framer.{Framer}
 use Rattle.dcc_io.specs.declared.fault.KeptFault.{KeptFault}
 use Rattle.dcc_io.specs.declared.fault.ToolFault.TheVariants as told
-use Rattle.dcc_io.specs.declared.stream.Failed.{Failed}
 use Rattle.dcc_io.specs.Calls.{ReadsTo}
 use Rattle.dcc_capture.specs.Capture.{IsOfCapture, CaptureLinesAt}
 use Rattle.dcc_io.specs.Faults.{as_tool_fault}
@@ -18,9 +17,7 @@ use Rattle.dcc_io.specs.InputState.{InputState}
 use Rattle.dcc_io.specs.Items.{Gave}
 use Rattle.dcc_capture.specs.Capture.{captures, AnswersRun}
 use Rattle.dcc_io.specs.WriterState.{WriterState}
-use Rattle.dcc_io.specs.WrittenBytes.{Writes}
-use Rattle.dcc_saved.specs.FleetText.{fleet_text}
-use Rattle.dcc_listen.specs.FleetRun.{Fleet, HaveHeard, HearsAll, Runs}
+use Rattle.dcc_listen.specs.FleetRun.{HaveHeard, HearsAll, Runs}
 use Rattle.dcc_io.proofs.CallLemmas.{gives_up}
 use Rattle.dcc_io.proofs.ItemsLemmas.{Gave-none, Gave-append, reads_up_to, up_to_fault, uses_all_lines}
 use Rattle.dcc_capture.proofs.CaptureLemmas.{CaptureLinesAt-behind}

@@ -11,7 +11,7 @@ use Rattle.std.proofs.lemmas.List.Elements.{All-cons, All-nil}
 use Rattle.std.proofs.lemmas.List.Splits.{slice_split_at, slice_split_none}
 use Rattle.dcc_packet.specs.Words.{Word, is_separator, words}
 use Rattle.dcc_packet.specs.declared.functions.Group.{Group}
-use Rattle.dcc_packet.specs.declared.functions.Group.TheVariants.{F0, F5, F9}
+use Rattle.dcc_packet.specs.declared.functions.Group.TheVariants.{F0}
 use Rattle.dcc_packet.specs.Group.{group_max}
 use Rattle.dcc_packet.specs.Written.{spaced_words}
 use Rattle.dcc_packet.proofs.FirstWord.{is_some_word, filter_some}

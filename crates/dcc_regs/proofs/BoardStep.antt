@@ -9,9 +9,8 @@ use Rattle.dcc_regs.specs.declared.register.Who.{Who}
 use Rattle.dcc_packet.specs.declared.accessory.Board.{Board as OwnBoard}
 use Rattle.dcc_regs.specs.declared.register.Who.TheVariants.{Board as BoardWho}
 use Rattle.dcc_regs.specs.declared.register.Register.{Register}
-use Rattle.dcc_regs.specs.declared.register.Register.TheVariants.{Speed as SpeedRegister, Direction, Function}
-use Rattle.dcc_regs.specs.declared.register.Register.TheVariants.{State as StateRegister, CvBit}
-use Rattle.dcc_regs.specs.declared.register.Register.TheVariants.{Pending as PendingRegister, Out, Position, Aspect}
+use Rattle.dcc_regs.specs.declared.register.Register.TheVariants.{Speed as SpeedRegister}
+use Rattle.dcc_regs.specs.declared.register.Register.TheVariants.{Out, Position, Aspect}
 use Rattle.dcc_regs.specs.declared.register.Value.TheVariants.{Flag, Number}
 use Rattle.dcc_regs.specs.Heard.{hears}
 use Rattle.dcc_regs.specs.Outputs.{out_set, position_set, aspect_set}

@@ -1,5 +1,5 @@
 -- CV writes can be told apart by what they say.
-use Rattle.std.proofs.Common.{◌≡◌, ℕ, Bool, true, nat_eq, Some, ap, ap₂}
+use Rattle.std.proofs.Common.{◌≡◌, ℕ, Bool, true, nat_eq, Some, ap₂}
 use Rattle.std.specs.Prelude.{Option}
 use Rattle.std.specs.Bool.{Decides}
 use Rattle.std.specs.Cmp.{booleans_Decides}
@@ -7,7 +7,6 @@ use Rattle.std.proofs.Math.Bool.{beq}
 use Rattle.std.proofs.lemmas.Bool.Decides.{Decides-eqb, Decides-like, same_from_decides}
 use Rattle.dcc_packet.specs.declared.cv.BitPlace.{BitPlace}
 use Rattle.dcc_packet.specs.declared.cv.CvNumber.{CvNumber}
-use Rattle.dcc_packet.specs.declared.instruction.What.{What}
 use Rattle.dcc_packet.specs.declared.instruction.What.TheVariants.{CvWrite, CvBitWrite}
 use Rattle.dcc_packet.specs.declared.packet.Packet.{Packet}
 use Rattle.dcc_packet.specs.SamePacket.{same}

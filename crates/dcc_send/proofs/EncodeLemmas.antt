@@ -1,5 +1,5 @@
 -- How an encoding grows. The search finds `encodes_all` and `encodes_up_to` at the returns of its loop.
-use Rattle.std.proofs.Common.{◌≡◌, ℕ, List, [], ◌∷◌, ◌++◌, Option, None, Some, Ok, Err, refl, sym, ap, ◌∙◌, subst}
+use Rattle.std.proofs.Common.{◌≡◌, ℕ, List, [], ◌∷◌, ◌++◌, Option, None, Some, Ok, Err, refl, ◌∙◌}
 use Rattle.std.proofs.Common.{IfSome, IsSomeAnd}
 use Rattle.std.proofs.lemmas.List.{append-nil}
 use Rattle.std.proofs.lemmas.List.Concat.{flat_map-append}
@@ -14,7 +14,7 @@ use Rattle.dcc_io.specs.InputState.{InputState}
 use Rattle.dcc_io.specs.WriterState.{WriterState}
 use Rattle.dcc_io.specs.WrittenBytes.{AppendsFront}
 use Rattle.dcc_io.specs.Held.{Holds}
-use Rattle.dcc_io.specs.Items.{Items, Gives, Gave}
+use Rattle.dcc_io.specs.Items.{Gives, Gave}
 use Rattle.dcc_io.specs.PacketLines.{packet_lines, packet_words, frames_in}
 use Rattle.dcc_io.specs.PacketRead.{AnswersPacket}
 use Rattle.dcc_send.specs.Inner.Held.{WritesOut}

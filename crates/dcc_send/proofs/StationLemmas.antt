@@ -21,7 +21,7 @@ use Rattle.dcc_io.specs.InputState.{InputState}
 use Rattle.dcc_io.specs.WriterState.{WriterState}
 use Rattle.dcc_io.specs.WrittenBytes.{AppendsFront}
 use Rattle.dcc_io.specs.Held.{Holds, HoldsOrFails}
-use Rattle.dcc_io.specs.Items.{Items, Gives, Gave}
+use Rattle.dcc_io.specs.Items.{Gives, Gave}
 use Rattle.dcc_io.specs.PacketLines.{items_in}
 use Rattle.dcc_io.specs.PacketRead.{AnswersSaid}
 use Rattle.dcc_io.specs.StationLines.{Asked, Command, Next, asked_by, station_words, station_lines}
