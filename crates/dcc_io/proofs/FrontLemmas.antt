@@ -235,7 +235,8 @@ module _ (source later : ReaderState) (line lines halves bytes len : ℕ) (in_co
       new : InputState
       new = state_of later next line in_comment false halves (bytes - n) None
 
-      counted : (rest : List ℕ) → all_lines new (rest ++ 10 ∷ []) ≡ all_lines old (take n source.ahead ++ (rest ++ 10 ∷ []))
+      counted : (rest : List ℕ)
+          → all_lines new (rest ++ 10 ∷ []) ≡ all_lines old (take n source.ahead ++ (rest ++ 10 ∷ []))
       counted [] = counts 10 []
       counted (byte ∷ rest) = counts byte (rest ++ 10 ∷ [])
 
@@ -267,8 +268,12 @@ module _ (source later : ReaderState) (line lines halves bytes len : ℕ) (in_co
       let some : 0 < length (take len source.ahead) =
       let some = begins.some in simp length-take (omega arith) in
       passes_ahead (len + 1) next _ (omega arith) (omega arith) room consumed
-      (λ byte more. rw (behind_gap, take_more source.ahead len 0 inside, append_assoc (take len source.ahead) (get_or source.ahead len 0 ∷ []) (byte ∷ more))
-      (lines_of_used lines line (take len source.ahead) (get_or source.ahead len 0) (byte ∷ more) some (plain_within _ begins.plain)))
+      (λ byte more.
+      rw (
+        behind_gap,
+        take_more source.ahead len 0 inside,
+        append_assoc (take len source.ahead) (get_or source.ahead len 0 ∷ []) (byte ∷ more),
+      ) (lines_of_used lines line _ (get_or source.ahead len 0) (byte ∷ more) some (plain_within _ begins.plain)))
       (rw (no_comment, behind_gap, take_more source.ahead len 0 inside)
       (passes_front line (get_or source.ahead len 0) (take len source.ahead) begins.plain some begins.gap))
 
@@ -280,7 +285,8 @@ module _ (source later : ReaderState) (line lines halves bytes len : ℕ) (in_co
   passes_comment_at comment room some ends consumed =
       let within = ends.within in
       passes_ahead len line [] some within (omega arith) consumed
-      (λ byte more. lines_of_used lines line (take len source.ahead) byte more (simp length-take (omega arith)) ends.none)
+      (λ byte more.
+      lines_of_used lines line (take len source.ahead) byte more (simp length-take (omega arith)) ends.none)
       (rw comment (passes_in_comment line (take len source.ahead) ends.none))
 
   -- a line feed behind no word was passed
@@ -290,7 +296,8 @@ module _ (source later : ReaderState) (line lines halves bytes len : ℕ) (in_co
       (state_of later (line + 1) line in_comment closed halves (bytes - 1) fault)
   passes_line_feed_at no_comment room begins consumed =
       let inside = begins.0 in
-      let feed : take 1 source.ahead ≡ 10 ∷ [] = take_more source.ahead 0 0 begins.0 ∙ ap (λ (b : ℕ). b ∷ []) begins.1 in
+      let feed : take 1 source.ahead ≡ 10 ∷ [] =
+      take_more source.ahead 0 0 begins.0 ∙ ap (λ (b : ℕ). b ∷ []) begins.1 in
       passes_ahead 1 (line + 1) [] (omega arith) (omega arith) room consumed (λ byte more. rw feed refl)
       (rw (no_comment, feed) (line_feed_passes line))
 

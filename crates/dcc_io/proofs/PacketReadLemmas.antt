@@ -24,71 +24,56 @@ module _ {A B C : Type 0} (saying : Saying A B) (as_said : C → B) where
   Stopped old fault new = StopsAt (lines_by saying) old fault new × (new.fault ≡ Some fault) × LinesAt old fault new
 
   -- told from further back, where nothing was said in between
-  behind_said : (old now new : InputState) (fault : KeptFault) → Gave (lines_by saying) old [] now
+  behind_said : {old now : InputState} (new : InputState) (fault : KeptFault) → Gave (lines_by saying) old [] now
       → Stopped now fault new → Stopped old fault new
-  behind_said old now new fault gave stops = (
-    StopsAt-behind (lines_by saying) old now new fault gave stops.0,
-    stops.1,
-    LinesAt-behind gave new fault stops.2,
-  )
+  behind_said {old = old} {now = now} new fault gave stops =
+      (StopsAt-behind (lines_by saying) old now new fault gave stops.0, stops.1, LinesAt-behind gave new fault stops.2)
 
   -- a line that says nothing was passed
-  pub Gave-passed : (old now new : InputState) (line : TextLine) → Gave (lines_by saying) old [] now
-      → EndsLine now line.number line.text.bytes new → is_skipped line.text.bytes ≡ true
-      → Gave (lines_by saying) old [] new
-  Gave-passed old now new line gave ends skipped =
-      Gave-append (lines_by saying) old now new [] [] gave
-      (Gave-skipped saying ends skipped)
-
-  -- the same of one that stood whole at hand
-  pub Gave-skipped_line : (old now new : InputState) → Gave (lines_by saying) old [] now → SkipsLine now new
-      → Gave (lines_by saying) old [] new
-  Gave-skipped_line old now new gave skips =
-      Gave-append (lines_by saying) old now new [] [] gave
-      (Gave-skipped saying skips.ends skips.skipped)
+  pub Gave-passed : {old now new : InputState} {number : ℕ} {line : List ℕ} → Gave (lines_by saying) old [] now
+      → EndsLine now number line new → is_skipped line ≡ true → Gave (lines_by saying) old [] new
+  Gave-passed gave ends skipped =
+      Gave-append (lines_by saying) _ _ _ [] [] gave (Gave-skipped saying ends skipped)
 
   -- a line with words was read
-  pub answers_said : (old now mid new : InputState) (line : TextLine) (result : Result (Option C) KeptFault)
-      → Gave (lines_by saying) old [] now
-      → EndsLine now line.number line.text.bytes mid → is_skipped line.text.bytes ≡ false
-      → ReadsSaid saying as_said mid line result new → AnswersSaid saying as_said old result new
-  answers_said old now mid new line (Ok (Some says)) gave ends some reads =
-      let said = Gave-said saying ends (as_said says) some reads.0 in
+  pub answers_said : {old now mid : InputState} (new : InputState) (line : TextLine)
+      (result : Result (Option C) KeptFault)
+      → Gave (lines_by saying) old [] now → EndsLine now line.number line.text.bytes mid
+      → is_skipped line.text.bytes ≡ false → ReadsSaid saying as_said mid line result new
+      → AnswersSaid saying as_said old result new
+  answers_said new line (Ok (Some says)) gave ends some reads =
       let bytes = gave.bytes in
       rw reads.1 (
-        Gave-append (lines_by saying) old now mid [] (saying.items (as_said says)) gave said,
+        Gave-append (lines_by saying) _ _ _ [] (saying.items (as_said says)) gave
+            (Gave-said saying ends (as_said says) some reads.0),
         omega (arith, ends.bytes, bytes),
       )
-  answers_said old now mid new line (Ok None) gave ends some reads = absurd reads
-  answers_said old now mid new line (Err answer) gave ends some reads =
-      let stops = stops_at_words saying ends some reads.2 reads.3 in
-      subst (λ (kept : KeptFault). AnswersSaid saying as_said old (Err kept) new) (sym reads.1)
-      (behind_said old now new (Line line.number reads.0) gave stops)
+  answers_said new line (Ok None) gave ends some reads = absurd reads
+  answers_said new line (Err answer) gave ends some reads =
+      rw reads.1 (behind_said new (Line line.number reads.0) gave (stops_at_words saying ends some reads.2 reads.3))
 
   -- a line with words was taken
-  pub answers_line : (old new : InputState) (line : List ℕ) (says : C) → EndsLine old old.place.line line new
+  pub answers_line : {old new : InputState} {line : List ℕ} (says : C) → EndsLine old old.place.line line new
       → is_skipped line ≡ false → saying.said (words line) ≡ Ok (as_said says)
       → AnswersSaid saying as_said old (Ok (Some says)) new
-  answers_line old new line says ends some is =
-      (Gave-said saying ends (as_said says) some is, omega (arith, ends.bytes))
+  answers_line says ends some is = (Gave-said saying ends (as_said says) some is, omega (arith, ends.bytes))
 
   -- there is no line more
-  pub answers_none : (old now new : InputState) → Gave (lines_by saying) old [] now → EndsText now new
+  pub answers_none : {old now new : InputState} → Gave (lines_by saying) old [] now → EndsText now new
       → AnswersSaid saying as_said old (Ok None) new
-  answers_none old now new gave ends =
+  answers_none {old = old} {now = now} {new = new} gave ends =
       let last = Gave-end saying now new ends in (
-        Gave-append (lines_by saying) old now new [] [] gave last.0,
+        Gave-append (lines_by saying) _ _ _ [] [] gave last.0,
         last.1,
         all_behind (lines_by saying) old now gave last.2,
       )
 
   -- no line more could be read
-  pub answers_fault : (old now new : InputState) (fault : KeptFault) → Gave (lines_by saying) old [] now
+  pub answers_fault : {old now : InputState} (new : InputState) (fault : KeptFault) → Gave (lines_by saying) old [] now
       → AnswersLine now (Err fault) new → AnswersSaid saying as_said old (Err fault) new
-  answers_fault old now new (Number line) gave answer = absurd answer
-  answers_fault old now new (Line line why) gave answer =
-      subst (λ (f : PacketFault). Stopped old (Line line f) new) (sym answer.0)
-      (behind_said old now new (Line line faults.Word) gave (stops_at_bad_line saying now new line answer.1))
-  answers_fault old now new Read gave answer = behind_said old now new Read gave (stops_in_line saying now new answer)
-  answers_fault old now new TooMuch gave answer =
-      behind_said old now new TooMuch gave (overflows_line saying now new answer)
+  answers_fault new (Number line) gave answer = absurd answer
+  answers_fault {now = now} new (Line line why) gave answer =
+      rw answer.0 (behind_said new (Line line faults.Word) gave (stops_at_bad_line saying now new line answer.1))
+  answers_fault {now = now} new Read gave answer = behind_said new Read gave (stops_in_line saying now new answer)
+  answers_fault {now = now} new TooMuch gave answer =
+      behind_said new TooMuch gave (overflows_line saying now new answer)

@@ -133,7 +133,8 @@ module _ {old now new : InputState} {so_far : RunWord} {byte : ℕ} (opens : Ope
 
       -- a byte of a word stands on its line
       on_line : (x : Option (List ℕ)) → IfSome x (λ rest. new.lines ≡ lines_with now.lines now.place.line rest)
-          → IfSome x (λ rest. rest ≡ [] → byte ≡ 10) → IfSome x (λ rest. is_some_byte (opens.word ++ byte ∷ []) ≡ true → new.lines ≡ new.place.line)
+          → IfSome x (λ rest. rest ≡ [] → byte ≡ 10)
+          → IfSome x (λ rest. is_some_byte (opens.word ++ byte ∷ []) ≡ true → new.lines ≡ new.place.line)
       on_line None lines last = tt
       on_line (Some []) lines last = λ some. let clash = line_feed_is_gap byte (last refl) in cc apart.1
       on_line (Some (next ∷ rest)) lines last = λ some. rw (takes.place, eqb_line_feed byte apart.1) lines
@@ -190,8 +191,8 @@ Passed-end {now = now} opens at_end = record {
 }
 
 -- no byte more could be read: within a word or a gap no word has ended
-pub answers_err : {old now : InputState} {so_far : RunWord} (new : InputState) (fault : KeptFault) → Opens old so_far now
-    → AnswersByte now (Err fault) new → AnswersWord old (Err fault) new
+pub answers_err : {old now : InputState} {so_far : RunWord} (new : InputState) (fault : KeptFault)
+    → Opens old so_far now → AnswersByte now (Err fault) new → AnswersWord old (Err fault) new
 answers_err new Read opens answer =
     fails_to_read opens.took answer (λ used goes_on. rw (append-nil used) at (goes_on []))
 answers_err new TooMuch opens answer =
@@ -214,7 +215,8 @@ pub Passed-join : {old mid new : InputState} {front words : List Word} → Passe
     → Passed old (front ++ words) new
 Passed-join {old = old} {new = new} {front = front} {words = words} first next = record {
   took = Took-join first.took next.took
-      (λ used behind passes then more. rw (append_assoc used behind more, append_assoc front words (ended_words new.place more))
+      (λ used behind passes then more.
+      rw (append_assoc used behind more, append_assoc front words (ended_words new.place more))
       (passes (behind ++ more) ∙ ap (λ (ws : List Word). front ++ ws) (then more)));
   halves = next.halves ∙ first.halves;
 }

@@ -8,20 +8,17 @@ loop-byte-init c = looks_at_start c.args.in_comment c.args.bytes.now
 
 pub returns-then-in_word : goal.returns-then-in_word
 returns-then-in_word c = λ line found.
-    found_behind c.args.in_comment c.args.bytes.now c.loop-byte.byte-index c.loop-byte.in_comment c.loop-byte.in_word
-    c.loop-byte-test.true c.loop-byte.invariant line
+    found_behind _ _ _ _ _ c.loop-byte-test.true c.loop-byte.invariant line
     (rw (← c.is_comment-comment.ensures) (sym c.ends_word.ensures ∙ c.if-not-ends_word.false)) c.if-in_word.true
 
 pub loop-byte-preserved : goal.loop-byte-preserved
 loop-byte-preserved c = elim c.if-not-ends_word.branch [
   | then-not-ends_word w ↦
       rw (w.in_word-is, c.is_comment-comment.ensures)
-      (word_behind c.args.in_comment c.args.bytes.now c.loop-byte.byte-index c.loop-byte.in_comment
-      c.loop-byte.in_word c.loop-byte-test.true c.loop-byte.invariant
+      (word_behind _ _ _ _ _ c.loop-byte-test.true c.loop-byte.invariant
       (rw (← c.is_comment-comment.ensures) (sym c.ends_word.ensures ∙ w.if-not-ends_word.true)))
   | else-not-ends_word+else-in_word w ↦
       rw (w.in_word-is, c.is_comment-comment.ensures)
-      (gap_behind c.args.in_comment c.args.bytes.now c.loop-byte.byte-index c.loop-byte.in_comment
-      c.loop-byte.in_word c.loop-byte-test.true c.loop-byte.invariant w.if-in_word.false
+      (gap_behind _ _ _ _ _ c.loop-byte-test.true c.loop-byte.invariant w.if-in_word.false
       (rw (← c.is_comment-comment.ensures) (sym c.ends_word.ensures ∙ w.if-not-ends_word.false)))
 ]

@@ -2,36 +2,28 @@ use Rattle.std.proofs.Common.{[], sym, subst, ◌∙◌}
 use Rattle.std.proofs.lemmas.Result.{err_from_is_err_and}
 use Rattle.dcc_io.specs.Items.{Gave}
 use Rattle.dcc_io.specs.PacketLines.{lines_by}
-use Rattle.dcc_io.proofs.PacketReadLemmas.{Gave-passed, Gave-skipped_line, answers_said, answers_fault}
+use Rattle.dcc_io.proofs.PacketReadLemmas.{Gave-passed, answers_said, answers_fault}
 use Rattle.dcc_io.proofs.said_line.next_said.Goals as goal
 
 pub lines-preserved-then-take_skipped_line : goal.lines-preserved-then-take_skipped_line
 lines-preserved-then-take_skipped_line g c =
-    Gave-skipped_line g.L.SaidLine.saying g.L.SaidLine.as_said c.args.input.now c.lines.input c.take_skipped_line.new.self
-    c.lines.invariant (c.take_skipped_line.ensures.taken c.if-take_skipped_line.true)
+    let skips = c.take_skipped_line.ensures.taken c.if-take_skipped_line.true in
+    Gave-passed g.L.SaidLine.saying g.L.SaidLine.as_said c.lines.invariant skips.ends skips.skipped
 
 pub returns-then-not-is_skipped : goal.returns-then-not-is_skipped
 returns-then-not-is_skipped g c =
-    let gave = subst (Gave (lines_by g.L.SaidLine.saying) c.args.input.now [])
-    (sym (c.take_skipped_line.ensures.left c.if-take_skipped_line.false)) c.lines.invariant in
-    let ends = rw c.in-Some.is at c.in_ok-line.ensures in
-    answers_said g.L.SaidLine.saying g.L.SaidLine.as_said c.args.input.now c.take_skipped_line.new.self c.next_line.new.self
-    c.read_said.new.input c.in-Some.line c.read_said.result gave ends
-    (sym c.is_skipped.ensures ∙ c.if-not-is_skipped.true) c.read_said.ensures
+    let gave = rw (← c.take_skipped_line.ensures.left c.if-take_skipped_line.false) at c.lines.invariant in
+    answers_said g.L.SaidLine.saying g.L.SaidLine.as_said c.read_said.new.input c.in-Some.line c.read_said.result gave
+    (rw c.in-Some.is at c.in_ok-line.ensures) (sym c.is_skipped.ensures ∙ c.if-not-is_skipped.true) c.read_said.ensures
 
 pub lines-preserved : goal.lines-preserved
 lines-preserved g c =
-    let gave = subst (Gave (lines_by g.L.SaidLine.saying) c.args.input.now [])
-    (sym (c.take_skipped_line.ensures.left c.if-take_skipped_line.false)) c.lines.invariant in
-    let ends = rw c.in-Some.is at c.in_ok-line.ensures in
-    Gave-passed g.L.SaidLine.saying g.L.SaidLine.as_said c.args.input.now c.take_skipped_line.new.self c.next_line.new.self c.in-Some.line
-    gave ends (sym c.is_skipped.ensures ∙ c.if-not-is_skipped.false)
+    let gave = rw (← c.take_skipped_line.ensures.left c.if-take_skipped_line.false) at c.lines.invariant in
+    Gave-passed g.L.SaidLine.saying g.L.SaidLine.as_said gave (rw c.in-Some.is at c.in_ok-line.ensures)
+    (sym c.is_skipped.ensures ∙ c.if-not-is_skipped.false)
 
 pub returns-in_err-line : goal.returns-in_err-line
 returns-in_err-line g c =
-    let gave = subst (Gave (lines_by g.L.SaidLine.saying) c.args.input.now [])
-    (sym (c.take_skipped_line.ensures.left c.if-take_skipped_line.false)) c.lines.invariant in
+    let gave = rw (← c.take_skipped_line.ensures.left c.if-take_skipped_line.false) at c.lines.invariant in
     let p = err_from_is_err_and c.from_residual.result c.from_residual.ensures.1 in
-    rw (p.1, p.2)
-    (answers_fault g.L.SaidLine.saying g.L.SaidLine.as_said c.args.input.now c.take_skipped_line.new.self c.next_line.new.self _
-    gave c.in_err-line.ensures)
+    rw (p.1, p.2) (answers_fault g.L.SaidLine.saying g.L.SaidLine.as_said _ _ gave c.in_err-line.ensures)

@@ -5,16 +5,7 @@ use Rattle.dcc_io.proofs.input.Input.take_front.Goals as goal
 
 -- the same with one half less
 one_less : InputState → InputState
-one_less input = record {
-  text = input.text;
-  ahead = input.ahead;
-  place = input.place;
-  lines = input.lines;
-  halves = input.halves - 1;
-  bytes = input.bytes;
-  fault = input.fault;
-  failures = input.failures;
-}
+one_less input = record input { halves = input.halves - 1 }
 
 pub pass_word_and_gap-requires-clause-begins : goal.pass_word_and_gap-requires-clause-begins
 pass_word_and_gap-requires-clause-begins g c = begins_with c.args.self.now.ahead c.args.front c.requires.front
