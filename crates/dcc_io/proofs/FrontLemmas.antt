@@ -80,11 +80,7 @@ abbrev comment_place : ℕ → TextPlace
 comment_place line = record { line = line; in_comment = true }
 
 no_feed : (byte : ℕ) → is_within_line byte ≡ true → eqb byte 10 ≡ false
-no_feed byte within = go (eqb byte 10) within
-  where
-    go : (b : Bool) → not b ≡ true → b ≡ false
-    go true h = cc
-    go false h = refl
+no_feed byte within = grind (arith, nat_tests)
 
 -- a word and a gap hold one word
 pub passes_front : (line gap : ℕ) (word : List ℕ) → list_all is_plain word ≡ true → 0 < length word → is_gap gap ≡ true
@@ -313,9 +309,8 @@ SpellsNumber-digit number bytes len inside spells few low high = record {
   digits =
       list_all_more is_ascii_digit bytes len 0 inside
       ∙ rw (spells.digits, is_ascii_digit-digit (get_or bytes len 0) low high) refl;
-  value = ap (λ n. n * 10 + (get_or bytes len 0 - 48)) spells.value
-      ∙ ap (λ n. digits_value 10 (take len bytes) * 10 + n) (sym (digit_value-digit (get_or bytes len 0) low high))
-      ∙ sym (digits_value_after-push 0 (take len bytes) (get_or bytes len 0))
-      ∙ ap (digits_value 10) (sym (take_more bytes len 0 inside));
+  value =
+      rw (take_more bytes len 0 inside, ← digit_value-digit (get_or bytes len 0) low high, spells.value)
+      (sym (digits_value_after-push 0 (take len bytes) (get_or bytes len 0)));
   small = omega arith;
 }

@@ -18,7 +18,7 @@ use Rattle.dcc_io.specs.NumberedLines.{is_good}
 use Rattle.dcc_io.specs.NextLine.{has_line_feed, lines_within, IsOneLine, EndsLine, IsBadAt}
 use Rattle.dcc_io.specs.NextLine.{MeetsBadLine, AnswersLine}
 use Rattle.dcc_io.specs.Took.{CountsLines, Uses, Took}
-use Rattle.dcc_io.proofs.PassedLemmas.{or_false}
+use Rattle.dcc_io.proofs.PassedLemmas.{or_false, both}
 use Rattle.dcc_io.proofs.TookLemmas.{if_some_map, fails_to_read, has_too_many}
 
 -- where one of two tests fails, one of two that are no easier does
@@ -26,10 +26,6 @@ and_false : (a a' b b' : Bool) → (a' ≡ true → a ≡ true) → (b' ≡ true
 and_false a false b b' first second none = refl
 and_false a true b false first second none = refl
 and_false a true b true first second none = let clash = rw (first refl, second refl) at none in cc
-
-and_left : (a b : Bool) → (a && b) ≡ true → a ≡ true
-and_left true b both = refl
-and_left false b both = cc
 
 no_feed-more : (line : List ℕ) (byte : ℕ) → has_line_feed line ≡ false → eqb byte 10 ≡ false
     → has_line_feed (line ++ byte ∷ []) ≡ false
@@ -43,7 +39,7 @@ bad-more line more bad = and_false _ _ _ _ short ascii bad
     short within = let within = rw (length-append line more) at within in grind (arith, nat_tests)
 
     ascii : list_all is_ascii (line ++ more) ≡ true → list_all is_ascii line ≡ true
-    ascii all = and_left _ _ (rw (list_all-append is_ascii line more) at all)
+    ascii all = (both _ _ (rw (list_all-append is_ascii line more) at all)).0
 
 bad-byte : (line : List ℕ) (byte : ℕ) → (nat_lt (length line) 512 && is_ascii byte) ≡ false
     → is_good (line ++ byte ∷ []) ≡ false
@@ -53,11 +49,9 @@ bad-byte line byte fails = and_false _ _ _ _ short ascii fails
     short within = let within = rw (length-append line (byte ∷ [])) at within in grind (arith, nat_tests)
 
     ascii : list_all is_ascii (line ++ byte ∷ []) ≡ true → is_ascii byte ≡ true
-    ascii all = and_left _ true (last _ _ (rw (list_all-append is_ascii line (byte ∷ [])) at all))
-      where
-        last : (a b : Bool) → (a && b) ≡ true → b ≡ true
-        last true b both = both
-        last false b both = cc
+    ascii all =
+        let parts = both (list_all is_ascii line) (is_ascii byte && true)
+        (rw (list_all-append is_ascii line (byte ∷ [])) at all) in (both (is_ascii byte) true parts.1).0
 
 -- bytes were used, which begin a line
 pub record OpensLine (old : InputState) (line : List ℕ) (now : InputState) : Type 0 where

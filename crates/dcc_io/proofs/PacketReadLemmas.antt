@@ -1,6 +1,5 @@
 -- What lines say, read one after the other.
-use Rattle.std.proofs.Common.{◌≡◌, ℕ, List, [], true, false, Option, None, Some, Result, Ok, Err, sym, subst, arith}
-use Rattle.dcc_packet.specs.declared.fault.PacketFault.{PacketFault}
+use Rattle.std.proofs.Common.{◌≡◌, ℕ, List, [], true, false, Option, None, Some, Result, Ok, Err, arith}
 use Rattle.dcc_packet.specs.declared.fault.PacketFault.TheVariants as faults
 use Rattle.dcc_packet.specs.Words.{words}
 use Rattle.dcc_io.specs.declared.text_line.TextLine.{TextLine}
@@ -8,7 +7,6 @@ use Rattle.dcc_io.specs.declared.fault.KeptFault.{KeptFault}
 use Rattle.dcc_io.specs.declared.fault.KeptFault.TheVariants.{Number, Line, Read, TooMuch}
 use Rattle.dcc_io.specs.InputState.{InputState}
 use Rattle.dcc_io.specs.NextLine.{EndsLine, EndsText, AnswersLine}
-use Rattle.dcc_io.specs.Inner.FrontLine.{SkipsLine}
 use Rattle.dcc_io.specs.Items.{Gave, StopsAt}
 use Rattle.dcc_io.specs.Took.{LinesAt}
 use Rattle.dcc_io.specs.PacketLines.{Saying, lines_by, is_skipped}

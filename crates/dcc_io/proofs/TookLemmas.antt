@@ -6,6 +6,7 @@ use Rattle.std.proofs.Math.Seq.{take-append-add}
 use Rattle.std.proofs.lemmas.List.{append-nil}
 use Rattle.std.proofs.lemmas.Bool.Decides.{nat_tests}
 use Rattle.std.specs.Io.KnownBytes.{Keeps}
+use Rattle.std.proofs.KnownBytes.{Keeps-refl}
 use Rattle.dcc_io.specs.declared.fault.KeptFault.{KeptFault}
 use Rattle.dcc_io.specs.declared.fault.KeptFault.TheVariants.{Read, TooMuch}
 use Rattle.dcc_io.specs.TextPlace.{line_behind, lines_with, lines_through}
@@ -25,14 +26,23 @@ pub if_some_all : (P : List ℕ → Type 0) (text : Option (List ℕ)) → ((byt
 if_some_all P None all = tt
 if_some_all P (Some bytes) all = all bytes
 
+-- what holds of the text and its rest, after nothing was taken
+map_kept : (P Q : List ℕ → List ℕ → Type 0) (whole rest new : Option (List ℕ))
+    → ((text more : List ℕ) → P text more → Q text more)
+    → IfSome whole (λ text. IsSomeAnd rest (λ more. P text more)) → Keeps rest new
+    → IfSome whole (λ text. IsSomeAnd new (λ more. Q text more))
+map_kept P Q None rest new each before kept = tt
+map_kept P Q (Some text) None new each before kept = absurd before
+map_kept P Q (Some text) (Some more) None each before kept = absurd kept
+map_kept P Q (Some text) (Some more) (Some same) each before kept =
+    each text same (subst (λ (x : List ℕ). P text x) (sym kept) before)
+
 -- what holds of the text and its rest, in other words
 map_same : (P Q : List ℕ → List ℕ → Type 0) (whole rest : Option (List ℕ))
     → ((text more : List ℕ) → P text more → Q text more)
     → IfSome whole (λ text. IsSomeAnd rest (λ more. P text more))
     → IfSome whole (λ text. IsSomeAnd rest (λ more. Q text more))
-map_same P Q None rest each before = tt
-map_same P Q (Some text) None each before = absurd before
-map_same P Q (Some text) (Some more) each before = each text more before
+map_same P Q whole rest each before = map_kept P Q whole rest rest each before (Keeps-refl rest)
 
 -- what holds of the text, told of it and its rest
 pub map_text : (P : List ℕ → List ℕ → Type 0) (R : List ℕ → Type 0) (whole rest : Option (List ℕ))
@@ -68,17 +78,6 @@ join_whole : (P : List ℕ → List ℕ → Type 0) (Q R : List ℕ → Type 0) 
 join_whole P Q R whole mid each before behind =
     map_text (λ text between. P text between × Q between) R whole mid
     (λ text between both. each text between both.0 both.1) (with_rest P Q whole mid before behind)
-
--- what holds of the text and its rest, after nothing was taken
-map_kept : (P Q : List ℕ → List ℕ → Type 0) (whole rest new : Option (List ℕ))
-    → ((text more : List ℕ) → P text more → Q text more)
-    → IfSome whole (λ text. IsSomeAnd rest (λ more. P text more)) → Keeps rest new
-    → IfSome whole (λ text. IsSomeAnd new (λ more. Q text more))
-map_kept P Q None rest new each before kept = tt
-map_kept P Q (Some text) None new each before kept = absurd before
-map_kept P Q (Some text) (Some more) None each before kept = absurd kept
-map_kept P Q (Some text) (Some more) (Some same) each before kept =
-    each text same (subst (λ (x : List ℕ). P text x) (sym kept) before)
 
 count_more : (most left used : ℕ) (rest : List ℕ) → left + used ≡ most → left < length rest
     → (0 < used → left ≡ 0 → rest ≡ []) → most - 1 ≡ used + (left - 1)

@@ -1,7 +1,8 @@
 -- How the words of a text come to light byte by byte.
-use Rattle.std.proofs.Common.{◌≡◌, ℕ, ◌+◌, List, [], ◌∷◌, ◌++◌, Bool, true, false, cond, filter, refl, sym, ap}
-use Rattle.std.proofs.Common.{append_assoc, eqb, ◌||◌}
+use Rattle.std.proofs.Common.{◌≡◌, ℕ, List, [], ◌∷◌, ◌++◌, Bool, true, false, cond, filter, refl, sym, ap}
+use Rattle.std.proofs.Common.{append_assoc, eqb, ◌||◌, arith}
 use Rattle.std.proofs.lemmas.List.{append-nil}
+use Rattle.std.proofs.lemmas.Bool.Decides.{nat_tests}
 use Rattle.dcc_io.specs.TextPlace.{TextPlace, line_behind}
 use Rattle.dcc_io.specs.Words.{Word, is_gap, comments, without_comments, onto_first, pieces, but_last, has_bytes}
 use Rattle.dcc_io.specs.Words.{ended_words}
@@ -39,23 +40,13 @@ opened-none place text =
     ap (λ words. filter has_bytes (but_last words))
     (onto_front-none (pieces place.line (without_comments place.in_comment text)))
 
-last_false : (a b c d : Bool) → (a || (b || (c || d))) ≡ false → d ≡ false
-last_false false false false d none = none
-last_false true b c d none = cc
-last_false false true c d none = cc
-last_false false false true d none = cc
-
 pub eqb_line_feed : (byte : ℕ) → is_gap byte ≡ false → eqb byte 10 ≡ false
 unfolding is_gap
-eqb_line_feed byte no_gap = last_false (eqb byte 32) (eqb byte 9) (eqb byte 13) (eqb byte 10) no_gap
+eqb_line_feed byte no_gap = grind (arith, nat_tests)
 
 comment_line : (in_comment : Bool) (byte line : ℕ) → comments in_comment byte ≡ true → line_behind line byte ≡ line
 unfolding comments
-comment_line in_comment byte line comment = go (eqb byte 10) comment
-  where
-    go : (x : Bool) → cond x false (in_comment || eqb byte 35) ≡ true → cond x (line + 1) line ≡ line
-    go true h = cc
-    go false h = refl
+comment_line in_comment byte line comment = grind (arith, nat_tests)
 
 -- a byte of a word
 pub opened-word : (place : TextPlace) (front : List ℕ) (byte : ℕ) (text : List ℕ)
@@ -67,24 +58,27 @@ opened-word place front byte text no_comment no_gap =
     (ap (λ words. filter has_bytes (but_last words))
     (onto_front-onto_first front byte (pieces place.line (without_comments false text))))
 
-some_pieces : (line : ℕ) (text : List ℕ) → (word : Word) × ((words : List Word) × (pieces line text ≡ word ∷ words))
-some_pieces line [] = (record { line = line; bytes = [] }, ([], refl))
-some_pieces line (byte ∷ text) = some_of (is_gap byte) (some_pieces (line_behind line byte) text)
+-- some word is the first
+record HasFirst (words : List Word) : Type 0 where
+  word : Word
+  rest : List Word
+  is : words ≡ word ∷ rest
+
+some_pieces : (line : ℕ) (text : List ℕ) → HasFirst (pieces line text)
+some_pieces line [] = record { word = record { line = line; bytes = [] }; rest = []; is = refl }
+some_pieces line (byte ∷ text) = some_of (is_gap byte) _ (some_pieces (line_behind line byte) text)
   where
-    some_of : (gap : Bool) → ((word : Word) × ((words : List Word) × (pieces (line_behind line byte) text ≡ word ∷ words)))
-        → (word : Word)
-        × ((words : List Word)
-        × (cond gap (record { line = line; bytes = [] } ∷ pieces (line_behind line byte) text)
-        (onto_first byte (pieces (line_behind line byte) text)) ≡ word ∷ words))
-    some_of true rest = (_, (_, refl))
-    some_of false rest = (_, (_, ap (onto_first byte) rest.1.1))
+    some_of : (gap : Bool) (words : List Word) → HasFirst words
+        → HasFirst (cond gap (record { line = line; bytes = [] } ∷ words) (onto_first byte words))
+    some_of true words first = record { word = _; rest = _; is = refl }
+    some_of false words first = record { word = _; rest = _; is = ap (onto_first byte) first.is }
 
 -- a piece that is followed by more has ended
 closes : (line : ℕ) (front : List ℕ) (next : ℕ) (text : List ℕ)
     → filter has_bytes (but_last (record { line = line; bytes = front ++ [] } ∷ pieces next text)) ≡ ended line front
     ++ filter has_bytes (but_last (pieces next text))
 closes line front next text =
-    let more = some_pieces next text in rw (append-nil front, more.1.1) (go front more.0 more.1.0)
+    let more = some_pieces next text in rw (append-nil front, more.is) (go front more.word more.rest)
   where
     go : (front : List ℕ) (word : Word) (words : List Word)
         → filter has_bytes (but_last (record { line = line; bytes = front } ∷ word ∷ words)) ≡ ended line front

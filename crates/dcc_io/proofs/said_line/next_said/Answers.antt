@@ -1,7 +1,5 @@
-use Rattle.std.proofs.Common.{[], sym, subst, ◌∙◌}
+use Rattle.std.proofs.Common.{sym, ◌∙◌}
 use Rattle.std.proofs.lemmas.Result.{err_from_is_err_and}
-use Rattle.dcc_io.specs.Items.{Gave}
-use Rattle.dcc_io.specs.PacketLines.{lines_by}
 use Rattle.dcc_io.proofs.PacketReadLemmas.{Gave-passed, answers_said, answers_fault}
 use Rattle.dcc_io.proofs.said_line.next_said.Goals as goal
 
