@@ -22,7 +22,6 @@ use Rattle.dcc_io.specs.Counted.{TakesHalf}
 use Rattle.dcc_io.proofs.WordsLemmas.{eqb_line_feed, opened, opened-none, opened-word, opened-gap, ended}
 use Rattle.dcc_io.proofs.HandLemmas.{outside}
 use Rattle.dcc_io.proofs.PassedLemmas.{PassesIn, both}
-use Rattle.dcc_io.proofs.TookLemmas.{Took-start}
 use Rattle.dcc_io.proofs.SpellsLemmas.{digit_value-digit, is_ascii_digit-digit, digits_value_after-push}
 
 digit_bounds : (byte : ℕ) → is_ascii_digit byte ≡ true → (48 ≤ byte) × (byte ≤ 57)
@@ -296,10 +295,6 @@ module _ (source later : ReaderState) (line lines halves bytes len : ℕ) (in_co
       take_more source.ahead 0 0 begins.0 ∙ ap (λ (b : ℕ). b ∷ []) begins.1 in
       passes_ahead 1 (line + 1) [] (omega arith) (omega arith) room consumed (λ byte more. rw feed refl)
       (rw (no_comment, feed) (line_feed_passes line))
-
--- where nothing was taken
-pub Passed-none : (input : InputState) → input.fault ≡ None → Passed input [] input
-Passed-none input fault = record { took = Took-start input fault (λ more. refl); halves = refl }
 
 pub SpellsNumber-digit : (number : ℕ) (bytes : List ℕ) (len : ℕ) → len < length bytes
     → SpellsNumber number (take len bytes) → number < 10000

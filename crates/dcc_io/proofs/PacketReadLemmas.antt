@@ -6,14 +6,14 @@ use Rattle.dcc_io.specs.declared.text_line.TextLine.{TextLine}
 use Rattle.dcc_io.specs.declared.fault.KeptFault.{KeptFault}
 use Rattle.dcc_io.specs.declared.fault.KeptFault.TheVariants.{Number, Line, Read, TooMuch}
 use Rattle.dcc_io.specs.InputState.{InputState}
-use Rattle.dcc_io.specs.NextLine.{EndsLine, EndsText, AnswersLine}
+use Rattle.dcc_io.specs.NextLine.{EndsLine, AnswersLine}
 use Rattle.dcc_io.specs.Items.{Gave, StopsAt}
 use Rattle.dcc_io.specs.Took.{LinesAt}
 use Rattle.dcc_io.specs.PacketLines.{Saying, lines_by, is_skipped}
 use Rattle.dcc_io.specs.PacketRead.{AnswersSaid, ReadsSaid}
-use Rattle.dcc_io.proofs.ItemsLemmas.{Gave-append, StopsAt-behind, all_behind}
+use Rattle.dcc_io.proofs.ItemsLemmas.{Gave-append, StopsAt-behind}
 use Rattle.dcc_io.proofs.TookLemmas.{LinesAt-behind}
-use Rattle.dcc_io.proofs.PacketLineLemmas.{Gave-skipped, Gave-said, Gave-end, stops_at_words, stops_at_bad_line}
+use Rattle.dcc_io.proofs.PacketLineLemmas.{Gave-skipped, Gave-said, stops_at_words, stops_at_bad_line}
 use Rattle.dcc_io.proofs.PacketLineLemmas.{stops_in_line, overflows_line}
 
 module _ {A B C : Type 0} (saying : Saying A B) (as_said : C → B) where
@@ -55,16 +55,6 @@ module _ {A B C : Type 0} (saying : Saying A B) (as_said : C → B) where
       → is_skipped line ≡ false → saying.said (words line) ≡ Ok (as_said says)
       → AnswersSaid saying as_said old (Ok (Some says)) new
   answers_line says ends some is = (Gave-said saying ends (as_said says) some is, omega (arith, ends.bytes))
-
-  -- there is no line more
-  pub answers_none : {old now new : InputState} → Gave (lines_by saying) old [] now → EndsText now new
-      → AnswersSaid saying as_said old (Ok None) new
-  answers_none {old = old} {now = now} {new = new} gave ends =
-      let last = Gave-end saying now new ends in (
-        Gave-append (lines_by saying) _ _ _ [] [] gave last.0,
-        last.1,
-        all_behind (lines_by saying) old now gave last.2,
-      )
 
   -- no line more could be read
   pub answers_fault : {old now : InputState} (new : InputState) (fault : KeptFault) → Gave (lines_by saying) old [] now
