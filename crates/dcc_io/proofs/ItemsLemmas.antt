@@ -72,14 +72,6 @@ module _ {A : Type 0} (grammar : Grammar A) where
   reads_up_to start now new fault said fact gave stops holds =
       (up_to_fault start now said (Some fault) fact gave stops.1 holds, stops.0 ∙ gave.failures)
 
-  -- all that is said, told from further back
-  pub all_behind : (start now : InputState) → Gave grammar start [] now
-      → IfSome now.text (λ text. in_text grammar now text ≡ only_fault None)
-      → IfSome start.text (λ text. in_text grammar start text ≡ only_fault None)
-  all_behind start now gave =
-      told_behind gave _ _
-      (λ text rest gives none. in_whole start now [] text rest gives ∙ ap (items_behind []) none)
-
   -- the state at a fault may be told from further back, where nothing was said in between
   pub StopsAt-behind : (start now new : InputState) (fault : KeptFault) → Gave grammar start [] now
       → StopsAt grammar now fault new → StopsAt grammar start fault new

@@ -1,6 +1,6 @@
 -- What lines say of packets, or of anything else.
 use Rattle.std.proofs.Common.{◌≡◌, ℕ, ◌+◌, List, [], ◌∷◌, ◌++◌, length, Bool, true, false, eqb}
-use Rattle.std.proofs.Common.{nat_le, Option, None, Some, Ok, Err, refl, sym, ap, ◌∙◌, append_assoc, IfSome}
+use Rattle.std.proofs.Common.{nat_le, Option, Some, Ok, Err, refl, sym, ap, ◌∙◌, append_assoc}
 use Rattle.std.proofs.lemmas.List.{append-nil}
 use Rattle.dcc_packet.specs.declared.fault.PacketFault.{PacketFault}
 use Rattle.dcc_packet.specs.declared.fault.PacketFault.TheVariants as faults
@@ -8,17 +8,16 @@ use Rattle.dcc_packet.specs.Words.{words}
 use Rattle.dcc_io.specs.declared.fault.KeptFault.{KeptFault}
 use Rattle.dcc_io.specs.declared.fault.KeptFault.TheVariants.{Line, Read, TooMuch}
 use Rattle.dcc_io.specs.TextPlace.{lines_with}
-use Rattle.dcc_io.specs.ReaderState.{IsAtEnd}
 use Rattle.dcc_io.specs.InputState.{InputState}
 use Rattle.dcc_io.specs.NumberedLines.{NumberedLine, lines_from, onto_first_line, is_good}
-use Rattle.dcc_io.specs.NextLine.{has_line_feed, lines_within, IsOneLine, EndsLine, EndsText, IsBadAt, MeetsBadLine}
+use Rattle.dcc_io.specs.NextLine.{has_line_feed, lines_within, IsOneLine, EndsLine, IsBadAt, MeetsBadLine}
 use Rattle.dcc_io.specs.NextLine.{FailsInLine, OverflowsInLine}
 use Rattle.dcc_io.specs.Took.{Uses, LinesAt}
 use Rattle.dcc_io.specs.Items.{Items, items_behind, only_fault, Gave, StopsAt}
 use Rattle.dcc_io.specs.PacketLines.{is_skipped, Saying, behind_line, items_of, items_in, items_before_failure}
 use Rattle.dcc_io.specs.PacketLines.{lines_by}
 use Rattle.dcc_io.proofs.TookLemmas.{if_some_map, map_text, same_cond, Took-map, Stops-map, within_limit-used}
-use Rattle.dcc_io.proofs.TookLemmas.{within_limit-front, overflows, zero_fits}
+use Rattle.dcc_io.proofs.TookLemmas.{within_limit-front, overflows}
 use Rattle.dcc_io.proofs.PassedLemmas.{or_false}
 use Rattle.dcc_io.proofs.LineLemmas.{bad-more, IsThrough, took_line}
 
@@ -130,18 +129,6 @@ module _ {A B : Type 0} (saying : Saying A B) where
             rest uses
             (λ more last. rw uses.is.0 (from_line more last ∙ rw (ends.is_line.good, some, says, ends.at) refl))
             ∙ same_cond (nat_le (length rest) mid.bytes) (only_fault (Some (Line number fault)))
-
-  -- the text has ended
-  pub Gave-end : (old new : InputState) → EndsText old new
-      → Gave (lines_by saying) old [] new × IsAtEnd new.text
-      × IfSome old.text (λ text. items_in saying old text ≡ only_fault None)
-  Gave-end old new ends = (
-    Took-map ends.took
-        (λ used none more last. rw (none, ends.place) refl),
-    ends.at_end,
-    map_text (λ text rest. (text ≡ []) × (rest ≡ [])) (λ text. items_in saying old text ≡ only_fault None) old.text
-        new.text (λ text rest none. ap (items_in saying old) none.0 ∙ rw (zero_fits old.bytes) refl) ends.text,
-  )
 
   -- a line that is bad at its last byte so far
   pub stops_at_bad_line : (old new : InputState) (number : ℕ) → MeetsBadLine old number new
