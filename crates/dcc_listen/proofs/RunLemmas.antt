@@ -71,7 +71,8 @@ module _ {C : Type 0} {view : C → Who × RegisterMap} {old : InputState} {olds
 
     -- a fault ends the capture
     pub hears_up_to : (mid new : InputState) (state : WriterState) (fault : KeptFault) → mid ≡ now
-        → AnswersRun mid (Err fault) new → Runs (map view olds) old state (Err (as_tool_fault fault)) (map view decoders) new state
+        → AnswersRun mid (Err fault) new
+        → Runs (map view olds) old state (Err (as_tool_fault fault)) (map view decoders) new state
     hears_up_to mid new state fault same answer =
         let stops = stops_at_run_fault now new fault
         (subst (λ (at : InputState). AnswersRun at (Err fault) new) same answer) in

@@ -263,5 +263,6 @@ module _ {words : Bool} {start : InputState} {before : WriterState} where
           wrote.2 ∙ showing.failures,
         )
     stops_at_end {new = new} answer (inr failed) =
-        rw failed.0 (stops_writing_at words new _ after showing.gave answer.0.items.fault answer.0.items.failures showing.failures
+        rw failed.0 (stops_writing_at words new _ after showing.gave answer.0.items.fault answer.0.items.failures
+        showing.failures
         showing.lists (Holds-fails _ _ _ _ _ showing.holds failed.1) failed.2)

@@ -1,5 +1,6 @@
 -- A text that is written piece by piece.
-use Rattle.std.proofs.Common.{zero, suc, ◌≡◌, ℕ, eqb, if◌then◌else◌, ◌+◌, ◌<◌, ◌≤◌, List, [], ◌++◌, length, map, drop, slice_index_or, codes, Result}
+use Rattle.std.proofs.Common.{zero, suc, ◌≡◌, ℕ, eqb, if◌then◌else◌, ◌+◌, ◌<◌, ◌≤◌, List, [], ◌++◌, length, map, drop}
+use Rattle.std.proofs.Common.{slice_index_or, codes, Result}
 use Rattle.std.proofs.Common.{Ok, Err, refl, sym, ◌∙◌, append_assoc, add-one, arith}
 use Rattle.std.proofs.lemmas.List.{append-nil, drop_all}
 use Rattle.std.proofs.Math.Seq.{drop-cons}

@@ -26,7 +26,8 @@ runs-preserved-in-Continue-1 g c =
     let half = counted one showing gave c.halves_left-most.ensures c.halves_left.ensures in
     let wrote = c.in_ok-hold_seen-in-Some.ensures (length showing.halves + 1 - 1) (omega (arith, half)) in
     Showing-run one showing gave _ answer (c.push-seen.ensures.stands showing.halves showing.stands)
-    (answers_one showing.halves one.us c.push-seen.result (c.push-seen.ensures.sees showing.halves showing.stands)) wrote.1 wrote.2.0 wrote.2.1
+    (answers_one showing.halves one.us c.push-seen.result (c.push-seen.ensures.sees showing.halves showing.stands))
+    wrote.1 wrote.2.0 wrote.2.1
 
 pub returns-in_err-hold_seen-in-Some : goal.returns-in_err-hold_seen-in-Some
 returns-in_err-hold_seen-in-Some g c =
@@ -38,7 +39,8 @@ returns-in_err-hold_seen-in-Some g c =
     let half = counted one showing gave c.halves_left-most.ensures c.halves_left.ensures in
     let wrote = c.in_err-hold_seen-in-Some.ensures (length showing.halves + 1 - 1) (omega (arith, half)) in
     rw (p.1, p.2) (stops_at_run one showing gave _ answer
-    (answers_one showing.halves one.us c.push-seen.result (c.push-seen.ensures.sees showing.halves showing.stands)) wrote.1 wrote.2.0 wrote.2.1)
+    (answers_one showing.halves one.us c.push-seen.result (c.push-seen.ensures.sees showing.halves showing.stands))
+    wrote.1 wrote.2.0 wrote.2.1)
 
 -- a word that is no half at hand
 
