@@ -1,6 +1,6 @@
 -- One half more on an unfinished body that is kept as bits and a first half.
 use Rattle.std.proofs.Common.{◌≡◌, ◌≢◌, Bool, true, false, List, [], ◌∷◌, ◌++◌, Option, Some, None, refl, sym, ap}
-use Rattle.std.proofs.Common.{◌∙◌, append_assoc}
+use Rattle.std.proofs.Common.{◌∙◌, append_assoc, length, ◌*◌}
 use mathlib.Core.Bool.{beq}
 use Rattle.std.specs.Option.{option_map}
 use Rattle.dcc_wire.specs.declared.half.Half.{Half}
@@ -9,11 +9,10 @@ use Rattle.dcc_wire.specs.declared.seen.Fault.TheVariants.{BadHalf, SplitBit}
 use Rattle.dcc_wire.specs.declared.seen.Seen.TheVariants.{Nothing, Refused}
 use Rattle.dcc_wire.specs.Half.{bit_of}
 use Rattle.dcc_wire.specs.Bodies.{halves_of, first_half}
-use Rattle.dcc_wire.specs.Outcomes.{bytes_in, by_bits, outcome_of}
+use Rattle.dcc_wire.specs.Outcomes.{bytes_in, behind_bits, bits_in, by_bits, by_halves, outcome_of}
 use Rattle.dcc_wire.specs.Inner.Steps.{answer_of}
 use Rattle.dcc_wire.proofs.BitLemmas.{halves_of-append}
-use Rattle.dcc_wire.proofs.OutcomeLemmas.{outcome_bad_first, outcome_one_first, outcome_zero_first, outcome_one_bad}
-use Rattle.dcc_wire.proofs.OutcomeLemmas.{outcome_zero_bad, outcome_one_zero, outcome_zero_one, outcome_of-bits}
+use Rattle.dcc_wire.proofs.OutcomeLemmas.{outcome_behind, outcome_of-bits}
 
 -- the half that a bit begins with
 unfoldable pub half_of : Bool → Half
@@ -56,36 +55,35 @@ module _ (bits : List Bool) where
       ap (λ l. answer_of (outcome_of l)) (sym (bit_more bit)) ∙ ap answer_of (outcome_of-bits (bits ++ bit ∷ []))
 
 module _ (bits : List Bool) (unfinished : bytes_in 6 bits ≡ None) where
+  -- a half more that makes no whole bit
+  answer-behind : (first : Option Bool) (half : Half) → bits_in (first_half first ++ half ∷ []) ≡ []
+      → behind_bits (first_half first ++ half ∷ []) ≡ first_half first ++ half ∷ []
+      → answer_of (outcome_of ((halves_of bits ++ first_half first) ++ half ∷ [])) ≡ answer_of
+      (by_halves (2 * length bits) (first_half first ++ half ∷ []))
+  answer-behind first half e f =
+      ap (λ l. answer_of (outcome_of l)) (joined bits first half)
+      ∙ ap answer_of (outcome_behind bits (first_half first ++ half ∷ []) unfinished e f)
+
   pub answer-bad : (first : Option Bool)
       → answer_of (outcome_of ((halves_of bits ++ first_half first) ++ Bad ∷ [])) ≡ Refused BadHalf
-  unfolding first_half answer_of
-  answer-bad None =
-      ap (λ l. answer_of (outcome_of l)) (joined bits None Bad) ∙ ap answer_of (outcome_bad_first bits unfinished)
-  answer-bad (Some true) =
-      ap (λ l. answer_of (outcome_of l)) (joined bits (Some true) Bad) ∙ ap answer_of (outcome_one_bad bits unfinished)
-  answer-bad (Some false) =
-      ap (λ l. answer_of (outcome_of l)) (joined bits (Some false) Bad)
-      ∙ ap answer_of (outcome_zero_bad bits unfinished)
+  unfolding first_half answer_of bits_in behind_bits by_halves
+  answer-bad None = answer-behind None Bad refl refl
+  answer-bad (Some true) = answer-behind (Some true) Bad refl refl
+  answer-bad (Some false) = answer-behind (Some false) Bad refl refl
 
   pub answer-first : (bit : Bool)
       → answer_of (outcome_of ((halves_of bits ++ first_half None) ++ half_of bit ∷ [])) ≡ Nothing
-  unfolding first_half half_of answer_of
-  answer-first true =
-      ap (λ l. answer_of (outcome_of l)) (joined bits None One) ∙ ap answer_of (outcome_one_first bits unfinished)
-  answer-first false =
-      ap (λ l. answer_of (outcome_of l)) (joined bits None Zero) ∙ ap answer_of (outcome_zero_first bits unfinished)
+  unfolding first_half half_of answer_of bits_in behind_bits by_halves
+  answer-first true = answer-behind None One refl refl
+  answer-first false = answer-behind None Zero refl refl
 
   pub answer-split : (first bit : Bool) → first ≢ bit
       → answer_of (outcome_of ((halves_of bits ++ first_half (Some first)) ++ half_of bit ∷ [])) ≡ Refused SplitBit
-  unfolding first_half half_of answer_of
+  unfolding first_half half_of answer_of bits_in behind_bits by_halves
   answer-split true true apart = absurd (apart refl)
   answer-split false false apart = absurd (apart refl)
-  answer-split true false apart =
-      ap (λ l. answer_of (outcome_of l)) (joined bits (Some true) Zero)
-      ∙ ap answer_of (outcome_one_zero bits unfinished)
-  answer-split false true apart =
-      ap (λ l. answer_of (outcome_of l)) (joined bits (Some false) One)
-      ∙ ap answer_of (outcome_zero_one bits unfinished)
+  answer-split true false apart = answer-behind (Some true) Zero refl refl
+  answer-split false true apart = answer-behind (Some false) One refl refl
 
 -- the halves with one more, where the first half so far and the bit of the new one are known
 pub with_half : (bits : List Bool) (kept first : Option Bool) (halves : List Half) (half : Half) (bit : Bool)

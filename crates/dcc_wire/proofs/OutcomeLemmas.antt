@@ -9,6 +9,7 @@ use Rattle.std.proofs.Math.Seq.{drop-append_seam}
 use Rattle.std.specs.Option.{option_map, option_or}
 use Rattle.dcc_wire.specs.declared.half.Half.{Half}
 use Rattle.dcc_wire.specs.declared.half.Half.TheVariants.{One, Zero, Bad}
+use Rattle.dcc_wire.specs.declared.seen.Fault.{Fault}
 use Rattle.dcc_wire.specs.declared.seen.Fault.TheVariants.{BadHalf, SplitBit, TooShort, TooLong, ErrorByte}
 use Rattle.dcc_wire.specs.declared.seen.Seen.{Seen}
 use Rattle.dcc_wire.specs.declared.seen.Seen.TheVariants.{Nothing, Packet, Refused}
@@ -61,40 +62,10 @@ outcome_of-more halves more v e =
     let h = more_by bits tail more v (bytes_in 6 bits) refl (bits_in-behind halves) e in
     ap outcome_of whole ∙ rw (bits_in-halves bits (tail ++ more), behind_bits-halves bits (tail ++ more)) h
 
--- one more half on whole bits that close nothing
-
-module _ (bits : List Bool) (open_bits : bytes_in 6 bits ≡ None) where
-  pub outcome_bits : outcome_of (halves_of bits) ≡ None
-  unfolding bits_in behind_bits by_halves
-  outcome_bits = ap outcome_of (sym (append-nil (halves_of bits))) ∙ outcome_form bits [] refl refl ∙ rw open_bits refl
-
-  pub outcome_bad_first : outcome_of (halves_of bits ++ Bad ∷ []) ≡ Some (2 * length bits + 1, Refused BadHalf)
-  unfolding bits_in behind_bits by_halves
-  outcome_bad_first = outcome_form bits (Bad ∷ []) refl refl ∙ rw open_bits refl
-
-  pub outcome_one_first : outcome_of (halves_of bits ++ One ∷ []) ≡ None
-  unfolding bits_in behind_bits by_halves
-  outcome_one_first = outcome_form bits (One ∷ []) refl refl ∙ rw open_bits refl
-
-  pub outcome_zero_first : outcome_of (halves_of bits ++ Zero ∷ []) ≡ None
-  unfolding bits_in behind_bits by_halves
-  outcome_zero_first = outcome_form bits (Zero ∷ []) refl refl ∙ rw open_bits refl
-
-  pub outcome_one_bad : outcome_of (halves_of bits ++ One ∷ Bad ∷ []) ≡ Some (2 * length bits + 2, Refused BadHalf)
-  unfolding bits_in behind_bits by_halves
-  outcome_one_bad = outcome_form bits (One ∷ Bad ∷ []) refl refl ∙ rw open_bits refl
-
-  pub outcome_zero_bad : outcome_of (halves_of bits ++ Zero ∷ Bad ∷ []) ≡ Some (2 * length bits + 2, Refused BadHalf)
-  unfolding bits_in behind_bits by_halves
-  outcome_zero_bad = outcome_form bits (Zero ∷ Bad ∷ []) refl refl ∙ rw open_bits refl
-
-  pub outcome_one_zero : outcome_of (halves_of bits ++ One ∷ Zero ∷ []) ≡ Some (2 * length bits + 2, Refused SplitBit)
-  unfolding bits_in behind_bits by_halves
-  outcome_one_zero = outcome_form bits (One ∷ Zero ∷ []) refl refl ∙ rw open_bits refl
-
-  pub outcome_zero_one : outcome_of (halves_of bits ++ Zero ∷ One ∷ []) ≡ Some (2 * length bits + 2, Refused SplitBit)
-  unfolding bits_in behind_bits by_halves
-  outcome_zero_one = outcome_form bits (Zero ∷ One ∷ []) refl refl ∙ rw open_bits refl
+-- halves that make no bit, behind whole bits that close nothing
+pub outcome_behind : (bits : List Bool) (tail : List Half) → bytes_in 6 bits ≡ None → bits_in tail ≡ []
+    → behind_bits tail ≡ tail → outcome_of (halves_of bits ++ tail) ≡ by_halves (2 * length bits) tail
+outcome_behind bits tail open_bits e f = outcome_form bits tail e f ∙ rw open_bits refl
 
 -- whole bits alone
 or_none : {A : Type 0} (o : Option A) → option_or o None ≡ o
@@ -128,17 +99,18 @@ nothing_left halves half outcome e =
           (omega (arith, length-append halves (half ∷ []))),
     ) refl
 
-refusal : (bits : List Bool) (tail : List Half) (half : Half) (outcome : Seen) (n : ℕ)
-    → outcome_of (halves_of bits ++ (tail ++ half ∷ [])) ≡ Some (n, outcome) → n ≡ 2 * length bits + length tail + 1
-    → outcome ≢ Nothing → ones_left outcome ≡ 0 → Grows (halves_of bits ++ tail) half
-refusal bits tail half outcome n e len something none =
-    let count : n ≡ length (halves_of bits ++ tail) + 1 =
-    omega (arith, length-append (halves_of bits) tail, length-halves_of bits, len) in
+refusal : (bits : List Bool) (tail : List Half) (half : Half) (fault : Fault)
+    → outcome_of (halves_of bits ++ (tail ++ half ∷ [])) ≡ Some
+    (2 * length bits + length (tail ++ half ∷ []), Refused fault) → ones_left (Refused fault) ≡ 0
+    → Grows (halves_of bits ++ tail) half
+refusal bits tail half fault e none =
+    let count : 2 * length bits + length (tail ++ half ∷ []) ≡ length (halves_of bits ++ tail) + 1 =
+    omega (arith, length-append (halves_of bits) tail, length-append tail (half ∷ []), length-halves_of bits) in
     inr (record {
-      outcome = outcome;
-      is = ap outcome_of (append_assoc (halves_of bits) tail (half ∷ [])) ∙ e ∙ ap (λ k. Some (k, outcome)) count;
-      something = something;
-      left = nothing_left (halves_of bits ++ tail) half outcome none;
+      outcome = Refused fault;
+      is = ap outcome_of (append_assoc (halves_of bits) tail (half ∷ [])) ∙ e ∙ ap (λ k. Some (k, Refused fault)) count;
+      something = λ nothing. cc;
+      left = nothing_left (halves_of bits ++ tail) half (Refused fault) none;
     })
 
 growth : (bits : List Bool) (tail : List Half) (half : Half) → outcome_of (halves_of bits ++ (tail ++ half ∷ [])) ≡ None
@@ -193,8 +165,9 @@ zero_bit bits e edge =
       | inl less ↦ growth bits (Zero ∷ []) Zero (is ∙ ap (λ o. option_map by_bits o) (edge.room less))
       | inr most ↦
           let six : length edge.bytes ≡ 6 = omega (arith, edge.few, most) in
-          refusal bits (Zero ∷ []) Zero (Refused TooLong) (18 * length edge.bytes + 2)
-          (is ∙ ap (λ o. option_map by_bits o) (edge.full six)) (omega (arith, edge.whole)) (λ q. cc) refl
+          let count : 18 * length edge.bytes + 2 ≡ 2 * length bits + 2 = omega (arith, edge.whole) in
+          refusal bits (Zero ∷ []) Zero TooLong
+          (is ∙ ap (option_map by_bits) (edge.full six) ∙ ap (λ k. Some (k, Refused TooLong)) count) refl
     ]
 
 -- a bit within a byte
@@ -207,23 +180,14 @@ inner_bit bits half bit same e inside =
 
 grows_by : (bits : List Bool) (tail : List Half) (half : Half) → bytes_in 6 bits ≡ None → bits_in tail ≡ []
     → by_halves (2 * length bits) tail ≡ None → Grows (halves_of bits ++ tail) half
-unfolding bits_in by_halves ones_left halves_of
-grows_by bits [] Bad e q n =
-    refusal bits [] Bad (Refused BadHalf) (2 * length bits + 1) (outcome_bad_first bits e) (omega arith) (λ r. cc) refl
-grows_by bits [] One e q n = growth bits [] One (outcome_one_first bits e)
-grows_by bits [] Zero e q n = growth bits [] Zero (outcome_zero_first bits e)
-grows_by bits (One ∷ []) Bad e q n =
-    refusal bits (One ∷ []) Bad (Refused BadHalf) (2 * length bits + 2) (outcome_one_bad bits e) (omega arith) (λ r. cc)
-    refl
-grows_by bits (Zero ∷ []) Bad e q n =
-    refusal bits (Zero ∷ []) Bad (Refused BadHalf) (2 * length bits + 2) (outcome_zero_bad bits e) (omega arith)
-    (λ r. cc) refl
-grows_by bits (One ∷ []) Zero e q n =
-    refusal bits (One ∷ []) Zero (Refused SplitBit) (2 * length bits + 2) (outcome_one_zero bits e) (omega arith)
-    (λ r. cc) refl
-grows_by bits (Zero ∷ []) One e q n =
-    refusal bits (Zero ∷ []) One (Refused SplitBit) (2 * length bits + 2) (outcome_zero_one bits e) (omega arith)
-    (λ r. cc) refl
+unfolding bits_in behind_bits by_halves ones_left halves_of
+grows_by bits [] Bad e q n = refusal bits [] Bad BadHalf (outcome_behind bits _ e refl refl) refl
+grows_by bits [] One e q n = growth bits [] One (outcome_behind bits _ e refl refl)
+grows_by bits [] Zero e q n = growth bits [] Zero (outcome_behind bits _ e refl refl)
+grows_by bits (One ∷ []) Bad e q n = refusal bits (One ∷ []) Bad BadHalf (outcome_behind bits _ e refl refl) refl
+grows_by bits (Zero ∷ []) Bad e q n = refusal bits (Zero ∷ []) Bad BadHalf (outcome_behind bits _ e refl refl) refl
+grows_by bits (One ∷ []) Zero e q n = refusal bits (One ∷ []) Zero SplitBit (outcome_behind bits _ e refl refl) refl
+grows_by bits (Zero ∷ []) One e q n = refusal bits (Zero ∷ []) One SplitBit (outcome_behind bits _ e refl refl) refl
 grows_by bits (One ∷ []) One e q n = elim (cases_lt 0 (length bits % 9)) [
   | inl inside ↦ inner_bit bits One true refl e inside
   | inr edge ↦ let w = bytes_in-edge 6 bits e (omega (arith, edge)) in closing bits w.bytes w.whole w.one

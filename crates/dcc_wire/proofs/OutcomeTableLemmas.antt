@@ -1,9 +1,9 @@
 -- Each row of the table is an outcome.
 use Rattle.std.proofs.Common.{◌≡◌, ◌≢◌, ℕ, ◌+◌, ◌*◌, ◌<◌, ◌≤◌, inl, inr, Bool, true, false, eqb, ltb, List, [], ◌∷◌}
-use Rattle.std.proofs.Common.{◌++◌, length, Option, Some, None, refl, sym, ap, ◌∙◌, arith, append_assoc}
+use Rattle.std.proofs.Common.{◌++◌, length, Some, None, refl, sym, ap, ◌∙◌, arith, append_assoc}
 use Rattle.std.proofs.Common.{length-append}
 use Rattle.std.proofs.lemmas.Bool.Decides.{nat_tests}
-use Rattle.std.proofs.lemmas.List.{append-nil, append_cancel_right}
+use Rattle.std.proofs.lemmas.List.{append_cancel_right}
 use Rattle.std.specs.Option.{option_map}
 use Rattle.dcc_wire.specs.declared.half.Half.{Half}
 use Rattle.dcc_wire.specs.declared.half.Half.TheVariants.{One, Zero, Bad}
@@ -12,13 +12,11 @@ use Rattle.dcc_wire.specs.declared.seen.Seen.{Seen}
 use Rattle.dcc_wire.specs.declared.seen.Seen.TheVariants.{Nothing, Packet, Refused}
 use Rattle.dcc_wire.specs.Frames.{xor_of, AllBytes}
 use Rattle.dcc_wire.specs.Bodies.{halves_of, body_bits, body}
-use Rattle.dcc_wire.specs.Outcomes.{bytes_in, body_outcome, by_bits, outcome_of}
+use Rattle.dcc_wire.specs.Outcomes.{bytes_in, behind_bits, bits_in, body_outcome, by_bits, by_halves, outcome_of}
 use Rattle.dcc_wire.specs.Packed.{byte_bits}
 use Rattle.dcc_wire.specs.OutcomeTable.{IsUnpaired, IsRow, Comes, IsUnfinished}
 use Rattle.dcc_wire.proofs.BitLemmas.{halves_of-append, length-halves_of, bytes_in-edge}
-use Rattle.dcc_wire.proofs.OutcomeLemmas.{outcome_of-more, outcome_of-bits, outcome_bits, outcome_bad_first}
-use Rattle.dcc_wire.proofs.OutcomeLemmas.{outcome_one_first, outcome_zero_first, outcome_one_bad, outcome_zero_bad}
-use Rattle.dcc_wire.proofs.OutcomeLemmas.{outcome_one_zero, outcome_zero_one}
+use Rattle.dcc_wire.proofs.OutcomeLemmas.{outcome_of-more, outcome_of-bits, outcome_behind}
 use Rattle.dcc_wire.proofs.SendingLemmas.{outcome_of-body, bytes_in-body, length-body_bits}
 use Rattle.dcc_wire.proofs.ByteBits.{body_bits-end, length-byte_bits}
 use Rattle.dcc_wire.proofs.OpenLists.{OpenBits, short_by, open-bits}
@@ -71,43 +69,44 @@ without_end bytes front e =
     append_cancel_right front (halves_of (byte_bits bytes)) (One ∷ One ∷ [])
     (sym e ∙ ap halves_of (body_bits-end bytes) ∙ halves_of-append (byte_bits bytes) (true ∷ []))
 
--- what comes behind an open list
-behind_open : (front tail : List Half) (b : OpenBits front) (o : Option (ℕ × Seen))
-    → outcome_of (halves_of b.bits ++ tail) ≡ o → outcome_of (front ++ tail) ≡ o
-behind_open front tail b o h = ap (λ l. outcome_of (l ++ tail)) b.same ∙ h
+-- halves that make no bit, behind an open list
+behind_open : (front tail : List Half) (b : OpenBits front) → bits_in tail ≡ [] → behind_bits tail ≡ tail
+    → outcome_of (front ++ tail) ≡ by_halves (2 * length b.bits) tail
+behind_open front tail b e f = ap (λ l. outcome_of (l ++ tail)) b.same ∙ outcome_behind b.bits tail b.none e f
 
-refused_behind : (front tail : List Half) (b : OpenBits front) (o : Seen)
-    → outcome_of (halves_of b.bits ++ tail) ≡ Some (2 * length b.bits + length tail, o)
+refused_behind : (front tail : List Half) (b : OpenBits front) (o : Seen) → bits_in tail ≡ [] → behind_bits tail ≡ tail
+    → by_halves (2 * length b.bits) tail ≡ Some (2 * length b.bits + length tail, o)
     → outcome_of (front ++ tail) ≡ Some (length (front ++ tail), o)
-refused_behind front tail b o h =
+refused_behind front tail b o e f h =
     let count : 2 * length b.bits + length tail ≡ length (front ++ tail) =
     omega (arith, length-append front tail, ap length b.same, length-halves_of b.bits) in
-    behind_open front tail b (Some (length (front ++ tail), o)) (h ∙ ap (λ k. Some (k, o)) count)
+    behind_open front tail b e f ∙ h ∙ ap (λ k. Some (k, o)) count
 
 bad_behind : (front half : List Half) → OpenBits front → IsUnpaired half
     → outcome_of (front ++ half ++ Bad ∷ []) ≡ Some (length (front ++ half ++ Bad ∷ []), Refused BadHalf)
+unfolding bits_in behind_bits by_halves
 bad_behind front [] b unpaired =
-    rw (append_assoc front [] (Bad ∷ []))
-    (refused_behind front (Bad ∷ []) b (Refused BadHalf) (outcome_bad_first b.bits b.none))
+    rw (append_assoc front [] (Bad ∷ [])) (refused_behind front (Bad ∷ []) b (Refused BadHalf) refl refl refl)
 bad_behind front (One ∷ []) b unpaired =
     rw (append_assoc front (One ∷ []) (Bad ∷ []))
-    (refused_behind front (One ∷ Bad ∷ []) b (Refused BadHalf) (outcome_one_bad b.bits b.none))
+    (refused_behind front (One ∷ Bad ∷ []) b (Refused BadHalf) refl refl refl)
 bad_behind front (Zero ∷ []) b unpaired =
     rw (append_assoc front (Zero ∷ []) (Bad ∷ []))
-    (refused_behind front (Zero ∷ Bad ∷ []) b (Refused BadHalf) (outcome_zero_bad b.bits b.none))
+    (refused_behind front (Zero ∷ Bad ∷ []) b (Refused BadHalf) refl refl refl)
 bad_behind front (Bad ∷ []) b unpaired = absurd (unpaired refl)
 bad_behind front (half ∷ other ∷ more) b unpaired = absurd unpaired
 
 none_behind : (front half : List Half) → OpenBits front → IsUnpaired half → outcome_of (front ++ half) ≡ None
-none_behind front [] b unpaired =
-    behind_open front [] b None (rw (append-nil (halves_of b.bits)) (outcome_bits b.bits b.none))
-none_behind front (One ∷ []) b unpaired = behind_open front (One ∷ []) b None (outcome_one_first b.bits b.none)
-none_behind front (Zero ∷ []) b unpaired = behind_open front (Zero ∷ []) b None (outcome_zero_first b.bits b.none)
+unfolding bits_in behind_bits by_halves
+none_behind front [] b unpaired = behind_open front [] b refl refl
+none_behind front (One ∷ []) b unpaired = behind_open front (One ∷ []) b refl refl
+none_behind front (Zero ∷ []) b unpaired = behind_open front (Zero ∷ []) b refl refl
 none_behind front (Bad ∷ []) b unpaired = absurd (unpaired refl)
 none_behind front (half ∷ other ∷ more) b unpaired = absurd unpaired
 
 row-outcome : (halves : List Half) (outcome : Seen) → IsRow halves outcome
     → outcome_of halves ≡ Some (length halves, outcome)
+unfolding bits_in behind_bits by_halves
 row-outcome halves (Packet bytes) (packet, same) = rw same (outcome_of-body bytes packet)
 row-outcome halves (Refused (ErrorByte bytes)) (each, long, few, wrong, same) =
     rw same (body_closed bytes each few
@@ -119,10 +118,10 @@ row-outcome halves (Refused TooLong) (bytes, front, each, six, whole, same) =
     rw (same, without_end bytes front whole) (zero_closes bytes each six)
 row-outcome halves (Refused SplitBit) (front, is_open, inl same) =
     let b = open-bits front is_open in rw same
-    (refused_behind front (Zero ∷ One ∷ []) b (Refused SplitBit) (outcome_zero_one b.bits b.none))
+    (refused_behind front (Zero ∷ One ∷ []) b (Refused SplitBit) refl refl refl)
 row-outcome halves (Refused SplitBit) (front, is_open, inr same) =
     let b = open-bits front is_open in rw same
-    (refused_behind front (One ∷ Zero ∷ []) b (Refused SplitBit) (outcome_one_zero b.bits b.none))
+    (refused_behind front (One ∷ Zero ∷ []) b (Refused SplitBit) refl refl refl)
 row-outcome halves (Refused BadHalf) (front, half, is_open, unpaired, same) =
     rw same (bad_behind front half (open-bits front is_open) unpaired)
 row-outcome halves Nothing h = absurd h
