@@ -33,22 +33,39 @@ grown halves half longer e nothing = (
   ap (λ l. answer_of (outcome_of l)) e ∙ nothing,
 )
 
-module _ (k : Kept) (is : IsKept k) (in_body : k.in_body ≡ true) (half : Half) (bit : Bool)
+-- one half more, by what it leaves open
+grown_to : {k : Kept} (is : IsKept k) (half : Half) (new : Kept) → kept_rest new ≡ rest_after (kept_rest k) half
+    → answer_to (kept_rest k) half ≡ Nothing → (new.in_body ≡ true → IsPacked new.bytes new.xor new.count new.shift)
+    → Grows k half new
+grown_to {k} is half new after answer packed = record {
+  after = after;
+  answer = answer;
+  is = record {
+    packed = packed;
+    unfinished = λ in_it. packed_open new.bytes new.xor new.count new.shift (packed in_it);
+    history = subst HasHistory (sym after) (history_more (kept_rest k) half is.history);
+  };
+}
+
+pub bit_of-half_of : (bit : Bool) → bit_of (half_of bit) ≡ Some bit
+unfolding half_of
+bit_of-half_of true = refl
+bit_of-half_of false = refl
+
+-- what fits behind a first half
+fits : {k : Kept} {bit : Bool} → k.has_first ≡ true → HasRoomFor k bit → FitsBehind k bit
+fits has (inl none) = cc
+fits has (inr behind) = behind
+
+module _ {k : Kept} (is : IsKept k) (in_body : k.in_body ≡ true) (half : Half) (bit : Bool)
     (of : bit_of half ≡ Some bit) where
   grows : (halves longer : List Half) (new : Kept) → kept_rest k ≡ InBody halves → kept_rest new ≡ InBody longer
       → halves ++ half ∷ [] ≡ longer → answer_of (outcome_of longer) ≡ Nothing
       → (new.in_body ≡ true → IsPacked new.bytes new.xor new.count new.shift) → Grows k half new
   grows halves longer new before behind e nothing packed =
       let more = grown halves half longer e nothing in
-      let after = behind ∙ sym (ap (λ r. rest_after r half) before ∙ more.0) in record {
-        after = after;
-        answer = ap (λ r. answer_to r half) before ∙ more.1;
-        is = record {
-          packed = packed;
-          unfinished = λ in_it. packed_open new.bytes new.xor new.count new.shift (packed in_it);
-          history = subst HasHistory (sym after) (history_more (kept_rest k) half is.history);
-        };
-      }
+      grown_to is half new (behind ∙ sym (ap (λ r. rest_after r half) before ∙ more.0))
+      (ap (λ r. answer_to r half) before ∙ more.1) packed
 
   -- the first half of a bit
   pub first_comes : k.has_first ≡ false → Grows k half (record k { has_first = true; first = bit })
@@ -62,117 +79,62 @@ module _ (k : Kept) (is : IsKept k) (in_body : k.in_body ≡ true) (half : Half)
       (ap (λ l. answer_of (outcome_of l)) (first_more bits bit) ∙ answer-first bits (is.unfinished in_body) bit)
       is.packed
 
-  -- the second half of a bit
-  pub bit_comes : k.has_first ≡ true → k.first ≡ bit → k.count < 8 → (k.count ≡ 0 → bit ≡ false) → length k.bytes < 6
-      → Grows k half (record k { has_first = false; shift = 2 * k.shift + cond bit 1 0; count = k.count + 1 })
+  -- the second half of a bit, which leaves these bits
+  completes : FitsBehind k bit → (bytes : List ℕ) (xor count shift : ℕ)
+      → packed_bits bytes count shift ≡ packed_bits k.bytes k.count k.shift ++ bit ∷ [] → IsPacked bytes xor count shift
+      → Grows k half (record k { has_first = false; xor = xor; shift = shift; count = count; bytes = bytes })
   unfolding first_half
-  bit_comes has same less zero_first room =
+  completes behind bytes xor count shift whole packed =
       let bits = packed_bits k.bytes k.count k.shift in
-      let new : Kept = record k { has_first = false; shift = 2 * k.shift + cond bit 1 0; count = k.count + 1 } in
-      let packed = packed_more k.bytes k.xor k.count k.shift bit (is.packed in_body) zero_first room less in
-      let whole : packed_bits k.bytes (k.count + 1) (2 * k.shift + cond bit 1 0) ≡ bits ++ bit ∷ [] =
-      ap (λ n. packed_bits k.bytes n (2 * k.shift + cond bit 1 0)) (add-one k.count)
-      ∙ packed_bits-more k.bytes k.count k.shift bit in
+      let new : Kept = record k { has_first = false; xor = xor; shift = shift; count = count; bytes = bytes } in
       let longer = halves_of (bits ++ bit ∷ []) ++ first_half None in
       let e : (halves_of bits ++ first_half (Some bit)) ++ half ∷ [] ≡ longer =
       ap (λ h. (halves_of bits ++ first_half (Some bit)) ++ h ∷ []) (half_of-bit half bit of) ∙ sym (bit_more bits bit)
       ∙ sym (append-nil (halves_of (bits ++ bit ∷ []))) in
       grows (halves_of bits ++ first_half (Some bit)) longer new
-      (in_body_rest k true in_body has ∙ ap (λ b. InBody (halves_of bits ++ first_half (Some b))) same)
+      (in_body_rest k true in_body behind.has_first
+      ∙ ap (λ b. InBody (halves_of bits ++ first_half (Some b))) behind.same)
       (in_body_rest new false in_body refl ∙ ap (λ l. InBody (halves_of l ++ first_half None)) whole) e
       (ap (λ l. answer_of (outcome_of l)) (append-nil (halves_of (bits ++ bit ∷ [])) ∙ bit_more bits bit)
       ∙ answer-bit bits bit
       ∙ answer-open (bits ++ bit ∷ [])
-      (subst (λ l. bytes_in 6 l ≡ None) whole (packed_open k.bytes k.xor (k.count + 1) (2 * k.shift + cond bit 1 0) packed)))
+      (subst (λ l. bytes_in 6 l ≡ None) whole (packed_open bytes xor count shift packed)))
       (λ in_it. packed)
 
-  -- the same of the last bit of a byte
-  pub byte_comes : k.has_first ≡ true → k.first ≡ bit → k.count ≡ 8 → length k.bytes < 6
-      → Grows k half (record k {
-        has_first = false;
-        bytes = k.bytes ++ (2 * k.shift + cond bit 1 0) ∷ [];
-        xor = bit_xor k.xor (2 * k.shift + cond bit 1 0);
-        shift = 0;
-        count = 0;
-      })
-  unfolding first_half
-  byte_comes has same eight room =
-      let bits = packed_bits k.bytes k.count k.shift in
-      let byte = 2 * k.shift + cond bit 1 0 in
-      let new : Kept = record k { has_first = false; bytes = k.bytes ++ byte ∷ []; xor = bit_xor k.xor byte; shift = 0; count = 0 } in
-      let before = is.packed in_body in
-      let zero_first : k.count ≡ 0 → bit ≡ false = λ none. absurd (omega (arith, none, eight)) in
-      let packed = packed_whole k.bytes k.xor k.count k.shift bit before zero_first room eight in
-      let nine : 9 ≡ suc k.count = omega (arith, eight) in
-      let whole : packed_bits (k.bytes ++ byte ∷ []) 0 0 ≡ bits ++ bit ∷ [] =
-      packed_bits-whole k.bytes byte (shift_fits k.count k.shift bit before.part before.zero_first zero_first)
-      ∙ ap (λ n. packed_bits k.bytes n byte) nine ∙ packed_bits-more k.bytes k.count k.shift bit in
-      let longer = halves_of (bits ++ bit ∷ []) ++ first_half None in
-      let e : (halves_of bits ++ first_half (Some bit)) ++ half ∷ [] ≡ longer =
-      ap (λ h. (halves_of bits ++ first_half (Some bit)) ++ h ∷ []) (half_of-bit half bit of) ∙ sym (bit_more bits bit)
-      ∙ sym (append-nil (halves_of (bits ++ bit ∷ []))) in
-      grows (halves_of bits ++ first_half (Some bit)) longer new
-      (in_body_rest k true in_body has ∙ ap (λ b. InBody (halves_of bits ++ first_half (Some b))) same)
-      (in_body_rest new false in_body refl ∙ ap (λ l. InBody (halves_of l ++ first_half None)) whole) e
-      (ap (λ l. answer_of (outcome_of l)) (append-nil (halves_of (bits ++ bit ∷ [])) ∙ bit_more bits bit)
-      ∙ answer-bit bits bit
-      ∙ answer-open (bits ++ bit ∷ [])
-      (subst (λ l. bytes_in 6 l ≡ None) whole
-      (packed_open (k.bytes ++ byte ∷ []) (bit_xor k.xor byte) 0 0 packed)))
-      (λ in_it. packed)
+  module _ (has : k.has_first ≡ true) (room : HasRoomFor k bit) {number : ℕ} (e : number ≡ cond bit 1 0) where
+    -- it ends within a byte
+    pub second_added : k.count < 8
+        → Grows k half (record k { has_first = false; shift = 2 * k.shift + number; count = k.count + 1 })
+    second_added less =
+        let behind = fits has room in
+        completes behind k.bytes k.xor (k.count + 1) (2 * k.shift + number)
+        (rw (e, add-one k.count) (packed_bits-more k.bytes k.count k.shift bit))
+        (rw e (packed_more k.bytes k.xor k.count k.shift bit (is.packed in_body) behind.zero_first behind.room less))
 
-pub bit_of-half_of : (bit : Bool) → bit_of (half_of bit) ≡ Some bit
-unfolding half_of
-bit_of-half_of true = refl
-bit_of-half_of false = refl
-
--- what fits behind a first half
-fits : (k : Kept) (bit : Bool) → k.has_first ≡ true → HasRoomFor k bit → FitsBehind k bit
-fits k bit has (inl none) = cc
-fits k bit has (inr behind) = behind
-
--- a second half within a byte
-pub second_added : (k : Kept) (bit : Bool) (number : ℕ) (half : Half) → IsKept k → k.in_body ≡ true → k.has_first ≡ true
-    → HasRoomFor k bit → number ≡ cond bit 1 0 → k.count < 8 → bit_of half ≡ Some bit
-    → Grows k half (record k { has_first = false; shift = 2 * k.shift + number; count = k.count + 1 })
-second_added k bit number half is in_body has room e less of =
-    let behind = fits k bit has room in
-    subst (λ n. Grows k half (record k { has_first = false; shift = 2 * k.shift + n; count = k.count + 1 })) (sym e)
-    (bit_comes k is in_body half bit of has behind.same less behind.zero_first behind.room)
-
--- a second half at the end of a byte
-pub byte_added : (k : Kept) (bit : Bool) (number : ℕ) (bytes : List ℕ) (half : Half) → IsKept k → k.in_body ≡ true
-    → k.has_first ≡ true → HasRoomFor k bit → number ≡ cond bit 1 0 → 8 ≤ k.count
-    → bytes ≡ k.bytes ++ (2 * k.shift + number) ∷ [] → bit_of half ≡ Some bit
-    → Grows k half (record k {
-      has_first = false;
-      bytes = bytes;
-      xor = bit_xor k.xor (2 * k.shift + number);
-      shift = 0;
-      count = 0;
-    })
-byte_added k bit number bytes half is in_body has room e most is_bytes of =
-    let behind = fits k bit has room in
-    let part = (is.packed in_body).part in
-    let eight : k.count ≡ 8 = omega (arith, most, part) in
-    subst (λ l. Grows k half (record k {
-      has_first = false;
-      bytes = l;
-      xor = bit_xor k.xor (2 * k.shift + number);
-      shift = 0;
-      count = 0;
-    })) (sym is_bytes)
-    (subst (λ n. Grows k half (record k {
-      has_first = false;
-      bytes = k.bytes ++ (2 * k.shift + n) ∷ [];
-      xor = bit_xor k.xor (2 * k.shift + n);
-      shift = 0;
-      count = 0;
-    })) (sym e)
-    (byte_comes k is in_body half bit of has behind.same eight behind.room))
+    -- it ends a byte
+    pub byte_added : {bytes : List ℕ} → 8 ≤ k.count → bytes ≡ k.bytes ++ (2 * k.shift + number) ∷ []
+        → Grows k half (record k {
+          has_first = false;
+          bytes = bytes;
+          xor = bit_xor k.xor (2 * k.shift + number);
+          shift = 0;
+          count = 0;
+        })
+    byte_added {bytes} most is_bytes =
+        let behind = fits has room in
+        let packed = is.packed in_body in
+        let byte = 2 * k.shift + cond bit 1 0 in
+        let small = shift_fits k.count k.shift bit packed.part packed.zero_first behind.zero_first in
+        let nine : 9 ≡ suc k.count = omega (arith, most, packed.part) in
+        let whole : packed_bits (k.bytes ++ byte ∷ []) 0 0 ≡ packed_bits k.bytes k.count k.shift ++ bit ∷ [] =
+        packed_bits-whole k.bytes byte small ∙ ap (λ n. packed_bits k.bytes n byte) nine
+        ∙ packed_bits-more k.bytes k.count k.shift bit in
+        completes behind bytes (bit_xor k.xor (2 * k.shift + number)) 0 0 (rw (is_bytes, e) whole)
+        (rw (is_bytes, e) (packed_whole k.bytes k.xor k.count k.shift bit packed behind.zero_first behind.room
+        (omega (arith, most, packed.part))))
 
 -- a half between bodies
-module _ (k : Kept) (is : IsKept k) (out : k.in_body ≡ false) (half : Half) where
+module _ {k : Kept} (is : IsKept k) (out : k.in_body ≡ false) (half : Half) where
   between : kept_rest k ≡ Hunting k.ones
   between = ap (λ b. if b then InBody (kept_halves k) else Hunting k.ones) out
 
@@ -197,27 +159,11 @@ module _ (k : Kept) (is : IsKept k) (out : k.in_body ≡ false) (half : Half) wh
         bytes = bytes;
       })
   body_begins bytes none begins =
-      let packed = subst (λ l. IsPacked l 0 0 0) (sym none) packed_none in
-      let after = begun bytes none ∙ sym begins ∙ ap (λ r. rest_after r half) (sym between) in record {
-        after = after;
-        answer = answers_nothing;
-        is = record {
-          packed = λ in_it. packed;
-          unfinished = λ in_it. packed_open bytes 0 0 0 packed;
-          history = subst HasHistory (sym after) (history_more (kept_rest k) half is.history);
-        };
-      }
+      grown_to is half _ (begun bytes none ∙ sym begins ∙ ap (λ r. rest_after r half) (sym between)) answers_nothing
+      (λ in_it. subst (λ l. IsPacked l 0 0 0) (sym none) packed_none)
 
   pub one_counted : (ones : ℕ) → Hunting ones ≡ rest_after (Hunting k.ones) half → Grows k half (record k { ones = ones })
   one_counted ones counted =
-      let after : kept_rest (record k { ones = ones }) ≡ rest_after (kept_rest k) half =
-      ap (λ b. if b then InBody (kept_halves k) else Hunting ones) out ∙ counted
-      ∙ ap (λ r. rest_after r half) (sym between) in record {
-        after = after;
-        answer = answers_nothing;
-        is = record {
-          packed = is.packed;
-          unfinished = is.unfinished;
-          history = subst HasHistory (sym after) (history_more (kept_rest k) half is.history);
-        };
-      }
+      grown_to is half (record k { ones = ones })
+      (ap (λ b. if b then InBody (kept_halves k) else Hunting ones) out ∙ counted
+      ∙ ap (λ r. rest_after r half) (sym between)) answers_nothing is.packed

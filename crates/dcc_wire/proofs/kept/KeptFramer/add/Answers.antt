@@ -10,13 +10,13 @@ use Rattle.dcc_wire.proofs.kept.KeptFramer.add.Goals as goal
 pub invariant_of-self : goal.invariant_of-self
 invariant_of-self c =
     let in_body = subst (λ k. k.in_body ≡ true) (sym c.self.view_is) c.requires.in_body in
-    (first_comes _ c.self.invariant in_body (half_of c.args.bit) c.args.bit (bit_of-half_of c.args.bit) c.if-not-self.true).is
+    (first_comes c.self.invariant in_body (half_of c.args.bit) c.args.bit (bit_of-half_of c.args.bit) c.if-not-self.true).is
 
 pub returns-then-not-self : goal.returns-then-not-self
 returns-then-not-self c =
     let in_body = subst (λ k. k.in_body ≡ true) (sym c.self.view_is) c.requires.in_body in
     rw (← c.self.view_is)
-    (λ half of. first_comes _ c.self.invariant in_body half c.args.bit of c.if-not-self.true)
+    (λ half of. first_comes c.self.invariant in_body half c.args.bit of c.if-not-self.true)
 
 -- the second, within a byte
 
@@ -24,16 +24,16 @@ pub invariant_of-self-then-self-lt8 : goal.invariant_of-self-then-self-lt8
 invariant_of-self-then-self-lt8 c =
     let room = subst (λ k. HasRoomFor k c.args.bit) (sym c.self.view_is) c.requires.room in
     let in_body = subst (λ k. k.in_body ≡ true) (sym c.self.view_is) c.requires.in_body in
-    (second_added _ c.args.bit c.from.result (half_of c.args.bit) c.self.invariant in_body c.if-not-self.false room
-    (c.from.ensures ∙ byte_of_bool c.args.bit) c.if-self-lt8.true (bit_of-half_of c.args.bit)).is
+    (second_added c.self.invariant in_body (half_of c.args.bit) c.args.bit (bit_of-half_of c.args.bit) c.if-not-self.false
+    room (c.from.ensures ∙ byte_of_bool c.args.bit) c.if-self-lt8.true).is
 
 pub returns-then-self-lt8 : goal.returns-then-self-lt8
 returns-then-self-lt8 c =
     let room = subst (λ k. HasRoomFor k c.args.bit) (sym c.self.view_is) c.requires.room in
     let in_body = subst (λ k. k.in_body ≡ true) (sym c.self.view_is) c.requires.in_body in
     rw (← c.self.view_is)
-    (λ half of. second_added _ c.args.bit c.from.result half c.self.invariant in_body c.if-not-self.false room
-    (c.from.ensures ∙ byte_of_bool c.args.bit) c.if-self-lt8.true of)
+    (λ half of. second_added c.self.invariant in_body half c.args.bit of c.if-not-self.false room
+    (c.from.ensures ∙ byte_of_bool c.args.bit) c.if-self-lt8.true)
 
 -- the second, at the end of a byte
 
@@ -41,13 +41,13 @@ pub invariant_of-self-else-self-lt8 : goal.invariant_of-self-else-self-lt8
 invariant_of-self-else-self-lt8 c =
     let room = subst (λ k. HasRoomFor k c.args.bit) (sym c.self.view_is) c.requires.room in
     let in_body = subst (λ k. k.in_body ≡ true) (sym c.self.view_is) c.requires.in_body in
-    (byte_added _ c.args.bit c.from.result c.push.new.self (half_of c.args.bit) c.self.invariant in_body c.if-not-self.false
-    room (c.from.ensures ∙ byte_of_bool c.args.bit) c.if-self-lt8.false c.push.ensures (bit_of-half_of c.args.bit)).is
+    (byte_added c.self.invariant in_body (half_of c.args.bit) c.args.bit (bit_of-half_of c.args.bit) c.if-not-self.false
+    room (c.from.ensures ∙ byte_of_bool c.args.bit) c.if-self-lt8.false c.push.ensures).is
 
 pub returns-else-self-lt8 : goal.returns-else-self-lt8
 returns-else-self-lt8 c =
     let room = subst (λ k. HasRoomFor k c.args.bit) (sym c.self.view_is) c.requires.room in
     let in_body = subst (λ k. k.in_body ≡ true) (sym c.self.view_is) c.requires.in_body in
     rw (← c.self.view_is)
-    (λ half of. byte_added _ c.args.bit c.from.result c.push.new.self half c.self.invariant in_body c.if-not-self.false room
-    (c.from.ensures ∙ byte_of_bool c.args.bit) c.if-self-lt8.false c.push.ensures of)
+    (λ half of. byte_added c.self.invariant in_body half c.args.bit of c.if-not-self.false room
+    (c.from.ensures ∙ byte_of_bool c.args.bit) c.if-self-lt8.false c.push.ensures)
