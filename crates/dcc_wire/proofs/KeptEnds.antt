@@ -29,65 +29,49 @@ same_or_apart false false = inl refl
 same_or_apart true false = inr (λ e. cc)
 same_or_apart false true = inr (λ e. cc)
 
-module _ (k : Kept) (is : IsKept k) (in_body : k.in_body ≡ true) (half : Half) where
+module _ {k : Kept} (is : IsKept k) (in_body : k.in_body ≡ true) (half : Half) where
+  abbrev bits : List Bool
+  bits = packed_bits k.bytes k.count k.shift
+
   -- it is bad
   pub bad_shows : bit_of half ≡ None → answer_to (kept_rest k) half ≢ Nothing
   unfolding answer_to
   bad_shows none =
+      let first = if k.has_first then Some k.first else None in
       let answer : answer_to (kept_rest k) half ≡ Refused BadHalf =
       ap (λ r. answer_to r half) (in_body_rest k k.has_first in_body refl)
-      ∙ ap (λ h. answer_to (InBody (halves_of (packed_bits k.bytes k.count k.shift)
-      ++ first_half (if k.has_first then Some k.first else None))) h) (bad_half half none)
-      ∙ answer-bad (packed_bits k.bytes k.count k.shift) (is.unfinished in_body) (if k.has_first then Some k.first else None) in
+      ∙ ap (answer_to (InBody (halves_of bits ++ first_half first))) (bad_half half none)
+      ∙ answer-bad bits (is.unfinished in_body) first in
       λ nothing. cc
 
   module _ (bit : Bool) (of : bit_of half ≡ Some bit) (has : k.has_first ≡ true) where
-    second : answer_to (kept_rest k) half ≡ answer_of
-        (outcome_of ((halves_of (packed_bits k.bytes k.count k.shift) ++ first_half (Some k.first)) ++ half_of bit ∷ []))
+    second : (first : Bool) → k.first ≡ first → answer_to (kept_rest k) half ≡ answer_of
+        (outcome_of ((halves_of bits ++ first_half (Some first)) ++ half_of bit ∷ []))
     unfolding answer_to
-    second =
+    second first same =
         ap (λ r. answer_to r half) (in_body_rest k true in_body has)
-        ∙ ap (λ h. answer_of
-        (outcome_of ((halves_of (packed_bits k.bytes k.count k.shift) ++ first_half (Some k.first)) ++ h ∷ [])))
-        (half_of-bit half bit of)
+        ∙ ap (λ b. answer_to (InBody (halves_of bits ++ first_half (Some b))) half) same
+        ∙ ap (answer_to (InBody (halves_of bits ++ first_half (Some first)))) (half_of-bit half bit of)
 
-    -- it splits a bit
-    split : k.first ≢ bit → answer_to (kept_rest k) half ≡ Refused SplitBit
-    split apart =
-        second ∙ answer-split (packed_bits k.bytes k.count k.shift) (is.unfinished in_body) k.first bit apart
-
-    second_same : k.first ≡ bit → answer_to (kept_rest k) half ≡ answer_of
-        (outcome_of ((halves_of (packed_bits k.bytes k.count k.shift) ++ first_half (Some bit)) ++ half_of bit ∷ []))
-    second_same same =
-        second
-        ∙ ap (λ b. answer_of
-        (outcome_of ((halves_of (packed_bits k.bytes k.count k.shift) ++ first_half (Some b)) ++ half_of bit ∷ []))) same
-
-    -- it is that of an end bit
-    ends : k.first ≡ bit → bit ≡ true → k.count ≡ 0 → answer_to (kept_rest k) half ≡ body_outcome k.bytes
-    ends same one none =
-        let bits = packed_bits k.bytes k.count k.shift in
-        second_same same ∙ answer-bit bits bit
-        ∙ rw one (answer-closed bits k.bytes (closed_by_one k.bytes k.xor k.count k.shift (is.packed in_body) none))
-
-    -- a seventh byte begins with it
-    begins_seventh : k.first ≡ bit → bit ≡ false → k.count ≡ 0 → 6 ≤ length k.bytes
-        → answer_to (kept_rest k) half ≡ Refused TooLong
-    begins_seventh same zero none most =
-        let bits = packed_bits k.bytes k.count k.shift in
-        let few = (is.packed in_body).few in
-        let all : length bits ≡ 54 = omega (arith, length-packed_bits k.bytes k.count k.shift, none, few, most) in
-        second_same same ∙ answer-bit bits bit ∙ rw zero (answer-full bits (is.unfinished in_body) all)
-
+    -- it is that of an end bit, or a seventh byte begins with it
     whole_shows : ¬ (HasRoomFor k bit) → k.first ≡ bit → k.count ≡ 0 → answer_to (kept_rest k) half ≢ Nothing
-    whole_shows no_room same none = elim (one_or_zero bit) [
-      | inl one ↦ λ nothing. something_closed k.bytes (sym (ends same one none) ∙ nothing)
-      | inr zero ↦ elim (cases_lt (length k.bytes) 6) [
-        | inl less ↦ absurd
-            (no_room (inr (record { has_first = has; same = same; zero_first = λ _. zero; room = less })))
-        | inr most ↦ let answer = begins_seventh same zero none most in λ nothing. cc
-      ]
-    ]
+    whole_shows no_room same none =
+        let packed = is.packed in_body in
+        let whole = second bit same ∙ answer-bit bits bit in elim (one_or_zero bit) [
+          | inl one ↦ λ nothing.
+              let closes = closed_by_one k.bytes k.xor k.count k.shift packed none in
+              something_closed k.bytes (sym (whole ∙ rw one (answer-closed bits k.bytes closes)) ∙ nothing)
+          | inr zero ↦ elim (cases_lt (length k.bytes) 6) [
+            | inl less ↦ absurd
+                (no_room (inr (record { has_first = has; same = same; zero_first = λ _. zero; room = less })))
+            | inr most ↦
+                let all : length bits ≡ 54 =
+                omega (arith, length-packed_bits k.bytes k.count k.shift, none, packed.few, most) in
+                let answer : answer_to (kept_rest k) half ≡ Refused TooLong =
+                whole ∙ rw zero (answer-full bits (is.unfinished in_body) all) in
+                λ nothing. cc
+          ]
+        ]
 
     second_shows : ¬ (HasRoomFor k bit) → answer_to (kept_rest k) half ≢ Nothing
     second_shows no_room = elim (same_or_apart k.first bit) [
@@ -100,7 +84,8 @@ module _ (k : Kept) (is : IsKept k) (in_body : k.in_body ≡ true) (half : Half)
         })))
         | inr none ↦ whole_shows no_room same (omega (arith, none))
       ]
-      | inr apart ↦ let answer = split apart in λ nothing. cc
+      | inr apart ↦
+          let answer = second k.first refl ∙ answer-split bits (is.unfinished in_body) k.first bit apart in λ nothing. cc
     ]
 
   -- it leaves no room
@@ -118,5 +103,4 @@ pub report_shows : (seen_so_far : List (ℕ × Seen)) (place : ℕ) (answer : Se
     → seen_so_far ++ report_at place answer ≢ seen_so_far
 unfolding report_at
 report_shows so_far place Nothing some = absurd (some refl)
-report_shows so_far place (Packet bytes) some = longer so_far (place, Packet bytes)
-report_shows so_far place (Refused fault) some = longer so_far (place, Refused fault)
+report_shows so_far place answer some = longer so_far (place, answer)
