@@ -81,8 +81,7 @@ skips (suc n) us durations ones quiet hunts =
     record {
       open_part = ap rest (replicate_more n us durations) ∙ ih.open_part ∙ ap Hunting w.rest_same;
       outcomes = ap seen (replicate_more n us durations) ∙ ih.outcomes ∙ seen-push durations us
-          ∙ ap (λ r. seen durations ++ report_at (length durations) (answer_to r (class_of us))) hunts
-          ∙ append-nil (seen durations);
+          ∙ rw hunts (append-nil (seen durations));
     }
 
 -- halves that show nothing are told by their count alone
@@ -124,15 +123,14 @@ abbrev pub SeesNothing : Rest → ℕ → ℕ → Type 0
 SeesNothing mid us k =
     (durations : List ℕ) → StandsFor mid durations → seen (durations ++ replicate k us) ≡ seen durations
 
-module _ (old mid new : Rest) (us i k : ℕ) (shown : Seen) (run : RunsTo old mid us i) (some : 1 ≤ k)
+module _ {old mid : Rest} {us i k : ℕ} (new : Rest) (shown : Seen) (run : RunsTo old mid us i) (some : 1 ≤ k)
     (stands : Stands mid new us k) (sees : Sees mid us k shown) where
-  pub run_stands : (durations : List ℕ) → StandsFor old durations → StandsFor new (durations ++ replicate (i + k) us)
+  pub run_stands : Stands old new us (i + k)
   run_stands durations h =
       subst (λ l. StandsFor new l) (sym (run_of_both durations us i k))
       (stands (durations ++ replicate i us) (run.stands durations h))
 
-  pub run_sees : (durations : List ℕ) → StandsFor old durations
-      → seen (durations ++ replicate (i + k) us) ≡ seen durations ++ report_at (length durations + (i + k) - 1) shown
+  pub run_sees : Sees old us (i + k) shown
   run_sees durations h =
       let place : (length durations + i) + k - 1 ≡ length durations + (i + k) - 1 = omega (arith, some) in
       ap seen (run_of_both durations us i k) ∙ sees (durations ++ replicate i us) (run.stands durations h)
@@ -142,15 +140,13 @@ module _ (old mid new : Rest) (us i k : ℕ) (shown : Seen) (run : RunsTo old mi
   unfolding report_at
   run_more nothing = record {
     stands = run_stands;
-    quiet = λ durations h. run_sees durations h
-        ∙ ap (λ o. seen durations ++ report_at (length durations + (i + k) - 1) o) nothing
-        ∙ append-nil (seen durations);
+    quiet = λ durations h. run_sees durations h ∙ rw nothing (append-nil (seen durations));
   }
 
 -- the halves of a piece before its last one show nothing
-pub run_before : (old mid : Rest) (us i k : ℕ) (run : RunsTo old mid us i) → 1 ≤ k → SeesNothing mid us (k - 1)
-    → (durations : List ℕ) → StandsFor old durations → seen (durations ++ replicate (i + k - 1) us) ≡ seen durations
-run_before old mid us i k run some before durations h =
+pub run_before : {old mid : Rest} {us i k : ℕ} (run : RunsTo old mid us i) → 1 ≤ k → SeesNothing mid us (k - 1)
+    → SeesNothing old us (i + k - 1)
+run_before {old} {mid} {us} {i} {k} run some before durations h =
     let all : i + k - 1 ≡ i + (k - 1) = omega (arith, some) in
     ap (λ n. seen (durations ++ replicate n us)) all
     ∙ ap seen (run_of_both durations us i (k - 1)) ∙ before (durations ++ replicate i us) (run.stands durations h)
@@ -170,24 +166,16 @@ run_on : (durations : List ℕ) (us i n : ℕ) → i ≤ n
     → (durations ++ replicate i us) ++ replicate (n - i) us ≡ durations ++ replicate n us
 run_on durations us i n h =
     let all : i + (n - i) ≡ n = omega (arith, h) in
-    append_assoc durations (replicate i us) (replicate (n - i) us)
-    ∙ ap (λ l. durations ++ l) (replicate-append-replicate i (n - i) us ∙ ap (λ k. replicate k us) all)
+    sym (run_of_both durations us i (n - i)) ∙ ap (λ k. durations ++ replicate k us) all
 
-module _ (old mid new : Rest) (us i n : ℕ) (within : i ≤ n) (quiet : IsQuietFor mid (class_of us))
-    (e : new ≡ rest_after_run mid (class_of us) (n - i))
-    (stands : (durations : List ℕ) → StandsFor old durations → StandsFor mid (durations ++ replicate i us)) where
-  pub skip_stands : (durations : List ℕ) → StandsFor old durations → StandsFor new (durations ++ replicate n us)
-  unfolding StandsFor
-  skip_stands durations h =
-      (skip_from mid new us (n - i) (durations ++ replicate i us) quiet e (stands durations h)).0
-      ∙ ap rest (run_on durations us i n within)
-
-  pub skip_sees : (durations : List ℕ) → StandsFor old durations
-      → seen (durations ++ replicate n us) ≡ seen (durations ++ replicate i us)
-  unfolding StandsFor
-  skip_sees durations h =
-      ap seen (sym (run_on durations us i n within))
-      ∙ (skip_from mid new us (n - i) (durations ++ replicate i us) quiet e (stands durations h)).1
+pub skipped : (old mid : Rest) {new : Rest} (us i n : ℕ) → i ≤ n → IsQuietFor mid (class_of us)
+    → new ≡ rest_after_run mid (class_of us) (n - i) → Stands old mid us i → (durations : List ℕ)
+    → StandsFor old durations → StandsFor new (durations ++ replicate n us)
+    × (seen (durations ++ replicate n us) ≡ seen (durations ++ replicate i us))
+unfolding StandsFor
+skipped old mid {new} us i n within quiet e stands durations h =
+    let w = skip_from mid new us (n - i) (durations ++ replicate i us) quiet e (stands durations h) in
+    let all = run_on durations us i n within in (w.0 ∙ ap rest all, ap seen (sym all) ∙ w.1)
 
 -- a run that shows nothing shows nothing before its end
 
@@ -212,9 +200,8 @@ quiet_before durations us i n within e =
 
 -- what is left after an outcome is quiet
 pub quiet_after : (left : Rest) (shown : Seen) (half : Half) → left ≡ Hunting (ones_left shown) → IsQuietFor left half
-quiet_after left shown One e = rw e tt
 quiet_after left shown Zero e = rw e (omega (arith, ones_left_le shown))
-quiet_after left shown Bad e = rw e tt
+quiet_after left shown half e = rw e tt
 
 -- the answer of a run that shows nothing
 pub nothing_seen : (durations longer : List ℕ) (place : ℕ) → seen longer ≡ seen durations
@@ -224,22 +211,19 @@ nothing_seen durations longer place e = e ∙ sym (append-nil (seen durations))
 
 -- two halves of one duration, of which the first shows nothing
 
-module _ (old new : Rest) (us : ℕ) (half : Half) (shown : Seen) (class : half ≡ class_of us)
+module _ (old : Rest) {new : Rest} (us : ℕ) {half : Half} {shown : Seen} (class : half ≡ class_of us)
     (first : answer_to old half ≡ Nothing) (after : new ≡ rest_after (rest_after old half) half)
     (answer : shown ≡ answer_to (rest_after old half) half) where
   pub two_before : (durations : List ℕ) → StandsFor old durations → seen (durations ++ us ∷ []) ≡ seen durations
   unfolding StandsFor report_at
   two_before durations h =
-      seen-push durations us
-      ∙ ap (λ r. seen durations ++ report_at (length durations) (answer_to r (class_of us))) (sym h)
-      ∙ ap (λ k. seen durations ++ report_at (length durations) (answer_to old k)) (sym class)
-      ∙ ap (λ s. seen durations ++ report_at (length durations) s) first
-      ∙ append-nil (seen durations)
+      let held : old ≡ rest durations = h in
+      seen-push durations us ∙ rw (← held, ← class, first) (append-nil (seen durations))
 
   two_mid : (durations : List ℕ) → StandsFor old durations → rest (durations ++ us ∷ []) ≡ rest_after old half
   unfolding StandsFor
   two_mid durations h =
-      rest-push durations us ∙ ap (λ r. rest_after r (class_of us)) (sym h) ∙ ap (rest_after old) (sym class)
+      let held : old ≡ rest durations = h in rest-push durations us ∙ rw (← held, ← class) refl
 
   two_longer : (durations : List ℕ) → durations ++ us ∷ us ∷ [] ≡ (durations ++ us ∷ []) ++ us ∷ []
   two_longer durations = sym (append_assoc durations (us ∷ []) (us ∷ []))
@@ -247,9 +231,8 @@ module _ (old new : Rest) (us : ℕ) (half : Half) (shown : Seen) (class : half 
   pub two_stands : (durations : List ℕ) → StandsFor old durations → StandsFor new (durations ++ us ∷ us ∷ [])
   unfolding StandsFor
   two_stands durations h =
-      after ∙ ap (rest_after (rest_after old half)) class
-      ∙ sym (ap rest (two_longer durations) ∙ rest-push (durations ++ us ∷ []) us
-      ∙ ap (λ r. rest_after r (class_of us)) (two_mid durations h))
+      after
+      ∙ sym (ap rest (two_longer durations) ∙ rest-push (durations ++ us ∷ []) us ∙ rw (two_mid durations h, ← class) refl)
 
   pub two_sees : (durations : List ℕ) → StandsFor old durations
       → seen (durations ++ us ∷ us ∷ []) ≡ seen durations ++ report_at (length durations + 2 - 1) shown
@@ -257,9 +240,4 @@ module _ (old new : Rest) (us : ℕ) (half : Half) (shown : Seen) (class : half 
       let place : length (durations ++ us ∷ []) ≡ length durations + 2 - 1 =
       omega (arith, length-append durations (us ∷ [])) in
       ap seen (two_longer durations) ∙ seen-push (durations ++ us ∷ []) us
-      ∙ ap (λ l. l ++ report_at (length (durations ++ us ∷ [])) (answer_to (rest (durations ++ us ∷ [])) (class_of us)))
-      (two_before durations h)
-      ∙ ap (λ k. seen durations ++ report_at k (answer_to (rest (durations ++ us ∷ [])) (class_of us))) place
-      ∙ ap (λ r. seen durations ++ report_at (length durations + 2 - 1) (answer_to r (class_of us))) (two_mid durations h)
-      ∙ ap (λ k. seen durations ++ report_at (length durations + 2 - 1) (answer_to (rest_after old half) k)) (sym class)
-      ∙ ap (λ s. seen durations ++ report_at (length durations + 2 - 1) s) (sym answer)
+      ∙ rw (two_before durations h, two_mid durations h, place, ← class, ← answer) refl

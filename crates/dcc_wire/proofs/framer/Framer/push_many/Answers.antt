@@ -3,7 +3,7 @@ use Rattle.dcc_wire.specs.declared.seen.Seen.TheVariants.{Nothing}
 use Rattle.dcc_wire.specs.Half.{class_of}
 use Rattle.dcc_wire.specs.Framing.{StandsFor, seen}
 use Rattle.dcc_wire.specs.Runs.{IsQuietFor, rest_after_run}
-use Rattle.dcc_wire.proofs.RunLemmas.{run_stands, run_sees, run_before, run_more, skip_stands, skip_sees, quiet_after}
+use Rattle.dcc_wire.proofs.RunLemmas.{run_stands, run_sees, run_before, run_more, skipped, quiet_after}
 use Rattle.dcc_wire.proofs.RunLemmas.{quiet_before, nothing_seen}
 use Rattle.dcc_wire.proofs.framer.Framer.push_many.Goals as goal
 use Rattle.dcc_wire.proofs.framer.Framer.push_many.Goals.{After-skip, After-skip-2}
@@ -44,42 +44,34 @@ skipped_then c =
     c.skip.ensures
     ∙ ap (λ half. rest_after_run c.push_some-some.new.self half (c.args.n - (c.loop-half.at + c.push_some-some.result.at))) c.of-half.ensures
 
-stands_then : (c : After-skip) (durations : List ℕ) → StandsFor c.args.self.now durations
-    → StandsFor c.push_some-some.new.self (durations ++ replicate (c.loop-half.at + c.push_some-some.result.at) c.args.us)
-stands_then c =
-    run_stands c.args.self.now c.loop-half.self c.push_some-some.new.self c.args.us c.loop-half.at
-    c.push_some-some.result.at c.push_some-some.result.seen
-    c.loop-half.invariant.0 c.push_some-some.ensures.some.0 c.push_some-some.ensures.stands c.push_some-some.ensures.sees
+behind_then : (c : After-skip) (durations : List ℕ) → StandsFor c.args.self.now durations
+    → StandsFor c.skip.new.self (durations ++ replicate c.args.n c.args.us)
+    × (seen (durations ++ replicate c.args.n c.args.us) ≡ seen (durations ++ replicate (c.loop-half.at + c.push_some-some.result.at) c.args.us))
+behind_then c =
+    let some = c.push_some-some.ensures in
+    skipped _ _ c.args.us (c.loop-half.at + c.push_some-some.result.at) c.args.n (omega arith) (quiet_then c) (skipped_then c)
+    (run_stands _ _ c.loop-half.invariant.0 some.some.0 some.stands some.sees)
 
 pub returns-then-not-is_nothing : goal.returns-then-not-is_nothing
 returns-then-not-is_nothing c =
     let at = c.loop-half.at + c.push_some-some.result.at in
     let something : c.push_some-some.result.seen ≢ Nothing = search rules in
+    let some = c.push_some-some.ensures in
     record {
-      stands = skip_stands c.args.self.now c.push_some-some.new.self c.skip.new.self c.args.us at c.args.n
-          (omega arith) (quiet_then c) (skipped_then c) (stands_then c);
+      stands = λ durations h. (behind_then c durations h).0;
       sees = λ durations h.
-          skip_sees c.args.self.now c.push_some-some.new.self c.skip.new.self c.args.us at c.args.n (omega arith)
-          (quiet_then c) (skipped_then c) (stands_then c) durations h
-          ∙ run_sees c.args.self.now c.loop-half.self c.push_some-some.new.self c.args.us c.loop-half.at
-          c.push_some-some.result.at c.push_some-some.result.seen
-          c.loop-half.invariant.0 c.push_some-some.ensures.some.0 c.push_some-some.ensures.stands
-          c.push_some-some.ensures.sees durations h;
-      before = run_before c.args.self.now c.loop-half.self c.args.us c.loop-half.at c.push_some-some.result.at
-          c.loop-half.invariant.0 c.push_some-some.ensures.some.0 c.push_some-some.ensures.before;
+          (behind_then c durations h).1 ∙ run_sees _ _ c.loop-half.invariant.0 some.some.0 some.stands some.sees durations h;
+      before = run_before c.loop-half.invariant.0 some.some.0 some.before;
       nothing = λ none. absurd (something none);
       something = λ _. (omega (arith, c.push_some-some.ensures.some), omega (arith, c.push_some-some.ensures.some));
-      hunts = λ some.
-          skipped_then c
-          ∙ ap (λ r. rest_after_run r (class_of c.args.us) (c.args.n - at)) (c.push_some-some.ensures.hunts some);
+      hunts = λ shown.
+          skipped_then c ∙ ap (λ r. rest_after_run r (class_of c.args.us) (c.args.n - at)) (some.hunts shown);
     }
 
 pub loop-half-preserved : goal.loop-half-preserved
 loop-half-preserved c =
     let nothing : c.push_some-some.result.seen ≡ Nothing = c.is_nothing.ensures.0 (search rules) in (
-      run_more c.args.self.now c.loop-half.self c.push_some-some.new.self c.args.us c.loop-half.at
-          c.push_some-some.result.at c.push_some-some.result.seen
-          c.loop-half.invariant.0 c.push_some-some.ensures.some.0 c.push_some-some.ensures.stands c.push_some-some.ensures.sees nothing,
+      run_more _ _ c.loop-half.invariant.0 c.push_some-some.ensures.some.0 c.push_some-some.ensures.stands c.push_some-some.ensures.sees nothing,
       omega arith,
     )
 
@@ -93,17 +85,19 @@ skipped_from : (c : After-skip-2)
 skipped_from c =
     c.skip-2.ensures ∙ ap (λ half. rest_after_run c.loop-half.self half (c.args.n - c.loop-half.at)) c.of-half.ensures
 
+behind_from : (c : After-skip-2) (durations : List ℕ) → StandsFor c.args.self.now durations
+    → StandsFor c.skip-2.new.self (durations ++ replicate c.args.n c.args.us)
+    × (seen (durations ++ replicate c.args.n c.args.us) ≡ seen (durations ++ replicate c.loop-half.at c.args.us))
+behind_from c =
+    skipped _ _ c.args.us c.loop-half.at c.args.n c.loop-half.invariant.1 (quiet_from c) (skipped_from c) c.loop-half.invariant.0.stands
+
 seen_from : (c : After-skip-2) (durations : List ℕ) → StandsFor c.args.self.now durations
     → seen (durations ++ replicate c.args.n c.args.us) ≡ seen durations
-seen_from c durations h =
-    skip_sees c.args.self.now c.loop-half.self c.skip-2.new.self c.args.us c.loop-half.at c.args.n
-    c.loop-half.invariant.1 (quiet_from c) (skipped_from c) c.loop-half.invariant.0.stands durations h
-    ∙ c.loop-half.invariant.0.quiet durations h
+seen_from c durations h = (behind_from c durations h).1 ∙ c.loop-half.invariant.0.quiet durations h
 
 pub returns : goal.returns
 returns c = record {
-  stands = skip_stands c.args.self.now c.loop-half.self c.skip-2.new.self c.args.us c.loop-half.at c.args.n
-      c.loop-half.invariant.1 (quiet_from c) (skipped_from c) c.loop-half.invariant.0.stands;
+  stands = λ durations h. (behind_from c durations h).0;
   sees = λ durations h. nothing_seen durations (durations ++ replicate c.args.n c.args.us) _ (seen_from c durations h);
   before = λ durations h. quiet_before durations c.args.us (c.args.n - 1) c.args.n (omega arith) (seen_from c durations h);
   nothing = λ _. refl;

@@ -3,15 +3,12 @@ use Rattle.dcc_wire.proofs.framer.Framer.push_some.Goals as goal
 
 pub returns-in-Some-clause-stands : goal.returns-in-Some-clause-stands
 returns-in-Some-clause-stands c =
-    two_stands c.args.self.now c.take_bit.new.self c.args.us c.of.result c.in-Some.seen c.of.ensures
-    c.in-Some.ensures.first c.in-Some.ensures.after c.in-Some.ensures.answer
+    two_stands _ c.args.us c.of.ensures c.in-Some.ensures.first c.in-Some.ensures.after c.in-Some.ensures.answer
 
 pub returns-in-Some-clause-sees : goal.returns-in-Some-clause-sees
 returns-in-Some-clause-sees c =
-    two_sees c.args.self.now c.take_bit.new.self c.args.us c.of.result c.in-Some.seen c.of.ensures
-    c.in-Some.ensures.first c.in-Some.ensures.after c.in-Some.ensures.answer
+    two_sees _ c.args.us c.of.ensures c.in-Some.ensures.first c.in-Some.ensures.after c.in-Some.ensures.answer
 
 pub returns-in-Some-clause-before : goal.returns-in-Some-clause-before
 returns-in-Some-clause-before c =
-    two_before c.args.self.now c.take_bit.new.self c.args.us c.of.result c.in-Some.seen c.of.ensures
-    c.in-Some.ensures.first c.in-Some.ensures.after c.in-Some.ensures.answer
+    two_before _ c.args.us c.of.ensures c.in-Some.ensures.first c.in-Some.ensures.after c.in-Some.ensures.answer
