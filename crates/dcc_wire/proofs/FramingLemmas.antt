@@ -348,90 +348,64 @@ record Quiet (halves : List Half) (half : Half) (places : List ℕ) : Type 0 whe
 abbrev counted : List Half → List ℕ → ℕ
 counted halves places = ones_at_end (drop (used_up halves places) halves)
 
-counted_longer : (halves : List Half) (half : Half) (places : List ℕ) → Quiet halves half places
-    → counted (halves ++ half ∷ []) places ≡ ones_at_end (drop (used_up halves places) halves ++ half ∷ [])
-counted_longer halves half places q =
-    ap (λ k. ones_at_end (drop k (halves ++ half ∷ []))) q.used_stays
-    ∙ ap ones_at_end (drop-append-le (used_up halves places) halves (half ∷ []) q.used_within)
-
-starts_here : (halves : List Half) (half : Half) (places : List ℕ) → Quiet halves half places
-    → is_start (halves ++ half ∷ []) places (length halves) ≡ (is_zero half && leb 20 (counted halves places))
-unfolding is_start
-starts_here halves half places q =
-    rw (get_or-append_seam halves half [] Bad, take-append_seam halves (half ∷ []), q.used_stays) refl
-
-quiet_outcomes : (halves : List Half) (half : Half) (places : List ℕ) → Quiet halves half places
-    → outcomes_at (halves ++ half ∷ []) places ≡ outcomes_at halves places
-    ++ report_at (length halves) (answer_to (rest_at halves places) half)
-unfolding answer_to report_at hunting
-quiet_outcomes halves half places q = rw (q.outcomes_stay, q.hunts) (sym (append-nil (outcomes_at halves places)))
-
-quiet_one : (halves : List Half) (places : List ℕ) → Quiet halves One places
-    → Step halves One places
-    (cond (is_start (halves ++ One ∷ []) places (length halves)) (length halves ∷ places) places)
-unfolding rest_after hunting
-quiet_one halves places q =
-    let no : is_start (halves ++ One ∷ []) places (length halves) ≡ false = starts_here halves One places q in
-    let count : counted (halves ++ One ∷ []) places ≡ counted halves places + 1 =
-    counted_longer halves One places q ∙ ones_at_end-one (drop (used_up halves places) halves) in
-    rw no (record {
-      open_part = q.goes_on ∙ rw q.hunts (ap Hunting (omega (arith, count)));
-      outcomes = quiet_outcomes halves One places q;
-    })
-
-quiet_bad : (halves : List Half) (places : List ℕ) → Quiet halves Bad places
-    → Step halves Bad places
-    (cond (is_start (halves ++ Bad ∷ []) places (length halves)) (length halves ∷ places) places)
-unfolding rest_after hunting
-quiet_bad halves places q =
-    let no : is_start (halves ++ Bad ∷ []) places (length halves) ≡ false = starts_here halves Bad places q in
-    let count : counted (halves ++ Bad ∷ []) places ≡ 0 =
-    counted_longer halves Bad places q ∙ ones_at_end-bad (drop (used_up halves places) halves) in
-    rw no (record {
-      open_part = q.goes_on ∙ rw q.hunts (ap Hunting (omega (arith, count)));
-      outcomes = quiet_outcomes halves Bad places q;
-    })
-
 first_zero : (halves : List Half) → outcome_of (drop (length halves) (halves ++ Zero ∷ [])) ≡ None
 unfolding outcome_of bits_in behind_bits bytes_in by_halves
 first_zero halves = ap outcome_of (drop-append_seam halves (Zero ∷ []))
 
-quiet_zero : (halves : List Half) (places : List ℕ) → Quiet halves Zero places
-    → Step halves Zero places
-    (cond (is_start (halves ++ Zero ∷ []) places (length halves)) (length halves ∷ places) places)
+module _ (halves : List Half) (half : Half) (places : List ℕ) (q : Quiet halves half places) where
+  counted_longer : counted (halves ++ half ∷ []) places ≡ ones_at_end (drop (used_up halves places) halves ++ half ∷ [])
+  counted_longer =
+      ap (λ k. ones_at_end (drop k (halves ++ half ∷ []))) q.used_stays
+      ∙ ap ones_at_end (drop-append-le (used_up halves places) halves (half ∷ []) q.used_within)
+
+  starts_here : is_start (halves ++ half ∷ []) places (length halves) ≡ (is_zero half && leb 20 (counted halves places))
+  unfolding is_start
+  starts_here = rw (get_or-append_seam halves half [] Bad, take-append_seam halves (half ∷ []), q.used_stays) refl
+
+  quiet_outcomes : outcomes_at (halves ++ half ∷ []) places ≡ outcomes_at halves places
+      ++ report_at (length halves) (answer_to (rest_at halves places) half)
+  unfolding answer_to report_at hunting
+  quiet_outcomes = rw (q.outcomes_stay, q.hunts) (sym (append-nil (outcomes_at halves places)))
+
+  -- the half begins no body
+  quiet_on : is_start (halves ++ half ∷ []) places (length halves) ≡ false
+      → Hunting (min 20 (counted (halves ++ half ∷ []) places)) ≡ rest_after (hunting halves places) half
+      → Step halves half places
+      (cond (is_start (halves ++ half ∷ []) places (length halves)) (length halves ∷ places) places)
+  unfolding hunting
+  quiet_on none after =
+      rw none (record { open_part = q.goes_on ∙ rw q.hunts after; outcomes = quiet_outcomes })
+
+quiet_step : (halves : List Half) (half : Half) (places : List ℕ) → Quiet halves half places
+    → Step halves half places
+    (cond (is_start (halves ++ half ∷ []) places (length halves)) (length halves ∷ places) places)
 unfolding rest_after hunting
-quiet_zero halves places q =
-    let here : is_start (halves ++ Zero ∷ []) places (length halves) ≡ leb 20 (counted halves places) =
-    starts_here halves Zero places q in
-    let count : counted (halves ++ Zero ∷ []) places ≡ 0 =
-    counted_longer halves Zero places q ∙ ones_at_end-zero (drop (used_up halves places) halves) in
-    let longer : List Half = halves ++ Zero ∷ [] in
+quiet_step halves One places q =
+    let count = counted_longer halves One places q ∙ ones_at_end-one (drop (used_up halves places) halves) in
+    quiet_on halves One places q (starts_here halves One places q) (ap Hunting (omega (arith, count)))
+quiet_step halves Bad places q =
+    let count = counted_longer halves Bad places q ∙ ones_at_end-bad (drop (used_up halves places) halves) in
+    quiet_on halves Bad places q (starts_here halves Bad places q) (ap Hunting (omega (arith, count)))
+quiet_step halves Zero places q =
+    let here = starts_here halves Zero places q in
+    let count = counted_longer halves Zero places q ∙ ones_at_end-zero (drop (used_up halves places) halves) in
     let none = first_zero halves in
     elim (cases_lt (counted halves places) 20) [
       | inl few ↦
           let no : leb 20 (counted halves places) ≡ false = grind (arith, nat_tests) in
           let no' : leb 20 (min 20 (counted halves places)) ≡ false = grind (arith, nat_tests) in
-          rw (here ∙ no) (record {
-            open_part = q.goes_on ∙ rw (q.hunts, no') (ap Hunting (omega (arith, count)));
-            outcomes = quiet_outcomes halves Zero places q;
-          })
+          quiet_on halves Zero places q (here ∙ no) (rw no' (ap Hunting (omega (arith, count))))
       | inr many ↦
           let yes : leb 20 (counted halves places) ≡ true = grind (arith, nat_tests) in
           let yes' : leb 20 (min 20 (counted halves places)) ≡ true = grind (arith, nat_tests) in
           rw (here ∙ yes) (record {
             open_part =
-                rest_open longer (length halves) places none ∙ ap InBody (drop-append_seam halves (Zero ∷ []))
-                ∙ rw (q.hunts, yes') refl;
-            outcomes = outcomes_open longer (length halves) places none ∙ quiet_outcomes halves Zero places q;
+                rest_open (halves ++ Zero ∷ []) (length halves) places none
+                ∙ ap InBody (drop-append_seam halves (Zero ∷ [])) ∙ rw (q.hunts, yes') refl;
+            outcomes =
+                outcomes_open (halves ++ Zero ∷ []) (length halves) places none ∙ quiet_outcomes halves Zero places q;
           })
     ]
-
-quiet_step : (halves : List Half) (half : Half) (places : List ℕ) → Quiet halves half places
-    → Step halves half places
-    (cond (is_start (halves ++ half ∷ []) places (length halves)) (length halves ∷ places) places)
-quiet_step halves One places q = quiet_one halves places q
-quiet_step halves Zero places q = quiet_zero halves places q
-quiet_step halves Bad places q = quiet_bad halves places q
 
 no_start : (halves : List Half) (half : Half) → Quiet halves half []
 unfolding rest_at outcomes_at used_up

@@ -99,27 +99,21 @@ pub second_of : Timing → Bool → ℕ
 second_of timing true = timing.one
 second_of timing false = timing.zero_second
 
-pub durations-first : (timing : Timing) (bits : List Bool) (i : ℕ) (bit : Bool) → slice_get bits i ≡ Some bit
-    → slice_get (durations_of timing bits) (2 * i) ≡ Some (first_of timing bit)
-unfolding durations_of first_of
-durations-first timing [] i bit e = cc
-durations-first timing (true ∷ bits) zero bit e = let same : true ≡ bit = some_same e in rw (← same) refl
-durations-first timing (false ∷ bits) zero bit e = let same : false ≡ bit = some_same e in rw (← same) refl
-durations-first timing (true ∷ bits) (suc i) bit e =
-    let d : 2 * suc i ≡ suc (suc (2 * i)) = omega arith in rw d (durations-first timing bits i bit e)
-durations-first timing (false ∷ bits) (suc i) bit e =
-    let d : 2 * suc i ≡ suc (suc (2 * i)) = omega arith in rw d (durations-first timing bits i bit e)
-
-pub durations-second : (timing : Timing) (bits : List Bool) (i : ℕ) (bit : Bool) → slice_get bits i ≡ Some bit
-    → slice_get (durations_of timing bits) (2 * i + 1) ≡ Some (second_of timing bit)
-unfolding durations_of second_of
-durations-second timing [] i bit e = cc
-durations-second timing (true ∷ bits) zero bit e = let same : true ≡ bit = some_same e in rw (← same) refl
-durations-second timing (false ∷ bits) zero bit e = let same : false ≡ bit = some_same e in rw (← same) refl
-durations-second timing (true ∷ bits) (suc i) bit e =
-    let d : 2 * suc i + 1 ≡ suc (suc (2 * i + 1)) = omega arith in rw d (durations-second timing bits i bit e)
-durations-second timing (false ∷ bits) (suc i) bit e =
-    let d : 2 * suc i + 1 ≡ suc (suc (2 * i + 1)) = omega arith in rw d (durations-second timing bits i bit e)
+durations-both : (timing : Timing) (bits : List Bool) (i : ℕ) (bit : Bool) → slice_get bits i ≡ Some bit
+    → (slice_get (durations_of timing bits) (2 * i) ≡ Some (first_of timing bit))
+    × (slice_get (durations_of timing bits) (2 * i + 1) ≡ Some (second_of timing bit))
+unfolding durations_of first_of second_of
+durations-both timing [] i bit e = cc
+durations-both timing (true ∷ bits) zero bit e = let same : true ≡ bit = some_same e in rw (← same) (refl, refl)
+durations-both timing (false ∷ bits) zero bit e = let same : false ≡ bit = some_same e in rw (← same) (refl, refl)
+durations-both timing (true ∷ bits) (suc i) bit e =
+    let d : 2 * suc i ≡ suc (suc (2 * i)) = omega arith in
+    let d' : suc (suc (2 * i)) + 1 ≡ suc (suc (2 * i + 1)) = omega arith in
+    rw (d, d') (durations-both timing bits i bit e)
+durations-both timing (false ∷ bits) (suc i) bit e =
+    let d : 2 * suc i ≡ suc (suc (2 * i)) = omega arith in
+    let d' : suc (suc (2 * i)) + 1 ≡ suc (suc (2 * i + 1)) = omega arith in
+    rw (d, d') (durations-both timing bits i bit e)
 
 past_bits : (bits : List Bool) (i : ℕ) → slice_get bits i ≡ None → length bits ≤ i
 past_bits [] i e = omega arith
@@ -154,13 +148,13 @@ pub even_half : (timing : Timing) (bits : List Bool) (place : ℕ) (bit : Bool) 
     → place % 2 ≡ 0 → slice_get (durations_of timing bits) place ≡ Some (first_of timing bit)
 even_half timing bits place bit e even =
     let whole : place ≡ 2 * (place / 2) = omega (arith, even) in
-    ap (slice_get (durations_of timing bits)) whole ∙ durations-first timing bits (place / 2) bit e
+    ap (slice_get (durations_of timing bits)) whole ∙ (durations-both timing bits (place / 2) bit e).0
 
 pub odd_half : (timing : Timing) (bits : List Bool) (place : ℕ) (bit : Bool) → slice_get bits (place / 2) ≡ Some bit
     → 0 < place % 2 → slice_get (durations_of timing bits) place ≡ Some (second_of timing bit)
 odd_half timing bits place bit e odd =
     let whole : place ≡ 2 * (place / 2) + 1 = omega (arith, odd) in
-    ap (slice_get (durations_of timing bits)) whole ∙ durations-second timing bits (place / 2) bit e
+    ap (slice_get (durations_of timing bits)) whole ∙ (durations-both timing bits (place / 2) bit e).1
 
 -- what the bit at a place says of the half there
 

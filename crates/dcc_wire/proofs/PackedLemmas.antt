@@ -12,8 +12,8 @@ use Rattle.dcc_wire.specs.Frames.{AllBytes}
 use Rattle.dcc_wire.specs.Bodies.{bits_of}
 use Rattle.dcc_wire.specs.Outcomes.{bytes_in}
 use Rattle.dcc_wire.specs.Packed.{byte_bits, packed_bits, IsPacked}
-use Rattle.dcc_wire.proofs.BitLemmas.{zero_long, zero_short}
-use Rattle.dcc_wire.proofs.SendingLemmas.{length-bits_of, number_of-bits_of}
+use Rattle.dcc_wire.proofs.BitLemmas.{zero_short}
+use Rattle.dcc_wire.proofs.SendingLemmas.{bytes_in-byte, length-bits_of}
 use Rattle.dcc_wire.proofs.ByteBits.{length-byte_bits}
 use Rattle.dcc_wire.proofs.ErrorByte.{xor_of-append}
 
@@ -103,18 +103,10 @@ unfolding byte_bits AllBytes
 bytes_in-bytes n [] more small few = let e : n - 0 ≡ n = omega arith in rw e (option_map_zero (bytes_in n more))
 bytes_in-bytes zero (byte ∷ bytes) more small few = absurd (omega (arith, few))
 bytes_in-bytes (suc n) (byte ∷ bytes) more small few =
-    let rest : List Bool = byte_bits bytes ++ more in
-    let eight : length (bits_of 8 byte) ≡ 8 = length-bits_of 8 byte in
-    let split : (bits_of 8 byte ++ byte_bits bytes) ++ more ≡ bits_of 8 byte ++ rest =
-    append_assoc (bits_of 8 byte) (byte_bits bytes) more in
-    let front : take 8 (bits_of 8 byte ++ rest) ≡ bits_of 8 byte =
-    ap (λ k. take k (bits_of 8 byte ++ rest)) (sym eight) ∙ take-append_seam (bits_of 8 byte) rest in
-    let back : drop 8 (bits_of 8 byte ++ rest) ≡ rest =
-    ap (λ k. drop k (bits_of 8 byte ++ rest)) (sym eight) ∙ drop-append_seam (bits_of 8 byte) rest in
     let less : suc n - length (byte ∷ bytes) ≡ n - length bytes = omega arith in
-    ap (λ l. bytes_in (suc n) (false ∷ l)) split
-    ∙ zero_long n (bits_of 8 byte ++ rest) (omega (arith, length-append (bits_of 8 byte) rest, eight))
-    ∙ rw (front, back, number_of-bits_of byte small.0, bytes_in-bytes n bytes more small.1 (omega (arith, few)), less)
+    ap (λ l. bytes_in (suc n) (false ∷ l)) (append_assoc (bits_of 8 byte) (byte_bits bytes) more)
+    ∙ bytes_in-byte n byte (byte_bits bytes ++ more) small.0
+    ∙ rw (bytes_in-bytes n bytes more small.1 (omega (arith, few)), less)
     (option_map_one byte bytes (bytes_in (n - length bytes) more))
 
 -- what a bit comes to where the bytes are whole

@@ -62,6 +62,18 @@ pub number_of-bits_of : (byte : ℕ) → byte < 256 → number_of (bits_of 8 byt
 unfolding number_of
 number_of-bits_of byte h = omega (arith, fold-bits_of 8 byte 0)
 
+-- a byte behind its zero is read as this byte
+pub bytes_in-byte : (n byte : ℕ) (more : List Bool) → byte < 256
+    → bytes_in (suc n) (false ∷ bits_of 8 byte ++ more) ≡ option_map {U = List ℕ × Bool} (λ q. (byte ∷ q.0, q.1))
+    (bytes_in n more)
+bytes_in-byte n byte more small =
+    let bits = bits_of 8 byte in
+    let eight : length bits ≡ 8 = length-bits_of 8 byte in
+    let front : take 8 (bits ++ more) ≡ bits = ap (λ k. take k (bits ++ more)) (sym eight) ∙ take-append_seam bits more in
+    let back : drop 8 (bits ++ more) ≡ more = ap (λ k. drop k (bits ++ more)) (sym eight) ∙ drop-append_seam bits more in
+    zero_long n (bits ++ more) (omega (arith, length-append bits more, eight))
+    ∙ rw (front, back, number_of-bits_of byte small) refl
+
 -- a body of up to n bytes is read as these bytes
 pub bytes_in-body : (n : ℕ) (bytes : List ℕ) → AllBytes bytes → length bytes ≤ n
     → bytes_in n (body_bits bytes) ≡ Some (bytes, true)
@@ -69,16 +81,7 @@ unfolding body_bits bytes_in AllBytes
 bytes_in-body n [] small few = refl
 bytes_in-body zero (byte ∷ bytes) small few = absurd (omega (arith, few))
 bytes_in-body (suc n) (byte ∷ bytes) small few =
-    let eight : length (bits_of 8 byte) ≡ 8 = length-bits_of 8 byte in
-    let front : take 8 (bits_of 8 byte ++ body_bits bytes) ≡ bits_of 8 byte =
-    ap (λ k. take k (bits_of 8 byte ++ body_bits bytes)) (sym eight)
-    ∙ take-append_seam (bits_of 8 byte) (body_bits bytes) in
-    let back : drop 8 (bits_of 8 byte ++ body_bits bytes) ≡ body_bits bytes =
-    ap (λ k. drop k (bits_of 8 byte ++ body_bits bytes)) (sym eight)
-    ∙ drop-append_seam (bits_of 8 byte) (body_bits bytes) in
-    zero_long n (bits_of 8 byte ++ body_bits bytes)
-    (omega (arith, length-append (bits_of 8 byte) (body_bits bytes), eight))
-    ∙ rw (front, back, number_of-bits_of byte small.0, bytes_in-body n bytes small.1 (omega (arith, few))) refl
+    bytes_in-byte n byte (body_bits bytes) small.0 ∙ rw (bytes_in-body n bytes small.1 (omega (arith, few))) refl
 
 -- the body of a packet comes to it, at its end
 
@@ -153,14 +156,15 @@ ones_counted durations (us ∷ more) before all few hunts =
           ∙ rw hunts (append-nil (seen durations));
     }
 
--- a body is taken to its end
-record Arrived (durations more : List ℕ) (bytes : List ℕ) : Type 0 where
-  open_part : rest (durations ++ more) ≡ Hunting 2
-  outcomes : seen (durations ++ more) ≡ seen durations ++ (length durations + length more - 1, Packet bytes) ∷ []
+-- a packet is seen at the last half
+pub record Delivered (durations more : List ℕ) (bytes : List ℕ) : Type 0 where
+  pub open_part : rest (durations ++ more) ≡ Hunting 2
+  pub outcomes : seen (durations ++ more) ≡ seen durations ++ (length durations + length more - 1, Packet bytes) ∷ []
 
+-- a body is taken to its end
 body_arrives : (durations : List ℕ) (us : ℕ) (more : List ℕ) (bytes : List ℕ) (front : List Half) → IsFrame bytes
     → rest durations ≡ InBody front → front ++ map class_of (us ∷ more) ≡ body bytes
-    → Arrived durations (us ∷ more) bytes
+    → Delivered durations (us ∷ more) bytes
 unfolding rest_after answer_to answer_of left_of report_at ones_left
 body_arrives durations us [] bytes front packet inside e =
     let whole : outcome_of (front ++ class_of us ∷ []) ≡ Some (length (body bytes), Packet bytes) =
@@ -293,10 +297,6 @@ body_first [] h = absurd (omega (arith, h))
 body_first (byte ∷ bytes) h = (bits_of 8 byte ++ body_bits bytes, refl)
 
 -- one packet
-pub record Delivered (durations more : List ℕ) (bytes : List ℕ) : Type 0 where
-  pub open_part : rest (durations ++ more) ≡ Hunting 2
-  pub outcomes : seen (durations ++ more) ≡ seen durations ++ (length durations + length more - 1, Packet bytes) ∷ []
-
 pub sent_delivered : (durations : List ℕ) (bytes : List ℕ) (timing : Timing) (before : ℕ) → IsFrame bytes → before ≤ 20
     → rest durations ≡ Hunting before → Delivered durations (sent bytes timing) bytes
 unfolding sent sent_bits rest_after answer_to report_at durations_of body halves_of
