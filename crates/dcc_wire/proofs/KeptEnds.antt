@@ -59,7 +59,7 @@ module _ {k : Kept} (is : IsKept k) (in_body : k.in_body ≡ true) (half : Half)
         let packed = is.packed in_body in
         let whole = second bit same ∙ answer-bit bits bit in elim (one_or_zero bit) [
           | inl one ↦ λ nothing.
-              let closes = closed_by_one k.bytes k.xor k.count k.shift packed none in
+              let closes = closed_by_one packed none in
               something_closed k.bytes (sym (whole ∙ rw one (answer-closed bits k.bytes closes)) ∙ nothing)
           | inr zero ↦ elim (cases_lt (length k.bytes) 6) [
             | inl less ↦ absurd

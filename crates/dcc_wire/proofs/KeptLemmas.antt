@@ -15,7 +15,7 @@ use Rattle.dcc_wire.specs.Packed.{IsPacked, byte_bits, packed_bits}
 use Rattle.dcc_wire.proofs.HistoryLemmas.{HasHistory, history_more}
 use Rattle.dcc_wire.proofs.OpenBodies.{answer-bit, answer-first, bit_more, first_more, half_of, half_of-bit}
 use Rattle.dcc_wire.proofs.OutcomeLemmas.{answer-open, outcome_of-something}
-use Rattle.dcc_wire.proofs.PackedLemmas.{packed_bits-more, packed_bits-whole, packed_more, packed_none, packed_open, packed_whole, shift_fits}
+use Rattle.dcc_wire.proofs.PackedLemmas.{packed_bits-byte, packed_bits-more, packed_more, packed_none, packed_open, packed_whole}
 
 pub in_body_rest : (k : Kept) (has_first : Bool) → k.in_body ≡ true → k.has_first ≡ has_first
     → kept_rest k ≡ InBody (halves_of (packed_bits k.bytes k.count k.shift) ++ first_half
@@ -42,7 +42,7 @@ grown_to {k} is half new after answer packed = record {
   answer = answer;
   is = record {
     packed = packed;
-    unfinished = λ in_it. packed_open new.bytes new.xor new.count new.shift (packed in_it);
+    unfinished = λ in_it. packed_open (packed in_it);
     history = subst HasHistory (sym after) (history_more (kept_rest k) half is.history);
   };
 }
@@ -98,7 +98,7 @@ module _ {k : Kept} (is : IsKept k) (in_body : k.in_body ≡ true) (half : Half)
       (ap (λ l. answer_of (outcome_of l)) (append-nil (halves_of (bits ++ bit ∷ [])) ∙ bit_more bits bit)
       ∙ answer-bit bits bit
       ∙ answer-open (bits ++ bit ∷ [])
-      (subst (λ l. bytes_in 6 l ≡ None) whole (packed_open bytes xor count shift packed)))
+      (subst (λ l. bytes_in 6 l ≡ None) whole (packed_open packed)))
       (λ in_it. packed)
 
   module _ (has : k.has_first ≡ true) (room : HasRoomFor k bit) {number : ℕ} (e : number ≡ cond bit 1 0) where
@@ -108,8 +108,8 @@ module _ {k : Kept} (is : IsKept k) (in_body : k.in_body ≡ true) (half : Half)
     second_added less =
         let behind = fits has room in
         completes behind k.bytes k.xor (k.count + 1) (2 * k.shift + number)
-        (rw (e, add-one k.count) (packed_bits-more k.bytes k.count k.shift bit))
-        (rw e (packed_more k.bytes k.xor k.count k.shift bit (is.packed in_body) behind.zero_first behind.room less))
+        (rw e (packed_bits-more k.bytes k.count k.shift bit))
+        (rw e (packed_more bit (is.packed in_body) behind.zero_first behind.room less))
 
     -- it ends a byte
     pub byte_added : {bytes : List ℕ} → 8 ≤ k.count → bytes ≡ k.bytes ++ (2 * k.shift + number) ∷ []
@@ -123,15 +123,9 @@ module _ {k : Kept} (is : IsKept k) (in_body : k.in_body ≡ true) (half : Half)
     byte_added {bytes} most is_bytes =
         let behind = fits has room in
         let packed = is.packed in_body in
-        let byte = 2 * k.shift + cond bit 1 0 in
-        let small = shift_fits k.count k.shift bit packed.part packed.zero_first behind.zero_first in
-        let nine : 9 ≡ suc k.count = omega (arith, most, packed.part) in
-        let whole : packed_bits (k.bytes ++ byte ∷ []) 0 0 ≡ packed_bits k.bytes k.count k.shift ++ bit ∷ [] =
-        packed_bits-whole k.bytes byte small ∙ ap (λ n. packed_bits k.bytes n byte) nine
-        ∙ packed_bits-more k.bytes k.count k.shift bit in
-        completes behind bytes (bit_xor k.xor (2 * k.shift + number)) 0 0 (rw (is_bytes, e) whole)
-        (rw (is_bytes, e) (packed_whole k.bytes k.xor k.count k.shift bit packed behind.zero_first behind.room
-        (omega (arith, most, packed.part))))
+        completes behind bytes (bit_xor k.xor (2 * k.shift + number)) 0 0
+        (rw (is_bytes, e) (packed_bits-byte bit packed behind.zero_first (omega (arith, most, packed.part))))
+        (rw (is_bytes, e) (packed_whole bit packed behind.zero_first behind.room))
 
 -- a half between bodies
 module _ {k : Kept} (is : IsKept k) (out : k.in_body ≡ false) (half : Half) where

@@ -44,11 +44,11 @@ bits_of-bit c s true = bits_of-shifted c s 1 (omega arith)
 bits_of-bit c s false = bits_of-shifted c s 0 (omega arith)
 
 pub packed_bits-more : (bytes : List ℕ) (count shift : ℕ) (bit : Bool)
-    → packed_bits bytes (suc count) (2 * shift + cond bit 1 0) ≡ packed_bits bytes count shift ++ bit ∷ []
+    → packed_bits bytes (count + 1) (2 * shift + cond bit 1 0) ≡ packed_bits bytes count shift ++ bit ∷ []
 unfolding packed_bits
 packed_bits-more bytes count shift bit =
-    ap (λ l. byte_bits bytes ++ l) (bits_of-bit count shift bit)
-    ∙ sym (append_assoc (byte_bits bytes) (bits_of count shift) (bit ∷ []))
+    rw (add-one count, bits_of-bit count shift bit)
+    (sym (append_assoc (byte_bits bytes) (bits_of count shift) (bit ∷ [])))
 
 -- a number below a power of two begins with a zero
 
@@ -71,7 +71,7 @@ byte_bits-more (first ∷ bytes) byte =
     ap (λ l. false ∷ bits_of 8 first ++ l) (byte_bits-more bytes byte)
     ∙ ap (λ l. false ∷ l) (sym (append_assoc (bits_of 8 first) (byte_bits bytes) (false ∷ bits_of 8 byte)))
 
-pub packed_bits-whole : (bytes : List ℕ) (byte : ℕ) → byte < 256
+packed_bits-whole : (bytes : List ℕ) (byte : ℕ) → byte < 256
     → packed_bits (bytes ++ byte ∷ []) 0 0 ≡ packed_bits bytes 9 byte
 unfolding packed_bits bits_of
 packed_bits-whole bytes byte small =
@@ -111,10 +111,10 @@ bytes_in-bytes (suc n) (byte ∷ bytes) more small few =
 
 -- what a bit comes to where the bytes are whole
 
-pub closed_by_one : (bytes : List ℕ) (xor count shift : ℕ) → IsPacked bytes xor count shift → count ≡ 0
+pub closed_by_one : {bytes : List ℕ} {xor count shift : ℕ} → IsPacked bytes xor count shift → count ≡ 0
     → bytes_in 6 (packed_bits bytes count shift ++ true ∷ []) ≡ Some (bytes, true)
 unfolding packed_bits bits_of bytes_in
-closed_by_one bytes xor count shift packed none =
+closed_by_one {bytes} {shift} packed none =
     ap (λ c. bytes_in 6 ((byte_bits bytes ++ bits_of c shift) ++ true ∷ [])) none
     ∙ ap (λ l. bytes_in 6 (l ++ true ∷ [])) (append-nil (byte_bits bytes))
     ∙ bytes_in-bytes 6 bytes (true ∷ []) packed.each packed.few
@@ -138,10 +138,10 @@ part_open (suc n) (suc count) shift part zero_first room =
     ap (λ l. bytes_in (suc n) l) (small_first count shift (half_small count shift zero_first))
     ∙ zero_short n (bits_of count shift) (omega (arith, length-bits_of count shift, part))
 
-pub packed_open : (bytes : List ℕ) (xor count shift : ℕ) → IsPacked bytes xor count shift
+pub packed_open : {bytes : List ℕ} {xor count shift : ℕ} → IsPacked bytes xor count shift
     → bytes_in 6 (packed_bits bytes count shift) ≡ None
 unfolding packed_bits
-packed_open bytes xor count shift packed =
+packed_open {bytes} {count} {shift} packed =
     bytes_in-bytes 6 bytes (bits_of count shift) packed.each packed.few
     ∙ ap (λ o. option_map {U = List ℕ × Bool} (λ q. (bytes ++ q.0, q.1)) o)
     (part_open (6 - length bytes) count shift packed.part packed.zero_first (λ some. omega (arith, packed.room some)))
@@ -169,17 +169,24 @@ shift_small : (count shift : ℕ) (bit : Bool) → 2 * shift < 2 ^ count → (co
 shift_small zero shift bit zero_first zero_bit = rw (zero_bit refl) (omega (arith, zero_first))
 shift_small (suc count) shift bit zero_first zero_bit = omega (arith, pow-suc 2 count, zero_first, one_bit bit)
 
-pub shift_fits : (count shift : ℕ) (bit : Bool) → count ≤ 8 → 2 * shift < 2 ^ count → (count ≡ 0 → bit ≡ false)
-    → 2 * shift + cond bit 1 0 < 256
-shift_fits count shift bit part zero_first zero_bit =
-    let small = shift_small count shift bit zero_first zero_bit in
-    let most : 2 ^ count ≤ 2 ^ 8 = pow-le-pow_right (omega arith) part in
-    omega (arith, small, most)
+module _ {bytes : List ℕ} {xor count shift : ℕ} (bit : Bool) (packed : IsPacked bytes xor count shift)
+    (zero_bit : count ≡ 0 → bit ≡ false) where
+  shift_fits : 2 * shift + cond bit 1 0 < 256
+  shift_fits =
+      let small = shift_small count shift bit packed.zero_first zero_bit in
+      let most : 2 ^ count ≤ 2 ^ 8 = pow-le-pow_right (omega arith) packed.part in
+      omega (arith, small, most)
 
-module _ (bytes : List ℕ) (xor count shift : ℕ) (bit : Bool) (packed : IsPacked bytes xor count shift)
-    (zero_bit : count ≡ 0 → bit ≡ false) (room : length bytes < 6) where
-  pub packed_more : count < 8 → IsPacked bytes xor (count + 1) (2 * shift + cond bit 1 0)
-  packed_more less = record {
+  -- the last bit of a byte
+  pub packed_bits-byte : count ≡ 8
+      → packed_bits (bytes ++ (2 * shift + cond bit 1 0) ∷ []) 0 0 ≡ packed_bits bytes count shift ++ bit ∷ []
+  packed_bits-byte eight =
+      packed_bits-whole bytes (2 * shift + cond bit 1 0) shift_fits
+      ∙ ap (λ n. packed_bits bytes n (2 * shift + cond bit 1 0)) (omega (arith, eight))
+      ∙ packed_bits-more bytes count shift bit
+
+  pub packed_more : length bytes < 6 → count < 8 → IsPacked bytes xor (count + 1) (2 * shift + cond bit 1 0)
+  packed_more room less = record {
     few = packed.few;
     each = packed.each;
     exclusive_or = packed.exclusive_or;
@@ -190,12 +197,11 @@ module _ (bytes : List ℕ) (xor count shift : ℕ) (bit : Bool) (packed : IsPac
     room = λ some. room;
   }
 
-  pub packed_whole : count ≡ 8
+  pub packed_whole : length bytes < 6
       → IsPacked (bytes ++ (2 * shift + cond bit 1 0) ∷ []) (bit_xor xor (2 * shift + cond bit 1 0)) 0 0
-  packed_whole eight = record {
+  packed_whole room = record {
     few = omega (arith, length-append bytes ((2 * shift + cond bit 1 0) ∷ []), room);
-    each = AllBytes-more bytes (2 * shift + cond bit 1 0) packed.each
-        (shift_fits count shift bit packed.part packed.zero_first zero_bit);
+    each = AllBytes-more bytes (2 * shift + cond bit 1 0) packed.each shift_fits;
     exclusive_or =
         ap (λ x. bit_xor x (2 * shift + cond bit 1 0)) packed.exclusive_or
         ∙ sym (xor_of-append bytes (2 * shift + cond bit 1 0));

@@ -6,7 +6,7 @@ use Rattle.dcc_wire.specs.Packed.{packed_bits}
 use Rattle.dcc_wire.proofs.BitNumbers.{byte_of_bool}
 use Rattle.dcc_wire.proofs.OutcomeLemmas.{answer-closed, answer-full, answer-open, something_closed}
 use Rattle.dcc_wire.proofs.PackedLemmas.{closed_by_one, length-packed_bits, packed_open, packed_bits-more}
-use Rattle.dcc_wire.proofs.PackedLemmas.{packed_bits-whole, shift_fits, packed_more, packed_whole}
+use Rattle.dcc_wire.proofs.PackedLemmas.{packed_bits-byte, packed_more, packed_whole}
 use Rattle.dcc_wire.proofs.packed_bits.PackedBits.push.Goals as goal
 use Rattle.dcc_wire.proofs.packed_bits.PackedBits.push.Goals.{then-self-eq0+else-bit+else-is_full, else-self-eq0}
 use Rattle.dcc_wire.proofs.packed_bits.PackedBits.push.Goals.{After-from}
@@ -27,15 +27,14 @@ returns-then-bit-clause-answer c =
     rw (c.if-bit.true, ← c.self.view_is)
     (c.close.ensures ∙ ap body_outcome c.as_slice.ensures.value
     ∙ sym (answer-closed bits inside.bytes.items
-    (closed_by_one inside.bytes.items inside.xor inside.count inside.shift c.self.invariant
-    c.if-self-eq0.true)))
+    (closed_by_one c.self.invariant c.if-self-eq0.true)))
 
 pub returns-then-bit-clause-added : goal.returns-then-bit-clause-added
 returns-then-bit-clause-added c =
     λ nothing. absurd (something_closed c.as_slice.result.now (sym c.close.ensures ∙ nothing))
 
 pub returns-then-bit-clause-unfinished : goal.returns-then-bit-clause-unfinished
-returns-then-bit-clause-unfinished c = rw (← c.self.view_is) (packed_open _ _ _ _ c.self.invariant)
+returns-then-bit-clause-unfinished c = rw (← c.self.view_is) (packed_open c.self.invariant)
 
 pub returns-then-is_full-clause-answer : goal.returns-then-is_full-clause-answer
 returns-then-is_full-clause-answer c =
@@ -44,10 +43,10 @@ returns-then-is_full-clause-answer c =
     let six : length inside.bytes.items ≡ 6 = grind (arith, nat_tests) in
     let all : length bits ≡ 54 =
     omega (arith, length-packed_bits inside.bytes.items inside.count inside.shift, six, c.if-self-eq0.true) in
-    rw (c.if-bit.false, ← c.self.view_is) (sym (answer-full bits (packed_open _ _ _ _ c.self.invariant) all))
+    rw (c.if-bit.false, ← c.self.view_is) (sym (answer-full bits (packed_open c.self.invariant) all))
 
 pub returns-then-is_full-clause-unfinished : goal.returns-then-is_full-clause-unfinished
-returns-then-is_full-clause-unfinished c = rw (← c.self.view_is) (packed_open _ _ _ _ c.self.invariant)
+returns-then-is_full-clause-unfinished c = rw (← c.self.view_is) (packed_open c.self.invariant)
 
 -- the bit is shifted in
 
@@ -59,24 +58,18 @@ more : (c : After-from)
     (2 * c.self.inside.shift + c.from.result) ≡ c.args.self.now ++ c.args.bit ∷ []
 more c =
     let inside = c.self.inside in
-    ap (λ k. packed_bits inside.bytes.items k (2 * inside.shift + c.from.result)) (add-one inside.count)
-    ∙ ap (λ s. packed_bits inside.bytes.items (suc inside.count) s) (shifted c)
-    ∙ packed_bits-more inside.bytes.items inside.count inside.shift c.args.bit
-    ∙ ap (λ l. l ++ c.args.bit ∷ []) c.self.view_is
+    rw (shifted c, ← c.self.view_is) (packed_bits-more inside.bytes.items inside.count inside.shift c.args.bit)
 
 -- within a byte
 
 pub invariant_of-self : goal.invariant_of-self
 invariant_of-self c =
-    let inside = c.self.inside in
     let before = (goal.at.invariant_of-self c).After-from in
     let known = room before in
-    rw (shifted before)
-    (packed_more inside.bytes.items inside.xor inside.count inside.shift c.args.bit c.self.invariant known.0 known.1
-    (omega arith))
+    rw (shifted before) (packed_more c.args.bit c.self.invariant known.0 known.1 (omega arith))
 
 pub returns-then-self-lt9-clause-unfinished : goal.returns-then-self-lt9-clause-unfinished
-returns-then-self-lt9-clause-unfinished c = packed_open _ _ _ _ (invariant_of-self c)
+returns-then-self-lt9-clause-unfinished c = packed_open (invariant_of-self c)
 
 pub returns-then-self-lt9-clause-added : goal.returns-then-self-lt9-clause-added
 returns-then-self-lt9-clause-added c = λ _. more (goal.at.returns-then-self-lt9-clause-added c).After-from
@@ -84,35 +77,25 @@ returns-then-self-lt9-clause-added c = λ _. more (goal.at.returns-then-self-lt9
 pub returns-then-self-lt9-clause-answer : goal.returns-then-self-lt9-clause-answer
 returns-then-self-lt9-clause-answer c =
     rw (← more (goal.at.returns-then-self-lt9-clause-answer c).After-from)
-    (sym (answer-open _ (packed_open _ _ _ _ (invariant_of-self c))))
+    (sym (answer-open _ (packed_open (invariant_of-self c))))
 
 -- at the end of a byte
 
 pub invariant_of-self-2 : goal.invariant_of-self-2
 invariant_of-self-2 c =
-    let inside = c.self.inside in
     let before = (goal.at.invariant_of-self-2 c).After-from in
     let known = room before in
-    rw (c.push.ensures.items, shifted before)
-    (packed_whole inside.bytes.items inside.xor inside.count inside.shift c.args.bit c.self.invariant known.0
-    known.1 (omega arith))
+    rw (c.push.ensures.items, shifted before) (packed_whole c.args.bit c.self.invariant known.0 known.1)
 
 pub returns-clause-added : goal.returns-clause-added
 returns-clause-added c =
-    let inside = c.self.inside in
     let before = (goal.at.returns-clause-added c).After-from in
-    let shift = 2 * inside.shift + c.from.result in
-    let nine : 9 ≡ inside.count + 1 = omega arith in
-    let small : shift < 256 =
-    rw (shifted before)
-    (shift_fits inside.count inside.shift c.args.bit c.self.invariant.part c.self.invariant.zero_first
-    (room before).0) in
-    λ _. ap (λ l. packed_bits l 0 0) c.push.ensures.items ∙ packed_bits-whole inside.bytes.items shift small
-    ∙ ap (λ k. packed_bits inside.bytes.items k shift) nine ∙ more before
+    λ _. rw (c.push.ensures.items, shifted before, ← c.self.view_is)
+    (packed_bits-byte c.args.bit c.self.invariant (room before).0 (omega arith))
 
 pub returns-clause-unfinished : goal.returns-clause-unfinished
-returns-clause-unfinished c = packed_open _ _ _ _ (invariant_of-self-2 c)
+returns-clause-unfinished c = packed_open (invariant_of-self-2 c)
 
 pub returns-clause-answer : goal.returns-clause-answer
 returns-clause-answer c =
-    rw (← returns-clause-added c refl) (sym (answer-open _ (packed_open _ _ _ _ (invariant_of-self-2 c))))
+    rw (← returns-clause-added c refl) (sym (answer-open _ (packed_open (invariant_of-self-2 c))))
