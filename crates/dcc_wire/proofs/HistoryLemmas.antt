@@ -47,7 +47,7 @@ left_of-outcome halves None seen e something = absurd (something e)
 left_of-outcome halves (Some p) seen e something = ap (λ s. Hunting (ones_left s)) (sym e)
 
 -- two halves of a body, of which the first shows nothing
-module _ (old : Rest) (body : List Half) (half : Half) (seen : Seen) (view : old ≡ InBody body)
+module _ {old : Rest} {body : List Half} (half : Half) {seen : Seen} (view : old ≡ InBody body)
     (first : answer_of (outcome_of (body ++ half ∷ [])) ≡ Nothing)
     (answer : seen ≡ answer_of (outcome_of ((body ++ half ∷ []) ++ half ∷ []))) where
   goes_on : rest_after old half ≡ InBody (body ++ half ∷ [])

@@ -200,16 +200,12 @@ body_arrives durations us (next ∷ more) bytes front packet inside e =
 
 one_class : (us : ℕ) → is_one_half us ≡ true → class_of us ≡ One
 one_class us e =
-    let low : 55 ≤ us = grind (arith, nat_tests) in
-    let high : us ≤ 61 = grind (arith, nat_tests) in
     let a : leb 52 us ≡ true = grind (arith, nat_tests) in
     let b : leb us 64 ≡ true = grind (arith, nat_tests) in
     rw (a, b) refl
 
 zero_class : (us : ℕ) → is_zero_half us ≡ true → class_of us ≡ Zero
 zero_class us e =
-    let low : 95 ≤ us = grind (arith, nat_tests) in
-    let high : us ≤ 9900 = grind (arith, nat_tests) in
     let a : leb us 64 ≡ false = grind (arith, nat_tests) in
     let b : leb 90 us ≡ true = grind (arith, nat_tests) in
     let c : leb us 10000 ≡ true = grind (arith, nat_tests) in

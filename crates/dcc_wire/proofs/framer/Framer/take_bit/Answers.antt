@@ -15,18 +15,15 @@ pub returns-then-is_nothing-clause-after : goal.returns-then-is_nothing-clause-a
 returns-then-is_nothing-clause-after c =
     let nothing : c.in-Some.seen ≡ Nothing = c.is_nothing.ensures.0 (search rules) in
     ap InBody (c.in-Some.ensures.unfinished nothing)
-    ∙ twice_open c.args.self.now c.in-InBody.body c.args.half c.in-Some.seen (opens c) c.in-Some.ensures.first
-    c.in-Some.ensures.answer nothing
+    ∙ twice_open c.args.half (opens c) c.in-Some.ensures.first c.in-Some.ensures.answer nothing
 
 pub returns-then-is_nothing-clause-first : goal.returns-then-is_nothing-clause-first
 returns-then-is_nothing-clause-first c =
-    twice_first c.args.self.now c.in-InBody.body c.args.half c.in-Some.seen (opens c) c.in-Some.ensures.first
-    c.in-Some.ensures.answer
+    twice_first c.args.half (opens c) c.in-Some.ensures.first c.in-Some.ensures.answer
 
 pub returns-then-is_nothing-clause-answer : goal.returns-then-is_nothing-clause-answer
 returns-then-is_nothing-clause-answer c =
-    twice_answer c.args.self.now c.in-InBody.body c.args.half c.in-Some.seen (opens c) c.in-Some.ensures.first
-    c.in-Some.ensures.answer
+    twice_answer c.args.half (opens c) c.in-Some.ensures.first c.in-Some.ensures.answer
 
 pub invariant_of-self-then-is_nothing : goal.invariant_of-self-then-is_nothing
 invariant_of-self-then-is_nothing c =
@@ -39,17 +36,17 @@ pub returns-else-is_nothing-clause-after : goal.returns-else-is_nothing-clause-a
 returns-else-is_nothing-clause-after c =
     let something : c.in-Some.seen ≢ Nothing = search rules in
     ap Hunting c.ones_left-ones.ensures
-    ∙ twice_outcome c.args.self.now c.in-InBody.body c.args.half c.in-Some.seen (sym c.self.view_is ∙ ap rest_of c.in-InBody.is) c.in-Some.ensures.first
+    ∙ twice_outcome c.args.half (sym c.self.view_is ∙ ap rest_of c.in-InBody.is) c.in-Some.ensures.first
     c.in-Some.ensures.answer something
 
 pub returns-else-is_nothing-clause-first : goal.returns-else-is_nothing-clause-first
 returns-else-is_nothing-clause-first c =
-    twice_first c.args.self.now c.in-InBody.body c.args.half c.in-Some.seen (sym c.self.view_is ∙ ap rest_of c.in-InBody.is) c.in-Some.ensures.first
+    twice_first c.args.half (sym c.self.view_is ∙ ap rest_of c.in-InBody.is) c.in-Some.ensures.first
     c.in-Some.ensures.answer
 
 pub returns-else-is_nothing-clause-answer : goal.returns-else-is_nothing-clause-answer
 returns-else-is_nothing-clause-answer c =
-    twice_answer c.args.self.now c.in-InBody.body c.args.half c.in-Some.seen (sym c.self.view_is ∙ ap rest_of c.in-InBody.is) c.in-Some.ensures.first
+    twice_answer c.args.half (sym c.self.view_is ∙ ap rest_of c.in-InBody.is) c.in-Some.ensures.first
     c.in-Some.ensures.answer
 
 pub invariant_of-self-in-Some : goal.invariant_of-self-in-Some
