@@ -86,10 +86,10 @@ module _ (bits : List Bool) (unfinished : bytes_in 6 bits ≡ None) where
   answer-split false true apart = answer-behind (Some false) One refl refl
 
 -- the halves with one more, where the first half so far and the bit of the new one are known
-pub with_half : (bits : List Bool) (kept first : Option Bool) (halves : List Half) (half : Half) (bit : Bool)
+pub with_half : (bits : List Bool) (half : Half) {kept first : Option Bool} {halves : List Half} {bit : Bool}
     → halves_of bits ++ first_half kept ≡ halves → kept ≡ first → bit_of half ≡ Some bit
     → halves ++ half ∷ [] ≡ (halves_of bits ++ first_half first) ++ half_of bit ∷ []
-with_half bits kept first halves half bit view e b =
+with_half bits half {first} {bit} view e b =
     ap (λ l. l ++ half ∷ []) (sym view ∙ ap (λ f. halves_of bits ++ first_half f) e)
     ∙ ap (λ h. (halves_of bits ++ first_half first) ++ h ∷ []) (half_of-bit half bit b)
 
@@ -107,10 +107,10 @@ bits_apart true false e = λ q. cc
 bits_apart false true e = λ q. cc
 
 -- both halves of a bit, where no first half is kept
-module _ (bits : List Bool) (halves : List Half) (kept : Option Bool) (half : Half) (bit : Bool)
+module _ (bits : List Bool) (half : Half) {halves : List Half} {kept : Option Bool} {bit : Bool}
     (view : halves_of bits ++ first_half kept ≡ halves) (none : kept ≡ None) (is : bit_of half ≡ Some bit) where
   pub one_half_more : halves ++ half ∷ [] ≡ halves_of bits ++ first_half (Some bit)
-  one_half_more = with_half bits kept None halves half bit view none is ∙ sym (first_more bits bit)
+  one_half_more = with_half bits half view none is ∙ sym (first_more bits bit)
 
   pub two_halves_more : (halves ++ half ∷ []) ++ half ∷ [] ≡ halves_of (bits ++ bit ∷ [])
   two_halves_more =
@@ -120,7 +120,7 @@ module _ (bits : List Bool) (halves : List Half) (kept : Option Bool) (half : Ha
 
   pub first_shows_nothing : bytes_in 6 bits ≡ None → answer_of (outcome_of (halves ++ half ∷ [])) ≡ Nothing
   first_shows_nothing unfinished =
-      ap (λ l. answer_of (outcome_of l)) (with_half bits kept None halves half bit view none is)
+      ap (λ l. answer_of (outcome_of l)) (with_half bits half view none is)
       ∙ answer-first bits unfinished bit
 
   pub second_shows : answer_of (outcome_of ((halves ++ half ∷ []) ++ half ∷ [])) ≡ answer_of

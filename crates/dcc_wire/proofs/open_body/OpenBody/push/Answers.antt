@@ -13,22 +13,21 @@ returns-in_default-clause-answer c =
 pub returns-in-None-clause-answer : goal.returns-in-None-clause-answer
 returns-in-None-clause-answer c =
     let bits = c.self.inside.bits in
-    let halves = with_half bits c.self.inside.first None c.args.self.now c.args.half c.in-Some.bit c.self.view_is
+    let halves = with_half bits c.args.half c.self.view_is
     (sym c.take-first.ensures.value ∙ c.in-None.is) (sym c.bit.ensures ∙ c.in-Some.is) in
     rw halves (sym (answer-first bits c.self.invariant c.in-Some.bit))
 
 pub returns-in-None-clause-unfinished : goal.returns-in-None-clause-unfinished
 returns-in-None-clause-unfinished c =
     let bits = c.self.inside.bits in
-    let halves = with_half bits c.self.inside.first None c.args.self.now c.args.half c.in-Some.bit c.self.view_is
+    let halves = with_half bits c.args.half c.self.view_is
     (sym c.take-first.ensures.value ∙ c.in-None.is) (sym c.bit.ensures ∙ c.in-Some.is) in
     λ _. rw halves (first_more bits c.in-Some.bit)
 
 pub returns-in-Some-first-clause-answer : goal.returns-in-Some-first-clause-answer
 returns-in-Some-first-clause-answer c =
     let bits = c.self.inside.bits in
-    let halves = with_half bits c.self.inside.first (Some c.in-Some.bit) c.args.self.now c.args.half c.in-Some.bit
-    c.self.view_is
+    let halves = with_half bits c.args.half c.self.view_is
     (sym c.take-first.ensures.value ∙ c.in-Some-first.is
     ∙ ap Some (bits_same c.in-Some-first.first c.in-Some.bit c.if-first-bit.true))
     (sym c.bit.ensures ∙ c.in-Some.is) in
@@ -38,8 +37,7 @@ pub returns-in-Some-first-clause-unfinished : goal.returns-in-Some-first-clause-
 unfolding first_half
 returns-in-Some-first-clause-unfinished c =
     let bits = c.self.inside.bits in
-    let halves = with_half bits c.self.inside.first (Some c.in-Some.bit) c.args.self.now c.args.half c.in-Some.bit
-    c.self.view_is
+    let halves = with_half bits c.args.half c.self.view_is
     (sym c.take-first.ensures.value ∙ c.in-Some-first.is
     ∙ ap Some (bits_same c.in-Some-first.first c.in-Some.bit c.if-first-bit.true))
     (sym c.bit.ensures ∙ c.in-Some.is) in
@@ -49,8 +47,7 @@ returns-in-Some-first-clause-unfinished c =
 pub returns-in-Some-2-clause-answer : goal.returns-in-Some-2-clause-answer
 returns-in-Some-2-clause-answer c =
     let bits = c.self.inside.bits in
-    let halves = with_half bits c.self.inside.first (Some c.in-Some-first.first) c.args.self.now c.args.half
-    c.in-Some.bit c.self.view_is (sym c.take-first.ensures.value ∙ c.in-Some-first.is)
+    let halves = with_half bits c.args.half c.self.view_is (sym c.take-first.ensures.value ∙ c.in-Some-first.is)
     (sym c.bit.ensures ∙ c.in-Some.is) in
     rw halves
     (sym (answer-split bits c.self.invariant c.in-Some-first.first c.in-Some.bit
