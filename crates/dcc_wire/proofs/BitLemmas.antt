@@ -1,5 +1,5 @@
 -- Bits and bytes of a body.
-use Rattle.std.proofs.Common.{◌≡◌, ℕ, suc, zero, ◌+◌, ◌*◌, ◌%◌, ◌<◌, ◌≤◌, inl, inr, Bool, true, false, cond, List, []}
+use Rattle.std.proofs.Common.{subst, ◌-◌, ◌≡◌, ℕ, suc, zero, ◌+◌, ◌*◌, ◌%◌, ◌<◌, ◌≤◌, inl, inr, Bool, true, false, cond, List, []}
 use Rattle.std.proofs.Common.{◌∷◌, ◌++◌, length, take, drop, Option, Some, None, ltb, refl, sym, ap, ◌∙◌, arith}
 use Rattle.std.proofs.Common.{length-append, length-drop}
 use Rattle.std.proofs.lemmas.List.{take-append-le, drop-append-le}
@@ -154,23 +154,16 @@ pub record Edge (n : ℕ) (bits : List Bool) : Type 0 where
 
 pub bytes_in-edge : (n : ℕ) (bits : List Bool) → bytes_in n bits ≡ None → length bits % 9 ≡ 0 → Edge n bits
 unfolding bytes_in
-bytes_in-edge zero [] e edge =
+bytes_in-edge n [] e edge =
     record {
       bytes = [];
       whole = refl;
       few = omega arith;
       one = refl;
-      full = λ _. refl;
-      room = λ h. absurd (omega (arith, h));
-    }
-bytes_in-edge (suc n) [] e edge =
-    record {
-      bytes = [];
-      whole = refl;
-      few = omega arith;
-      one = refl;
-      full = λ h. absurd (omega (arith, h));
-      room = λ _. refl;
+      full = λ h. rw (← h) refl;
+      room = λ h.
+          let more : suc (n - 1) ≡ n = omega (arith, h) in
+          subst (λ k. bytes_in k (false ∷ []) ≡ None) more refl;
     }
 bytes_in-edge n (true ∷ bits) e edge = cc
 bytes_in-edge zero (false ∷ bits) e edge = cc

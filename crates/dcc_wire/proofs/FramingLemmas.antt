@@ -25,10 +25,8 @@ use Rattle.dcc_wire.proofs.OutcomeLemmas.{outcome_of-more, outcome_of-push, outc
 
 ones_before_le : (halves : List Half) → ones_before halves ≤ length halves
 unfolding ones_before
-ones_before_le [] = omega arith
 ones_before_le (One ∷ halves) = omega (arith, ones_before_le halves)
-ones_before_le (Zero ∷ halves) = omega arith
-ones_before_le (Bad ∷ halves) = omega arith
+ones_before_le halves = omega arith
 
 pub ones_at_end_le : (halves : List Half) → ones_at_end halves ≤ length halves
 unfolding ones_at_end
@@ -199,10 +197,6 @@ module _ (halves : List Half) (half : Half) where
         e,
       ) refl
 
-  no_places : used_up longer [] ≡ used_up halves []
-  unfolding used_up
-  no_places = refl
-
   start_by : (start : ℕ) (earlier : List ℕ) (place : ℕ) → place < length halves → start < place
       → (o : Option (ℕ × Seen)) → outcome_of (drop start halves) ≡ o
       → is_start longer (start ∷ earlier) place ≡ is_start halves (start ∷ earlier) place
@@ -215,8 +209,8 @@ module _ (halves : List Half) (half : Half) where
 
   is_start-longer : (places : List ℕ) (place : ℕ) → place < length halves → Below place places
       → is_start longer places place ≡ is_start halves places place
-  unfolding Below
-  is_start-longer [] place within below = same_start [] place within no_places
+  unfolding Below used_up
+  is_start-longer [] place within below = same_start [] place within refl
   is_start-longer (start ∷ earlier) place within below =
       start_by start earlier place within below (outcome_of (drop start halves)) refl
 

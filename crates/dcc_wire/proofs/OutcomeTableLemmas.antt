@@ -17,19 +17,9 @@ use Rattle.dcc_wire.specs.Packed.{byte_bits}
 use Rattle.dcc_wire.specs.OutcomeTable.{IsUnpaired, IsRow, Comes, IsUnfinished}
 use Rattle.dcc_wire.proofs.BitLemmas.{halves_of-append, length-halves_of, bytes_in-edge}
 use Rattle.dcc_wire.proofs.OutcomeLemmas.{outcome_of-more, outcome_of-bits, outcome_behind}
-use Rattle.dcc_wire.proofs.SendingLemmas.{outcome_of-body, bytes_in-body, length-body_bits}
+use Rattle.dcc_wire.proofs.SendingLemmas.{body_closed, outcome_of-body, bytes_in-body}
 use Rattle.dcc_wire.proofs.ByteBits.{body_bits-end, length-byte_bits}
 use Rattle.dcc_wire.proofs.OpenLists.{OpenBits, short_by, open-bits}
-
--- the body of some bytes is what they are with an end bit
-body_closed : (bytes : List ℕ) → AllBytes bytes → length bytes ≤ 6
-    → outcome_of (body bytes) ≡ Some (length (body bytes), body_outcome bytes)
-unfolding body by_bits
-body_closed bytes each few =
-    let count : 18 * length bytes + 2 ≡ length (halves_of (body_bits bytes)) =
-    omega (arith, length-halves_of (body_bits bytes), length-body_bits bytes) in
-    outcome_of-bits (body_bits bytes) ∙ ap (option_map by_bits) (bytes_in-body 6 bytes each few)
-    ∙ ap (λ k. Some (k, body_outcome bytes)) count
 
 pub closed-short : (bytes : List ℕ) → length bytes < 3 → body_outcome bytes ≡ Refused TooShort
 unfolding body_outcome

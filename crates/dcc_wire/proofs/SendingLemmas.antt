@@ -98,16 +98,21 @@ closed-packet bytes packet =
     let right : eqb (xor_of bytes) 0 ≡ true = grind (arith, nat_tests, packet.error_byte) in
     rw (long, right) refl
 
-pub outcome_of-body : (bytes : List ℕ) → IsFrame bytes
-    → outcome_of (body bytes) ≡ Some (length (body bytes), Packet bytes)
+-- the body of some bytes is what they are with an end bit
+pub body_closed : (bytes : List ℕ) → AllBytes bytes → length bytes ≤ 6
+    → outcome_of (body bytes) ≡ Some (length (body bytes), body_outcome bytes)
 unfolding body by_bits
-outcome_of-body bytes packet =
+body_closed bytes each few =
     let count : 18 * length bytes + 2 ≡ length (halves_of (body_bits bytes)) =
     omega (arith, length-halves_of (body_bits bytes), length-body_bits bytes) in
-    outcome_of-bits (body_bits bytes)
-    ∙ ap (option_map by_bits) (bytes_in-body 6 bytes (AllBytes-of bytes packet.each) packet.most)
+    outcome_of-bits (body_bits bytes) ∙ ap (option_map by_bits) (bytes_in-body 6 bytes each few)
     ∙ ap (λ k. Some (k, body_outcome bytes)) count
-    ∙ ap (λ o. Some (length (halves_of (body_bits bytes)), o)) (closed-packet bytes packet)
+
+pub outcome_of-body : (bytes : List ℕ) → IsFrame bytes
+    → outcome_of (body bytes) ≡ Some (length (body bytes), Packet bytes)
+outcome_of-body bytes packet =
+    body_closed bytes (AllBytes-of bytes packet.each) packet.most
+    ∙ ap (λ o. Some (length (body bytes), o)) (closed-packet bytes packet)
 
 -- and not before
 unfinished_by : (bytes : List ℕ) (front : List Half) (half : Half) (back : List Half) → IsFrame bytes
