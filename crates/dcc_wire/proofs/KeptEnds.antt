@@ -1,18 +1,18 @@
 -- A half with which a body that is kept as plain numbers comes to an outcome.
-use Rattle.std.proofs.Common.{◌≡◌, ◌≢◌, ℕ, ◌≤◌, ◌⊎◌, inl, inr, Bool, true, false, List, [], ◌∷◌, ◌++◌, Some, None}
+use Rattle.std.proofs.Common.{◌≡◌, ◌≢◌, ℕ, ◌⊎◌, inl, inr, Bool, true, false, List, [], ◌∷◌, ◌++◌, Some, None}
 use Rattle.std.proofs.Common.{length, refl, sym, ap, ◌∙◌, arith, length-append, if◌then◌else◌}
 use Rattle.std.proofs.lemmas.Bool.{cases_lt}
 use Rattle.dcc_wire.specs.declared.half.Half.{Half}
-use Rattle.dcc_wire.specs.declared.seen.Fault.TheVariants.{BadHalf, SplitBit, TooLong}
+use Rattle.dcc_wire.specs.declared.seen.Fault.TheVariants.{BadHalf, TooLong}
 use Rattle.dcc_wire.specs.declared.seen.Seen.{Seen}
-use Rattle.dcc_wire.specs.declared.seen.Seen.TheVariants.{Nothing, Packet, Refused}
+use Rattle.dcc_wire.specs.declared.seen.Seen.TheVariants.{Nothing, Refused}
 use Rattle.dcc_wire.specs.Bodies.{first_half, halves_of}
 use Rattle.dcc_wire.specs.Framing.{InBody, report_at}
 use Rattle.dcc_wire.specs.Half.{bit_of}
 use Rattle.dcc_wire.specs.Inner.KeptSteps.{HasRoomFor}
 use Rattle.dcc_wire.specs.Inner.Steps.{answer_of, answer_to}
 use Rattle.dcc_wire.specs.Kept.{Kept, IsKept, kept_rest}
-use Rattle.dcc_wire.specs.Outcomes.{body_outcome, outcome_of}
+use Rattle.dcc_wire.specs.Outcomes.{outcome_of}
 use Rattle.dcc_wire.specs.Packed.{packed_bits}
 use Rattle.dcc_wire.proofs.KeptLemmas.{in_body_rest}
 use Rattle.dcc_wire.proofs.OpenBodies.{answer-bad, answer-bit, answer-split, bad_half, half_of, half_of-bit}

@@ -1,6 +1,6 @@
 -- One half more of a body that is kept as plain numbers, where it shows nothing.
 use Rattle.std.proofs.Common.{◌≡◌, ℕ, ◌+◌, ◌*◌, ◌<◌, ◌++◌, Bool, true, false, cond, List, [], ◌∷◌, Some, None}
-use Rattle.std.proofs.Common.{inl, inr, arith, bit_xor, suc, ◌≤◌, length, refl, sym, ap, ◌∙◌, subst, add-one, append-nil, if◌then◌else◌}
+use Rattle.std.proofs.Common.{inl, inr, arith, bit_xor, ◌≤◌, refl, sym, ap, ◌∙◌, subst, append-nil, if◌then◌else◌}
 use Rattle.dcc_wire.specs.declared.half.Half.{Half}
 use Rattle.dcc_wire.specs.declared.half.Half.TheVariants.{Zero}
 use Rattle.dcc_wire.specs.declared.seen.Seen.TheVariants.{Nothing}

@@ -11,7 +11,7 @@ use Rattle.dcc_wire.specs.declared.seen.Fault.TheVariants.{BadHalf, SplitBit, To
 use Rattle.dcc_wire.specs.declared.seen.Seen.{Seen}
 use Rattle.dcc_wire.specs.declared.seen.Seen.TheVariants.{Nothing, Packet, Refused}
 use Rattle.dcc_wire.specs.Frames.{xor_of, AllBytes}
-use Rattle.dcc_wire.specs.Bodies.{halves_of, body_bits, body}
+use Rattle.dcc_wire.specs.Bodies.{halves_of, body}
 use Rattle.dcc_wire.specs.Outcomes.{bytes_in, behind_bits, bits_in, body_outcome, by_bits, by_halves, outcome_of}
 use Rattle.dcc_wire.specs.Packed.{byte_bits}
 use Rattle.dcc_wire.specs.OutcomeTable.{IsUnpaired, IsRow, Comes, IsUnfinished}

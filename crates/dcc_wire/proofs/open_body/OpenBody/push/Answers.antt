@@ -1,4 +1,4 @@
-use Rattle.std.proofs.Common.{◌++◌, [], ◌∷◌, Some, None, sym, ap, ◌∙◌}
+use Rattle.std.proofs.Common.{◌++◌, [], ◌∷◌, Some, sym, ap, ◌∙◌}
 use Rattle.std.proofs.lemmas.List.{append-nil}
 use Rattle.dcc_wire.specs.Bodies.{halves_of, first_half}
 use Rattle.dcc_wire.proofs.OpenBodies.{bad_half, first_more, bit_more, answer-bit, answer-bad, answer-first}

@@ -1,5 +1,4 @@
 use Rattle.std.proofs.Common.{◌≡◌, ◌+◌, ◌*◌, ◌<◌, ◌++◌, [], ◌∷◌, false, cond, length, refl, sym, ap, ◌∙◌, arith}
-use Rattle.std.proofs.Common.{add-one, suc}
 use Rattle.std.proofs.lemmas.Bool.Decides.{nat_tests}
 use Rattle.dcc_wire.specs.Outcomes.{body_outcome}
 use Rattle.dcc_wire.specs.Packed.{packed_bits}
