@@ -21,7 +21,7 @@ use Rattle.dcc_regs.specs.Outputs.{out_set}
 use Rattle.dcc_regs.specs.Sets.{sets, side}
 use Rattle.dcc_regs.specs.Inner.ConflictParts.{Differ, DifferIn, DifferInLoco, DifferAtOutput, DifferInOutputs}
 use Rattle.dcc_regs.specs.Inner.ConflictParts.{DifferInAspects, output_of}
-use Rattle.dcc_regs.proofs.DifferLemmas.{Off, off_by, never, differ-sym}
+use Rattle.dcc_regs.proofs.DifferLemmas.{Off, off_by, never, differ-sym, neither}
 
 nothing : (a : Option Value) → Differ a None → ⊥
 nothing a d = differ-sym a None d
@@ -37,19 +37,11 @@ no_position : (p q : Packet) (n : ℕ) → output_of p ≡ None
 no_position (Accessory board output on) q n e d = absurd (cc)
 no_position p q n e d = d
 
-none_first : (a b : Option ℕ) → option_or a b ≡ None → a ≡ None
-none_first (Some g) b e = absurd (cc)
-none_first None b e = refl
-
-none_second : (a b : Option ℕ) → option_or a b ≡ None → b ≡ None
-none_second (Some g) b e = absurd (cc)
-none_second None b e = e
-
 pub no_outputs : (p q : Packet) → option_or (output_of p) (output_of q) ≡ None → DifferInOutputs p q → ⊥
 no_outputs p q e (inl d) =
-    never (out_set p d.0) (out_set q d.0) (off_out p d.0 (none_first (output_of p) (output_of q) e))
-    (off_out q d.0 (none_second (output_of p) (output_of q) e)) d.1
-no_outputs p q e (inr d) = no_position p q d.0 (none_first (output_of p) (output_of q) e) d.1
+    let no = neither (output_of p) (output_of q) e in
+    never (out_set p d.0) (out_set q d.0) (off_out p d.0 no.0) (off_out q d.0 no.1) d.1
+no_outputs p q e (inr d) = no_position p q d.0 (neither (output_of p) (output_of q) e).0 d.1
 
 -- an accessory packet and another packet
 pub output_from : (p q : Packet) (n : ℕ) → DifferAtOutput p q n → DifferInOutputs p q

@@ -15,7 +15,7 @@ use Rattle.dcc_packet.specs.Bits.{is_one}
 use Rattle.dcc_regs.specs.Addresses.{active_address}
 use Rattle.dcc_packet.proofs.BitLemmas.{byte_of_bits, same_byte}
 use Rattle.dcc_packet.specs.Cvs.{IsCvs, cv_in}
-use Rattle.dcc_regs.specs.Loco.{LocoContent, loco_registers, is_cv_bit, holds_one, cv_held, start_content, powered_up}
+use Rattle.dcc_regs.specs.Loco.{LocoContent, loco_registers, is_cv_bit, holds_one, cv_held, start_content, start_who, powered_up}
 use Rattle.dcc_regs.specs.Result.{RegisterMap}
 
 bit_there : (cv place : ℕ) → 1 ≤ cv → cv ≤ 1024 → place ≤ 7 → is_cv_bit cv place ≡ true
@@ -61,18 +61,7 @@ pub started-off : (n k : ℕ) (bytes : List ℕ)
       pending = None;
     }) ≡ loco_registers (start_content (cv_in bytes))
 started-off n k bytes =
-    ap (λ (f : ℕ → Bool). loco_registers
-    (record {
-      speed = Stop;
-      forward = true;
-      functions = f;
-      states = all_off k;
-      cvs = cv_in bytes;
-      pending = None;
-    })) (off-all n)
-    ∙ ap (λ (f : ℕ → Bool). loco_registers
-    (record { speed = Stop; forward = true; functions = off; states = f; cvs = cv_in bytes; pending = None }))
-    (off-all k)
+    rw (off-all n, off-all k) refl
 
 -- the active address is in four CVs
 pub active_address-same : (f g : ℕ → ℕ) → f 1 ≡ g 1 → f 17 ≡ g 17 → f 18 ≡ g 18 → f 29 ≡ g 29
@@ -95,8 +84,7 @@ pub powered_up-loco : (m : RegisterMap) (d : LocoContent) (cvs bytes : List ℕ)
     → m ≡ loco_registers (start_content (cv_in bytes)) → bytes ≡ cvs → d.cvs ≡ cv_in cvs
     → m ≡ powered_up (loco_registers d)
 powered_up-loco m d cvs bytes made same is =
-    made ∙ ap (λ (now : List ℕ). loco_registers (start_content (cv_in now))) same
-    ∙ ap (λ (now : ℕ → ℕ). loco_registers (start_content now)) (sym is) ∙ fun_ext (started_at d)
+    made ∙ rw (same, ← is) (fun_ext (started_at d))
 
 -- and it has the address that the other has then
 pub who-powered_up : (who : Who) (d : LocoContent) (cvs bytes : List ℕ) → IsCvs cvs
@@ -104,6 +92,5 @@ pub who-powered_up : (who : Who) (d : LocoContent) (cvs bytes : List ℕ) → Is
     → who ≡ LocoWho (active_address (cv_held (loco_registers d)))
 who-powered_up who d cvs bytes ok made same is =
     let small : (n : ℕ) → d.cvs n < 256 = λ n. rw is (ok.bytes (n - 1)) in
-    made ∙ ap (λ (now : List ℕ). LocoWho (active_address (cv_in now))) same
-    ∙ ap (λ (now : ℕ → ℕ). LocoWho (active_address now)) (sym is)
+    made ∙ ap start_who (ap cv_in same ∙ sym is)
     ∙ ap LocoWho (active_address-loco d (small 1) (small 17) (small 18) (small 29))

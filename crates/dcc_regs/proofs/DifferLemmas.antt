@@ -1,17 +1,18 @@
 -- At which registers two packets can differ.
-use Rattle.std.proofs.Common.{◌≡◌, ◌≢◌, ℕ, ◌+◌, ◌-◌, ◌%◌, ◌<◌, ◌≤◌, Bool, true, false, refl, sym, ◌∙◌, ap, subst, arith}
+use Rattle.std.proofs.Common.{◌≡◌, ◌≢◌, ℕ, zero, suc, ◌+◌, ◌-◌, ◌<◌, ◌≤◌, Bool, true, false, refl, sym, ◌∙◌, ap, arith}
 use Rattle.std.specs.Prelude.{◌==◌, ◌&&◌, nat_le, nat_lt, Option, None, Some, option_map, if◌then◌else◌}
 use Rattle.std.specs.Option.{option_or}
+use Rattle.std.proofs.lemmas.Bool.{ne_eqb}
 use Rattle.std.proofs.lemmas.Bool.Decides.{nat_tests, Decides-eqb}
 use Rattle.dcc_packet.specs.declared.functions.Group.{Group}
 use Rattle.dcc_packet.specs.declared.address.Address.{Address}
-use Rattle.dcc_packet.specs.declared.address.Address.TheVariants.{Broadcast, Short, Long}
+use Rattle.dcc_packet.specs.declared.address.Address.TheVariants.{Broadcast}
 use Rattle.dcc_packet.specs.declared.instruction.What.{What}
 use Rattle.dcc_packet.specs.declared.instruction.What.TheVariants.{Reset, Speed28, Functions}
 use Rattle.dcc_packet.specs.declared.packet.Packet.{Packet}
 use Rattle.dcc_packet.specs.declared.packet.Packet.TheVariants.{Loco as ToLoco}
 use Rattle.dcc_regs.specs.declared.register.SpeedMode.{SpeedMode}
-use Rattle.dcc_regs.specs.declared.register.SpeedMode.TheVariants.{Steps14, Steps28}
+use Rattle.dcc_regs.specs.declared.register.SpeedMode.TheVariants.{Steps14}
 use Rattle.dcc_regs.specs.declared.register.Register.TheVariants.{Function}
 use Rattle.dcc_regs.specs.declared.register.Value.{Value}
 use Rattle.dcc_regs.specs.declared.register.Value.TheVariants.{Flag}
@@ -50,19 +51,11 @@ in_run_at mode bits n o ne d =
     (λ t. let w = within (first_function bits.group) (first_function bits.group + count_of bits.group) n t in record
     { low = w.0; high = w.1 })
 
-of_group : (mode : SpeedMode) (to : Address) (bits : GroupBits) (n : ℕ)
-    → function_set mode (ToLoco to (Functions bits)) n ≡ group_bit mode bits n
-of_group Steps14 Broadcast bits n = refl
-of_group mode to bits n = refl
-
 in_run_of : (mode : SpeedMode) (to : Address) (bits : GroupBits) (group : Group) (n : ℕ) (o : Option Value)
     → Some bits.group ≡ Some group → n ≢ 0
     → Differ (sets mode (ToLoco to (Functions bits)) (Function n)) o → InRun group n
 in_run_of mode to bits group n o e ne d =
-    let g : bits.group ≡ group = cc in
-    subst (λ (group : Group). InRun group n) g
-    (in_run_at mode bits n o ne
-    (subst (λ (f : Option Bool). Differ (option_map Flag f) o) (of_group mode to bits n) d))
+    let g : bits.group ≡ group = cc in rw (← g) (in_run_at mode bits n o ne d)
 
 -- what two packets of which one is for a group both set is F0 or in the group's range
 pub in_run : (mode : SpeedMode) (p q : Packet) (group : Group) (n : ℕ)
@@ -89,46 +82,21 @@ pub off_by : (t : Bool) → Off (if t then Some false else None)
 off_by true = refl
 off_by false = tt
 
-left_by : (t on : Bool) → t ≢ true → Off (if t then Some on else None)
-left_by true on ne = absurd (ne refl)
-left_by false on ne = tt
+off_what : (mode : SpeedMode) (to : Address) (what : What) (n : ℕ) → group_of (ToLoco to what) ≡ None
+    → Off (function_set mode (ToLoco to what) (suc n))
+off_what mode to Reset n e = off_by (nat_le (suc n) 68)
+off_what mode to (Functions bits) n e = absurd (cc)
+off_what mode Broadcast (Speed28 forward bits) n e = tt
+off_what Steps14 to (Speed28 forward bits) n e = rw (ne_eqb (suc n) 0 (λ none. cc)) tt
+off_what mode to what n e = tt
 
-left_at : (n : ℕ) (on : Bool) → n ≢ 0 → Off (if n == 0 then Some on else None)
-left_at n on ne = left_by (n == 0) on (λ t. ne ((Decides-eqb n 0).0 t))
+off_at : (mode : SpeedMode) (p : Packet) (n : ℕ) → group_of p ≡ None → Off (function_set mode p (suc n))
+off_at mode (ToLoco to what) n e = off_what mode to what n e
+off_at mode p n e = tt
 
-off_what : (mode : SpeedMode) (to : Address) (what : What) (n : ℕ) → group_of (ToLoco to what) ≡ None → n ≢ 0
-    → Off (function_set mode (ToLoco to what) n)
-off_what Steps14 to Reset n e ne = off_by (nat_le n 68)
-off_what Steps28 to Reset n e ne = off_by (nat_le n 68)
-off_what Steps14 Broadcast (Speed28 forward bits) n e ne = tt
-off_what Steps28 Broadcast (Speed28 forward bits) n e ne = tt
-off_what Steps14 (Short own) (Speed28 forward bits) n e ne = left_at n (bits.bits % 2 == 1) ne
-off_what Steps14 (Long own) (Speed28 forward bits) n e ne = left_at n (bits.bits % 2 == 1) ne
-off_what Steps28 (Short own) (Speed28 forward bits) n e ne = tt
-off_what Steps28 (Long own) (Speed28 forward bits) n e ne = tt
-off_what mode to (Functions bits) n e ne = absurd (cc)
-off_what Steps14 Broadcast what n e ne = tt
-off_what mode to what n e ne = tt
-
-off_at : (mode : SpeedMode) (p : Packet) (n : ℕ) → group_of p ≡ None → n ≢ 0 → Off (function_set mode p n)
-off_at mode (ToLoco to what) n e ne = off_what mode to what n e ne
-off_at Steps14 p n e ne = tt
-off_at Steps28 p n e ne = tt
-
-none_first : (a b : Option Group) → option_or a b ≡ None → a ≡ None
-none_first (Some g) b e = absurd (cc)
-none_first None b e = refl
-
-none_second : (a b : Option Group) → option_or a b ≡ None → b ≡ None
-none_second (Some g) b e = absurd (cc)
-none_second None b e = e
-
-pub only_f0 : (mode : SpeedMode) (p q : Packet) (n : ℕ) → option_or (group_of p) (group_of q) ≡ None → n ≢ 0
-    → Differ (sets mode p (Function n)) (sets mode q (Function n)) → ⊥
-only_f0 mode p q n e ne d =
-    never (function_set mode p n) (function_set mode q n)
-    (off_at mode p n (none_first (group_of p) (group_of q) e) ne)
-    (off_at mode q n (none_second (group_of p) (group_of q) e) ne) d
+pub neither : {A : Type 0} (a b : Option A) → option_or a b ≡ None → (a ≡ None) × (b ≡ None)
+neither (Some x) b e = absurd (cc)
+neither None b e = (refl, e)
 
 either_by : {A : Type 0} (k n : ℕ) (t : Bool) → (k == n) ≡ t → (k ≡ n → A) → (k ≢ n → A) → A
 either_by k n true e f g = f ((Decides-eqb k n).0 e)
@@ -137,18 +105,17 @@ either_by k n false e f g = g (λ same. let yes : (k == n) ≡ true = (Decides-e
 pub either : {A : Type 0} (k n : ℕ) → (k ≡ n → A) → (k ≢ n → A) → A
 either k n f g = either_by k n (k == n) refl f g
 
-at_f0 : (mode : SpeedMode) (p q : Packet) (n : ℕ) → Differ (sets mode p (Function n)) (sets mode q (Function n)) → n ≡ 0
-    → Differ (sets mode p (Function 0)) (sets mode q (Function 0))
-at_f0 mode p q n d e = subst (λ (k : ℕ). Differ (sets mode p (Function k)) (sets mode q (Function k))) e d
-
 -- two packets that agree on F0
 pub agree : (mode : SpeedMode) (p q : Packet) → option_or (group_of p) (group_of q) ≡ None
     → (Differ (sets mode p (Function 0)) (sets mode q (Function 0)) → ⊥)
     → (n : ℕ) → Differ (sets mode p (Function n)) (sets mode q (Function n)) → ⊥
-agree mode p q e at_zero n d = either n 0 (λ same. at_zero (at_f0 mode p q n d same)) (λ ne. only_f0 mode p q n e ne d)
+agree mode p q e at_zero zero d = at_zero d
+agree mode p q e at_zero (suc n) d =
+    let no = neither (group_of p) (group_of q) e in
+    never (function_set mode p (suc n)) (function_set mode q (suc n)) (off_at mode p n no.0) (off_at mode q n no.1) d
 
 pub agree_but : (mode : SpeedMode) (p q : Packet) (group : Group) → option_or (group_of p) (group_of q) ≡ Some group
     → (Differ (sets mode p (Function 0)) (sets mode q (Function 0)) → ⊥) → (n : ℕ)
     → Differ (sets mode p (Function n)) (sets mode q (Function n)) → InRun group n
-agree_but mode p q group e at_zero n d =
-    either n 0 (λ same. absurd (at_zero (at_f0 mode p q n d same))) (λ ne. in_run mode p q group n e ne d)
+agree_but mode p q group e at_zero zero d = absurd (at_zero d)
+agree_but mode p q group e at_zero (suc n) d = in_run mode p q group (suc n) e (λ none. absurd (cc)) d

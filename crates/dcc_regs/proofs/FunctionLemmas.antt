@@ -8,7 +8,7 @@ use Rattle.std.proofs.lemmas.Nat.{and_le_r, div-add-mod', mod_below, pow_pos, sh
 use Rattle.std.proofs.lemmas.Nat.Bits.{bit_at_and, bit_at_xor, bit_at-lt, bit_at-zero, bit_at_ones}
 use Rattle.std.proofs.lemmas.Nat.Bits.{bit_at_ones_above, bit_at_cat_low, bit_at_cat_high}
 use Rattle.dcc_packet.specs.declared.address.Address.{Address}
-use Rattle.dcc_packet.specs.declared.address.Address.TheVariants.{Broadcast, Short, Long}
+use Rattle.dcc_packet.specs.declared.address.Address.TheVariants.{Broadcast}
 use Rattle.dcc_packet.specs.declared.functions.Group.{Group}
 use Rattle.dcc_packet.specs.declared.functions.Group.TheVariants.{F0}
 use Rattle.dcc_packet.specs.declared.functions.GroupBits.{GroupBits}
@@ -20,19 +20,17 @@ use Rattle.dcc_packet.specs.declared.speed.SpeedBits28.{SpeedBits28}
 use Rattle.dcc_packet.specs.Bits.{is_one}
 use Rattle.dcc_regs.specs.FunctionBits.{count_of, first_function, function_set, group_bit, place_of_f0}
 use Rattle.dcc_regs.specs.declared.register.SpeedMode.{SpeedMode}
-use Rattle.dcc_regs.specs.declared.register.SpeedMode.TheVariants.{Steps14, Steps28}
+use Rattle.dcc_regs.specs.declared.register.SpeedMode.TheVariants.{Steps14}
 
 not_zero : (n : ℕ) → 1 ≤ n → (n == 0) ≡ false
 not_zero n some = ne_eqb n 0 (λ none. absurd (omega arith))
 
 -- the baseline speed instruction turns no function but F0
-no_other : (mode : SpeedMode) (to : Address) (forward : Bool) (bits : SpeedBits28) (n : ℕ) → (n == 0) ≡ false
-    → function_set mode (Loco to (Speed28 forward bits)) n ≡ None
-no_other Steps14 Broadcast forward bits n other = refl
-no_other Steps14 (Short to) forward bits n other = rw other refl
-no_other Steps14 (Long to) forward bits n other = rw other refl
-no_other Steps28 Broadcast forward bits n other = refl
-no_other Steps28 to forward bits n other = refl
+no_other : (mode : SpeedMode) (to : Address) (forward : Bool) (bits : SpeedBits28) (n : ℕ)
+    → function_set mode (Loco to (Speed28 forward bits)) (suc n) ≡ None
+no_other mode Broadcast forward bits n = refl
+no_other Steps14 to forward bits n = rw (not_zero (suc n) (omega arith)) refl
+no_other mode to forward bits n = refl
 
 pub speed_turns_f0 : (mode : SpeedMode) (p : Packet) (to : Address) (what : What) (forward : Bool) (bits : SpeedBits28)
     (r w : ℕ) → p ≡ Loco to what → what ≡ Speed28 forward bits
@@ -41,8 +39,7 @@ pub speed_turns_f0 : (mode : SpeedMode) (p : Packet) (to : Address) (what : What
     → (n : ℕ) → n ≤ 68 → is_one r n ≡ unwrap_or (function_set mode p n) (is_one w n)
 speed_turns_f0 mode p to what forward bits r w e f f0 others zero fits = f0
 speed_turns_f0 mode p to what forward bits r w e f f0 others (suc n) fits =
-    rw (e, f, no_other mode to forward bits (suc n) (not_zero (suc n) (omega arith)))
-    (others (suc n) (omega arith) (omega arith))
+    rw (e, f, no_other mode to forward bits n) (others (suc n) (omega arith) (omega arith))
 
 -- a bit of a number is that of what is left where the bits below a place are cut off
 bit_at_shifted : (word first k : ℕ) → bit_at (word / 2 ^ first) k ≡ bit_at word (first + k)

@@ -23,19 +23,6 @@ at_own Broadcast = refl
 at_own (Short n) = self n.number
 at_own (Long n) = self n.number
 
--- some locomotive decoder takes what is sent to either address
-record Meet (a b : Address) : Type 0 where
-  active : Option Address
-  first : is_for active a ≡ true
-  second : is_for active b ≡ true
-
-meet_by : (a b : Address) (t : Bool) → is_for (Some a) b ≡ t → (t || is_for (Some b) a) ≡ true → Meet a b
-meet_by a b true e h = record { active = Some a; first = at_own a; second = e }
-meet_by a b false e h = record { active = Some b; first = h; second = at_own b }
-
-meet_from : (a b : Address) → meets a b ≡ true → Meet a b
-meet_from a b h = meet_by a b (is_for (Some a) b) refl h
-
 joined : (own n m : ℕ) → (own == n) ≡ true → (own == m) ≡ true → (n == m) ≡ true
 joined own n m h k = (Decides-eqb n m).1 (sym ((Decides-eqb own n).0 h) ∙ (Decides-eqb own m).0 k)
 
@@ -80,14 +67,19 @@ hears_board own (Signal address aspect) =
     hears_signal own.number address.number (address.number == 2047) (nat_lt address.number 2044) refl refl
 hears_board own p = refl
 
+-- some locomotive decoder takes what is sent to either address
 record MeetAt (o o' : Option Address) : Type 0 where
   active : Option Address
   first : option_map_or (is_for active) o false ≡ true
   second : option_map_or (is_for active) o' false ≡ true
 
+meet_by : (a b : Address) (t : Bool) → is_for (Some a) b ≡ t → (t || is_for (Some b) a) ≡ true
+    → MeetAt (Some a) (Some b)
+meet_by a b true e h = record { active = Some a; first = at_own a; second = e }
+meet_by a b false e h = record { active = Some b; first = h; second = at_own b }
+
 loco_from : (o o' : Option Address) → both_meet meets o o' ≡ true → MeetAt o o'
-loco_from (Some a) (Some b) h =
-    let m = meet_from a b h in record { active = m.active; first = m.first; second = m.second }
+loco_from (Some a) (Some b) h = meet_by a b (is_for (Some a) b) refl h
 loco_from o o' h = absurd (cc)
 
 loco_to : (o o' : Option Address) (active : Option Address) → option_map_or (is_for active) o false ≡ true

@@ -1,6 +1,7 @@
 -- Which packets set no plain register.
-use Rattle.std.proofs.Common.{ℕ, Bool, cond, true, false, ◌≡◌, ◌≤◌, ◌∙◌, ap, refl, sym, Some, None, arith, eqb}
-use Rattle.std.specs.Prelude.{option_map, ◌||◌, ◌&&◌, ◌%◌, nat_le, nat_lt}
+use Rattle.std.proofs.Common.{ℕ, Bool, cond, true, false, ◌≡◌, ◌≤◌, ◌∙◌, ap, refl, sym, Some, None, arith, eqb, inl, inr}
+use Rattle.std.specs.Prelude.{option_map, ◌||◌, ◌&&◌, ◌%◌, ◌⊎◌, nat_le, nat_lt}
+use Rattle.std.proofs.lemmas.Bool.{ltb-false}
 use Rattle.std.proofs.lemmas.Bool.Decides.{Decides-eqb}
 use Rattle.dcc_packet.specs.declared.accessory.Board.{Board}
 use Rattle.dcc_packet.specs.declared.accessory.Output.{Output}
@@ -9,6 +10,7 @@ use Rattle.dcc_packet.specs.declared.address.Address.{Address}
 use Rattle.dcc_packet.specs.declared.address.Address.TheVariants.{Broadcast, Short, Long}
 use Rattle.dcc_packet.specs.declared.functions.Group.{Group}
 use Rattle.dcc_packet.specs.declared.functions.Group.TheVariants.{F0}
+use Rattle.dcc_packet.specs.declared.instruction.What.{What}
 use Rattle.dcc_packet.specs.declared.instruction.What.TheVariants.{Reset, Speed28, Speed128, Functions, BinaryState}
 use Rattle.dcc_packet.specs.declared.packet.Packet.TheVariants.{Loco, Accessory, Signal}
 use Rattle.dcc_packet.specs.declared.address.ShortAddress.{ShortAddress}
@@ -17,74 +19,60 @@ use Rattle.dcc_packet.specs.declared.functions.GroupBits.{GroupBits}
 use Rattle.dcc_packet.specs.declared.speed.SpeedBits28.{SpeedBits28}
 use Rattle.dcc_packet.specs.declared.state.StateNumber.{StateNumber}
 use Rattle.dcc_packet.specs.declared.speed.SpeedBits128.{SpeedBits128}
-use Rattle.dcc_regs.specs.declared.register.SpeedMode.{SpeedMode}
 use Rattle.dcc_regs.specs.declared.register.SpeedMode.TheVariants.{Steps28}
 use Rattle.dcc_regs.specs.declared.register.Register.TheVariants.{Speed as SpeedRegister, Direction, Function}
 use Rattle.dcc_regs.specs.declared.register.Register.TheVariants.{State as StateRegister, Out, Aspect}
 use Rattle.dcc_regs.specs.declared.register.Value.TheVariants.{Speed as SpeedValue, Forward, Flag, Number}
 use Rattle.dcc_regs.specs.declared.register.Speed.TheVariants.{Stop, Emergency}
-use Rattle.dcc_regs.specs.Speeds.{speed_set, direction_set}
 use Rattle.dcc_packet.specs.Bits.{is_one}
 use Rattle.dcc_regs.specs.FunctionBits.{first_function, function_place}
-use Rattle.dcc_regs.specs.Sets.{sets, SetsNothing}
+use Rattle.dcc_regs.specs.Sets.{SetsNothing}
 use Rattle.dcc_regs.proofs.OwnWrites.{none_of}
 
 some_is_not_none : {A : Type 0} (a : A) → Some a ≡ None → ⊥
 some_is_not_none a e = cc
 
-stop_of_step : (forward : Bool) (bits : SpeedBits28) (mode : SpeedMode) → 4 ≤ bits.bits
-    → speed_set mode (Loco Broadcast (Speed28 forward bits)) ≡ None
-stop_of_step forward bits mode high = grind arith
-
-turn_of_step : (forward : Bool) (bits : SpeedBits28) → 4 ≤ bits.bits
-    → direction_set (Loco Broadcast (Speed28 forward bits)) ≡ None
-turn_of_step forward bits high = grind arith
-
 pub broadcast_step : (forward : Bool) (bits : SpeedBits28) → 4 ≤ bits.bits
     → SetsNothing (Loco Broadcast (Speed28 forward bits))
 broadcast_step forward bits high mode r =
-    none_of mode (Loco Broadcast (Speed28 forward bits)) r (stop_of_step forward bits mode high)
-    (turn_of_step forward bits high) (λ n. refl) (λ n. refl) (λ n. refl) (λ n. refl) (λ n. refl)
+    none_of mode (Loco Broadcast (Speed28 forward bits)) r (grind arith) (grind arith) (λ n. refl) (λ n. refl) (λ n. refl) (λ n. refl) (λ n. refl)
+
+no_stop : (low mid : Bool) → option_map SpeedValue (cond low (Some Stop) (cond mid (Some Emergency) None)) ≡ None
+    → mid ≡ false
+no_stop false false e = refl
+no_stop low mid e = absurd (cc)
 
 pub broadcast_stop : (forward : Bool) (bits : SpeedBits28) → SetsNothing (Loco Broadcast (Speed28 forward bits))
     → 4 ≤ bits.bits
-broadcast_stop forward bits none = by_case (nat_lt bits.bits 2) (nat_lt bits.bits 4) refl refl
-  where
-    by_case : (low mid : Bool) → nat_lt bits.bits 2 ≡ low → nat_lt bits.bits 4 ≡ mid → 4 ≤ bits.bits
-    by_case true mid e f =
-        absurd (let is : sets Steps28 (Loco Broadcast (Speed28 forward bits)) SpeedRegister
-        ≡ Some (SpeedValue Stop) = grind (arith, e, f) in
-        some_is_not_none (SpeedValue Stop) (sym is ∙ none Steps28 SpeedRegister))
-    by_case false true e f =
-        absurd (let is : sets Steps28 (Loco Broadcast (Speed28 forward bits)) SpeedRegister
-        ≡ Some (SpeedValue Emergency) = grind (arith, e, f) in
-        some_is_not_none (SpeedValue Emergency) (sym is ∙ none Steps28 SpeedRegister))
-    by_case false false e f = grind (arith, e, f)
+broadcast_stop forward bits none =
+    ltb-false bits.bits 4 (no_stop (nat_lt bits.bits 2) (nat_lt bits.bits 4) (none Steps28 SpeedRegister))
 
 -- a group has a place for its first function
 first_place : (g : Group) → function_place Steps28 g (first_function g) ≡ Some 0
 first_place F0 = refl
 first_place g = refl
 
-pub short_speed : (to : ShortAddress) (forward : Bool) (bits : SpeedBits28)
-    → SetsNothing (Loco (Short to) (Speed28 forward bits)) → ⊥
-short_speed to forward bits none = some_is_not_none (Forward forward) (none Steps28 Direction)
+-- a speed for one locomotive
+pub own_speed : (to : Address) (what : What) (forward : Bool) (bits : SpeedBits28) → what ≡ Speed28 forward bits
+    → ((s : ShortAddress) × to ≡ Short s) ⊎ ((l : LongAddress) × to ≡ Long l) → SetsNothing (Loco to what) → ⊥
+own_speed to what forward bits e (inl s) =
+    rw (e, s.1) (λ none. some_is_not_none (Forward forward) (none Steps28 Direction))
+own_speed to what forward bits e (inr l) =
+    rw (e, l.1) (λ none. some_is_not_none (Forward forward) (none Steps28 Direction))
 
-pub long_speed : (to : LongAddress) (forward : Bool) (bits : SpeedBits28)
-    → SetsNothing (Loco (Long to) (Speed28 forward bits)) → ⊥
-long_speed to forward bits none = some_is_not_none (Forward forward) (none Steps28 Direction)
-
-pub reset : (to : Address) → SetsNothing (Loco to Reset) → ⊥
-reset to none = some_is_not_none (SpeedValue Stop) (none Steps28 SpeedRegister)
-
-pub speed_128 : (to : Address) (forward : Bool) (bits : SpeedBits128) → SetsNothing (Loco to (Speed128 forward bits))
-    → ⊥
-speed_128 to forward bits none = some_is_not_none (Forward forward) (none Steps28 Direction)
-
-pub functions : (to : Address) (bits : GroupBits) → SetsNothing (Loco to (Functions bits)) → ⊥
+functions : (to : Address) (bits : GroupBits) → SetsNothing (Loco to (Functions bits)) → ⊥
 functions to bits none = some_is_not_none (Flag (is_one bits.bits 0))
     (sym (ap (λ place. option_map Flag (option_map (is_one bits.bits) place)) (first_place bits.group))
     ∙ none Steps28 (Function (first_function bits.group)))
+
+-- what sets a register at any address
+pub sets_some : (to : Address) (what : What)
+    → what ≡ Reset ⊎ ((forward : Bool) × (bits : SpeedBits128) × what ≡ Speed128 forward bits) ⊎ ((bits : GroupBits)
+    × what ≡ Functions bits)
+    → SetsNothing (Loco to what) → ⊥
+sets_some to what (inl is) = rw is (λ none. some_is_not_none (SpeedValue Stop) (none Steps28 SpeedRegister))
+sets_some to what (inr (inl is)) = rw is.2 (λ none. some_is_not_none (Forward is.0) (none Steps28 Direction))
+sets_some to what (inr (inr is)) = rw is.1 (functions to is.0)
 
 same_number : (n : ℕ) → eqb n n ≡ true
 same_number n = (Decides-eqb n n).1 refl

@@ -1,9 +1,8 @@
-use Rattle.std.proofs.Common.{ap, sym, subst, ◌∙◌, inl, inr, arith}
-use Rattle.dcc_packet.specs.declared.address.Address.TheVariants.{Broadcast, Short, Long}
+use Rattle.std.proofs.Common.{ap, sym, subst, ◌∙◌, arith}
+use Rattle.dcc_packet.specs.declared.address.Address.TheVariants.{Broadcast}
 use Rattle.dcc_packet.specs.declared.packet.Packet.TheVariants.{Loco}
 use Rattle.dcc_regs.specs.Sets.{SetsNothing}
-use Rattle.dcc_regs.proofs.NothingSet.{broadcast_step, broadcast_stop, short_speed, long_speed, reset, speed_128}
-use Rattle.dcc_regs.proofs.NothingSet.{functions, binary_state}
+use Rattle.dcc_regs.proofs.NothingSet.{broadcast_step, broadcast_stop, own_speed, sets_some, binary_state}
 use Rattle.dcc_regs.proofs.conflicts.instruction_sets_nothing.Goals as goal
 
 pub returns-in-Broadcast : goal.returns-in-Broadcast
@@ -18,64 +17,30 @@ returns-in-Broadcast c =
 pub returns-in-Short : goal.returns-in-Short
 returns-in-Short c = (
   λ t. absurd (cc),
-  λ none. elim c.in-Short.is [
-    | inl s ↦ absurd
-        (short_speed s.0 c.in-Speed28.forward c.in-Speed28.bits
-        (subst SetsNothing (ap (λ to. Loco to c.args.what.now) s.1 ∙ ap (Loco (Short s.0)) c.in-Speed28.is) none))
-    | inr s ↦ absurd
-        (long_speed s.0 c.in-Speed28.forward c.in-Speed28.bits
-        (subst SetsNothing (ap (λ to. Loco to c.args.what.now) s.1 ∙ ap (Loco (Long s.0)) c.in-Speed28.is) none))
-  ],
+  λ none.
+      absurd (own_speed c.args.to.now c.args.what.now c.in-Speed28.forward c.in-Speed28.bits c.in-Speed28.is
+      c.in-Short.is none),
 )
 
 pub returns-in-Short-2 : goal.returns-in-Short-2
 returns-in-Short-2 c = (
   λ t. absurd (cc),
-  λ none. elim c.in-Short.is [
-    | inl s ↦ absurd
-        (short_speed s.0 c.in-Speed28.forward c.in-Speed28.bits
-        (subst SetsNothing (ap (λ to. Loco to c.args.what.now) s.1 ∙ ap (Loco (Short s.0)) c.in-Speed28.is) none))
-    | inr s ↦ absurd
-        (long_speed s.0 c.in-Speed28.forward c.in-Speed28.bits
-        (subst SetsNothing (ap (λ to. Loco to c.args.what.now) s.1 ∙ ap (Loco (Long s.0)) c.in-Speed28.is) none))
-  ],
+  λ none.
+      absurd (own_speed c.args.to.now c.args.what.now c.in-Speed28.forward c.in-Speed28.bits c.in-Speed28.is
+      c.in-Short.is none),
 )
 
 pub returns-in-Reset : goal.returns-in-Reset
-returns-in-Reset c = (
-  λ t. absurd (cc),
-  λ none. elim c.in-Reset.is [
-    | inl s ↦ absurd (reset c.args.to.now (subst SetsNothing (ap (Loco c.args.to.now) s) none))
-    | inr s ↦ elim s [
-      | inl r ↦ absurd (speed_128 c.args.to.now r.0 r.1 (subst SetsNothing (ap (Loco c.args.to.now) r.2) none))
-      | inr r ↦ absurd (functions c.args.to.now r.0 (subst SetsNothing (ap (Loco c.args.to.now) r.1) none))
-    ]
-  ],
-)
+returns-in-Reset c =
+    (λ t. absurd (cc), λ none. absurd (sets_some c.args.to.now c.args.what.now c.in-Reset.is none))
 
 pub returns-in-Reset-2 : goal.returns-in-Reset-2
-returns-in-Reset-2 c = (
-  λ t. absurd (cc),
-  λ none. elim c.in-Reset.is [
-    | inl s ↦ absurd (reset c.args.to.now (subst SetsNothing (ap (Loco c.args.to.now) s) none))
-    | inr s ↦ elim s [
-      | inl r ↦ absurd (speed_128 c.args.to.now r.0 r.1 (subst SetsNothing (ap (Loco c.args.to.now) r.2) none))
-      | inr r ↦ absurd (functions c.args.to.now r.0 (subst SetsNothing (ap (Loco c.args.to.now) r.1) none))
-    ]
-  ],
-)
+returns-in-Reset-2 c =
+    (λ t. absurd (cc), λ none. absurd (sets_some c.args.to.now c.args.what.now c.in-Reset.is none))
 
 pub returns-in-Reset-3 : goal.returns-in-Reset-3
-returns-in-Reset-3 c = (
-  λ t. absurd (cc),
-  λ none. elim c.in-Reset.is [
-    | inl s ↦ absurd (reset c.args.to.now (subst SetsNothing (ap (Loco c.args.to.now) s) none))
-    | inr s ↦ elim s [
-      | inl r ↦ absurd (speed_128 c.args.to.now r.0 r.1 (subst SetsNothing (ap (Loco c.args.to.now) r.2) none))
-      | inr r ↦ absurd (functions c.args.to.now r.0 (subst SetsNothing (ap (Loco c.args.to.now) r.1) none))
-    ]
-  ],
-)
+returns-in-Reset-3 c =
+    (λ t. absurd (cc), λ none. absurd (sets_some c.args.to.now c.args.what.now c.in-Reset.is none))
 
 pub returns-in-BinaryState : goal.returns-in-BinaryState
 returns-in-BinaryState c = (

@@ -1,4 +1,4 @@
-use Rattle.std.proofs.Common.{◌≡◌, sym, ◌∙◌, arith}
+use Rattle.std.proofs.Common.{sym, ◌∙◌, arith}
 use Rattle.std.proofs.lemmas.Bool.Decides.{Decides-eqb, Decides-like}
 use Rattle.dcc_regs.proofs.SameWrites.{Decides-write, Decides-bit_write}
 use Rattle.dcc_regs.proofs.writes.is_same_write_of.Goals as goal
