@@ -1,7 +1,6 @@
 -- What one packet does to an accessory decoder.
 use Rattle.std.proofs.Common.{◌≡◌, ℕ, ◌<◌, ◌≤◌, Bool, true, false, [], ◌∷◌, refl, sym, ◌∙◌, ap, arith}
-use Rattle.std.specs.Prelude.{None, Some, option_map, if◌then◌else◌, nat_le}
-use Rattle.std.specs.List.{cons_option}
+use Rattle.std.specs.Prelude.{None, Some, if◌then◌else◌, nat_le}
 use Rattle.std.proofs.lemmas.Bool.Decides.{nat_tests}
 use mathlib.Core.Path.{fun_ext}
 use Rattle.dcc_packet.specs.declared.packet.Packet.{Packet}
@@ -9,7 +8,6 @@ use Rattle.dcc_regs.specs.declared.register.Who.{Who}
 use Rattle.dcc_packet.specs.declared.accessory.Board.{Board as OwnBoard}
 use Rattle.dcc_regs.specs.declared.register.Who.TheVariants.{Board as BoardWho}
 use Rattle.dcc_regs.specs.declared.register.Register.{Register}
-use Rattle.dcc_regs.specs.declared.register.Register.TheVariants.{Speed as SpeedRegister}
 use Rattle.dcc_regs.specs.declared.register.Register.TheVariants.{Out, Position, Aspect}
 use Rattle.dcc_regs.specs.declared.register.Value.TheVariants.{Flag, Number}
 use Rattle.dcc_regs.specs.Heard.{hears}
@@ -18,7 +16,7 @@ use Rattle.dcc_regs.specs.Sets.{side}
 use Rattle.dcc_regs.specs.Result.{result_of_heard, step}
 use Rattle.dcc_regs.specs.Board.{BoardContent, TakesPacket, board_registers}
 use Rattle.dcc_regs.specs.Possible.{IsPossible, may_hold}
-use Rattle.dcc_regs.proofs.LocoStep.{set_by, where_there, heard_one}
+use Rattle.dcc_regs.proofs.LocoStep.{set_there, heard_one}
 
 there : (n last : ℕ) → nat_le n last ≡ true → n ≤ last
 there n last t = grind (arith, nat_tests)
@@ -26,16 +24,11 @@ there n last t = grind (arith, nat_tests)
 at_register : (p : Packet) (d d' : BoardContent) → TakesPacket p d d' → (r : Register)
     → board_registers d' r ≡ result_of_heard (board_registers d) (p ∷ []) r
 at_register p d d' o (Out n) =
-    where_there (nat_le n 7) (Flag (d'.outs n)) (Flag (d.outs n)) (cons_option (option_map Flag (out_set p n)) [])
-    (λ t. rw (o.outs n (there n 7 t)) (set_by Flag (out_set p n) (d.outs n)))
+    set_there Flag (nat_le n 7) (out_set p n) (d'.outs n) (d.outs n) (λ t. o.outs n (there n 7 t))
 at_register p d d' o (Position n) =
-    where_there (nat_le n 3) (side (d'.positions n)) (side (d.positions n))
-    (cons_option (option_map side (position_set p n)) [])
-    (λ t. rw (o.positions n (there n 3 t)) (set_by side (position_set p n) (d.positions n)))
+    set_there side (nat_le n 3) (position_set p n) (d'.positions n) (d.positions n) (λ t. o.positions n (there n 3 t))
 at_register p d d' o (Aspect n) =
-    where_there (nat_le n 3) (Number (d'.aspects n)) (Number (d.aspects n))
-    (cons_option (option_map Number (aspect_set p n)) [])
-    (λ t. rw (o.aspects n (there n 3 t)) (set_by Number (aspect_set p n) (d.aspects n)))
+    set_there Number (nat_le n 3) (aspect_set p n) (d'.aspects n) (d.aspects n) (λ t. o.aspects n (there n 3 t))
 at_register p d d' o r = refl
 
 pub step-heard : (who : Who) (p : Packet) (d d' : BoardContent) → hears who p ≡ true → TakesPacket p d d'
@@ -75,7 +68,6 @@ held : (own : OwnBoard) (d : BoardContent) → ((n : ℕ) → d.aspects n < 256)
 held own d bytes (Out n) = held_out own n (d.outs n) (nat_le n 7) refl
 held own d bytes (Position n) = held_position own n (d.positions n) (nat_le n 3) refl
 held own d bytes (Aspect n) = held_aspect own n (d.aspects n) (nat_le n 3) (bytes n) refl
-held own d bytes SpeedRegister = refl
 held own d bytes r = refl
 
 pub possible : (own : OwnBoard) (d : BoardContent) → nat_le own.number 510 ≡ true → ((n : ℕ) → d.aspects n < 256)

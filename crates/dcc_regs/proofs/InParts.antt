@@ -40,12 +40,9 @@ filter_map-places : (F G : List Packet × Packet → Option Value) (l before k :
     → filter_map F (places_from (l ++ before) k) ≡ filter_map G (places_from before k)
 filter_map-places F G l before [] same = refl
 filter_map-places F G l before (p ∷ k) same =
-    let here : F (l ++ before, p) ≡ G (before, p) = same before p in
-    let rest : filter_map F (places_from (l ++ (before ++ p ∷ [])) k) ≡ filter_map G (places_from (before ++ p ∷ []) k) =
-    filter_map-places F G l (before ++ p ∷ []) k same in
-    let rest' : filter_map F (places_from ((l ++ before) ++ p ∷ []) k) ≡ filter_map G (places_from (before ++ p ∷ []) k) =
-    rw append_assoc rest in
-    rw (here, rest') refl
+    let rest : filter_map F (places_from ((l ++ before) ++ p ∷ []) k) ≡ filter_map G (places_from (before ++ p ∷ []) k) =
+    rw append_assoc (filter_map-places F G l (before ++ p ∷ []) k same) in
+    rw (same before p, rest) refl
 
 -- a register that each place may set, in two parts
 set_in_turn-places : (F G : List Packet × Packet → Option Value) (start : Option Value) (l k : List Packet)
@@ -53,14 +50,10 @@ set_in_turn-places : (F G : List Packet × Packet → Option Value) (start : Opt
     → set_in_turn start (filter_map F (places (l ++ k))) ≡ set_in_turn (set_in_turn start (filter_map F (places l)))
     (filter_map G (places k))
 set_in_turn-places F G start l k same =
-    let parts : places_from [] (l ++ k) ≡ places_from [] l ++ places_from l k = places_from-append [] l k in
-    let second : filter_map F (places_from (l ++ []) k) ≡ filter_map G (places_from [] k) =
-    filter_map-places F G l [] k same in
-    let second' : filter_map F (places_from l k) ≡ filter_map G (places_from [] k) = rw append-nil at second in
-    ap (λ ps. set_in_turn start (filter_map F ps)) parts
-    ∙ ap (set_in_turn start) (filter_map-append F (places_from [] l) (places_from l k))
-    ∙ set_in_turn-append start (filter_map F (places_from [] l)) (filter_map F (places_from l k))
-    ∙ ap (set_in_turn (set_in_turn start (filter_map F (places_from [] l)))) second'
+    let second : filter_map F (places_from l k) ≡ filter_map G (places_from [] k) =
+    rw append-nil at (filter_map-places F G l [] k same) in
+    rw (places_from-append [] l k, filter_map-append F (places_from [] l) (places_from l k), second)
+    (set_in_turn-append start (filter_map F (places_from [] l)) (filter_map G (places_from [] k)))
 
 pending_after-append : (start : RegisterMap) (l k : List Packet)
     → pending_after start (l ++ k) ≡ pending_after (result_of_heard start l) k

@@ -8,10 +8,9 @@ use Rattle.dcc_packet.specs.declared.accessory.Board.{Board}
 use Rattle.dcc_packet.specs.declared.address.Address.{Address}
 use Rattle.dcc_packet.specs.declared.address.Address.TheVariants.{Broadcast, Short, Long}
 use Rattle.dcc_packet.specs.declared.instruction.What.{What}
-use Rattle.dcc_packet.specs.declared.instruction.What.TheVariants.{Reset}
 use Rattle.dcc_packet.specs.declared.instruction.What.TheVariants.{CvWrite, CvBitWrite}
 use Rattle.dcc_packet.specs.declared.packet.Packet.{Packet}
-use Rattle.dcc_packet.specs.declared.packet.Packet.TheVariants.{Loco as ToLoco, Accessory}
+use Rattle.dcc_packet.specs.declared.packet.Packet.TheVariants.{Loco as ToLoco}
 use Rattle.dcc_packet.specs.SamePacket.{same}
 use Rattle.dcc_packet.proofs.Same.{same_short, same_long}
 use Rattle.dcc_packet.proofs.SameFrames.{Decides-same}
@@ -37,8 +36,7 @@ one_number own n m h k = sym ((Decides-eqb own n).0 h) ∙ (Decides-eqb own m).0
 one_for : (active : Option Address) (a b : Address) → a ≢ Broadcast → b ≢ Broadcast → is_for active a ≡ true
     → is_for active b ≡ true → a ≡ b
 one_for active Broadcast b n m h k = absurd (n refl)
-one_for active (Short a) Broadcast n m h k = absurd (m refl)
-one_for active (Long a) Broadcast n m h k = absurd (m refl)
+one_for active a Broadcast n m h k = absurd (m refl)
 one_for (Some (Short own)) (Short a) (Short b) n m h k =
     ap Short (same_short a b (one_number own.number a.number b.number h k))
 one_for (Some (Long own)) (Long a) (Long b) n m h k =
@@ -50,8 +48,7 @@ one_for active a b n m h k = cc
 no_board : (own : Board) (to : Address) (what : What) → to ≢ Broadcast → hears (BoardWho own) (ToLoco to what) ≡ true
     → ⊥
 no_board own Broadcast what n h = n refl
-no_board own (Short to) what n h = absurd (cc)
-no_board own (Long to) what n h = absurd (cc)
+no_board own to what n h = absurd (cc)
 
 pub one_address : OneAddress
 one_address (LocoWho active) a b x y n m h k = one_for active a b n m h k
@@ -71,12 +68,10 @@ other_bit cv place t one e =
 mode_bit_stays : (what : What) → writes_mode what ≡ false → cv_bit_set what 29 1 ≡ None
 mode_bit_stays (CvWrite cv value) e = other_cv cv.number _ _ e
 mode_bit_stays (CvBitWrite cv place one) e = other_bit cv.number place.place _ _ e
-mode_bit_stays Reset e = refl
 mode_bit_stays what e = refl
 
 bit_stays : (p : Packet) → writes_cv29 p ≡ false → bit_set p 29 1 ≡ None
 bit_stays (ToLoco to what) e = mode_bit_stays what e
-bit_stays (Accessory board output on) e = refl
 bit_stays p e = refl
 
 none_by : (t : Bool) (o : Option Bool) → o ≡ None → (if t then option_map Flag o else None) ≡ None

@@ -45,7 +45,7 @@ pub record Obeys (p : Packet) (mode : SpeedMode) (d d' : LocoContent) : Type 0 w
   pub pending : d'.pending ≡ left_pending p
 
 -- a register that a packet may set
-pub set_by : {A : Type 0} (wrap : A → Value) (o : Option A) (old : A)
+set_by : {A : Type 0} (wrap : A → Value) (o : Option A) (old : A)
     → Some (wrap (unwrap_or o old)) ≡ set_in_turn (Some (wrap old)) (cons_option (option_map wrap o) [])
 set_by wrap None old = refl
 set_by wrap (Some x) old = refl
@@ -57,41 +57,32 @@ set_where wrap true o old = set_by wrap o old
 set_where wrap false o old = refl
 
 -- a register that a decoder may lack
-pub where_there : (t : Bool) (new old : Value) (vs : List Value) → (t ≡ true → Some new ≡ set_in_turn (Some old) vs)
+where_there : (t : Bool) (new old : Value) (vs : List Value) → (t ≡ true → Some new ≡ set_in_turn (Some old) vs)
     → (if t then Some new else None) ≡ set_in_turn (if t then Some old else None) vs
 where_there true new old vs h = h refl
 where_there false new old vs h = refl
 
-function_there : (n : ℕ) → is_function n ≡ true → n ≤ 68
-function_there n t = grind (arith, nat_tests)
-
-state_there : (n : ℕ) → is_binary_state n ≡ true → n ≤ 127
-state_there n t = grind (arith, nat_tests)
-
-cv_there : (cv place : ℕ) → is_cv_bit cv place ≡ true → 1 ≤ cv
-cv_there cv place t = grind (arith, nat_tests)
-
-place_there : (cv place : ℕ) → is_cv_bit cv place ≡ true → place ≤ 7
-place_there cv place t = grind (arith, nat_tests)
+pub set_there : {A : Type 0} (wrap : A → Value) (t : Bool) (o : Option A) (new old : A) → (t ≡ true → new ≡ unwrap_or o old)
+    → (if t then Some (wrap new) else None) ≡ set_in_turn (if t then Some (wrap old) else None)
+    (cons_option (option_map wrap o) [])
+set_there wrap true o new old h = rw (h refl) (set_by wrap o old)
+set_there wrap false o new old h = refl
 
 at_register : (p : Packet) (mode : SpeedMode) (d d' : LocoContent) → Obeys p mode d d' → (r : Register)
     → loco_registers d' r ≡ result_of_heard (loco_registers d) (p ∷ []) r
 at_register p mode d d' o SpeedRegister = rw (o.speed, o.reads) (set_by SpeedValue (speed_set (mode_held d) p) d.speed)
 at_register p mode d d' o Direction = rw o.forward (set_by Forward (direction_set p) d.forward)
 at_register p mode d d' o (Function n) =
-    where_there (is_function n) (Flag (d'.functions n)) (Flag (d.functions n))
-    (cons_option (option_map Flag (function_set (mode_held d) p n)) [])
-    (λ t. rw (o.functions n (function_there n t), o.reads)
-    (set_by Flag (function_set (mode_held d) p n) (d.functions n)))
+    set_there Flag (is_function n) (function_set (mode_held d) p n) (d'.functions n) (d.functions n)
+    (λ t. rw o.reads at (o.functions n (grind (arith, nat_tests))))
 at_register p mode d d' o (StateRegister n) =
-    where_there (is_binary_state n) (Flag (d'.states n)) (Flag (d.states n))
-    (cons_option (option_map Flag (state_set p n)) [])
-    (λ t. rw (o.states n (state_there n t)) (set_by Flag (state_set p n) (d.states n)))
+    set_there Flag (is_binary_state n) (state_set p n) (d'.states n) (d.states n)
+    (λ t. o.states n (grind (arith, nat_tests)))
 at_register p mode d d' o (CvBit cv place) =
     where_there (is_cv_bit cv place) (Flag (is_one (d'.cvs cv) place)) (Flag (is_one (d.cvs cv) place))
     (cons_option (effective_set (Some (PendingValue d.pending)) p cv place) [])
     (λ t.
-    ap (λ b. Some (Flag b)) (o.cvs cv place (cv_there cv place t) (place_there cv place t))
+    ap (λ b. Some (Flag b)) (o.cvs cv place (grind (arith, nat_tests)) (grind (arith, nat_tests)))
     ∙ set_where Flag (is_effective (Some (PendingValue d.pending)) p) (bit_set p cv place) (is_one (d.cvs cv) place))
 at_register p mode d d' o PendingRegister = rw o.pending refl
 at_register p mode d d' o r = refl

@@ -12,6 +12,7 @@ use Rattle.dcc_packet.specs.declared.functions.Group.{Group}
 use Rattle.dcc_packet.specs.declared.functions.Group.TheVariants.{F0}
 use Rattle.dcc_packet.specs.declared.instruction.What.{What}
 use Rattle.dcc_packet.specs.declared.instruction.What.TheVariants.{Reset, Speed28, Speed128, Functions, BinaryState}
+use Rattle.dcc_packet.specs.declared.packet.Packet.{Packet}
 use Rattle.dcc_packet.specs.declared.packet.Packet.TheVariants.{Loco, Accessory, Signal}
 use Rattle.dcc_packet.specs.declared.address.ShortAddress.{ShortAddress}
 use Rattle.dcc_packet.specs.declared.address.LongAddress.{LongAddress}
@@ -81,18 +82,25 @@ or_true : (a : Bool) → (a || true) ≡ true
 or_true true = refl
 or_true false = refl
 
-pub accessory : (board : Board) (output : Output) (on : Bool) → SetsNothing (Accessory board output on) → ⊥
+accessory : (board : Board) (output : Output) (on : Bool) → SetsNothing (Accessory board output on) → ⊥
 accessory board output on none = some_is_not_none (Flag on)
     (sym (ap (λ t. option_map Flag (cond t (Some on) None)) (same_number output.number))
     ∙ none Steps28 (Out output.number))
 
-pub signal : (address : SignalAddress) (aspect : ℕ) → SetsNothing (Signal address aspect) → ⊥
+signal : (address : SignalAddress) (aspect : ℕ) → SetsNothing (Signal address aspect) → ⊥
 signal address aspect none =
     let n = address.number % 4 in
     let first = eqb address.number 2047 && nat_le n 3 in
     some_is_not_none (Number aspect)
     (sym (ap (λ t. option_map Number (cond (first || t) (Some aspect) None)) (same_number n)
     ∙ ap (λ t. option_map Number (cond t (Some aspect) None)) (or_true first)) ∙ none Steps28 (Aspect n))
+
+pub at_accessories : (p : Packet)
+    → ((board : Board) × (output : Output) × (on : Bool) × p ≡ Accessory board output on)
+    ⊎ ((address : SignalAddress) × (aspect : ℕ) × p ≡ Signal address aspect)
+    → SetsNothing p → ⊥
+at_accessories p (inl is) = rw is.3 (accessory is.0 is.1 is.2)
+at_accessories p (inr is) = rw is.2 (signal is.0 is.1)
 
 or_right : (a b : Bool) → b ≡ true → (a || b) ≡ true
 or_right a b e = ap (λ t. a || t) e ∙ or_true a

@@ -8,7 +8,7 @@ use Rattle.dcc_regs.specs.declared.loco_state.LocoState.{LocoState}
 use Rattle.dcc_regs.specs.declared.register.Register.{Register}
 use Rattle.dcc_regs.specs.declared.register.Register.TheVariants.{Speed as SpeedRegister, Direction, Function}
 use Rattle.dcc_regs.specs.declared.register.Register.TheVariants.{State as StateRegister, CvBit}
-use Rattle.dcc_regs.specs.declared.register.Register.TheVariants.{Pending as PendingRegister, Out}
+use Rattle.dcc_regs.specs.declared.register.Register.TheVariants.{Pending as PendingRegister}
 use Rattle.dcc_regs.specs.declared.register.Speed.{Speed}
 use Rattle.dcc_regs.specs.declared.register.Value.TheVariants.{Flag}
 use Rattle.dcc_regs.specs.Addresses.{is_active}
@@ -62,7 +62,6 @@ held s h (Function n) = function_held s n (is_function n) refl
 held s h (StateRegister n) = state_held s n (is_binary_state n) refl
 held s h (CvBit cv place) = cv_held s cv place _ (is_cv_bit cv place) refl
 held s h PendingRegister = h.pending
-held s h (Out n) = refl
 held s h r = refl
 
 pub possible : (s : LocoState) → is_state s ≡ true → IsPossible (loco_who s) (loco_map s)

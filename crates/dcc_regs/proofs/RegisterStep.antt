@@ -5,9 +5,8 @@ use Rattle.std.specs.List.{cons_option}
 use Rattle.dcc_packet.specs.declared.packet.Packet.{Packet}
 use Rattle.dcc_regs.specs.declared.register.Who.{Who}
 use Rattle.dcc_regs.specs.declared.register.Register.{Register}
-use Rattle.dcc_regs.specs.declared.register.Register.TheVariants.{Speed as SpeedRegister, Direction, Function}
-use Rattle.dcc_regs.specs.declared.register.Register.TheVariants.{State as StateRegister, CvBit}
-use Rattle.dcc_regs.specs.declared.register.Register.TheVariants.{Pending as PendingRegister, Out, Position, Aspect}
+use Rattle.dcc_regs.specs.declared.register.Register.TheVariants.{CvBit}
+use Rattle.dcc_regs.specs.declared.register.Register.TheVariants.{Pending as PendingRegister}
 use Rattle.dcc_regs.specs.declared.register.Value.{Value}
 use Rattle.dcc_regs.specs.declared.register.Value.TheVariants.{Pending as PendingValue}
 use Rattle.dcc_regs.specs.Heard.{hears}
@@ -17,15 +16,9 @@ use Rattle.dcc_regs.specs.Setting.{mode_in, set_from, value_over}
 use Rattle.dcc_regs.proofs.InParts.{set_in_turn-nothing}
 use Rattle.dcc_regs.proofs.LocoStep.{heard_one, step-unheard}
 
-set_once : (held : Option Value) (v : Value) → set_in_turn held (v ∷ []) ≡ value_over held (Some v)
-set_once None v = refl
-set_once (Some start) v = refl
-
 set_over : (held set : Option Value) → set_in_turn held (cons_option set []) ≡ value_over held set
-set_over None None = refl
-set_over (Some start) None = refl
-set_over None (Some v) = refl
 set_over (Some start) (Some v) = refl
+set_over held set = refl
 
 pub overwritten-none : (held : Option Value) → value_over held None ≡ held
 overwritten-none None = refl
@@ -41,18 +34,12 @@ plain m p r =
 -- a heard packet puts what it sets over what stood there
 pub heard-sets : (m : RegisterMap) (p : Packet) (r : Register)
     → result_of_heard m (p ∷ []) r ≡ value_over (m r) (set_from m p r)
-heard-sets m p PendingRegister = set_once (m PendingRegister) (PendingValue (left_pending p))
+heard-sets m p PendingRegister = set_over (m PendingRegister) (Some (PendingValue (left_pending p)))
 heard-sets m p (CvBit cv place) =
     ap (λ held. set_in_turn (m (CvBit cv place)) (cons_option (effective_set held p cv place) []))
     (set_in_turn-nothing (m PendingRegister))
     ∙ set_over (m (CvBit cv place)) (effective_set (m PendingRegister) p cv place)
-heard-sets m p SpeedRegister = plain m p SpeedRegister
-heard-sets m p Direction = plain m p Direction
-heard-sets m p (Function n) = plain m p (Function n)
-heard-sets m p (StateRegister n) = plain m p (StateRegister n)
-heard-sets m p (Out n) = plain m p (Out n)
-heard-sets m p (Position n) = plain m p (Position n)
-heard-sets m p (Aspect n) = plain m p (Aspect n)
+heard-sets m p r = plain m p r
 
 by_hearing : (who : Who) (m : RegisterMap) (p : Packet) (r : Register) (t : Bool) → hears who p ≡ t
     → step who m p r ≡ (if t then value_over (m r) (set_from m p r) else m r)

@@ -37,8 +37,7 @@ same_value a b = false
 flag_there : (a b : Bool) → same_flag a b ≡ true → a ≡ b
 flag_there true true e = refl
 flag_there false false e = refl
-flag_there true false e = absurd (cc)
-flag_there false true e = absurd (cc)
+flag_there a b e = absurd (cc)
 
 flag_self : (a : Bool) → same_flag a a ≡ true
 flag_self true = refl

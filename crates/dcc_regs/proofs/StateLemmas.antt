@@ -28,17 +28,13 @@ from_all : (t u v f g x y : Bool) → u ≡ true → v ≡ true
     → Differ (option_map Flag (if t && (u || f) then Some x else None))
     (option_map Flag (if t && (v || g) then Some y else None))
     → Differ (Some (Flag x)) (Some (Flag y))
-from_all true true true f g x y e h d = d
+from_all true u v f g x y e h d = rw (e, h) at d
 from_all false u v f g x y e h d = absurd d
-from_all true false v f g x y e h d = absurd (cc)
-from_all true true false f g x y e h d = absurd (cc)
 
 to_all : (u v f g x y : Bool) → u ≡ true → v ≡ true → Differ (Some (Flag x)) (Some (Flag y))
     → Differ (option_map Flag (if true && (u || f) then Some x else None))
     (option_map Flag (if true && (v || g) then Some y else None))
-to_all true true f g x y e h d = d
-to_all false v f g x y e h d = absurd (cc)
-to_all true false f g x y e h d = absurd (cc)
+to_all u v f g x y e h d = rw (e, h) d
 
 move : (c d : Option (ℕ × Bool)) (n k : ℕ) → n ≡ k → Differ (held c n) (held d n) → Differ (held c k) (held d k)
 move c d n k e h = subst (λ (m : ℕ). Differ (held c m) (held d m)) e h

@@ -1,12 +1,11 @@
 use Rattle.dcc_regs.specs.declared.register.Who.{Who}
-use Rattle.std.proofs.Common.{ap, ◌≡◌, true, false, slice_index_or, subst, sym, ◌∙◌}
+use Rattle.std.proofs.Common.{ap, ◌≡◌, true, subst, sym, ◌∙◌}
 use Rattle.std.specs.Prelude.{Option}
 use Rattle.dcc_packet.specs.declared.address.Address.{Address}
 use Rattle.dcc_regs.specs.declared.register.Who.TheVariants.{Loco as LocoWho}
 use Rattle.dcc_regs.specs.Heard.{hears}
 use Rattle.dcc_regs.proofs.RegisterStep.{kept-after}
-use Rattle.dcc_packet.specs.Cvs.{cv_in}
-use Rattle.dcc_regs.specs.Loco.{loco_registers, LocoContent, is_pending_for}
+use Rattle.dcc_regs.specs.Loco.{loco_registers, is_pending_for}
 use Rattle.dcc_regs.specs.LocoDecoder.{content}
 use Rattle.dcc_regs.proofs.LocoStep.{step-heard, pending-heard}
 use Rattle.dcc_regs.proofs.loco.LocoDecoderDecoder.apply.Goals as goal
@@ -16,15 +15,7 @@ returns-then-hears-clause-step c =
     let heard : hears (LocoWho c.args.self.now.address) c.args.packet.now ≡ true =
     ap (λ (who : Who). hears who c.args.packet.now) (sym c.who.ensures.who)
     ∙ (sym c.hears.ensures ∙ c.if-hears.true) in
-    let is : LocoContent = record {
-      speed = c.obey.new.self.speed;
-      forward = c.obey.new.self.forward;
-      functions = λ n. slice_index_or c.obey.new.self.functions n false;
-      states = λ n. slice_index_or c.obey.new.self.states n false;
-      cvs = cv_in c.obey.new.self.cvs;
-      pending = c.leave_pending.new.pending;
-    } in
-    step-heard (LocoWho c.args.self.now.address) c.args.packet.now c.mode-mode.result (content c.args.self.now) is heard
+    step-heard (LocoWho c.args.self.now.address) c.args.packet.now c.mode-mode.result (content c.args.self.now) _ heard
     (record {
       reads = c.mode-mode.ensures;
       speed = c.obey.ensures.speed;

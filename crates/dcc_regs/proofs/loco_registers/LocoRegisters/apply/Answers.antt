@@ -1,10 +1,8 @@
 use Rattle.std.proofs.Common.{◌≡◌, true, sym, ◌∙◌, arith}
 use Rattle.dcc_regs.specs.declared.loco_state.LocoState.{LocoState}
 use Rattle.dcc_regs.specs.declared.register.Who.TheVariants.{Loco as LocoWho}
-use Rattle.dcc_packet.specs.Bits.{is_one}
 use Rattle.dcc_regs.specs.Heard.{hears}
-use Rattle.dcc_packet.specs.Cvs.{cv_in}
-use Rattle.dcc_regs.specs.Loco.{LocoContent, loco_registers}
+use Rattle.dcc_regs.specs.Loco.{loco_registers}
 use Rattle.dcc_regs.specs.LocoRegisters.{with_cvs}
 use Rattle.dcc_regs.specs.LocoState.{content}
 use Rattle.std.proofs.lemmas.Bool.Decides.{Decides-ltb}
@@ -17,15 +15,7 @@ pub returns-clause-step : goal.returns-clause-step
 returns-clause-step c =
     let heard : hears (LocoWho c.args.self.now.address) c.args.packet.now ≡ true =
     sym c.hears.ensures ∙ c.if-not-hears.false in
-    let is : LocoContent = record {
-      speed = c.unwrap_or-self.result;
-      forward = c.unwrap_or-self-2.result;
-      functions = is_one c.functions_in-self.result;
-      states = is_one c.states_after-self.result;
-      cvs = cv_in c.hear.new.cvs;
-      pending = c.leave_pending.new.pending;
-    } in
-    step-heard (LocoWho c.args.self.now.address) c.args.packet.now c.mode-mode.result (content (with_cvs c.args.self.now c.args.cvs.now)) is heard
+    step-heard (LocoWho c.args.self.now.address) c.args.packet.now c.mode-mode.result (content (with_cvs c.args.self.now c.args.cvs.now)) _ heard
     (record {
       reads = c.mode-mode.ensures;
       speed = rw (← c.speed_set.ensures.speed) c.unwrap_or-self.ensures;
