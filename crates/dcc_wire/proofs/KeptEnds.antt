@@ -85,7 +85,8 @@ module _ {k : Kept} (is : IsKept k) (in_body : k.in_body ≡ true) (half : Half)
         | inr none ↦ whole_shows no_room same (omega (arith, none))
       ]
       | inr apart ↦
-          let answer = second k.first refl ∙ answer-split bits (is.unfinished in_body) k.first bit apart in λ nothing. cc
+          let answer = second k.first refl ∙ answer-split bits (is.unfinished in_body) k.first bit apart in
+          λ nothing. cc
     ]
 
   -- it leaves no room

@@ -15,7 +15,8 @@ use Rattle.dcc_wire.specs.Packed.{IsPacked, byte_bits, packed_bits}
 use Rattle.dcc_wire.proofs.HistoryLemmas.{HasHistory, history_more}
 use Rattle.dcc_wire.proofs.OpenBodies.{answer-bit, answer-first, bit_more, first_more, half_of, half_of-bit}
 use Rattle.dcc_wire.proofs.OutcomeLemmas.{answer-open, outcome_of-something}
-use Rattle.dcc_wire.proofs.PackedLemmas.{packed_bits-byte, packed_bits-more, packed_more, packed_none, packed_open, packed_whole}
+use Rattle.dcc_wire.proofs.PackedLemmas.{packed_bits-byte, packed_bits-more, packed_more}
+use Rattle.dcc_wire.proofs.PackedLemmas.{packed_none, packed_open, packed_whole}
 
 pub in_body_rest : (k : Kept) (has_first : Bool) → k.in_body ≡ true → k.has_first ≡ has_first
     → kept_rest k ≡ InBody (halves_of (packed_bits k.bytes k.count k.shift) ++ first_half

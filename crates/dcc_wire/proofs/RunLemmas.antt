@@ -232,7 +232,8 @@ module _ (old : Rest) {new : Rest} (us : ℕ) {half : Half} {shown : Seen} (clas
   unfolding StandsFor
   two_stands durations h =
       after
-      ∙ sym (ap rest (two_longer durations) ∙ rest-push (durations ++ us ∷ []) us ∙ rw (two_mid durations h, ← class) refl)
+      ∙ sym (ap rest (two_longer durations) ∙ rest-push (durations ++ us ∷ []) us
+      ∙ rw (two_mid durations h, ← class) refl)
 
   pub two_sees : (durations : List ℕ) → StandsFor old durations
       → seen (durations ++ us ∷ us ∷ []) ≡ seen durations ++ report_at (length durations + 2 - 1) shown

@@ -69,8 +69,10 @@ pub bytes_in-byte : (n byte : ℕ) (more : List Bool) → byte < 256
 bytes_in-byte n byte more small =
     let bits = bits_of 8 byte in
     let eight : length bits ≡ 8 = length-bits_of 8 byte in
-    let front : take 8 (bits ++ more) ≡ bits = ap (λ k. take k (bits ++ more)) (sym eight) ∙ take-append_seam bits more in
-    let back : drop 8 (bits ++ more) ≡ more = ap (λ k. drop k (bits ++ more)) (sym eight) ∙ drop-append_seam bits more in
+    let front : take 8 (bits ++ more) ≡ bits =
+    ap (λ k. take k (bits ++ more)) (sym eight) ∙ take-append_seam bits more in
+    let back : drop 8 (bits ++ more) ≡ more =
+    ap (λ k. drop k (bits ++ more)) (sym eight) ∙ drop-append_seam bits more in
     zero_long n (bits ++ more) (omega (arith, length-append bits more, eight))
     ∙ rw (front, back, number_of-bits_of byte small) refl
 

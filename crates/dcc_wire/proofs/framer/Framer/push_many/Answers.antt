@@ -46,11 +46,12 @@ skipped_then c =
 
 behind_then : (c : After-skip) (durations : List ℕ) → StandsFor c.args.self.now durations
     → StandsFor c.skip.new.self (durations ++ replicate c.args.n c.args.us)
-    × (seen (durations ++ replicate c.args.n c.args.us) ≡ seen (durations ++ replicate (c.loop-half.at + c.push_some-some.result.at) c.args.us))
+    × (seen (durations ++ replicate c.args.n c.args.us)
+    ≡ seen (durations ++ replicate (c.loop-half.at + c.push_some-some.result.at) c.args.us))
 behind_then c =
     let some = c.push_some-some.ensures in
-    skipped _ _ c.args.us (c.loop-half.at + c.push_some-some.result.at) c.args.n (omega arith) (quiet_then c) (skipped_then c)
-    (run_stands _ _ c.loop-half.invariant.0 some.some.0 some.stands some.sees)
+    skipped _ _ c.args.us (c.loop-half.at + c.push_some-some.result.at) c.args.n (omega arith) (quiet_then c)
+    (skipped_then c) (run_stands _ _ c.loop-half.invariant.0 some.some.0 some.stands some.sees)
 
 pub returns-then-not-is_nothing : goal.returns-then-not-is_nothing
 returns-then-not-is_nothing c =
@@ -60,7 +61,8 @@ returns-then-not-is_nothing c =
     record {
       stands = λ durations h. (behind_then c durations h).0;
       sees = λ durations h.
-          (behind_then c durations h).1 ∙ run_sees _ _ c.loop-half.invariant.0 some.some.0 some.stands some.sees durations h;
+          (behind_then c durations h).1
+          ∙ run_sees _ _ c.loop-half.invariant.0 some.some.0 some.stands some.sees durations h;
       before = run_before c.loop-half.invariant.0 some.some.0 some.before;
       nothing = λ none. absurd (something none);
       something = λ _. (omega (arith, c.push_some-some.ensures.some), omega (arith, c.push_some-some.ensures.some));
@@ -71,7 +73,8 @@ returns-then-not-is_nothing c =
 pub loop-half-preserved : goal.loop-half-preserved
 loop-half-preserved c =
     let nothing : c.push_some-some.result.seen ≡ Nothing = c.is_nothing.ensures.0 (search rules) in (
-      run_more _ _ c.loop-half.invariant.0 c.push_some-some.ensures.some.0 c.push_some-some.ensures.stands c.push_some-some.ensures.sees nothing,
+      run_more _ _ c.loop-half.invariant.0 c.push_some-some.ensures.some.0 c.push_some-some.ensures.stands
+          c.push_some-some.ensures.sees nothing,
       omega arith,
     )
 
@@ -89,7 +92,8 @@ behind_from : (c : After-skip-2) (durations : List ℕ) → StandsFor c.args.sel
     → StandsFor c.skip-2.new.self (durations ++ replicate c.args.n c.args.us)
     × (seen (durations ++ replicate c.args.n c.args.us) ≡ seen (durations ++ replicate c.loop-half.at c.args.us))
 behind_from c =
-    skipped _ _ c.args.us c.loop-half.at c.args.n c.loop-half.invariant.1 (quiet_from c) (skipped_from c) c.loop-half.invariant.0.stands
+    skipped _ _ c.args.us c.loop-half.at c.args.n c.loop-half.invariant.1 (quiet_from c) (skipped_from c)
+    c.loop-half.invariant.0.stands
 
 seen_from : (c : After-skip-2) (durations : List ℕ) → StandsFor c.args.self.now durations
     → seen (durations ++ replicate c.args.n c.args.us) ≡ seen durations
