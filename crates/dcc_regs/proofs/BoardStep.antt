@@ -1,6 +1,6 @@
 -- What one packet does to an accessory decoder.
-use Rattle.std.proofs.Common.{◌≡◌, ℕ, ◌<◌, ◌≤◌, Bool, true, false, [], ◌∷◌, refl, sym, ◌∙◌, ap, arith}
-use Rattle.std.specs.Prelude.{None, Some, if◌then◌else◌, nat_le}
+use Rattle.std.proofs.Common.{◌≡◌, ℕ, ◌<◌, ◌≤◌, Bool, true, false, [], ◌∷◌, refl, sym, ◌∙◌, arith}
+use Rattle.std.specs.Prelude.{if◌then◌else◌, nat_le}
 use Rattle.std.proofs.lemmas.Bool.Decides.{nat_tests}
 use mathlib.Core.Path.{fun_ext}
 use Rattle.dcc_packet.specs.declared.packet.Packet.{Packet}
@@ -16,7 +16,8 @@ use Rattle.dcc_regs.specs.Sets.{side}
 use Rattle.dcc_regs.specs.Result.{result_of_heard, step}
 use Rattle.dcc_regs.specs.Board.{BoardContent, TakesPacket, board_registers}
 use Rattle.dcc_regs.specs.Possible.{IsPossible, may_hold}
-use Rattle.dcc_regs.proofs.LocoStep.{set_there, heard_one}
+use Rattle.dcc_regs.proofs.PossibleLemmas.{held_by}
+use Rattle.dcc_regs.proofs.LocoStep.{set_there}
 
 there : (n last : ℕ) → nat_le n last ≡ true → n ≤ last
 there n last t = grind (arith, nat_tests)
@@ -34,7 +35,7 @@ at_register p d d' o r = refl
 pub step-heard : (who : Who) (p : Packet) (d d' : BoardContent) → hears who p ≡ true → TakesPacket p d d'
     → board_registers d' ≡ step who (board_registers d) p
 step-heard who p d d' h o =
-    fun_ext (at_register p d d' o) ∙ sym (ap (result_of_heard (board_registers d)) (heard_one who p h))
+    rw h (fun_ext (at_register p d d' o))
 
 -- whatever answered that the decoder hears it
 pub packet_taken : (who : Who) (p : Packet) (d d' : BoardContent) (is_heard : Bool) → is_heard ≡ hears who p
@@ -48,26 +49,16 @@ side_small : (one : Bool) → nat_le (if one then 1 else 0) 1 ≡ true
 side_small true = refl
 side_small false = refl
 
-held_out : (own : OwnBoard) (n : ℕ) (on t : Bool) → nat_le n 7 ≡ t
-    → may_hold (BoardWho own) (Out n) (if t then Some (Flag on) else None) ≡ true
-held_out own n on true e = e
-held_out own n on false e = rw e refl
-
-held_position : (own : OwnBoard) (n : ℕ) (one t : Bool) → nat_le n 3 ≡ t
-    → may_hold (BoardWho own) (Position n) (if t then Some (side one) else None) ≡ true
-held_position own n one true e = rw (e, side_small one) refl
-held_position own n one false e = rw e refl
-
-held_aspect : (own : OwnBoard) (n aspect : ℕ) (t : Bool) → aspect < 256 → nat_le n 3 ≡ t
-    → may_hold (BoardWho own) (Aspect n) (if t then Some (Number aspect) else None) ≡ true
-held_aspect own n aspect true small e = rw (e, byte aspect small) refl
-held_aspect own n aspect false small e = rw e refl
-
 held : (own : OwnBoard) (d : BoardContent) → ((n : ℕ) → d.aspects n < 256) → (r : Register)
     → may_hold (BoardWho own) r (board_registers d r) ≡ true
-held own d bytes (Out n) = held_out own n (d.outs n) (nat_le n 7) refl
-held own d bytes (Position n) = held_position own n (d.positions n) (nat_le n 3) refl
-held own d bytes (Aspect n) = held_aspect own n (d.aspects n) (nat_le n 3) (bytes n) refl
+held own d bytes (Out n) =
+    held_by (may_hold (BoardWho own) (Out n)) (Flag (d.outs n)) (nat_le n 7) (λ e. e) (λ e. rw e refl)
+held own d bytes (Position n) =
+    held_by (may_hold (BoardWho own) (Position n)) (side (d.positions n)) (nat_le n 3)
+    (λ e. rw (e, side_small (d.positions n)) refl) (λ e. rw e refl)
+held own d bytes (Aspect n) =
+    held_by (may_hold (BoardWho own) (Aspect n)) (Number (d.aspects n)) (nat_le n 3)
+    (λ e. rw (e, byte (d.aspects n) (bytes n)) refl) (λ e. rw e refl)
 held own d bytes r = refl
 
 pub possible : (own : OwnBoard) (d : BoardContent) → nat_le own.number 510 ≡ true → ((n : ℕ) → d.aspects n < 256)

@@ -53,24 +53,17 @@ chosen : {A : Type 0} (f : A → Value) (a : Option Value) (t : Bool) (v : A)
 chosen f a true v d = refl
 chosen f a false v d = absurd (nothing a d)
 
-move_out : (p q : Packet) (n k : ℕ) → n ≡ k → Differ (sets Steps28 p (Out n)) (sets Steps28 q (Out n))
-    → DifferAtOutput p q k
-move_out p q n k e d = inl (subst (λ (n : ℕ). Differ (sets Steps28 p (Out n)) (sets Steps28 q (Out n))) e d)
-
-move_position : (p q : Packet) (n k : ℕ) → n ≡ k / 2
-    → Differ (sets Steps28 p (Position n)) (sets Steps28 q (Position n)) → DifferAtOutput p q k
-move_position p q n k e d =
-    inr (subst (λ (n : ℕ). Differ (sets Steps28 p (Position n)) (sets Steps28 q (Position n))) e d)
-
 output_at : (p : Packet) (board : Board) (output : Output) (on : Bool) → DifferInOutputs p (Accessory board output on)
     → DifferAtOutput p (Accessory board output on) output.number
 output_at p board output on (inl d) =
-    move_out p (Accessory board output on) d.0 output.number
-    ((Decides-eqb d.0 output.number).0 (chosen Flag (sets Steps28 p (Out d.0)) (d.0 == output.number) on d.1)) d.1
+    let e : d.0 ≡ output.number =
+    (Decides-eqb d.0 output.number).0 (chosen Flag (sets Steps28 p (Out d.0)) (d.0 == output.number) on d.1) in
+    inl (rw e at d.1)
 output_at p board output true (inr d) =
-    move_position p (Accessory board output true) d.0 output.number
-    ((Decides-eqb d.0 (output.number / 2)).0
-    (chosen side (sets Steps28 p (Position d.0)) (d.0 == output.number / 2) (output.number % 2 == 1) d.1)) d.1
+    let e : d.0 ≡ output.number / 2 =
+    (Decides-eqb d.0 (output.number / 2)).0
+    (chosen side (sets Steps28 p (Position d.0)) (d.0 == output.number / 2) (output.number % 2 == 1) d.1) in
+    inr (rw e at d.1)
 output_at p board output false (inr d) = absurd (nothing (sets Steps28 p (Position d.0)) d.1)
 
 at-sym : (p q : Packet) (n : ℕ) → DifferAtOutput p q n → DifferAtOutput q p n

@@ -1,5 +1,5 @@
 -- A conflict, from its parts.
-use Rattle.std.proofs.Common.{◌≡◌, ◌≢◌, refl, subst, sym}
+use Rattle.std.proofs.Common.{◌≡◌, ◌≢◌, refl}
 use Rattle.std.specs.Prelude.{Option, None, Some}
 use Rattle.dcc_packet.specs.declared.packet.Packet.{Packet}
 use Rattle.dcc_regs.specs.declared.register.SpeedMode.{SpeedMode}
@@ -37,8 +37,7 @@ conflict_from p q together (mode, differ) =
     }
 
 differ_by : (a b : Option Value) (v w : Value) → a ≡ Some v → b ≡ Some w → v ≢ w → Differ a b
-differ_by a b v w e f d =
-    subst (λ (o : Option Value). Differ o b) (sym e) (subst (λ (o : Option Value). Differ (Some v) o) (sym f) d)
+differ_by a b v w e f d = rw (e, f) d
 
 pub differ_of : (p q : Packet) → Conflict p q → (mode : SpeedMode) × DifferIn mode p q
 differ_of p q c = (

@@ -7,7 +7,6 @@ use mathlib.Core.Path.{fun_ext}
 use Rattle.dcc_regs.specs.declared.register.Register.{Register}
 use Rattle.dcc_regs.specs.declared.register.Register.TheVariants.{Speed as SpeedRegister}
 use Rattle.dcc_regs.specs.declared.register.Register.TheVariants.{CvBit}
-use Rattle.dcc_regs.specs.declared.register.Who.{Who}
 use Rattle.dcc_regs.specs.declared.register.Who.TheVariants.{Loco as LocoWho}
 use Rattle.dcc_regs.specs.declared.register.Speed.TheVariants.{Stop}
 use Rattle.dcc_regs.specs.declared.register.Value.TheVariants.{Flag}
@@ -15,8 +14,7 @@ use Rattle.dcc_packet.specs.Bits.{is_one}
 use Rattle.dcc_regs.specs.Addresses.{active_address}
 use Rattle.dcc_packet.proofs.BitLemmas.{byte_of_bits, same_byte}
 use Rattle.dcc_packet.specs.Cvs.{IsCvs, cv_in}
-use Rattle.dcc_regs.specs.Loco.{LocoContent, loco_registers, is_cv_bit, holds_one, cv_held, start_content, start_who, powered_up}
-use Rattle.dcc_regs.specs.Result.{RegisterMap}
+use Rattle.dcc_regs.specs.Loco.{LocoContent, loco_registers, is_cv_bit, holds_one, cv_held, start_content, powered_up}
 
 bit_there : (cv place : ℕ) → 1 ≤ cv → cv ≤ 1024 → place ≤ 7 → is_cv_bit cv place ≡ true
 bit_there cv place a b h = grind (arith, nat_tests)
@@ -68,29 +66,22 @@ pub active_address-same : (f g : ℕ → ℕ) → f 1 ≡ g 1 → f 17 ≡ g 17 
     → active_address f ≡ active_address g
 active_address-same f g a b c d = rw (a, b, c, d) refl
 
-pub active_address-loco : (d : LocoContent) → d.cvs 1 < 256 → d.cvs 17 < 256 → d.cvs 18 < 256 → d.cvs 29 < 256
+pub active_address-loco : (d : LocoContent) → ((n : ℕ) → d.cvs n < 256)
     → active_address d.cvs ≡ active_address (cv_held (loco_registers d))
-active_address-loco d a b c e =
+active_address-loco d small =
     sym (active_address-same (cv_held (loco_registers d)) d.cvs
-    (cv_of-loco d 1 (omega arith) (omega arith) a) (cv_of-loco d 17 (omega arith) (omega arith) b)
-    (cv_of-loco d 18 (omega arith) (omega arith) c) (cv_of-loco d 29 (omega arith) (omega arith) e))
+    (cv_of-loco d 1 (omega arith) (omega arith) (small 1)) (cv_of-loco d 17 (omega arith) (omega arith) (small 17))
+    (cv_of-loco d 18 (omega arith) (omega arith) (small 18)) (cv_of-loco d 29 (omega arith) (omega arith) (small 29)))
 
 started_at : (d : LocoContent) (r : Register) → loco_registers (start_content d.cvs) r ≡ powered_up (loco_registers d) r
 started_at d SpeedRegister = refl
 started_at d r = refl
 
 -- the registers of a decoder made with the CVs of another are those of the other powered up
-pub powered_up-loco : (m : RegisterMap) (d : LocoContent) (cvs bytes : List ℕ)
-    → m ≡ loco_registers (start_content (cv_in bytes)) → bytes ≡ cvs → d.cvs ≡ cv_in cvs
-    → m ≡ powered_up (loco_registers d)
-powered_up-loco m d cvs bytes made same is =
-    made ∙ rw (same, ← is) (fun_ext (started_at d))
+pub powered_up-loco : (d : LocoContent) → loco_registers (start_content d.cvs) ≡ powered_up (loco_registers d)
+powered_up-loco d = fun_ext (started_at d)
 
 -- and it has the address that the other has then
-pub who-powered_up : (who : Who) (d : LocoContent) (cvs bytes : List ℕ) → IsCvs cvs
-    → who ≡ LocoWho (active_address (cv_in bytes)) → bytes ≡ cvs → d.cvs ≡ cv_in cvs
-    → who ≡ LocoWho (active_address (cv_held (loco_registers d)))
-who-powered_up who d cvs bytes ok made same is =
-    let small : (n : ℕ) → d.cvs n < 256 = λ n. rw is (ok.bytes (n - 1)) in
-    made ∙ ap start_who (ap cv_in same ∙ sym is)
-    ∙ ap LocoWho (active_address-loco d (small 1) (small 17) (small 18) (small 29))
+pub who-powered_up : (d : LocoContent) (cvs : List ℕ) → IsCvs cvs → d.cvs ≡ cv_in cvs
+    → LocoWho (active_address d.cvs) ≡ LocoWho (active_address (cv_held (loco_registers d)))
+who-powered_up d cvs ok is = ap LocoWho (active_address-loco d (λ n. rw is (ok.bytes (n - 1))))

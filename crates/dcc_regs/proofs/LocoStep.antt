@@ -17,7 +17,7 @@ use Rattle.dcc_regs.specs.declared.register.Value.{Value}
 use Rattle.dcc_regs.specs.declared.register.Value.TheVariants.{Speed as SpeedValue, Forward, Flag}
 use Rattle.dcc_regs.specs.declared.register.Value.TheVariants.{Pending as PendingValue}
 use Rattle.dcc_packet.specs.Bits.{is_one}
-use Rattle.dcc_regs.specs.Heard.{heard, hears}
+use Rattle.dcc_regs.specs.Heard.{hears}
 use Rattle.dcc_regs.specs.Speeds.{speed_set, direction_set}
 use Rattle.dcc_regs.specs.FunctionBits.{function_set}
 use Rattle.dcc_regs.specs.States.{is_binary_state, state_set}
@@ -87,21 +87,15 @@ at_register p mode d d' o (CvBit cv place) =
 at_register p mode d d' o PendingRegister = rw o.pending refl
 at_register p mode d d' o r = refl
 
-pub heard_one : (who : Who) (p : Packet) → hears who p ≡ true → heard who (p ∷ []) ≡ p ∷ []
-heard_one who p h = rw h refl
-
-pub heard_none : (who : Who) (p : Packet) → hears who p ≡ false → heard who (p ∷ []) ≡ []
-heard_none who p h = rw h refl
-
 -- a packet that is heard
 pub step-heard : (who : Who) (p : Packet) (mode : SpeedMode) (d d' : LocoContent) → hears who p ≡ true
     → Obeys p mode d d' → loco_registers d' ≡ step who (loco_registers d) p
 step-heard who p mode d d' h o =
-    fun_ext (at_register p mode d d' o) ∙ sym (ap (result_of_heard (loco_registers d)) (heard_one who p h))
+    rw h (fun_ext (at_register p mode d d' o))
 
 -- a packet that is not heard changes nothing
 pub step-unheard : (who : Who) (p : Packet) (m : RegisterMap) → hears who p ≡ false → m ≡ step who m p
-step-unheard who p m h = sym (ap (result_of_heard m) (heard_none who p h) ∙ result-nothing who m)
+step-unheard who p m h = rw h (sym (result-nothing who m))
 
 -- what a heard packet leaves pending
 by_own : (active : Option Address) (p : Packet) → hears (LocoWho active) p ≡ true → is_byte_write p ≡ true

@@ -14,7 +14,7 @@ use Rattle.dcc_regs.specs.Heard.{hears, is_for, is_full_reset, address_of}
 use Rattle.dcc_regs.specs.Inner.ConflictParts.{HeardTogether, meets, both_meet, boards_meet, board_number, some_loco}
 use Rattle.dcc_regs.specs.Inner.ConflictParts.{some_board}
 
-self : (n : ℕ) → (n == n) ≡ true
+pub self : (n : ℕ) → (n == n) ≡ true
 self n = (Decides-eqb n n).1 refl
 
 -- a decoder takes what is sent to its own address
@@ -27,10 +27,9 @@ joined : (own n m : ℕ) → (own == n) ≡ true → (own == m) ≡ true → (n 
 joined own n m h k = (Decides-eqb n m).1 (sym ((Decides-eqb own n).0 h) ∙ (Decides-eqb own m).0 k)
 
 or_first : (a b : Bool) → a ≡ true → (a || b) ≡ true
-or_first true b t = refl
-or_first false b t = absurd (cc)
+or_first a b t = rw t refl
 
-or_second : (a b : Bool) → b ≡ true → (a || b) ≡ true
+pub or_second : (a b : Bool) → b ≡ true → (a || b) ≡ true
 or_second true b t = refl
 or_second false b t = t
 

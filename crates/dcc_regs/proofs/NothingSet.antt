@@ -2,7 +2,6 @@
 use Rattle.std.proofs.Common.{ℕ, Bool, cond, true, false, ◌≡◌, ◌≤◌, ◌∙◌, ap, refl, sym, Some, None, arith, eqb, inl, inr}
 use Rattle.std.specs.Prelude.{option_map, ◌||◌, ◌&&◌, ◌%◌, ◌⊎◌, nat_le, nat_lt}
 use Rattle.std.proofs.lemmas.Bool.{ltb-false}
-use Rattle.std.proofs.lemmas.Bool.Decides.{Decides-eqb}
 use Rattle.dcc_packet.specs.declared.accessory.Board.{Board}
 use Rattle.dcc_packet.specs.declared.accessory.Output.{Output}
 use Rattle.dcc_packet.specs.declared.accessory.SignalAddress.{SignalAddress}
@@ -28,6 +27,7 @@ use Rattle.dcc_regs.specs.declared.register.Speed.TheVariants.{Stop, Emergency}
 use Rattle.dcc_packet.specs.Bits.{is_one}
 use Rattle.dcc_regs.specs.FunctionBits.{first_function, function_place}
 use Rattle.dcc_regs.specs.Sets.{SetsNothing}
+use Rattle.dcc_regs.proofs.MeetLemmas.{or_second, self}
 use Rattle.dcc_regs.proofs.OwnWrites.{none_of}
 
 some_is_not_none : {A : Type 0} (a : A) → Some a ≡ None → ⊥
@@ -75,16 +75,9 @@ sets_some to what (inl is) = rw is (λ none. some_is_not_none (SpeedValue Stop) 
 sets_some to what (inr (inl is)) = rw is.2 (λ none. some_is_not_none (Forward is.0) (none Steps28 Direction))
 sets_some to what (inr (inr is)) = rw is.1 (functions to is.0)
 
-same_number : (n : ℕ) → eqb n n ≡ true
-same_number n = (Decides-eqb n n).1 refl
-
-or_true : (a : Bool) → (a || true) ≡ true
-or_true true = refl
-or_true false = refl
-
 accessory : (board : Board) (output : Output) (on : Bool) → SetsNothing (Accessory board output on) → ⊥
 accessory board output on none = some_is_not_none (Flag on)
-    (sym (ap (λ t. option_map Flag (cond t (Some on) None)) (same_number output.number))
+    (sym (ap (λ t. option_map Flag (cond t (Some on) None)) (self output.number))
     ∙ none Steps28 (Out output.number))
 
 signal : (address : SignalAddress) (aspect : ℕ) → SetsNothing (Signal address aspect) → ⊥
@@ -92,8 +85,8 @@ signal address aspect none =
     let n = address.number % 4 in
     let first = eqb address.number 2047 && nat_le n 3 in
     some_is_not_none (Number aspect)
-    (sym (ap (λ t. option_map Number (cond (first || t) (Some aspect) None)) (same_number n)
-    ∙ ap (λ t. option_map Number (cond t (Some aspect) None)) (or_true first)) ∙ none Steps28 (Aspect n))
+    (sym (ap (λ t. option_map Number (cond (first || t) (Some aspect) None)) (self n)
+    ∙ ap (λ t. option_map Number (cond t (Some aspect) None)) (or_second first true refl)) ∙ none Steps28 (Aspect n))
 
 pub at_accessories : (p : Packet)
     → ((board : Board) × (output : Output) × (on : Bool) × p ≡ Accessory board output on)
@@ -101,9 +94,6 @@ pub at_accessories : (p : Packet)
     → SetsNothing p → ⊥
 at_accessories p (inl is) = rw is.3 (accessory is.0 is.1 is.2)
 at_accessories p (inr is) = rw is.2 (signal is.0 is.1)
-
-or_right : (a b : Bool) → b ≡ true → (a || b) ≡ true
-or_right a b e = ap (λ t. a || t) e ∙ or_true a
 
 -- all states, or one of them
 pub binary_state : (to : Address) (state : StateNumber) (on : Bool) → SetsNothing (Loco to (BinaryState state on)) → ⊥
@@ -117,7 +107,7 @@ binary_state to state on none = by_number (eqb state.number 0) refl
         let least : nat_le 1 state.number ≡ true = grind (arith, e) in
         let most : nat_le state.number 127 ≡ true = grind (arith, state.in_range) in
         let here : (eqb state.number 0 || eqb state.number state.number) ≡ true =
-        or_right (eqb state.number 0) (eqb state.number state.number) (same_number state.number) in
+        or_second (eqb state.number 0) (eqb state.number state.number) (self state.number) in
         let is : (nat_le 1 state.number && nat_le state.number 127 && (eqb state.number 0 || eqb state.number state.number)) ≡ true =
         grind (arith, least, most, here) in
         some_is_not_none (Flag on)

@@ -56,19 +56,17 @@ zero_above word n limit on fits none k h =
 pub zero_from : (word n : ℕ) → word < 2 ^ n → is_one word n ≡ false
 zero_from word n h = rw (bit_at_above word n n h (omega arith)) refl
 
-put_below : (word n mask : ℕ) (on : Bool) → mask ≡ (if on then 2 ^ n else 0) → word < 2 ^ n
-    → bit_or word mask < 2 ^ (n + 1)
-put_below word n mask true e h =
-    let more : 2 ^ n < 2 ^ (n + 1) = pow_below n (n + 1) (omega arith) in
-    or_lt (n + 1) word mask (omega arith) (rw e more)
-put_below word n mask false e h =
-    let more : 2 ^ n < 2 ^ (n + 1) = pow_below n (n + 1) (omega arith) in
-    or_lt (n + 1) word mask (omega arith) (rw e (pow_pos (n + 1)))
+put_at_most : (on : Bool) (n : ℕ) → (if on then 2 ^ n else 0) ≤ 2 ^ n
+put_at_most true n = omega arith
+put_at_most false n = omega arith
 
 -- truth values below n make a number below the power of n, and so with the one at n
 pub packed_below : (word n limit : ℕ) (on : Bool) → 1 * 2 ^ n % limit ≡ 2 ^ n → word < 2 ^ n
     → bit_or word (bool_byte on * 2 ^ n % limit) < 2 ^ (n + 1)
-packed_below word n limit on fits h = put_below word n _ on (shifted on n limit fits) h
+packed_below word n limit on fits h =
+    let more : 2 ^ n < 2 ^ (n + 1) = pow_below n (n + 1) (omega arith) in
+    let most : bool_byte on * 2 ^ n % limit ≤ 2 ^ n = rw (shifted on n limit fits) (put_at_most on n) in
+    or_lt (n + 1) word _ (omega arith) (omega arith)
 
 -- the lowest n bits alone
 pub low_bits : (word mask n k : ℕ) → mask ≡ 2 ^ n - 1 → k < n → is_one (bit_and word mask) k ≡ is_one word k

@@ -10,6 +10,7 @@ use Rattle.dcc_regs.specs.declared.register.Register.TheVariants.{Speed as Speed
 use Rattle.dcc_regs.specs.declared.register.Register.TheVariants.{State as StateRegister, CvBit}
 use Rattle.dcc_regs.specs.declared.register.Register.TheVariants.{Pending as PendingRegister}
 use Rattle.dcc_regs.specs.declared.register.Speed.{Speed}
+use Rattle.dcc_regs.specs.declared.register.Value.{Value}
 use Rattle.dcc_regs.specs.declared.register.Value.TheVariants.{Flag}
 use Rattle.dcc_regs.specs.Addresses.{is_active}
 use Rattle.dcc_regs.specs.Loco.{is_cv_bit, is_function, is_pending_for, is_speed}
@@ -39,28 +40,23 @@ parts_of s h =
 pub of_parts : (s : LocoState) → IsState s → is_state s ≡ true
 of_parts s h = rw (h.active, h.speed, h.functions, h.states, h.pending) refl
 
+-- a register that a decoder may lack
+pub held_by : (may : Option Value → Bool) (v : Value) (t : Bool) → (t ≡ true → may (Some v) ≡ true)
+    → (t ≡ false → may None ≡ true) → may (if t then Some v else None) ≡ true
+held_by may v true f g = f refl
+held_by may v false f g = g refl
+
 -- its registers hold what they may hold
-function_held : (s : LocoState) (n : ℕ) (t : Bool) → is_function n ≡ t
-    → may_hold (loco_who s) (Function n) (if t then Some (Flag (is_one s.functions n)) else None) ≡ true
-function_held s n true e = e
-function_held s n false e = rw e refl
-
-state_held : (s : LocoState) (n : ℕ) (t : Bool) → is_binary_state n ≡ t
-    → may_hold (loco_who s) (StateRegister n) (if t then Some (Flag (is_one s.states n)) else None) ≡ true
-state_held s n true e = e
-state_held s n false e = rw e refl
-
-cv_held : (s : LocoState) (cv place : ℕ) (one t : Bool) → is_cv_bit cv place ≡ t
-    → may_hold (loco_who s) (CvBit cv place) (if t then Some (Flag one) else None) ≡ true
-cv_held s cv place one true e = e
-cv_held s cv place one false e = rw e refl
-
 held : (s : LocoState) → IsState s → (r : Register) → may_hold (loco_who s) r (loco_map s r) ≡ true
 held s h SpeedRegister = h.speed
 held s h Direction = refl
-held s h (Function n) = function_held s n (is_function n) refl
-held s h (StateRegister n) = state_held s n (is_binary_state n) refl
-held s h (CvBit cv place) = cv_held s cv place _ (is_cv_bit cv place) refl
+held s h (Function n) =
+    held_by (may_hold (loco_who s) (Function n)) (Flag (is_one s.functions n)) (is_function n) (λ e. e) (λ e. rw e refl)
+held s h (StateRegister n) =
+    held_by (may_hold (loco_who s) (StateRegister n)) (Flag (is_one s.states n)) (is_binary_state n) (λ e. e)
+    (λ e. rw e refl)
+held s h (CvBit cv place) =
+    held_by (may_hold (loco_who s) (CvBit cv place)) _ (is_cv_bit cv place) (λ e. e) (λ e. rw e refl)
 held s h PendingRegister = h.pending
 held s h r = refl
 

@@ -14,7 +14,7 @@ use Rattle.dcc_regs.specs.Sets.{sets}
 use Rattle.dcc_regs.specs.Result.{RegisterMap, set_in_turn, mode_of, effective_set, left_pending, result_of_heard, step}
 use Rattle.dcc_regs.specs.Setting.{mode_in, set_from, value_over}
 use Rattle.dcc_regs.proofs.InParts.{set_in_turn-nothing}
-use Rattle.dcc_regs.proofs.LocoStep.{heard_one, step-unheard}
+use Rattle.dcc_regs.proofs.LocoStep.{step-unheard}
 
 set_over : (held set : Option Value) → set_in_turn held (cons_option set []) ≡ value_over held set
 set_over (Some start) (Some v) = refl
@@ -43,7 +43,7 @@ heard-sets m p r = plain m p r
 
 by_hearing : (who : Who) (m : RegisterMap) (p : Packet) (r : Register) (t : Bool) → hears who p ≡ t
     → step who m p r ≡ (if t then value_over (m r) (set_from m p r) else m r)
-by_hearing who m p r true e = ap (λ l. result_of_heard m l r) (heard_one who p e) ∙ heard-sets m p r
+by_hearing who m p r true e = rw e (heard-sets m p r)
 by_hearing who m p r false e = ap (λ n. n r) (sym (step-unheard who p m e))
 
 pub step-sets : (who : Who) (m : RegisterMap) (p : Packet) (r : Register)

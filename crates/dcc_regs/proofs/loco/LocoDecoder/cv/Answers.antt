@@ -1,13 +1,10 @@
-use Rattle.std.proofs.Common.{◌<◌, sym, ◌∙◌}
-use Rattle.dcc_packet.specs.Cvs.{cv_in}
+use Rattle.std.proofs.Common.{sym, ◌∙◌}
 use Rattle.dcc_regs.specs.LocoDecoder.{content}
 use Rattle.dcc_regs.proofs.CvLemmas.{cv_of-loco}
 use Rattle.dcc_regs.proofs.loco.LocoDecoder.cv.Goals as goal
 
 pub returns : goal.returns
 returns c =
-    let small : cv_in c.args.self.now.cvs c.args.cv.number < 256 =
-    rw (← c.cv_value.ensures) c.cv_value.type_inv in
     c.cv_value.ensures
     ∙ sym (cv_of-loco (content c.args.self.now) c.args.cv.number c.args.cv.in_range.0 c.args.cv.in_range.1
-    small)
+    (rw (← c.cv_value.ensures) c.cv_value.type_inv))

@@ -1,11 +1,8 @@
-use Rattle.dcc_regs.specs.declared.register.Who.{Who}
-use Rattle.std.proofs.Common.{ap, ◌≡◌, true, subst, sym, ◌∙◌}
-use Rattle.std.specs.Prelude.{Option}
-use Rattle.dcc_packet.specs.declared.address.Address.{Address}
+use Rattle.std.proofs.Common.{◌≡◌, true, sym, ◌∙◌}
 use Rattle.dcc_regs.specs.declared.register.Who.TheVariants.{Loco as LocoWho}
 use Rattle.dcc_regs.specs.Heard.{hears}
 use Rattle.dcc_regs.proofs.RegisterStep.{kept-after}
-use Rattle.dcc_regs.specs.Loco.{loco_registers, is_pending_for}
+use Rattle.dcc_regs.specs.Loco.{loco_registers}
 use Rattle.dcc_regs.specs.LocoDecoder.{content}
 use Rattle.dcc_regs.proofs.LocoStep.{step-heard, pending-heard}
 use Rattle.dcc_regs.proofs.loco.LocoDecoderDecoder.apply.Goals as goal
@@ -13,8 +10,7 @@ use Rattle.dcc_regs.proofs.loco.LocoDecoderDecoder.apply.Goals as goal
 pub returns-then-hears-clause-step : goal.returns-then-hears-clause-step
 returns-then-hears-clause-step c =
     let heard : hears (LocoWho c.args.self.now.address) c.args.packet.now ≡ true =
-    ap (λ (who : Who). hears who c.args.packet.now) (sym c.who.ensures.who)
-    ∙ (sym c.hears.ensures ∙ c.if-hears.true) in
+    rw c.who.ensures.who at (sym c.hears.ensures ∙ c.if-hears.true) in
     step-heard (LocoWho c.args.self.now.address) c.args.packet.now c.mode-mode.result (content c.args.self.now) _ heard
     (record {
       reads = c.mode-mode.ensures;
@@ -29,11 +25,8 @@ returns-then-hears-clause-step c =
 pub invariant_of-self-then-hears-clause-is_pending : goal.invariant_of-self-then-hears-clause-is_pending
 invariant_of-self-then-hears-clause-is_pending c =
     let heard : hears (LocoWho c.args.self.now.address) c.args.packet.now ≡ true =
-    ap (λ (who : Who). hears who c.args.packet.now) (sym c.who.ensures.who)
-    ∙ (sym c.hears.ensures ∙ c.if-hears.true) in
-    subst
-    (λ (active : Option Address). is_pending_for active c.leave_pending.new.pending ≡ true)
-    (sym c.obey.ensures.address)
+    rw c.who.ensures.who at (sym c.hears.ensures ∙ c.if-hears.true) in
+    rw c.obey.ensures.address
     (pending-heard c.args.self.now.address c.args.packet.now c.leave_pending.new.pending heard
     c.leave_pending.ensures.byte c.leave_pending.ensures.pending)
 

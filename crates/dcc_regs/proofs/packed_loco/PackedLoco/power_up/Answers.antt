@@ -1,4 +1,4 @@
-use Rattle.std.proofs.Common.{refl}
+use Rattle.std.proofs.Common.{refl, ◌∙◌}
 use Rattle.dcc_regs.specs.LocoRegisters.{with_cvs}
 use Rattle.dcc_regs.specs.LocoState.{content}
 use Rattle.dcc_regs.proofs.CvLemmas.{powered_up-loco, who-powered_up}
@@ -6,10 +6,7 @@ use Rattle.dcc_regs.proofs.packed_loco.PackedLoco.power_up.Goals as goal
 
 pub returns-clause-who : goal.returns-clause-who
 returns-clause-who c =
-    who-powered_up _ (content (with_cvs c.args.self.now.registers c.args.self.now.cvs)) c.args.self.now.cvs
-    c.args.self.now.cvs c.are_cvs.ensures c.new-self.ensures.who refl refl
+    c.new-self.ensures.who ∙ who-powered_up (content (with_cvs c.args.self.now.registers c.args.self.now.cvs)) c.args.self.now.cvs c.are_cvs.ensures refl
 
 pub returns-clause-registers : goal.returns-clause-registers
-returns-clause-registers c =
-    powered_up-loco _ (content (with_cvs c.args.self.now.registers c.args.self.now.cvs)) c.args.self.now.cvs
-    c.args.self.now.cvs c.new-self.ensures.registers refl refl
+returns-clause-registers c = c.new-self.ensures.registers ∙ powered_up-loco (content (with_cvs c.args.self.now.registers c.args.self.now.cvs))
