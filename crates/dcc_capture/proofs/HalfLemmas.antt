@@ -1,7 +1,7 @@
 -- What the half of a word at hand says of a capture.
 use Rattle.std.proofs.Common.{◌≡◌, ℕ, ◌≤◌, List, [], ◌∷◌, length, Bool, true, false, eqb, ◌&&◌, Option, None}
 use Rattle.std.proofs.Common.{Some, Ok, IfSome, refl, sym, ap, ◌∙◌, arith, nat_lt, nat_le}
-use Rattle.std.proofs.lemmas.Bool.{ne_eqb}
+use Rattle.std.proofs.lemmas.Bool.{and_parts, ne_eqb}
 use Rattle.std.proofs.lemmas.Bool.Decides.{nat_tests}
 use Rattle.std.specs.List.{list_all}
 use Rattle.std.specs.Char.{is_ascii_digit}
@@ -9,19 +9,12 @@ use Rattle.dcc_io.specs.InputState.{InputState}
 use Rattle.dcc_io.specs.declared.word.Run.{Run}
 use Rattle.dcc_io.specs.Words.{is_dash, is_mark, before_star, duration_of, run_of}
 use Rattle.dcc_io.specs.Counted.{TakesHalf, TakesRun}
-use Rattle.dcc_io.proofs.FrontLemmas.{IsDuration, duration_parts}
+use Rattle.dcc_io.proofs.FrontLemmas.{IsDuration, digit_bounds, duration_parts}
 use Rattle.dcc_capture.specs.Capture.{AnswersRun}
 use Rattle.dcc_capture.specs.FirstRead.{AnswersFirst}
 use Rattle.dcc_capture.proofs.RunWordLemmas.{run_of_duration, some_half}
 use Rattle.dcc_capture.proofs.CaptureLemmas.{Gave-word}
 use Rattle.dcc_capture.proofs.BothLemmas.{counts_run}
-
-digit_bounds : (byte : ℕ) → is_ascii_digit byte ≡ true → (48 ≤ byte) × (byte ≤ 57)
-digit_bounds byte digit = (grind (arith, nat_tests), grind (arith, nat_tests))
-
-both : (a b : Bool) → (a && b) ≡ true → (a ≡ true) × (b ≡ true)
-both true b all = (refl, all)
-both false b all = cc
 
 -- as a run of one half
 pub run_taken : (old new : InputState) (us : ℕ) → TakesHalf old us new
@@ -40,7 +33,7 @@ no_dash byte digit = let bounds = digit_bounds byte digit in ne_eqb byte 45 (λ 
 no_mark : (word : List ℕ) → IsDuration word → is_mark word ≡ false
 no_mark [] is = absurd (let some = is.some in omega (arith, some))
 no_mark (byte ∷ word) is =
-    let parts = both (is_ascii_digit byte) (list_all is_ascii_digit word) is.digits in
+    let parts = and_parts (is_ascii_digit byte) (list_all is_ascii_digit word) is.digits in
     rw (no_dash byte parts.0) (never (eqb (length (byte ∷ word)) 3))
   where
     never : (a : Bool) → (a && false) ≡ false

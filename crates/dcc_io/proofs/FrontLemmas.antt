@@ -4,6 +4,7 @@ use Rattle.std.proofs.Common.{false, not, cond, eqb, nat_lt, nat_le, ◌||◌, �
 use Rattle.std.proofs.Common.{IsSomeAnd, refl, sym, ap, ◌∙◌, arith, append_assoc, length-take}
 use Rattle.std.proofs.lemmas.List.{append-nil, take_more, length-take-le}
 use Rattle.std.proofs.lemmas.List.Folds.{list_all_more}
+use Rattle.std.proofs.lemmas.Bool.{and_parts}
 use Rattle.std.proofs.lemmas.Bool.Decides.{nat_tests}
 use Rattle.std.specs.Io.KnownBytes.{Consumes}
 use Rattle.std.specs.List.{list_all}
@@ -21,10 +22,10 @@ use Rattle.dcc_io.specs.PassedWords.{Passed}
 use Rattle.dcc_io.specs.Counted.{TakesHalf}
 use Rattle.dcc_io.proofs.WordsLemmas.{eqb_line_feed, opened, opened-none, opened-word, opened-gap, ended}
 use Rattle.dcc_io.proofs.HandLemmas.{outside}
-use Rattle.dcc_io.proofs.PassedLemmas.{PassesIn, both}
+use Rattle.dcc_io.proofs.PassedLemmas.{PassesIn}
 use Rattle.dcc_io.proofs.SpellsLemmas.{digit_value-digit, is_ascii_digit-digit, digits_value_after-push}
 
-digit_bounds : (byte : ℕ) → is_ascii_digit byte ≡ true → (48 ≤ byte) × (byte ≤ 57)
+pub digit_bounds : (byte : ℕ) → is_ascii_digit byte ≡ true → (48 ≤ byte) × (byte ≤ 57)
 digit_bounds byte digit = (grind (arith, nat_tests), grind (arith, nat_tests))
 
 -- a digit is no gap, begins no comment and ends no line
@@ -52,14 +53,14 @@ plain_digit byte digit = let bounds = digit_bounds byte digit in grind (arith, n
 pub plain_digits : (word : List ℕ) → list_all is_ascii_digit word ≡ true → list_all is_plain word ≡ true
 plain_digits [] digits = refl
 plain_digits (byte ∷ word) digits =
-    let parts = both (is_ascii_digit byte) (list_all is_ascii_digit word) digits in
+    let parts = and_parts (is_ascii_digit byte) (list_all is_ascii_digit word) digits in
     rw (plain_digit byte parts.0, plain_digits word parts.1) refl
 
 opened-plain : (line : ℕ) (front word more : List ℕ) → list_all is_plain word ≡ true
     → opened (outside line) front (word ++ more) ≡ opened (outside line) (front ++ word) more
 opened-plain line front [] more digits = rw (append-nil front) refl
 opened-plain line front (byte ∷ word) more digits =
-    let parts = both (is_plain byte) (list_all is_plain word) digits in
+    let parts = and_parts (is_plain byte) (list_all is_plain word) digits in
     let plain = plain_parts byte parts.0 in
     opened-word (outside line) front byte (word ++ more) plain.no_comment plain.no_gap
     ∙ rw (plain.no_comment, plain.no_line) (opened-plain line (front ++ byte ∷ []) word more parts.1)
@@ -103,7 +104,7 @@ passes_in_comment : (line : ℕ) (used : List ℕ) → list_all is_within_line u
 unfolding comments
 passes_in_comment line [] all more = refl
 passes_in_comment line (byte ∷ used) all more =
-    let parts = both (is_within_line byte) (list_all is_within_line used) all in
+    let parts = and_parts (is_within_line byte) (list_all is_within_line used) all in
     let apart = no_feed byte parts.0 in
     sym (opened-none (comment_place line) (byte ∷ used ++ more))
     ∙ opened-gap (comment_place line) [] byte (used ++ more) (rw apart refl)
@@ -117,9 +118,9 @@ lines_of_byte : (lines line byte : ℕ) (used : List ℕ) (next : ℕ) (more : L
     → list_all is_within_line (byte ∷ used) ≡ true
     → lines_through line line (next ∷ more) ≡ lines_through lines line (byte ∷ used ++ next ∷ more)
 lines_of_byte lines line byte [] next more all =
-    ap (λ n. lines_through line n (next ∷ more)) (sym (stays line byte (both _ true all).0))
+    ap (λ n. lines_through line n (next ∷ more)) (sym (stays line byte (and_parts _ true all).0))
 lines_of_byte lines line byte (second ∷ used) next more all =
-    let parts = both (is_within_line byte) (list_all is_within_line (second ∷ used)) all in
+    let parts = and_parts (is_within_line byte) (list_all is_within_line (second ∷ used)) all in
     lines_of_byte line line second used next more parts.1
     ∙ ap (λ n. lines_through line n (second ∷ used ++ next ∷ more)) (sym (stays line byte parts.0))
 
@@ -132,7 +133,7 @@ lines_of_used lines line (byte ∷ used) next more some all = lines_of_byte line
 plain_within : (word : List ℕ) → list_all is_plain word ≡ true → list_all is_within_line word ≡ true
 plain_within [] plain = refl
 plain_within (byte ∷ word) plain =
-    let parts = both (is_plain byte) (list_all is_plain word) plain in
+    let parts = and_parts (is_plain byte) (list_all is_plain word) plain in
     rw ((plain_parts byte parts.0).no_line, plain_within word parts.1) refl
 
 -- what a word that spells a duration is made of

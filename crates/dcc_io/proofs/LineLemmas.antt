@@ -3,6 +3,7 @@ use Rattle.std.proofs.Common.{zero, suc, ◌≡◌, ℕ, ◌+◌, ◌<◌, List,
 use Rattle.std.proofs.Common.{false, eqb, Option, None, Some, Err, refl, sym, ap, ◌∙◌, subst, arith, append_assoc}
 use Rattle.std.proofs.Common.{length-append, ◌&&◌, IfSome, IsSomeAnd}
 use Rattle.std.proofs.Math.Dec.{leb}
+use Rattle.std.proofs.lemmas.Bool.{and_parts}
 use Rattle.std.proofs.lemmas.Bool.Decides.{nat_tests}
 use Rattle.std.proofs.lemmas.List.Folds.{list_all-append, list_any-append}
 use Rattle.std.specs.Char.{is_ascii}
@@ -18,7 +19,7 @@ use Rattle.dcc_io.specs.NumberedLines.{is_good}
 use Rattle.dcc_io.specs.NextLine.{has_line_feed, lines_within, IsOneLine, EndsLine, IsBadAt}
 use Rattle.dcc_io.specs.NextLine.{MeetsBadLine, AnswersLine}
 use Rattle.dcc_io.specs.Took.{CountsLines, Uses, Took}
-use Rattle.dcc_io.proofs.PassedLemmas.{or_false, both}
+use Rattle.dcc_io.proofs.PassedLemmas.{or_false}
 use Rattle.dcc_io.proofs.TookLemmas.{if_some_map, fails_to_read, has_too_many}
 
 -- where one of two tests fails, one of two that are no easier does
@@ -39,7 +40,7 @@ bad-more line more bad = and_false _ _ _ _ short ascii bad
     short within = let within = rw (length-append line more) at within in grind (arith, nat_tests)
 
     ascii : list_all is_ascii (line ++ more) ≡ true → list_all is_ascii line ≡ true
-    ascii all = (both _ _ (rw (list_all-append is_ascii line more) at all)).0
+    ascii all = (and_parts _ _ (rw (list_all-append is_ascii line more) at all)).0
 
 bad-byte : (line : List ℕ) (byte : ℕ) → (nat_lt (length line) 512 && is_ascii byte) ≡ false
     → is_good (line ++ byte ∷ []) ≡ false
@@ -50,8 +51,8 @@ bad-byte line byte fails = and_false _ _ _ _ short ascii fails
 
     ascii : list_all is_ascii (line ++ byte ∷ []) ≡ true → is_ascii byte ≡ true
     ascii all =
-        let parts = both (list_all is_ascii line) (is_ascii byte && true)
-        (rw (list_all-append is_ascii line (byte ∷ [])) at all) in (both (is_ascii byte) true parts.1).0
+        let parts = and_parts (list_all is_ascii line) (is_ascii byte && true)
+        (rw (list_all-append is_ascii line (byte ∷ [])) at all) in (and_parts (is_ascii byte) true parts.1).0
 
 -- bytes were used, which begin a line
 pub record OpensLine (old : InputState) (line : List ℕ) (now : InputState) : Type 0 where

@@ -76,10 +76,6 @@ pub or_false : (a b : Bool) → (a || b) ≡ false → (a ≡ false) × (b ≡ f
 or_false true b h = cc
 or_false false b h = (refl, h)
 
-pub both : (a b : Bool) → (a && b) ≡ true → (a ≡ true) × (b ≡ true)
-both true b all = (refl, all)
-both false b all = cc
-
 line_feed_is_gap : (byte : ℕ) → byte ≡ 10 → is_gap byte ≡ true
 unfolding is_gap
 line_feed_is_gap byte is_line_feed = rw is_line_feed refl

@@ -3,8 +3,7 @@ use Rattle.std.proofs.Common.{◌≡◌, ◌≢◌, ℕ, ◌+◌, ◌-◌, ◌*�
 use Rattle.std.proofs.Common.{None, Some, length, min, refl, sym, ap, ◌∙◌, subst, arith, length-append, eqb, ◌&&◌}
 use Rattle.std.proofs.lemmas.List.Folds.{list_all-append}
 use Rattle.std.proofs.lemmas.List.{append-nil}
-use Rattle.dcc_io.proofs.PassedLemmas.{both}
-use Rattle.std.proofs.lemmas.Bool.{ne_eqb}
+use Rattle.std.proofs.lemmas.Bool.{and_parts, ne_eqb}
 use Rattle.std.proofs.lemmas.Bool.Decides.{nat_tests}
 use Rattle.std.specs.List.{list_all}
 use Rattle.std.specs.Char.{is_ascii_digit, digit_value}
@@ -77,7 +76,7 @@ pub no_star_in : (test : ℕ → Bool) (word : List ℕ) → test 42 ≡ false �
     → behind_star word ≡ None
 no_star_in test [] other all = refl
 no_star_in test (byte ∷ word) other all =
-    let parts = both (test byte) (list_all test word) all in
+    let parts = and_parts (test byte) (list_all test word) all in
     let apart = ne_eqb byte 42 (λ same. let clash : true ≡ false = sym parts.0 ∙ ap test same ∙ other in cc) in
     rw apart (no_star_in test word other parts.1)
 

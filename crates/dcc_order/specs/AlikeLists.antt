@@ -35,11 +35,6 @@ abbrev pub cut : List Packet → Cut
 cut [] = LastBlock []
 cut (p ∷ later) = if is_own_write p then Block [] p (cut later) else in_first_block p (cut later)
 
--- the cut of a list whose first block is ended by this write, if by any, with that behind it
-abbrev pub cut_by : List Packet → Option Packet → List Packet → Cut
-cut_by block None later = LastBlock block
-cut_by block (Some write) later = Block block write (cut later)
-
 -- a list as a decoder hears it, without third copies, and then cut
 abbrev pub cut_for : Who → List Packet → Cut
 cut_for who packets = cut (without_third_copies (heard who packets))

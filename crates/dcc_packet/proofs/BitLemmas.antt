@@ -4,6 +4,7 @@ use Rattle.std.proofs.Common.{arith, bit_and, bit_or, w8, ap, sym, ◌∙◌}
 use Rattle.std.specs.Prelude.{◌==◌, ◌&&◌, if◌then◌else◌}
 use Rattle.std.specs.Int.{bit_at}
 use Rattle.std.proofs.lemmas.Grind.{common_steps}
+use Rattle.std.proofs.lemmas.Bool.{and_parts}
 use Rattle.std.proofs.lemmas.Bool.Decides.{Decides-eqb, nat_tests}
 use Rattle.std.proofs.lemmas.Nat.{or_lt, and_le_l}
 use Rattle.std.proofs.lemmas.Nat.Bits.{bit_at_or, bit_at-lt, bit_at-pow_same, bit_at-pow_other}
@@ -59,18 +60,14 @@ abbrev all_below : ℕ → (ℕ → Bool) → Bool
 all_below zero test = true
 all_below (suc n) test = test n && all_below n test
 
-both : (a b : Bool) → (a && b) ≡ true → (a ≡ true) × (b ≡ true)
-both true b h = (refl, h)
-both false b h = absurd (cc)
-
-either_by : {A : Type 0} (k n : ℕ) (t : Bool) → (k == n) ≡ t → (k ≡ n → A) → (k ≢ n → A) → A
+pub either_by : {A : Type 0} (k n : ℕ) (t : Bool) → (k == n) ≡ t → (k ≡ n → A) → (k ≢ n → A) → A
 either_by k n true e f g = f ((Decides-eqb k n).0 e)
 either_by k n false e f g = g (λ same. let yes : (k == n) ≡ true = (Decides-eqb k n).1 same in cc)
 
 at_below : (n : ℕ) (test : ℕ → Bool) (k : ℕ) → all_below n test ≡ true → k < n → test k ≡ true
 at_below zero test k all h = absurd (omega arith)
 at_below (suc n) test k all h =
-    let parts : (test n ≡ true) × (all_below n test ≡ true) = both (test n) (all_below n test) all in
+    let parts : (test n ≡ true) × (all_below n test ≡ true) = and_parts (test n) (all_below n test) all in
     either_by k n (k == n) refl (λ e. rw e parts.0) (λ ne. at_below n test k parts.1 (omega arith))
 
 abbrev rebuilt : ℕ → Bool

@@ -31,7 +31,7 @@ one_cv kind c d x y e =
     let low : (c.number - 1) % 256 ≡ (d.number - 1) % 256 = cc in
     (same_cv c d (omega arith), cc)
 
-one_bit : (kind : ℕ) (a b : Bool) (p q : BitPlace) → kind + 8 * bit a + p.place ≡ kind + 8 * bit b + q.place
+pub one_bit : (kind : ℕ) (a b : Bool) (p q : BitPlace) → kind + 8 * bit a + p.place ≡ kind + 8 * bit b + q.place
     → (a ≡ b) × (p ≡ q)
 one_bit kind a b p q e =
     let below_a = bit_below a in

@@ -18,6 +18,7 @@ use Rattle.dcc_regs.specs.declared.register.Value.{Value}
 use Rattle.dcc_regs.specs.declared.register.Value.TheVariants.{Flag}
 use Rattle.dcc_packet.specs.declared.functions.GroupBits.{GroupBits}
 use Rattle.dcc_packet.specs.Bits.{is_one}
+use Rattle.dcc_packet.proofs.BitLemmas.{either_by}
 use Rattle.dcc_regs.specs.FunctionBits.{function_set, group_bit, place_of_f0, first_function, count_of}
 use Rattle.dcc_regs.specs.Sets.{sets}
 use Rattle.dcc_regs.specs.Inner.ConflictParts.{Differ, group_of}
@@ -97,10 +98,6 @@ off_at mode p n e = tt
 pub neither : {A : Type 0} (a b : Option A) → option_or a b ≡ None → (a ≡ None) × (b ≡ None)
 neither (Some x) b e = absurd (cc)
 neither None b e = (refl, e)
-
-either_by : {A : Type 0} (k n : ℕ) (t : Bool) → (k == n) ≡ t → (k ≡ n → A) → (k ≢ n → A) → A
-either_by k n true e f g = f ((Decides-eqb k n).0 e)
-either_by k n false e f g = g (λ same. let yes : (k == n) ≡ true = (Decides-eqb k n).1 same in cc)
 
 pub either : {A : Type 0} (k n : ℕ) → (k ≡ n → A) → (k ≢ n → A) → A
 either k n f g = either_by k n (k == n) refl f g

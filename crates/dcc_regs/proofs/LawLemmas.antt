@@ -70,7 +70,8 @@ mode_bit_stays (CvWrite cv value) e = other_cv cv.number _ _ e
 mode_bit_stays (CvBitWrite cv place one) e = other_bit cv.number place.place _ _ e
 mode_bit_stays what e = refl
 
-bit_stays : (p : Packet) → writes_cv29 p ≡ false → bit_set p 29 1 ≡ None
+-- a packet that does not write CV29 sets no bit of it
+pub bit_stays : (p : Packet) → writes_cv29 p ≡ false → bit_set p 29 1 ≡ None
 bit_stays (ToLoco to what) e = mode_bit_stays what e
 bit_stays p e = refl
 

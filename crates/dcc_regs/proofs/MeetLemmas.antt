@@ -2,6 +2,7 @@
 use Rattle.std.proofs.Common.{◌≡◌, ℕ, ◌≤◌, Bool, true, false, refl, sym, ◌∙◌, ap, arith}
 use Rattle.std.specs.Prelude.{◌==◌, ◌||◌, ◌&&◌, ◌/◌, nat_lt, if◌then◌else◌, Option, None, Some}
 use Rattle.std.specs.Option.{option_map_or}
+use Rattle.std.proofs.lemmas.Bool.{or_right}
 use Rattle.std.proofs.lemmas.Bool.Decides.{nat_tests, Decides-eqb}
 use Rattle.dcc_packet.specs.declared.accessory.Board.{Board}
 use Rattle.dcc_packet.specs.declared.address.Address.{Address}
@@ -28,10 +29,6 @@ joined own n m h k = (Decides-eqb n m).1 (sym ((Decides-eqb own n).0 h) ∙ (Dec
 
 or_first : (a b : Bool) → a ≡ true → (a || b) ≡ true
 or_first a b t = rw t refl
-
-pub or_second : (a b : Bool) → b ≡ true → (a || b) ≡ true
-or_second true b t = refl
-or_second false b t = t
 
 meets_at : (a b : Address) (active : Option Address) → is_for active a ≡ true → is_for active b ≡ true
     → meets a b ≡ true
@@ -154,7 +151,7 @@ by_who p q (BoardWho own) h k =
     let t : some_board p q ≡ true =
     board_to (board_number p) (board_number q) own.number (sym (hears_board own p) ∙ h)
     (sym (hears_board own q) ∙ k) in
-    or_second (some_loco p q) (some_board p q) t
+    or_right (some_loco p q) (some_board p q) t
 
 pub by_together : (p q : Packet) → HeardTogether p q → (some_loco p q || some_board p q) ≡ true
 by_together p q h = by_who p q h.who h.first h.second

@@ -1,7 +1,7 @@
 -- Which packets set no plain register.
 use Rattle.std.proofs.Common.{ℕ, Bool, cond, true, false, ◌≡◌, ◌≤◌, ◌∙◌, ap, refl, sym, Some, None, arith, eqb, inl, inr}
 use Rattle.std.specs.Prelude.{option_map, ◌||◌, ◌&&◌, ◌%◌, ◌⊎◌, nat_le, nat_lt}
-use Rattle.std.proofs.lemmas.Bool.{ltb-false}
+use Rattle.std.proofs.lemmas.Bool.{ltb-false, or_right}
 use Rattle.dcc_packet.specs.declared.accessory.Board.{Board}
 use Rattle.dcc_packet.specs.declared.accessory.Output.{Output}
 use Rattle.dcc_packet.specs.declared.accessory.SignalAddress.{SignalAddress}
@@ -27,7 +27,7 @@ use Rattle.dcc_regs.specs.declared.register.Speed.TheVariants.{Stop, Emergency}
 use Rattle.dcc_packet.specs.Bits.{is_one}
 use Rattle.dcc_regs.specs.FunctionBits.{first_function, function_place}
 use Rattle.dcc_regs.specs.Sets.{SetsNothing}
-use Rattle.dcc_regs.proofs.MeetLemmas.{or_second, self}
+use Rattle.dcc_regs.proofs.MeetLemmas.{self}
 use Rattle.dcc_regs.proofs.OwnWrites.{none_of}
 
 some_is_not_none : {A : Type 0} (a : A) → Some a ≡ None → ⊥
@@ -86,7 +86,7 @@ signal address aspect none =
     let first = eqb address.number 2047 && nat_le n 3 in
     some_is_not_none (Number aspect)
     (sym (ap (λ t. option_map Number (cond (first || t) (Some aspect) None)) (self n)
-    ∙ ap (λ t. option_map Number (cond t (Some aspect) None)) (or_second first true refl)) ∙ none Steps28 (Aspect n))
+    ∙ ap (λ t. option_map Number (cond t (Some aspect) None)) (or_right first true refl)) ∙ none Steps28 (Aspect n))
 
 pub at_accessories : (p : Packet)
     → ((board : Board) × (output : Output) × (on : Bool) × p ≡ Accessory board output on)
@@ -107,7 +107,7 @@ binary_state to state on none = by_number (eqb state.number 0) refl
         let least : nat_le 1 state.number ≡ true = grind (arith, e) in
         let most : nat_le state.number 127 ≡ true = grind (arith, state.in_range) in
         let here : (eqb state.number 0 || eqb state.number state.number) ≡ true =
-        or_second (eqb state.number 0) (eqb state.number state.number) (self state.number) in
+        or_right (eqb state.number 0) (eqb state.number state.number) (self state.number) in
         let is : (nat_le 1 state.number && nat_le state.number 127 && (eqb state.number 0 || eqb state.number state.number)) ≡ true =
         grind (arith, least, most, here) in
         some_is_not_none (Flag on)

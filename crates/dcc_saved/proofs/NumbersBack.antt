@@ -75,7 +75,7 @@ number_back kinds.Out on sound n within is =
 
 module _ (kind : Numbered) (on : ℕ → Bool) (sound : NoState0 kind on) where
   -- the numbers from this one on: the words of those that are on, and the bits that they are read as
-  record Row (n : ℕ) : Type 0 where
+  record NumbersFrom (n : ℕ) : Type 0 where
     words : List Word
     value : ℕ
     written : numbers_below on (end_of kind) ≡ numbers_below on n ++ spaced_words words
@@ -84,8 +84,8 @@ module _ (kind : Numbered) (on : ℕ → Bool) (sound : NoState0 kind on) where
     reads : (least : ℕ) → least ≤ n → numbers_from kind least words ≡ Ok (2 ^ n * value)
     bits : (i j : ℕ) → i ≡ n + j → i < end_of kind → is_one value j ≡ on i
 
-  row_end : Row (end_of kind)
-  row_end = record {
+  none_left : NumbersFrom (end_of kind)
+  none_left = record {
     words = [];
     value = 0;
     written = sym (append-nil (numbers_below on (end_of kind)));
@@ -96,43 +96,43 @@ module _ (kind : Numbered) (on : ℕ → Bool) (sound : NoState0 kind on) where
   }
 
   -- a number more
-  row_before : (n : ℕ) → n < end_of kind → Row (suc n) → Row n
+  one_before : (n : ℕ) → n < end_of kind → NumbersFrom (suc n) → NumbersFrom n
   unfolding numbers_below
-  row_before n within row = go (on n) refl
+  one_before n within later = go (on n) refl
     where
       few : n < 128
       few = omega (arith, within, (kind_is kind).1)
 
       bits : (b : Bool) → on n ≡ b → (i j : ℕ) → i ≡ n + j → i < end_of kind
-          → is_one ((if b then 1 else 0) + 2 * row.value) j ≡ on i
-      bits b is i zero at_i few = let same : i ≡ n = omega (arith, at_i) in rw same (lowest b row.value ∙ sym is)
-      bits b is i (suc j) at_i few = above b row.value j ∙ row.bits i j (omega (arith, at_i)) few
+          → is_one ((if b then 1 else 0) + 2 * later.value) j ≡ on i
+      bits b is i zero at_i few = let same : i ≡ n = omega (arith, at_i) in rw same (lowest b later.value ∙ sym is)
+      bits b is i (suc j) at_i few = above b later.value j ∙ later.bits i j (omega (arith, at_i)) few
 
-      go : (b : Bool) → on n ≡ b → Row n
+      go : (b : Bool) → on n ≡ b → NumbersFrom n
       go true is = record {
-        words = decimal n ∷ row.words;
-        value = 1 + 2 * row.value;
-        written = row.written ∙ rw is (append_assoc (numbers_below on n) (behind_space n) (spaced_words row.words));
-        tokens = (decimal_token n (omega (arith, few)), row.tokens);
-        short = omega (arith, row.short, digits n few, length-append (decimal n) (spaced_words row.words));
+        words = decimal n ∷ later.words;
+        value = 1 + 2 * later.value;
+        written = later.written ∙ rw is (append_assoc (numbers_below on n) (behind_space n) (spaced_words later.words));
+        tokens = (decimal_token n (omega (arith, few)), later.tokens);
+        short = omega (arith, later.short, digits n few, length-append (decimal n) (spaced_words later.words));
         reads = λ least h.
-            rw (number_back kind on sound n within is, le-ltb n least h, row.reads (n + 1) (omega arith), pow-succ' 2 n)
+            rw (number_back kind on sound n within is, le-ltb n least h, later.reads (n + 1) (omega arith), pow-succ' 2 n)
             (ap Ok (omega arith));
         bits = bits true is;
       }
       go false is = record {
-        words = row.words;
-        value = 0 + 2 * row.value;
-        written = row.written ∙ rw is (append_assoc (numbers_below on n) [] (spaced_words row.words));
-        tokens = row.tokens;
-        short = omega (arith, row.short);
-        reads = λ least h. rw (row.reads least (omega (arith, h)), pow-succ' 2 n) (ap Ok (omega arith));
+        words = later.words;
+        value = 0 + 2 * later.value;
+        written = later.written ∙ rw is (append_assoc (numbers_below on n) [] (spaced_words later.words));
+        tokens = later.tokens;
+        short = omega (arith, later.short);
+        reads = λ least h. rw (later.reads least (omega (arith, h)), pow-succ' 2 n) (ap Ok (omega arith));
         bits = bits false is;
       }
 
-  rows : (n : ℕ) → n ≤ end_of kind → Row n → Row 0
-  rows zero few row = row
-  rows (suc n) few row = rows n (omega (arith, few)) (row_before n few row)
+  from_first : (n : ℕ) → n ≤ end_of kind → NumbersFrom n → NumbersFrom 0
+  from_first zero few all = all
+  from_first (suc n) few later = from_first n (omega (arith, few)) (one_before n few later)
 
 -- the line that tells which are on
 pub record ReadsBits (kind : Numbered) (m : RegisterMap) : Type 0 where
@@ -144,11 +144,11 @@ pub numbers_read : (kind : Numbered) (m : RegisterMap) → NoState0 kind (on_of 
 unfolding numbers_below numbers_line
 numbers_read kind m sound =
     let token = (kind_is kind).0 in
-    let row = rows kind (on_of kind m) sound (end_of kind) (omega arith) (row_end kind (on_of kind m) sound) in
+    let all = from_first kind (on_of kind m) sound (end_of kind) (omega arith) (none_left kind (on_of kind m) sound) in
     record {
-      value = row.value;
-      reads = rw row.written (line_reads (numbers_line kind) row.value (name_of kind) row.words (token, row.tokens)
-          (omega (arith, row.short, token.short, length-append (name_of kind) (spaced_words row.words)))
-          (rw ((bytes_eq-Decides (name_of kind) (name_of kind)).1 refl, row.reads 0 (omega arith)) (ap Ok (omega arith))));
-      bits = λ j within. row.bits j j (omega arith) within;
+      value = all.value;
+      reads = rw all.written (line_reads (numbers_line kind) all.value (name_of kind) all.words (token, all.tokens)
+          (omega (arith, all.short, token.short, length-append (name_of kind) (spaced_words all.words)))
+          (rw ((bytes_eq-Decides (name_of kind) (name_of kind)).1 refl, all.reads 0 (omega arith)) (ap Ok (omega arith))));
+      bits = λ j within. all.bits j j (omega arith) within;
     }

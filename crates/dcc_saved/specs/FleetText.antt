@@ -95,7 +95,7 @@ abbrev pub board_line : Board → List ℕ
 board_line board = line_of (codes "board" ∷ decimal board.number ∷ [])
 
 abbrev pub first_four : {A : Type 0} → (ℕ → A) → Four A
-first_four row = (row 0, (row 1, (row 2, row 3)))
+first_four each = (each 0, (each 1, (each 2, each 3)))
 
 abbrev pub written_positions : RegisterMap → List ℕ
 written_positions m =

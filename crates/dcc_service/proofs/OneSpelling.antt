@@ -8,19 +8,13 @@ use Rattle.dcc_service.specs.declared.packet.ServicePacket.TheVariants.{Write, V
 use Rattle.dcc_service.specs.Table.{access_bytes, instruction_bytes, spelling}
 use Rattle.dcc_packet.proofs.Same.{same_bit, bit_below, same_cv, same_place}
 use Rattle.dcc_packet.proofs.FrameParts.{same_bytes}
+use Rattle.dcc_packet.proofs.OneSpelling.{one_bit}
 
 one_cv : (kind : ℕ) (c d : CvNumber) (x y : ℕ) → access_bytes kind c x ≡ access_bytes kind d y → (c ≡ d) × (x ≡ y)
 one_cv kind c d x y e =
     let high : kind + (c.number - 1) / 256 ≡ kind + (d.number - 1) / 256 = cc in
     let low : (c.number - 1) % 256 ≡ (d.number - 1) % 256 = cc in
     (same_cv c d (omega arith), cc)
-
-one_bit : (kind : ℕ) (a b : Bool) (p q : BitPlace) → kind + 8 * bit a + p.place ≡ kind + 8 * bit b + q.place
-    → (a ≡ b) × (p ≡ q)
-one_bit kind a b p q e =
-    let below_a = bit_below a in
-    let below_b = bit_below b in
-    (same_bit a b (omega arith), same_place p q (omega arith))
 
 -- the kinds of access leave the two high bits of the CV's number free
 apart : (kind other : ℕ) (c d : CvNumber) (x y : ℕ) → kind + 4 ≤ other → access_bytes kind c x ≡ access_bytes other d y

@@ -14,7 +14,7 @@ use Rattle.dcc_regs.specs.declared.register.Value.TheVariants.{Flag}
 use Rattle.dcc_regs.specs.Heard.{hears, address_of}
 use Rattle.dcc_regs.specs.Writes.{is_own_write, is_cv_write, cv_bit_set, writes_mode, writes_cv29}
 use Rattle.dcc_regs.proofs.ResultByParts.{sets_bit}
-use Rattle.dcc_regs.proofs.LawLemmas.{one_address}
+use Rattle.dcc_regs.proofs.LawLemmas.{one_address, bit_stays}
 use Rattle.dcc_station.specs.Commands.{is_refreshed, sets_speed_or_functions}
 
 -- an entry and an own write that one decoder hears have one address
@@ -36,16 +36,7 @@ refreshed_is_no_write (Loco (Short n) what) h = no_write what h
 refreshed_is_no_write (Loco (Long n) what) h = no_write what h
 refreshed_is_no_write e h = absurd (cc)
 
-other_cv : (cv : ℕ) → (cv == 29) ≡ false → (29 == cv) ≡ false
-other_cv cv e = grind (arith, nat_tests)
-
-bit_stays : (what : What) → writes_mode what ≡ false → cv_bit_set what 29 1 ≡ None
-bit_stays (CvWrite cv value) e = rw (other_cv cv.number e) refl
-bit_stays (CvBitWrite cv place one) e = rw (other_cv cv.number e) refl
-bit_stays what e = refl
-
 -- a packet that does not write CV29 sets no bit of it
 pub mode_stays : (p : Packet) → writes_cv29 p ≡ false → sets_bit p (CvBit 29 1) ≡ None
 unfolding sets_bit
-mode_stays (Loco to what) h = ap (λ o. option_map Flag o) (bit_stays what h)
-mode_stays p h = refl
+mode_stays p h = ap (λ o. option_map Flag o) (bit_stays p h)

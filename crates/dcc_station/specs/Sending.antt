@@ -65,11 +65,6 @@ abbrev pub EntriesAfter : ℕ → ℕ → Packet → List Packet → List Packet
 EntriesAfter zero slots p entries after = Refreshes slots p entries after
 EntriesAfter (suc sent) slots p entries after = after ≡ entries
 
--- a copy of a command changes the entries and nothing else
-abbrev pub ChangesEntries : Sending → Packet → Sending → Type 0
-ChangesEntries s p new =
-    (after : List Packet) × EntriesAfter s.sent s.slots p s.entries after × (new ≡ record s { entries = after })
-
 -- a station hands out a packet: a copy of the first command that waits, else the front entry, which goes to the end,
 -- else Idle
 abbrev pub HandsOut : List Packet → List Packet → Sending → Packet → Sending → Type 0

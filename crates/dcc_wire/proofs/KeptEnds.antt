@@ -1,7 +1,7 @@
 -- A half with which a body that is kept as plain numbers comes to an outcome.
 use Rattle.std.proofs.Common.{◌≡◌, ◌≢◌, ℕ, ◌⊎◌, inl, inr, Bool, true, false, List, [], ◌∷◌, ◌++◌, Some, None}
 use Rattle.std.proofs.Common.{length, refl, sym, ap, ◌∙◌, arith, length-append, if◌then◌else◌}
-use Rattle.std.proofs.lemmas.Bool.{cases_lt}
+use Rattle.std.proofs.lemmas.Bool.{cases_Bool, cases_lt}
 use Rattle.dcc_wire.specs.declared.half.Half.{Half}
 use Rattle.dcc_wire.specs.declared.seen.Fault.TheVariants.{BadHalf, TooLong}
 use Rattle.dcc_wire.specs.declared.seen.Seen.{Seen}
@@ -18,10 +18,6 @@ use Rattle.dcc_wire.proofs.KeptLemmas.{in_body_rest}
 use Rattle.dcc_wire.proofs.OpenBodies.{answer-bad, answer-bit, answer-split, bad_half, half_of, half_of-bit}
 use Rattle.dcc_wire.proofs.OutcomeLemmas.{answer-closed, answer-full, something_closed}
 use Rattle.dcc_wire.proofs.PackedLemmas.{closed_by_one, length-packed_bits}
-
-one_or_zero : (b : Bool) → (b ≡ true) ⊎ (b ≡ false)
-one_or_zero true = inl refl
-one_or_zero false = inr refl
 
 same_or_apart : (a b : Bool) → (a ≡ b) ⊎ (a ≢ b)
 same_or_apart true true = inl refl
@@ -57,7 +53,7 @@ module _ {k : Kept} (is : IsKept k) (in_body : k.in_body ≡ true) (half : Half)
     whole_shows : ¬ (HasRoomFor k bit) → k.first ≡ bit → k.count ≡ 0 → answer_to (kept_rest k) half ≢ Nothing
     whole_shows no_room same none =
         let packed = is.packed in_body in
-        let whole = second bit same ∙ answer-bit bits bit in elim (one_or_zero bit) [
+        let whole = second bit same ∙ answer-bit bits bit in elim (cases_Bool bit) [
           | inl one ↦ λ nothing.
               let closes = closed_by_one packed none in
               something_closed k.bytes (sym (whole ∙ rw one (answer-closed bits k.bytes closes)) ∙ nothing)
@@ -91,7 +87,7 @@ module _ {k : Kept} (is : IsKept k) (in_body : k.in_body ≡ true) (half : Half)
 
   -- it leaves no room
   pub no_room_shows : (bit : Bool) → bit_of half ≡ Some bit → ¬ (HasRoomFor k bit) → answer_to (kept_rest k) half ≢ Nothing
-  no_room_shows bit of no_room = elim (one_or_zero k.has_first) [
+  no_room_shows bit of no_room = elim (cases_Bool k.has_first) [
     | inl has ↦ second_shows bit of has no_room
     | inr not_yet ↦ absurd (no_room (inl not_yet))
   ]

@@ -9,6 +9,7 @@ use Rattle.std.proofs.Math.ListN.{length-replicate}
 use Rattle.std.proofs.Math.Seq.{take-append_seam, drop-append_seam}
 use Rattle.std.proofs.Math.Nat.{pow-suc}
 use Rattle.std.proofs.lemmas.Nat.{mod-pow-add}
+use Rattle.std.proofs.lemmas.Bool.{and_parts}
 use Rattle.std.proofs.lemmas.Bool.Decides.{nat_tests}
 use Rattle.std.specs.List.{fold}
 use Rattle.std.specs.Option.{option_map}
@@ -225,10 +226,6 @@ pub record Classes (timing : Timing) : Type 0 where
   pub second : class_of timing.zero_second ≡ Zero
   pub preamble : 14 ≤ timing.preamble
   pub most : timing.preamble ≤ 40
-
-and_parts : (a b : Bool) → (a && b) ≡ true → (a ≡ true) × (b ≡ true)
-and_parts true true e = (refl, refl)
-and_parts a b e = cc
 
 not_none : (a b c : Bool)
     → IsTrue
