@@ -12,6 +12,8 @@ pub mod WrittenWords
 pub mod WordsBack
 pub mod Tokens
 pub mod FieldsBack
+pub mod FormsBack
+pub mod InstructionFormsBack
 pub mod LineFieldsBack
 pub mod RoundTrip
 pub mod SameFrames

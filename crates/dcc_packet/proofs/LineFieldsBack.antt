@@ -1,24 +1,18 @@
 -- The fields of packet lines are read back.
 use Rattle.std.proofs.Common.{refl, arith}
 use Rattle.std.specs.Fmt.{decimal}
-use Rattle.dcc_packet.specs.LineWords.{board_number, output_number, signal_number, direction_word, state_word, switch_word}
-use Rattle.dcc_packet.specs.Fields.{both, IsReadBack}
-use Rattle.dcc_packet.specs.LineFields.{board_field, output_field, signal_field, switch_field, switch_of, direction_field, direction_of, bit_field, bit_of, small_field}
-use Rattle.dcc_packet.specs.LineFields.{accessory_fields, signal_fields}
-use Rattle.dcc_packet.proofs.FieldsBack.{one_word_back, both_back}
-use Rattle.dcc_packet.proofs.Tokens.{decimal_token, direction_token, state_token, switch_token}
-use Rattle.dcc_packet.proofs.WordsBack.{small_number-decimal, direction_back, state_back, switch_back, board_back, output_back, signal_back}
-use Rattle.dcc_packet.specs.LineWords.{address, address_word}
-use Rattle.dcc_packet.specs.LineFields.{address_field, number_field}
-use Rattle.dcc_packet.proofs.Tokens.{address_word_token}
-use Rattle.dcc_packet.proofs.WordsBack.{number-decimal, address_back}
-use Rattle.dcc_packet.specs.LineWords.{speed28_bits, speed128_bits, state_number, cv_number, bit_place}
+use Rattle.dcc_packet.specs.Fields.{IsReadBack}
+use Rattle.dcc_packet.specs.LineFields.{address_field, board_field, output_field, signal_field, switch_field, switch_of}
+use Rattle.dcc_packet.specs.LineFields.{direction_field, direction_of, bit_field, bit_of, small_field, number_field}
 use Rattle.dcc_packet.specs.LineFields.{speed28_field, speed128_field, functions_field, state_field, cv_field, place_field}
-use Rattle.dcc_packet.specs.LineFields.{speed28_fields, speed128_fields, state_fields, cv_value_fields, cv_bit_fields}
-use Rattle.dcc_packet.proofs.Tokens.{group_token}
+use Rattle.dcc_packet.specs.LineWords.{address, address_word, board_number, output_number, signal_number, direction_word}
+use Rattle.dcc_packet.specs.LineWords.{state_word, switch_word, speed28_bits, speed128_bits, state_number, cv_number, bit_place}
+use Rattle.dcc_packet.proofs.FieldsBack.{one_word_back}
+use Rattle.dcc_packet.proofs.Tokens.{address_word_token, decimal_token, direction_token, group_token, state_token, switch_token}
+use Rattle.dcc_packet.proofs.WordsBack.{address_back, board_back, cv_back, direction_back, group_back, group_bits_back}
+use Rattle.dcc_packet.proofs.WordsBack.{number-decimal, output_back, place_back, signal_back, small_number-decimal, speed28_bits_back}
+use Rattle.dcc_packet.proofs.WordsBack.{speed128_bits_back, state_back, state_number_back, switch_back}
 use Rattle.dcc_packet.proofs.WrittenWords.{group_is_byte}
-use Rattle.dcc_packet.proofs.WordsBack.{speed28_bits_back, speed128_bits_back, group_back, group_bits_back, state_number_back}
-use Rattle.dcc_packet.proofs.WordsBack.{cv_back, place_back}
 
 pub address_is_back : IsReadBack address_field
 address_is_back = one_word_back address address_word address_back address_word_token
@@ -63,14 +57,6 @@ pub number_is_back : IsReadBack number_field
 number_is_back =
     record { back = λ n rest h. rw (number-decimal n h) refl; tokens = λ n h. (decimal_token n h, tt) }
 
-pub accessory_is_back : IsReadBack accessory_fields
-accessory_is_back =
-    both_back board_field (both output_field switch_field) board_is_back
-    (both_back output_field switch_field output_is_back switch_is_back)
-
-pub signal_line_is_back : IsReadBack signal_fields
-signal_line_is_back = both_back signal_field small_field signal_is_back small_is_back
-
 pub speed28_is_back : IsReadBack speed28_field
 speed28_is_back =
     one_word_back speed28_bits (λ speed. decimal speed.bits) speed28_bits_back
@@ -101,19 +87,3 @@ cv_is_back =
 pub place_is_back : IsReadBack place_field
 place_is_back =
     one_word_back bit_place (λ place. decimal place.place) place_back (λ place. decimal_token place.place (omega arith))
-
-pub speed28_line_is_back : IsReadBack speed28_fields
-speed28_line_is_back = both_back direction_field speed28_field direction_is_back speed28_is_back
-
-pub speed128_line_is_back : IsReadBack speed128_fields
-speed128_line_is_back = both_back direction_field speed128_field direction_is_back speed128_is_back
-
-pub state_line_is_back : IsReadBack state_fields
-state_line_is_back = both_back state_field switch_field state_is_back switch_is_back
-
-pub cv_value_is_back : IsReadBack cv_value_fields
-cv_value_is_back = both_back cv_field small_field cv_is_back small_is_back
-
-pub cv_bit_is_back : IsReadBack cv_bit_fields
-cv_bit_is_back =
-    both_back cv_field (both place_field bit_field) cv_is_back (both_back place_field bit_field place_is_back bit_is_back)

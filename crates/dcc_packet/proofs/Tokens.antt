@@ -9,7 +9,7 @@ use Rattle.std.proofs.lemmas.Bool.Decides.{nat_tests}
 use Rattle.std.proofs.lemmas.Fmt.{decimal_is_IsNumeral}
 use Rattle.dcc_packet.specs.Words.{Word}
 use Rattle.dcc_packet.specs.LineWords.{direction_word, state_word, switch_word}
-use Rattle.dcc_packet.specs.Fields.{is_plain, IsToken}
+use Rattle.dcc_packet.specs.Fields.{is_plain, is_keyword, IsToken}
 use Rattle.dcc_packet.proofs.Decimal.{short}
 use Rattle.dcc_packet.proofs.WrittenWords.{test_from_digits}
 use Rattle.dcc_packet.specs.declared.address.Address.{Address}
@@ -26,8 +26,7 @@ use Rattle.hex.specs.Hex.{encode_lower, encode_with, lower_digits}
 use Rattle.hex.proofs.HexLemmas.{length-encode_with}
 
 -- a word that is written out
-pub keyword_token : (word : Word) → (nat_le 1 (length word) && nat_le (length word) 12 && list_all is_plain word) ≡ true
-    → IsToken word
+pub keyword_token : (word : Word) → is_keyword word ≡ true → IsToken word
 keyword_token word h =
     let all = and_parts (nat_le 1 (length word) && nat_le (length word) 12) (list_all is_plain word) h in
     let size = and_parts (nat_le 1 (length word)) (nat_le (length word) 12) all.0 in

@@ -1,5 +1,5 @@
 -- Fields of lines. A field is a word or a few: which values it may have, how they are read, which words are written.
-use Rattle.std.specs.Prelude.{◌≡◌, ℕ, ◌≤◌, ◌<◌, ◌==◌, ◌&&◌, not, Bool, true, List, [], ◌∷◌, ◌++◌, length}
+use Rattle.std.specs.Prelude.{◌≡◌, ℕ, ◌≤◌, ◌<◌, ◌==◌, nat_le, ◌&&◌, not, Bool, true, List, [], ◌∷◌, ◌++◌, length}
 use Rattle.std.specs.Prelude.{Result, Ok, Err}
 use Rattle.std.specs.Char.{is_ascii}
 use Rattle.std.specs.List.{list_all, AllByRecursion}
@@ -66,6 +66,10 @@ pub record IsToken (word : Word) : Type 0 where
   pub some : 0 < length word
   pub plain : list_all is_plain word ≡ true
   pub short : length word ≤ 12
+
+-- the same as a test
+abbrev pub is_keyword : Word → Bool
+is_keyword word = nat_le 1 (length word) && nat_le (length word) 12 && list_all is_plain word
 
 -- what is written is words, and is read as the value, whatever words stand behind it
 pub record IsReadBack {A : Type 0} (field : FieldOf A) : Type 0 where

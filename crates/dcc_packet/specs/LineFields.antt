@@ -1,28 +1,30 @@
 -- The fields of packet lines.
-use Rattle.std.specs.Prelude.{ℕ, ◌<◌, [], ◌∷◌, Result, Ok}
+use Rattle.std.specs.Prelude.{ℕ, ◌<◌, List, [], ◌∷◌, Result, Ok}
 use Rattle.std.specs.Fmt.{decimal}
 use Rattle.dcc_packet.specs.declared.accessory.Board.{Board}
 use Rattle.dcc_packet.specs.declared.accessory.Output.{Output}
 use Rattle.dcc_packet.specs.declared.accessory.SignalAddress.{SignalAddress}
+use Rattle.dcc_packet.specs.declared.address.Address.{Address}
+use Rattle.dcc_packet.specs.declared.cv.BitPlace.{BitPlace}
+use Rattle.dcc_packet.specs.declared.cv.CvNumber.{CvNumber}
 use Rattle.dcc_packet.specs.declared.fault.PacketFault.{PacketFault}
 use Rattle.dcc_packet.specs.declared.fields.Direction.{Direction}
 use Rattle.dcc_packet.specs.declared.fields.Bit.{Bit}
 use Rattle.dcc_packet.specs.declared.fields.Switch.{Switch}
-use Rattle.dcc_packet.specs.LineWords.{◌>>=◌, small_number, board_number, output_number, switch, signal_number}
-use Rattle.dcc_packet.specs.LineWords.{direction, bit_state, direction_word, state_word, switch_word}
-use Rattle.dcc_packet.specs.Words.{Word}
-use Rattle.dcc_packet.specs.Fields.{FieldOf, one_word, both, word_and_rest}
-use Rattle.dcc_packet.specs.declared.address.Address.{Address}
-use Rattle.dcc_packet.specs.LineWords.{number, address, address_word}
-use Rattle.std.specs.Prelude.{List}
-use Rattle.dcc_packet.specs.declared.cv.BitPlace.{BitPlace}
-use Rattle.dcc_packet.specs.declared.cv.CvNumber.{CvNumber}
 use Rattle.dcc_packet.specs.declared.functions.GroupBits.{GroupBits}
 use Rattle.dcc_packet.specs.declared.speed.SpeedBits28.{SpeedBits28}
 use Rattle.dcc_packet.specs.declared.speed.SpeedBits128.{SpeedBits128}
 use Rattle.dcc_packet.specs.declared.state.StateNumber.{StateNumber}
+use Rattle.dcc_packet.specs.Fields.{FieldOf, one_word, word_and_rest}
+use Rattle.dcc_packet.specs.LineWords.{◌>>=◌, address, address_word, number, small_number, board_number, output_number}
+use Rattle.dcc_packet.specs.LineWords.{signal_number, switch, switch_word, direction, direction_word, bit_state, state_word}
 use Rattle.dcc_packet.specs.LineWords.{speed28_bits, speed128_bits, group, group_bits, group_word, state_number, cv_number}
 use Rattle.dcc_packet.specs.LineWords.{bit_place}
+use Rattle.dcc_packet.specs.Words.{Word}
+
+-- no word
+abbrev pub no_fields : FieldOf (Unit {0})
+no_fields = record { Fits = λ x. Unit {0}; read = λ words. Ok (tt, words); written = λ x. [] }
 
 -- TO
 abbrev pub address_field : FieldOf Address
@@ -118,30 +120,3 @@ cv_field = one_word cv_number (λ cv. decimal cv.number)
 -- PLACE
 abbrev pub place_field : FieldOf BitPlace
 place_field = one_word bit_place (λ place. decimal place.place)
-
--- f|r BITS
-abbrev pub speed28_fields : FieldOf (Direction × SpeedBits28)
-speed28_fields = both direction_field speed28_field
-
-abbrev pub speed128_fields : FieldOf (Direction × SpeedBits128)
-speed128_fields = both direction_field speed128_field
-
--- NUMBER on|off
-abbrev pub state_fields : FieldOf (StateNumber × Switch)
-state_fields = both state_field switch_field
-
--- CV VALUE
-abbrev pub cv_value_fields : FieldOf (CvNumber × ℕ)
-cv_value_fields = both cv_field small_field
-
--- CV PLACE 0|1
-abbrev pub cv_bit_fields : FieldOf (CvNumber × (BitPlace × Bit))
-cv_bit_fields = both cv_field (both place_field bit_field)
-
--- accessory BOARD OUTPUT on|off
-abbrev pub accessory_fields : FieldOf (Board × (Output × Switch))
-accessory_fields = both board_field (both output_field switch_field)
-
--- signal ADDRESS ASPECT
-abbrev pub signal_fields : FieldOf (SignalAddress × ℕ)
-signal_fields = both signal_field small_field

@@ -25,7 +25,7 @@ impl Packet {
 
 /// The same of an instruction.
 #[inline]
-fn has_value(what: &What)
+pub(crate) fn has_value(what: &What)
     ensures { ValueFits what.now }
 {
     match what {

@@ -2,7 +2,7 @@
 ghost use Rattle.dcc_packet.specs.LineFields.{board_field, output_field, signal_field, switch_field, bit_field};
 ghost use Rattle.dcc_packet.specs.LineFields.{direction_field, small_field, number_field, address_field};
 ghost use Rattle.dcc_packet.specs.LineFields.{speed28_field, speed128_field, functions_field, state_field, cv_field};
-ghost use Rattle.dcc_packet.specs.LineFields.{place_field};
+ghost use Rattle.dcc_packet.specs.LineFields.{no_fields, place_field};
 
 use crate::field::{Field, Line};
 use crate::line_word::{
@@ -16,7 +16,7 @@ use crate::to_line_word::{
 use crate::words::Words;
 use crate::{
     Address, BitPlace, Board, CvNumber, GroupBits, Output, PacketFault, SignalAddress, SpeedBits28,
-    SpeedBits128, StateNumber,
+    SpeedBits128, StateNumber, What,
 };
 
 /// `on` or `off`.
@@ -38,6 +38,28 @@ pub struct Direction {
 pub struct Bit {
     /// Whether it is `1`.
     pub one: bool,
+}
+
+/// An access to a CV.
+#[derive(Clone, Copy)]
+pub struct CvAccess {
+    /// The instruction.
+    pub what: What,
+}
+
+/// No word.
+impl Field for () {
+    ghost field = { no_fields };
+
+    ghost most = { 0 };
+
+    fn take(_words: &mut Words) -> Result<(), PacketFault> {
+        Ok(())
+    }
+
+    fn put(&self, _line: &mut Line) {}
+
+    fn is_read_back() {}
 }
 
 impl Field for Address {

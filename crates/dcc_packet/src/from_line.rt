@@ -2,12 +2,13 @@
 ghost use Rattle.std.specs.Prelude.{◌≡◌, IfOk};
 ghost use Rattle.dcc_packet.specs.Words.{words};
 ghost use Rattle.dcc_packet.specs.Spelling.{BytesFit};
-ghost use Rattle.dcc_packet.specs.Line.{idle, accessory, signal, frame, Says, spelling_or_fault};
+ghost use Rattle.dcc_packet.specs.Line.{frame, Says, spelling_or_fault};
 
-use crate::fields::Switch;
+use crate::form::Forms;
 use crate::line_word::hex_frame;
+use crate::packet_forms::PacketForms;
 use crate::words::{Words, is_word};
-use crate::{Board, Output, Packet, PacketFault, SignalAddress};
+use crate::{Packet, PacketFault};
 
 impl Packet {
     /// The packet of a line, which is one of these:
@@ -61,44 +62,14 @@ impl<'a> Words<'a> {
     fn packet(&mut self) -> Result<Packet, PacketFault>
         ensures { Says self.old result }
     {
-        let word = self.word()?;
-        if is_word(word, b"idle") {
-            self.idle()
-        } else if is_word(word, b"loco") {
-            self.loco()
-        } else if is_word(word, b"accessory") {
-            self.accessory()
-        } else if is_word(word, b"signal") {
-            self.signal()
-        } else if is_word(word, b"frame") {
+        let keyword = self.word()?;
+        if is_word(keyword, b"frame") {
             self.frame()
         } else {
-            Err(PacketFault::Word)
+            let packet = <PacketForms as Forms<Packet>>::take(keyword, self)?;
+            self.end()?;
+            Ok(packet)
         }
-    }
-
-    #[tactic(auto, unfolding(crate::specs::Line::idle))]
-    fn idle(&mut self) -> Result<Packet, PacketFault>
-        ensures { result ≡ idle self.old }
-    {
-        self.end()?;
-        Ok(Packet::Idle)
-    }
-
-    #[tactic(auto, unfolding(crate::specs::Line::accessory))]
-    fn accessory(&mut self) -> Result<Packet, PacketFault>
-        ensures { result ≡ accessory self.old }
-    {
-        let (board, (output, Switch { on })): (Board, (Output, Switch)) = self.fields()?;
-        Ok(Packet::Accessory { board, output, on })
-    }
-
-    #[tactic(auto, unfolding(crate::specs::Line::signal))]
-    fn signal(&mut self) -> Result<Packet, PacketFault>
-        ensures { result ≡ signal self.old }
-    {
-        let (address, aspect): (SignalAddress, u8) = self.fields()?;
-        Ok(Packet::Signal { address, aspect })
     }
 
     #[tactic(auto, unfolding(crate::specs::Line::frame))]
