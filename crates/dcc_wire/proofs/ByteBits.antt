@@ -1,77 +1,167 @@
--- The bits of bytes, without an end bit.
-use Rattle.std.proofs.Common.{◌≡◌, ℕ, suc, zero, ◌+◌, ◌-◌, ◌*◌, ◌/◌, ◌%◌, ◌^◌, ◌<◌, ◌≤◌, inl, inr, Bool, true, false}
-use Rattle.std.proofs.Common.{cond, eqb, List, [], ◌∷◌, ◌++◌, length, take, drop, replicate, Some, None, refl, sym}
-use Rattle.std.proofs.Common.{ap, subst, ◌∙◌, arith, append_assoc, length-append, length-take}
-use Rattle.std.proofs.lemmas.List.{take-append-drop}
-use Rattle.std.proofs.lemmas.Bool.{cases_lt}
-use Rattle.std.proofs.Math.ListN.{length-replicate}
-use Rattle.std.proofs.Math.Nat.{div-div-eq-div-mul, pow-suc}
+-- The bits of bytes, and the bytes that bits begin with.
+use Rattle.std.proofs.Common.{◌≡◌, ℕ, suc, zero, ◌+◌, ◌-◌, ◌*◌, ◌/◌, ◌<◌, ◌≤◌, inl, inr, Bool, true, false, cond, eqb}
+use Rattle.std.proofs.Common.{List, [], ◌∷◌, ◌++◌, length, length-append, drop, replicate, Some, None, refl, sym, ap}
+use Rattle.std.proofs.Common.{◌∙◌, arith, ◌^◌, Option, append_assoc, append-nil, ◌⊎◌, take, length-take, add-zero}
+use Rattle.std.specs.Int.{bit_at}
 use Rattle.std.specs.List.{fold}
+use Rattle.std.specs.Option.{option_map}
+use Rattle.std.proofs.Math.ListN.{drop_of_length-le, length-replicate}
+use Rattle.std.proofs.Math.Nat.{pow-suc}
+use Rattle.std.proofs.lemmas.Bool.{cases_lt, lt-ltb, le-ltb, agree_below_at, eqb-true}
+use Rattle.std.proofs.lemmas.Bool.Decides.{nat_tests}
+use Rattle.std.proofs.lemmas.List.{take-append-drop}
+use Rattle.std.proofs.lemmas.Nat.Bits.{bit_at_lowest, bit_at-suc}
+use Rattle.dcc_wire.specs.Bodies.{bits_of, body_bits, number_of}
 use Rattle.dcc_wire.specs.Frames.{AllBytes}
-use Rattle.dcc_wire.specs.Bodies.{bits_of, number_of, body_bits}
 use Rattle.dcc_wire.specs.Outcomes.{bytes_in}
 use Rattle.dcc_wire.specs.Packed.{byte_bits}
-use Rattle.dcc_wire.proofs.BitLemmas.{zero_long, zero_some, option_map-none, option_map_some, some_same}
-use Rattle.dcc_wire.proofs.SendingLemmas.{length-bits_of}
+use mir.Val.{bool_byte}
 
--- Any bits are the bits of a number
+-- options
 
--- the number that bits spell behind another number
-abbrev with_bits : ℕ → List Bool → ℕ
-with_bits number bits = fold (λ a bit. 2 * a + cond bit 1 0) number bits
+pub cases_Option : {A : Type 0} (o : Option A) → (o ≡ None) ⊎ ((x : A) × (o ≡ Some x))
+cases_Option None = inl refl
+cases_Option (Some x) = inr (x, refl)
 
--- without these bits it is the other number
-with_bits-div : (number : ℕ) (bits : List Bool) → with_bits number bits / 2 ^ length bits ≡ number
-with_bits-div number [] = omega arith
-with_bits-div number (bit ∷ bits) =
-    let before : ℕ = 2 * number + cond bit 1 0 in
-    let half : before / 2 ≡ number =
-    elim bit as (λ b. (2 * number + cond b 1 0) / 2 ≡ number) [ true ↦ omega arith | false ↦ omega arith ] in
-    ap (λ k. with_bits before bits / k) (pow-suc 2 (length bits))
-    ∙ sym (div-div-eq-div-mul (with_bits before bits) (2 ^ length bits) 2)
-    ∙ ap (λ k. k / 2) (with_bits-div before bits) ∙ half
+pub some_same : {A : Type 0} {x y : A} → Some x ≡ Some y → x ≡ y
+some_same e = cc
 
-odd : (number : ℕ) → eqb ((2 * number + 1) % 2) 1 ≡ true
-odd number = let one : (2 * number + 1) % 2 ≡ 1 = omega arith in rw one refl
+option_map_some : {A B : Type 0} (f : A → B) (o : Option A) (y : B) → option_map f o ≡ Some y
+    → (x : A) × (o ≡ Some x) × (f x ≡ y)
+option_map_some f None y e = cc
+option_map_some f (Some x) y e = (x, refl, cc)
 
-even : (number : ℕ) → eqb ((2 * number + 0) % 2) 1 ≡ false
-even number = let zero : (2 * number + 0) % 2 ≡ 0 = omega arith in rw zero refl
+option_map-none : {A B : Type 0} (f : A → B) (o : Option A) → option_map f o ≡ None → o ≡ None
+option_map-none f o e = grind arith
 
-bits_of-with_bits : (number : ℕ) (bits : List Bool) → bits_of (length bits) (with_bits number bits) ≡ bits
+-- the bits of a number
+
+pub length-bits_of : (n number : ℕ) → length (bits_of n number) ≡ n
 unfolding bits_of
-bits_of-with_bits number [] = refl
-bits_of-with_bits number (bit ∷ bits) =
-    let before : ℕ = 2 * number + cond bit 1 0 in
-    let first : eqb (before % 2) 1 ≡ bit =
-    elim bit as (λ b. eqb ((2 * number + cond b 1 0) % 2) 1 ≡ b) [ true ↦ odd number | false ↦ even number ] in
-    rw (with_bits-div before bits, first, bits_of-with_bits before bits) refl
+length-bits_of zero number = refl
+length-bits_of (suc n) number = ap suc (length-bits_of n number)
+
+-- the bits of a byte spell it
+pub number_of-bits_of : (byte : ℕ) → byte < 256 → number_of (bits_of 8 byte) ≡ byte
+unfolding number_of bits_of
+number_of-bits_of byte small =
+    eqb-true _ _ (agree_below_at (λ b. eqb (number_of (bits_of 8 b)) b) (λ _. true) 256 byte refl small)
+
+-- a bit that is shifted in
+halved : (s : ℕ) (bit : Bool) → (2 * s + cond bit 1 0) / 2 ≡ s
+halved s bit = grind arith
+
+lowest : (s : ℕ) (bit : Bool) → eqb (bit_at (2 * s + cond bit 1 0) 0) 1 ≡ bit
+lowest s bit = grind (arith, nat_tests, bit_at_lowest)
+
+pub bits_of-bit : (c s : ℕ) (bit : Bool) → bits_of (suc c) (2 * s + cond bit 1 0) ≡ bits_of c s ++ bit ∷ []
+unfolding bits_of
+bits_of-bit zero s bit = rw (lowest s bit)
+bits_of-bit (suc c) s bit = rw (bit_at-suc (2 * s + cond bit 1 0) c, halved s bit, bits_of-bit c s bit)
+
+-- what `u8::from` makes of a bit
+pub byte_of_bool : (bit : Bool) → bool_byte bit ≡ cond bit 1 0
+byte_of_bool bit = grind arith
+
+-- any bits are the bits of a number
+
+bits_of-fold : (c s : ℕ) (bits : List Bool)
+    → bits_of (c + length bits) (fold (λ a bit. 2 * a + cond bit 1 0) s bits) ≡ bits_of c s ++ bits
+bits_of-fold c s [] = rw (add-zero, append-nil)
+bits_of-fold c s (bit ∷ bits) =
+    let more : c + length (bit ∷ bits) ≡ suc c + length bits = omega arith in
+    rw (more, bits_of-fold (suc c) (2 * s + cond bit 1 0) bits, bits_of-bit c s bit, append_assoc)
+
+fold_small : (s : ℕ) (bits : List Bool) → fold (λ a bit. 2 * a + cond bit 1 0) s bits < (s + 1) * 2 ^ length bits
+fold_small s [] = omega arith
+fold_small s (true ∷ bits) = rw (pow-suc 2 (length bits)) (omega (arith, fold_small (2 * s + 1) bits))
+fold_small s (false ∷ bits) = rw (pow-suc 2 (length bits)) (omega (arith, fold_small (2 * s + 0) bits))
 
 pub bits_of-number_of : (bits : List Bool) → length bits ≡ 8 → bits_of 8 (number_of bits) ≡ bits
-unfolding number_of
-bits_of-number_of bits eight = subst (λ n. bits_of n (number_of bits) ≡ bits) eight (bits_of-with_bits 0 bits)
+unfolding number_of bits_of
+bits_of-number_of bits eight = let all : 0 + length bits ≡ 8 = omega arith in rw all at (bits_of-fold 0 0 bits)
 
 pub number_of-small : (bits : List Bool) → length bits ≡ 8 → number_of bits < 256
 unfolding number_of
-number_of-small bits eight =
-    let none : number_of bits / 2 ^ 8 ≡ 0 = subst (λ n. number_of bits / 2 ^ n ≡ 0) eight (with_bits-div 0 bits) in
-    omega arith
+number_of-small bits eight = let small = rw eight at (fold_small 0 bits) in omega (arith, small)
 
--- The bits of bytes
+-- the bits of bytes
 
 pub body_bits-end : (bytes : List ℕ) → body_bits bytes ≡ byte_bits bytes ++ true ∷ []
-unfolding body_bits byte_bits
+unfolding body_bits byte_bits bits_of
 body_bits-end [] = refl
-body_bits-end (byte ∷ bytes) =
-    ap (λ l. false ∷ bits_of 8 byte ++ l) (body_bits-end bytes)
-    ∙ ap (λ l. false ∷ l) (sym (append_assoc (bits_of 8 byte) (byte_bits bytes) (true ∷ [])))
+body_bits-end (byte ∷ bytes) = rw (body_bits-end bytes)
+
+pub byte_bits-append : (xs ys : List ℕ) → byte_bits (xs ++ ys) ≡ byte_bits xs ++ byte_bits ys
+unfolding byte_bits bits_of
+byte_bits-append [] ys = refl
+byte_bits-append (byte ∷ xs) ys = rw (byte_bits-append xs ys)
 
 pub length-byte_bits : (bytes : List ℕ) → length (byte_bits bytes) ≡ 9 * length bytes
-unfolding byte_bits
+unfolding byte_bits bits_of
 length-byte_bits [] = refl
-length-byte_bits (byte ∷ bytes) =
-    omega (arith, length-append (bits_of 8 byte) (byte_bits bytes), length-bits_of 8 byte, length-byte_bits bytes)
+length-byte_bits (byte ∷ bytes) = omega (arith, length-byte_bits bytes)
 
--- Bits that bytes were read from begin with those bytes and the bit that closes them
+pub length-body_bits : (bytes : List ℕ) → length (body_bits bytes) ≡ 9 * length bytes + 1
+length-body_bits bytes =
+    rw (body_bits-end bytes) (omega (arith, length-append (byte_bits bytes) (true ∷ []), length-byte_bits bytes))
+
+pub AllBytes-append : (xs ys : List ℕ) → AllBytes xs → AllBytes ys → AllBytes (xs ++ ys)
+unfolding AllBytes
+AllBytes-append [] ys all more = more
+AllBytes-append (byte ∷ xs) ys all more = (all.0, AllBytes-append xs ys all.1 more)
+
+-- what is read from a zero and the bits behind it
+
+zero_long : (n : ℕ) (bits : List Bool) → 8 ≤ length bits
+    → bytes_in (suc n) (false ∷ bits) ≡ option_map (λ q. (number_of (take 8 bits) ∷ q.0, q.1)) (bytes_in n (drop 8 bits))
+unfolding bytes_in
+zero_long n bits h = rw (le-ltb (length bits) 8 h)
+
+pub zero_short : (n : ℕ) (bits : List Bool) → length bits ≤ 8 → bytes_in (suc n) (false ∷ bits) ≡ None
+unfolding bytes_in
+zero_short n bits h = elim (cases_lt (length bits) 8) [
+  | inl short ↦ rw (lt-ltb (length bits) 8 short)
+  | inr long ↦ zero_long n bits long ∙ rw (drop_of_length-le bits {i = 8} h)
+]
+
+pub bytes_in-byte : (n byte : ℕ) (more : List Bool) → byte < 256
+    → bytes_in (suc n) (false ∷ bits_of 8 byte ++ more)
+    ≡ option_map {U = List ℕ × Bool} (λ q. (byte ∷ q.0, q.1)) (bytes_in n more)
+unfolding bits_of
+bytes_in-byte n byte more small =
+    zero_long n (bits_of 8 byte ++ more) (omega arith) ∙ rw (number_of-bits_of byte small)
+
+-- eight bits are a byte, and it is read
+first_byte : (n : ℕ) (bits : List Bool) → 8 ≤ length bits
+    → (byte : ℕ) × (byte < 256) × (rest : List Bool) × (bits ≡ bits_of 8 byte ++ rest)
+    × (bytes_in (suc n) (false ∷ bits) ≡ option_map {U = List ℕ × Bool} (λ q. (byte ∷ q.0, q.1)) (bytes_in n rest))
+first_byte n bits long =
+    let eight : length (take 8 bits) ≡ 8 = omega (arith, length-take 8 bits) in (
+      number_of (take 8 bits),
+      number_of-small (take 8 bits) eight,
+      drop 8 bits,
+      rw (bits_of-number_of (take 8 bits) eight, take-append-drop),
+      zero_long n bits long,
+    )
+
+-- bytes and the bit that closes them are read, whatever follows
+pub bytes_in-closed : (n : ℕ) (bytes : List ℕ) (last : Bool) (more : List Bool) → AllBytes bytes → length bytes ≤ n
+    → (last ≡ false → length bytes ≡ n) → bytes_in n (byte_bits bytes ++ last ∷ more) ≡ Some (bytes, last)
+unfolding byte_bits bits_of bytes_in AllBytes
+bytes_in-closed n [] true more each few full = refl
+bytes_in-closed zero [] false more each few full = refl
+bytes_in-closed (suc n) [] false more each few full = absurd (omega (arith, full refl))
+bytes_in-closed zero (byte ∷ bytes) last more each few full = absurd (omega (arith, few))
+bytes_in-closed (suc n) (byte ∷ bytes) last more each few full =
+    bytes_in-byte n byte (byte_bits bytes ++ last ∷ more) each.0
+    ∙ rw (bytes_in-closed n bytes last more each.1 (omega (arith, few)) (λ zero_last. omega (arith, full zero_last)))
+
+pub bytes_in-body : (n : ℕ) (bytes : List ℕ) → AllBytes bytes → length bytes ≤ n
+    → bytes_in n (body_bits bytes) ≡ Some (bytes, true)
+bytes_in-body n bytes each few = rw body_bits-end (bytes_in-closed n bytes true [] each few (λ e. cc))
+
+-- bits that bytes were read from begin with those bytes and the bit that closes them
 
 pub record Reads (n : ℕ) (bits : List Bool) (bytes : List ℕ) (last : Bool) : Type 0 where
   pub each : AllBytes bytes
@@ -80,100 +170,90 @@ pub record Reads (n : ℕ) (bits : List Bool) (bytes : List ℕ) (last : Bool) :
   pub more : List Bool
   pub is : bits ≡ byte_bits bytes ++ last ∷ more
 
-reads_more : (n : ℕ) (bits : List Bool) (bytes : List ℕ) (last : Bool) → 8 ≤ length bits
-    → Reads n (drop 8 bits) bytes last → Reads (suc n) (false ∷ bits) (number_of (take 8 bits) ∷ bytes) last
-unfolding AllBytes byte_bits
-reads_more n bits bytes last long r =
-    let byte : List Bool = take 8 bits in
-    let eight : length byte ≡ 8 = omega (arith, length-take 8 bits) in
-    record {
-      each = (number_of-small byte eight, r.each);
-      few = omega (arith, r.few);
-      full = λ e. ap suc (r.full e);
-      more = r.more;
-      is = ap (λ l. false ∷ l)
-          (sym (take-append-drop 8 bits) ∙ ap (λ l. byte ++ l) r.is
-          ∙ ap (λ l. l ++ (byte_bits bytes ++ last ∷ r.more)) (sym (bits_of-number_of byte eight))
-          ∙ sym (append_assoc (bits_of 8 (number_of byte)) (byte_bits bytes) (last ∷ r.more)));
-    }
+pub bytes_in-reads : (n : ℕ) (bits : List Bool) (p : List ℕ × Bool) → bytes_in n bits ≡ Some p → Reads n bits p.0 p.1
+unfolding bytes_in AllBytes byte_bits bits_of
+bytes_in-reads n [] p e = cc
+bytes_in-reads n (true ∷ bits) p e =
+    rw (← some_same e) (record { each = tt; few = omega arith; full = λ q. cc; more = bits; is = refl })
+bytes_in-reads zero (false ∷ bits) p e =
+    rw (← some_same e) (record { each = tt; few = omega arith; full = λ q. refl; more = bits; is = refl })
+bytes_in-reads (suc n) (false ∷ bits) p e = elim (cases_lt (length bits) 8) [
+  | inl short ↦ absurd (cc (zero_short n bits (omega (arith, short))))
+  | inr long ↦
+      let b = first_byte n bits long in
+      let w = option_map_some _ (bytes_in n b.2) p (sym b.4 ∙ e) in
+      let r = bytes_in-reads n b.2 w.0 w.1 in
+      rw (← w.2) (record {
+        each = (b.1, r.each);
+        few = omega (arith, r.few);
+        full = λ zero_last. ap suc (r.full zero_last);
+        more = r.more;
+        is = ap (λ l. false ∷ l) b.3 ∙ ap (λ l. false ∷ bits_of 8 b.0 ++ l) r.is;
+      })
+]
 
-pub bytes_in-reads : (n : ℕ) (bits : List Bool) (bytes : List ℕ) (last : Bool) → bytes_in n bits ≡ Some (bytes, last)
-    → Reads n bits bytes last
-unfolding bytes_in AllBytes byte_bits
-bytes_in-reads n [] bytes last e = cc
-bytes_in-reads n (true ∷ bits) bytes last e =
-    subst (λ (p : List ℕ × Bool). Reads n (true ∷ bits) p.0 p.1) (some_same e)
-    (record { each = tt; few = omega arith; full = λ q. cc; more = bits; is = refl })
-bytes_in-reads zero (false ∷ bits) bytes last e =
-    subst (λ (p : List ℕ × Bool). Reads zero (false ∷ bits) p.0 p.1) (some_same e)
-    (record { each = tt; few = omega arith; full = λ q. refl; more = bits; is = refl })
-bytes_in-reads (suc n) (false ∷ bits) bytes last e =
-    let long : 8 ≤ length bits = zero_some n bits (bytes, last) e in
-    let w = option_map_some (λ q. (number_of (take 8 bits) ∷ q.0, q.1)) (bytes_in n (drop 8 bits)) (bytes, last)
-    (sym (zero_long n bits long) ∙ e) in
-    let inner = bytes_in-reads n (drop 8 bits) w.0.0 w.0.1 w.1 in
-    subst (λ (p : List ℕ × Bool). Reads (suc n) (false ∷ bits) p.0 p.1) w.2 (reads_more n bits w.0.0 w.0.1 long inner)
+pub bytes_in-more : (n : ℕ) (bits more : List Bool) (p : List ℕ × Bool) → bytes_in n bits ≡ Some p
+    → bytes_in n (bits ++ more) ≡ Some p
+bytes_in-more n bits more p e =
+    let r = bytes_in-reads n bits p e in
+    rw (r.is, append_assoc) (bytes_in-closed n p.0 p.1 (r.more ++ more) r.each r.few r.full)
 
--- Bits that nothing was read from begin some n bytes
+pub bytes_in-long : (n : ℕ) (bits : List Bool) (p : List ℕ × Bool) → bytes_in n bits ≡ Some p
+    → 9 * length p.0 + 1 ≤ length bits
+bytes_in-long n bits p e =
+    let r = bytes_in-reads n bits p e in
+    omega (arith, ap length r.is, length-append (byte_bits p.0) (p.1 ∷ r.more), length-byte_bits p.0)
 
-pub record Begins (n : ℕ) (bits : List Bool) : Type 0 where
-  pub bytes : List ℕ
-  pub each : AllBytes bytes
-  pub all : length bytes ≡ n
-  pub more : List Bool
-  pub is : byte_bits bytes ≡ bits ++ more
+-- one bit more closes whole bytes, or nothing
+pub next_bit : (n : ℕ) (bits : List Bool) (bit : Bool) → bytes_in n bits ≡ None
+    → (bytes_in n (bits ++ bit ∷ []) ≡ None)
+    ⊎ ((bytes : List ℕ) × (9 * length bytes ≡ length bits) × (bytes_in n (bits ++ bit ∷ []) ≡ Some (bytes, bit)))
+unfolding bytes_in bits_of
+next_bit n [] true e = inr ([], refl, refl)
+next_bit zero [] false e = inr ([], refl, refl)
+next_bit (suc n) [] false e = inl refl
+next_bit n (true ∷ bits) bit e = cc
+next_bit zero (false ∷ bits) bit e = cc
+next_bit (suc n) (false ∷ bits) bit e = elim (cases_lt (length bits) 8) [
+  | inl short ↦ inl (zero_short n (bits ++ bit ∷ []) (omega (arith, length-append bits (bit ∷ []))))
+  | inr long ↦
+      let b = first_byte n bits long in
+      let next = ap (λ l. bytes_in (suc n) (false ∷ l ++ bit ∷ [])) b.3 ∙ bytes_in-byte n b.0 (b.2 ++ bit ∷ []) b.1 in
+      elim (next_bit n b.2 bit (option_map-none _ (bytes_in n b.2) (sym b.4 ∙ e))) [
+        | inl none ↦ inl (next ∙ rw none)
+        | inr (bytes, whole, is) ↦ inr (b.0 ∷ bytes, omega (arith, whole, ap length b.3), next ∙ rw is)
+      ]
+]
+
+-- bits that nothing was read from begin some n bytes
+
+abbrev pub Begins : ℕ → List Bool → Type 0
+Begins n bits =
+    (bytes : List ℕ) × AllBytes bytes × (length bytes ≡ n) × (more : List Bool) × (byte_bits bytes ≡ bits ++ more)
 
 zeros : (n : ℕ) → AllBytes (replicate n 0)
 unfolding AllBytes
 zeros zero = tt
 zeros (suc n) = (omega arith, zeros n)
 
-begins_short : (n : ℕ) (bits : List Bool) → length bits < 8 → Begins (suc n) (false ∷ bits)
-unfolding AllBytes byte_bits
-begins_short n bits short =
-    let rest : List Bool = replicate (8 - length bits) false in
-    let byte : List Bool = bits ++ rest in
-    let eight : length byte ≡ 8 = omega (arith, length-append bits rest, length-replicate (8 - length bits) false) in
-    record {
-      bytes = number_of byte ∷ replicate n 0;
-      each = (number_of-small byte eight, zeros n);
-      all = omega (arith, length-replicate {A = ℕ} n 0);
-      more = rest ++ byte_bits (replicate n 0);
-      is = ap (λ l. false ∷ l ++ byte_bits (replicate n 0)) (bits_of-number_of byte eight)
-          ∙ ap (λ l. false ∷ l) (append_assoc bits rest (byte_bits (replicate n 0)));
-    }
-
-begins_more : (n : ℕ) (bits : List Bool) → 8 ≤ length bits → Begins n (drop 8 bits) → Begins (suc n) (false ∷ bits)
-unfolding AllBytes byte_bits
-begins_more n bits long b =
-    let byte : List Bool = take 8 bits in
-    let eight : length byte ≡ 8 = omega (arith, length-take 8 bits) in
-    record {
-      bytes = number_of byte ∷ b.bytes;
-      each = (number_of-small byte eight, b.each);
-      all = ap suc b.all;
-      more = b.more;
-      is = ap (λ l. false ∷ l)
-          (ap (λ l. l ++ byte_bits b.bytes) (bits_of-number_of byte eight) ∙ ap (λ l. byte ++ l) b.is
-          ∙ sym (append_assoc byte (drop 8 bits) b.more) ∙ ap (λ l. l ++ b.more) (take-append-drop 8 bits));
-    }
-
 pub bytes_in-begins : (n : ℕ) (bits : List Bool) → bytes_in n bits ≡ None → Begins n bits
-unfolding bytes_in byte_bits
-bytes_in-begins n [] e =
-    record {
-      bytes = replicate n 0;
-      each = zeros n;
-      all = length-replicate {A = ℕ} n 0;
-      more = byte_bits (replicate n 0);
-      is = refl;
-    }
+unfolding bytes_in AllBytes byte_bits
+bytes_in-begins n [] e = (replicate n 0, zeros n, length-replicate n 0, byte_bits (replicate n 0), refl)
 bytes_in-begins n (true ∷ bits) e = cc
 bytes_in-begins zero (false ∷ bits) e = cc
 bytes_in-begins (suc n) (false ∷ bits) e = elim (cases_lt (length bits) 8) [
-  | inl short ↦ begins_short n bits short
-  | inr long ↦ begins_more n bits long
-      (bytes_in-begins n (drop 8 bits)
-      (option_map-none (λ q. (number_of (take 8 bits) ∷ q.0, q.1)) (bytes_in n (drop 8 bits))
-      (sym (zero_long n bits long) ∙ e)))
+  | inl short ↦
+      let fill : List Bool = replicate (8 - length bits) false in
+      let eight : length (bits ++ fill) ≡ 8 = omega (arith, length-append {A = Bool}, length-replicate {A = Bool}) in (
+        number_of (bits ++ fill) ∷ replicate n 0,
+        (number_of-small (bits ++ fill) eight, zeros n),
+        ap suc (length-replicate n 0),
+        fill ++ byte_bits (replicate n 0),
+        rw (bits_of-number_of (bits ++ fill) eight, append_assoc),
+      )
+  | inr long ↦
+      let f = first_byte n bits long in
+      let b = bytes_in-begins n f.2 (option_map-none _ (bytes_in n f.2) (sym f.4 ∙ e)) in
+      let is = append_assoc (bits_of 8 f.0) f.2 b.3 in
+      (f.0 ∷ b.0, (f.1, b.1), ap suc b.2, b.3, ap (λ l. false ∷ l) (rw b.4 (sym is) ∙ ap (λ l. l ++ b.3) (sym f.3)))
 ]

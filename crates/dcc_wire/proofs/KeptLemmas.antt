@@ -1,40 +1,35 @@
--- One half more of a body that is kept as plain numbers, where it shows nothing.
-use Rattle.std.proofs.Common.{◌≡◌, ℕ, ◌+◌, ◌*◌, ◌<◌, ◌++◌, Bool, true, false, cond, List, [], ◌∷◌, Some, None}
-use Rattle.std.proofs.Common.{inl, inr, arith, bit_xor, ◌≤◌, refl, sym, ap, ◌∙◌, subst, append-nil, if◌then◌else◌}
+-- One half more of a body that is kept as plain numbers.
+use Rattle.std.proofs.Common.{◌≡◌, ℕ, ◌+◌, ◌*◌, ◌<◌, ◌≤◌, inl, inr, Bool, true, false, cond, List, [], ◌∷◌, ◌++◌}
+use Rattle.std.proofs.Common.{length, Some, None, refl, sym, ◌∙◌, arith, bit_xor, append-nil, subst, ◌≢◌, ◌⊎◌}
+use Rattle.std.proofs.Common.{if◌then◌else◌}
+use Rattle.std.proofs.lemmas.Bool.{cases_lt, true_from_ne_false}
 use Rattle.dcc_wire.specs.declared.half.Half.{Half}
 use Rattle.dcc_wire.specs.declared.half.Half.TheVariants.{Zero}
-use Rattle.dcc_wire.specs.declared.seen.Seen.TheVariants.{Nothing}
-use Rattle.dcc_wire.specs.Bodies.{bits_of, first_half, halves_of}
+use Rattle.dcc_wire.specs.declared.seen.Fault.TheVariants.{BadHalf}
+use Rattle.dcc_wire.specs.declared.seen.Seen.TheVariants.{Nothing, Refused}
+use Rattle.dcc_wire.specs.Bodies.{bits_of, halves_of, first_half}
 use Rattle.dcc_wire.specs.Framing.{Hunting, InBody}
 use Rattle.dcc_wire.specs.Half.{bit_of}
-use Rattle.dcc_wire.specs.Inner.KeptSteps.{FitsBehind, Grows, HasRoomFor}
+use Rattle.dcc_wire.specs.Inner.KeptSteps.{HasRoomFor, FitsBehind, Grows}
 use Rattle.dcc_wire.specs.Inner.Steps.{rest_after, answer_to, answer_of, left_of}
-use Rattle.dcc_wire.specs.Kept.{Kept, IsKept, kept_halves, kept_rest}
-use Rattle.dcc_wire.specs.Outcomes.{bytes_in, outcome_of}
+use Rattle.dcc_wire.specs.Kept.{Kept, IsKept, kept_rest}
+use Rattle.dcc_wire.specs.Outcomes.{outcome_of}
 use Rattle.dcc_wire.specs.Packed.{IsPacked, byte_bits, packed_bits}
+use Rattle.dcc_wire.proofs.BitLemmas.{half_of}
 use Rattle.dcc_wire.proofs.HistoryLemmas.{HasHistory, history_more}
-use Rattle.dcc_wire.proofs.OpenBodies.{answer-bit, answer-first, bit_more, first_more, half_of, half_of-bit}
-use Rattle.dcc_wire.proofs.OutcomeLemmas.{answer-open, outcome_of-something}
-use Rattle.dcc_wire.proofs.PackedLemmas.{packed_bits-byte, packed_bits-more, packed_more}
-use Rattle.dcc_wire.proofs.PackedLemmas.{packed_none, packed_open, packed_whole}
+use Rattle.dcc_wire.proofs.OpenBodies.{answer-bad, answer-bit, answer-first, answer-split, bit_more, first_more}
+use Rattle.dcc_wire.proofs.OpenBodies.{bad_half, half_of-bit}
+use Rattle.dcc_wire.proofs.OutcomeLemmas.{answer-open, closed_something, outcome_of-something}
+use Rattle.dcc_wire.proofs.PackedLemmas.{answer-closed, packed_bits-byte, packed_bits-more, packed_more, packed_none}
+use Rattle.dcc_wire.proofs.PackedLemmas.{packed_open, packed_whole}
 
-pub in_body_rest : (k : Kept) (has_first : Bool) → k.in_body ≡ true → k.has_first ≡ has_first
+in_body_rest : (k : Kept) (has_first : Bool) → k.in_body ≡ true → k.has_first ≡ has_first
     → kept_rest k ≡ InBody (halves_of (packed_bits k.bytes k.count k.shift) ++ first_half
     (if has_first then Some k.first else None))
-in_body_rest k has_first in_body e =
-    ap (λ b. if b then InBody (kept_halves k) else Hunting k.ones) in_body
-    ∙ ap (λ b. InBody (halves_of (packed_bits k.bytes k.count k.shift) ++ first_half (if b then Some k.first else None))) e
+in_body_rest k has_first in_body e = rw (in_body, e)
 
-grown : (halves : List Half) (half : Half) (longer : List Half) → halves ++ half ∷ [] ≡ longer
-    → answer_of (outcome_of longer) ≡ Nothing
-    → (rest_after (InBody halves) half ≡ InBody longer) × (answer_to (InBody halves) half ≡ Nothing)
-unfolding rest_after left_of answer_to
-grown halves half longer e nothing = (
-  ap (λ l. left_of l (outcome_of l)) e ∙ ap (left_of longer) (outcome_of-something longer nothing),
-  ap (λ l. answer_of (outcome_of l)) e ∙ nothing,
-)
+-- where it shows nothing, by what it leaves open
 
--- one half more, by what it leaves open
 grown_to : {k : Kept} (is : IsKept k) (half : Half) (new : Kept) → kept_rest new ≡ rest_after (kept_rest k) half
     → answer_to (kept_rest k) half ≡ Nothing → (new.in_body ≡ true → IsPacked new.bytes new.xor new.count new.shift)
     → Grows k half new
@@ -50,8 +45,7 @@ grown_to {k} is half new after answer packed = record {
 
 pub bit_of-half_of : (bit : Bool) → bit_of (half_of bit) ≡ Some bit
 unfolding half_of
-bit_of-half_of true = refl
-bit_of-half_of false = refl
+bit_of-half_of bit = grind arith
 
 -- what fits behind a first half
 fits : {k : Kept} {bit : Bool} → k.has_first ≡ true → HasRoomFor k bit → FitsBehind k bit
@@ -63,22 +57,19 @@ module _ {k : Kept} (is : IsKept k) (in_body : k.in_body ≡ true) (half : Half)
   grows : (halves longer : List Half) (new : Kept) → kept_rest k ≡ InBody halves → kept_rest new ≡ InBody longer
       → halves ++ half ∷ [] ≡ longer → answer_of (outcome_of longer) ≡ Nothing
       → (new.in_body ≡ true → IsPacked new.bytes new.xor new.count new.shift) → Grows k half new
+  unfolding rest_after left_of answer_to
   grows halves longer new before behind e nothing packed =
-      let more = grown halves half longer e nothing in
-      grown_to is half new (behind ∙ sym (ap (λ r. rest_after r half) before ∙ more.0))
-      (ap (λ r. answer_to r half) before ∙ more.1) packed
+      grown_to is half new (rw (behind, before, e, outcome_of-something longer nothing)) (rw (before, e) nothing) packed
 
   -- the first half of a bit
   pub first_comes : k.has_first ≡ false → Grows k half (record k { has_first = true; first = bit })
   first_comes not_yet =
       let bits = packed_bits k.bytes k.count k.shift in
       let new : Kept = record k { has_first = true; first = bit } in
-      let e = half_of-bit half bit of in
       grows (halves_of bits ++ first_half None) (halves_of bits ++ first_half (Some bit)) new
       (in_body_rest k false in_body not_yet) (in_body_rest new true in_body refl)
-      (ap (λ h. (halves_of bits ++ first_half None) ++ h ∷ []) e ∙ sym (first_more bits bit))
-      (ap (λ l. answer_of (outcome_of l)) (first_more bits bit) ∙ answer-first bits (is.unfinished in_body) bit)
-      is.packed
+      (rw (half_of-bit half bit of) (sym (first_more bits bit)))
+      (rw (first_more bits bit) (answer-first bits (is.unfinished in_body) bit)) is.packed
 
   -- the second half of a bit, which leaves these bits
   completes : FitsBehind k bit → (bytes : List ℕ) (xor count shift : ℕ)
@@ -88,18 +79,12 @@ module _ {k : Kept} (is : IsKept k) (in_body : k.in_body ≡ true) (half : Half)
   completes behind bytes xor count shift whole packed =
       let bits = packed_bits k.bytes k.count k.shift in
       let new : Kept = record k { has_first = false; xor = xor; shift = shift; count = count; bytes = bytes } in
-      let longer = halves_of (bits ++ bit ∷ []) ++ first_half None in
-      let e : (halves_of bits ++ first_half (Some bit)) ++ half ∷ [] ≡ longer =
-      ap (λ h. (halves_of bits ++ first_half (Some bit)) ++ h ∷ []) (half_of-bit half bit of) ∙ sym (bit_more bits bit)
-      ∙ sym (append-nil (halves_of (bits ++ bit ∷ []))) in
-      grows (halves_of bits ++ first_half (Some bit)) longer new
-      (in_body_rest k true in_body behind.has_first
-      ∙ ap (λ b. InBody (halves_of bits ++ first_half (Some b))) behind.same)
-      (in_body_rest new false in_body refl ∙ ap (λ l. InBody (halves_of l ++ first_half None)) whole) e
-      (ap (λ l. answer_of (outcome_of l)) (append-nil (halves_of (bits ++ bit ∷ [])) ∙ bit_more bits bit)
-      ∙ answer-bit bits bit
-      ∙ answer-open (bits ++ bit ∷ [])
-      (subst (λ l. bytes_in 6 l ≡ None) whole (packed_open packed)))
+      grows (halves_of bits ++ first_half (Some bit)) (halves_of (bits ++ bit ∷ []) ++ first_half None) new
+      (in_body_rest k true in_body behind.has_first ∙ rw behind.same)
+      (in_body_rest new false in_body refl ∙ rw whole)
+      (rw (half_of-bit half bit of, append-nil) (sym (bit_more bits bit)))
+      (rw (append-nil, bit_more bits bit)
+      (answer-bit bits bit ∙ answer-open (bits ++ bit ∷ []) (rw whole at (packed_open packed))))
       (λ in_it. packed)
 
   module _ (has : k.has_first ≡ true) (room : HasRoomFor k bit) {number : ℕ} (e : number ≡ cond bit 1 0) where
@@ -130,18 +115,6 @@ module _ {k : Kept} (is : IsKept k) (in_body : k.in_body ≡ true) (half : Half)
 
 -- a half between bodies
 module _ {k : Kept} (is : IsKept k) (out : k.in_body ≡ false) (half : Half) where
-  between : kept_rest k ≡ Hunting k.ones
-  between = ap (λ b. if b then InBody (kept_halves k) else Hunting k.ones) out
-
-  answers_nothing : answer_to (kept_rest k) half ≡ Nothing
-  unfolding answer_to
-  answers_nothing = ap (λ r. answer_to r half) between
-
-  begun : (bytes : List ℕ) → bytes ≡ []
-      → InBody (halves_of (packed_bits bytes 0 0) ++ first_half (Some false)) ≡ InBody (Zero ∷ [])
-  unfolding halves_of packed_bits byte_bits bits_of first_half
-  begun bytes e = ap (λ l. InBody (halves_of (packed_bits l 0 0) ++ first_half (Some false))) e
-
   pub body_begins : (bytes : List ℕ) → bytes ≡ [] → rest_after (Hunting k.ones) half ≡ InBody (Zero ∷ [])
       → Grows k half (record {
         in_body = true;
@@ -153,12 +126,60 @@ module _ {k : Kept} (is : IsKept k) (out : k.in_body ≡ false) (half : Half) wh
         count = 0;
         bytes = bytes;
       })
+  unfolding halves_of packed_bits byte_bits bits_of first_half answer_to
   body_begins bytes none begins =
-      grown_to is half _ (begun bytes none ∙ sym begins ∙ ap (λ r. rest_after r half) (sym between)) answers_nothing
-      (λ in_it. subst (λ l. IsPacked l 0 0 0) (sym none) packed_none)
+      grown_to is half _ (rw (none, out) (sym begins)) (rw out) (λ in_it. rw none packed_none)
 
   pub one_counted : (ones : ℕ) → Hunting ones ≡ rest_after (Hunting k.ones) half → Grows k half (record k { ones = ones })
-  one_counted ones counted =
-      grown_to is half (record k { ones = ones })
-      (ap (λ b. if b then InBody (kept_halves k) else Hunting ones) out ∙ counted
-      ∙ ap (λ r. rest_after r half) (sym between)) answers_nothing is.packed
+  unfolding answer_to
+  one_counted ones counted = grown_to is half (record k { ones = ones }) (rw out counted) (rw out) is.packed
+
+-- where it comes to an outcome
+
+same_or_apart : (a b : Bool) → (a ≡ b) ⊎ (a ≢ b)
+same_or_apart a b = grind arith
+
+module _ {k : Kept} (is : IsKept k) (in_body : k.in_body ≡ true) (half : Half) where
+  abbrev bits : List Bool
+  bits = packed_bits k.bytes k.count k.shift
+
+  -- it is bad
+  pub bad_shows : bit_of half ≡ None → answer_to (kept_rest k) half ≢ Nothing
+  unfolding answer_to
+  bad_shows none =
+      let answer : answer_to (kept_rest k) half ≡ Refused BadHalf =
+      rw (in_body_rest k k.has_first in_body refl, bad_half half none) (answer-bad bits (is.unfinished in_body) _) in
+      λ nothing. cc
+
+  -- it leaves no room
+  module _ (bit : Bool) (of : bit_of half ≡ Some bit) (no_room : ¬ (HasRoomFor k bit)) where
+    has : k.has_first ≡ true
+    has = true_from_ne_false k.has_first (λ not_yet. no_room (inl not_yet))
+
+    second : (first : Bool) → k.first ≡ first → answer_to (kept_rest k) half ≡ answer_of
+        (outcome_of ((halves_of bits ++ first_half (Some first)) ++ half_of bit ∷ []))
+    unfolding answer_to
+    second first same = rw (in_body_rest k true in_body has, same, half_of-bit half bit of)
+
+    -- it is that of an end bit, or a seventh byte begins with it
+    whole_shows : k.first ≡ bit → k.count ≡ 0 → answer_to (kept_rest k) half ≢ Nothing
+    whole_shows same none nothing =
+        let packed = is.packed in_body in
+        let full : bit ≡ false → length k.bytes ≡ 6 = λ zero. elim (cases_lt (length k.bytes) 6) [
+          | inl less ↦ absurd
+              (no_room (inr (record { has_first = has; same = same; zero_first = λ _. zero; room = less })))
+          | inr most ↦ omega (arith, packed.few, most)
+        ] in
+        let answer = second bit same ∙ answer-bit bits bit ∙ answer-closed packed none bit full in
+        closed_something bit k.bytes (sym answer ∙ nothing)
+
+    pub no_room_shows : answer_to (kept_rest k) half ≢ Nothing
+    no_room_shows = elim (same_or_apart k.first bit) [
+      | inl same ↦ elim (cases_lt 0 k.count) [
+        | inl some ↦ absurd (no_room (inr (grind (arith, has, same, (is.packed in_body).room some))))
+        | inr none ↦ whole_shows same (omega (arith, none))
+      ]
+      | inr apart ↦
+          let answer = second k.first refl ∙ answer-split bits (is.unfinished in_body) k.first bit apart in
+          λ nothing. cc
+    ]

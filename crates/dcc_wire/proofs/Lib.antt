@@ -1,17 +1,13 @@
 pub mod BitLemmas
-pub mod BitNumbers
 pub mod OutcomeLemmas
 pub mod FramingLemmas
 pub mod KeptLemmas
-pub mod KeptEnds
 pub mod OpenBodies
 pub mod ByteLemmas
 pub mod SendingLemmas
 pub mod HalvesLemmas
 pub mod ByteBits
 pub mod PackedLemmas
-pub mod OpenLists
-pub mod OutcomeTableLemmas
 pub mod OutcomeRows
 pub mod HistoryLemmas
 pub mod FramerSteps

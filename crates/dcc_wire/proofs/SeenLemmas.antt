@@ -1,9 +1,8 @@
 -- More halves only add to what was seen.
-use Rattle.std.proofs.Common.{◌≡◌, ℕ, List, [], ◌∷◌, ◌++◌, length, refl, sym, ap, ◌∙◌, append_assoc}
-use Rattle.std.proofs.lemmas.List.{append-nil}
+use Rattle.std.proofs.Common.{◌≡◌, ℕ, List, [], ◌∷◌, ◌++◌, length, refl, sym, ap, ◌∙◌, append_assoc, append-nil}
 use Rattle.dcc_wire.specs.declared.seen.Seen.{Seen}
+use Rattle.dcc_wire.specs.Framing.{rest, seen, report_at, starts_below, outcomes_at}
 use Rattle.dcc_wire.specs.Half.{class_of}
-use Rattle.dcc_wire.specs.Framing.{seen, rest, report_at, starts_below, outcomes_at}
 use Rattle.dcc_wire.specs.Inner.Steps.{answer_to}
 use Rattle.dcc_wire.specs.SeenLaws.{SeenOnlyGrows}
 use Rattle.dcc_wire.proofs.FramingLemmas.{seen-push}
@@ -15,8 +14,7 @@ seen-grows halves (us ∷ more) =
     let here : List (ℕ × Seen) = report_at (length halves) (answer_to (rest halves) (class_of us)) in (
       here ++ later.0,
       ap seen (sym (append_assoc halves (us ∷ []) more)) ∙ later.1
-          ∙ ap (λ (outcomes : List (ℕ × Seen)). outcomes ++ later.0) (seen-push halves us)
-          ∙ append_assoc (seen halves) here later.0,
+          ∙ rw (seen-push halves us) (append_assoc (seen halves) here later.0),
     )
 
 pub seen-none : seen [] ≡ []

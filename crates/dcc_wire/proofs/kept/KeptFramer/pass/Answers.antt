@@ -1,7 +1,6 @@
-use Rattle.std.proofs.Common.{append-nil, length}
-use Rattle.dcc_wire.specs.Framing.{StandsFor, report_at, seen}
-use Rattle.dcc_wire.proofs.FramingLemmas.{seen-push}
-use Rattle.dcc_wire.proofs.KeptEnds.{report_shows}
+use Rattle.std.proofs.Common.{length, append-nil}
+use Rattle.dcc_wire.specs.Framing.{seen, report_at, StandsFor}
+use Rattle.dcc_wire.proofs.FramingLemmas.{seen-push, report_shows}
 use Rattle.dcc_wire.proofs.kept.KeptFramer.pass.Goals as goal
 
 pub returns-clause-sees : goal.returns-clause-sees

@@ -1,6 +1,6 @@
-use Rattle.std.proofs.Common.{sym, subst, ◌∙◌}
+use Rattle.std.proofs.Common.{sym, ◌∙◌, subst}
 use Rattle.dcc_wire.specs.Inner.KeptSteps.{HasRoomFor}
-use Rattle.dcc_wire.proofs.KeptEnds.{bad_shows, no_room_shows}
+use Rattle.dcc_wire.proofs.KeptLemmas.{bad_shows, no_room_shows}
 use Rattle.dcc_wire.proofs.kept.KeptFramer.pass_half.Goals as goal
 
 pub returns-in_default-clause-shows : goal.returns-in_default-clause-shows

@@ -1,6 +1,6 @@
 use Rattle.std.proofs.Common.{ap}
-use Rattle.dcc_wire.specs.Packed.{packed_bits, byte_bits}
 use Rattle.dcc_wire.specs.Bodies.{bits_of}
+use Rattle.dcc_wire.specs.Packed.{byte_bits, packed_bits}
 use Rattle.dcc_wire.proofs.PackedLemmas.{packed_none}
 use Rattle.dcc_wire.proofs.packed_bits.PackedBits.new.Goals as goal
 
