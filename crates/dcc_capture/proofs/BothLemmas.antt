@@ -1,12 +1,12 @@
 -- What words say of both captures of one input.
-use Rattle.std.proofs.Common.{◌≡◌, ◌≢◌, ◌⊎◌, inl, inr, ℕ, ◌+◌, ◌-◌, ◌<◌, ◌≤◌, List, [], ◌∷◌, ◌++◌, length, take}
-use Rattle.std.proofs.Common.{replicate, filter, Bool, true, false, not, cond, eqb, nat_le, ◌&&◌, Option, None, Some}
-use Rattle.std.proofs.Common.{Result, Ok, Err, refl, sym, ap, ◌∙◌, subst, arith, append_assoc, IfSome}
+use Rattle.std.proofs.Common.{◌≡◌, ◌⊎◌, inl, inr, ℕ, ◌+◌, ◌-◌, ◌<◌, ◌≤◌, List, [], ◌∷◌, ◌++◌, length, take}
+use Rattle.std.proofs.Common.{replicate, filter, Bool, true, false, not, eqb, nat_le, ◌&&◌, Option, None, Some}
+use Rattle.std.proofs.Common.{Result, Ok, Err, refl, sym, ap, ◌∙◌, arith, append_assoc, IfSome}
+use Rattle.std.proofs.lemmas.Bool.{cond_both, ne_eqb, eq-eqb}
 use Rattle.std.proofs.lemmas.Bool.Decides.{nat_tests}
-use Rattle.dcc_packet.specs.declared.fault.PacketFault.TheVariants as faults
 use Rattle.dcc_io.specs.declared.word.Run.{Run}
 use Rattle.dcc_io.specs.declared.fault.KeptFault.{KeptFault}
-use Rattle.dcc_io.specs.declared.fault.KeptFault.TheVariants.{Number, Line, Read, TooMuch}
+use Rattle.dcc_io.specs.declared.fault.KeptFault.TheVariants.{Number, Read, TooMuch}
 use Rattle.dcc_io.specs.TextPlace.{TextPlace, line_behind}
 use Rattle.dcc_io.specs.InputState.{InputState, all_lines}
 use Rattle.dcc_io.specs.Words.{Word, ended_words, is_gap, without_comments, onto_first, pieces, but_last, has_bytes}
@@ -15,9 +15,8 @@ use Rattle.dcc_io.specs.Took.{within_limit}
 use Rattle.dcc_io.specs.PassedWords.{Passed, IsBeforeWord, AnswersWord}
 use Rattle.dcc_capture.specs.Capture.{halves_of}
 use Rattle.dcc_capture.specs.BothCaptures.{Both, Said, fault_alone, in_front, only_second, has_more_words, behind_mark}
-use Rattle.dcc_capture.specs.BothCaptures.{counted_first, both_of, both_from, in_limit}
+use Rattle.dcc_capture.specs.BothCaptures.{both_of, both_from, in_limit}
 use Rattle.dcc_capture.specs.FirstRead.{LeadsIn, Leads, first_so_far, first_is, StopsBoth, FirstLinesAt, AnswersFirst}
-use Rattle.dcc_io.specs.LineEnd.{IsBehindLine}
 use Rattle.dcc_capture.specs.Inner.FirstSteps.{CountsWord, EndsMark}
 use Rattle.dcc_io.proofs.TookLemmas.{same_cond, if_some_all, map_text, Took-start, Took-counted, Took-join, told_behind}
 use Rattle.dcc_io.proofs.TookLemmas.{fails_behind, within_limit-used, not_within, LinesAt-behind}
@@ -45,36 +44,18 @@ from_but_last line (word ∷ next ∷ words) all = (all.0, from_but_last line (n
 
 from_filter : (line : ℕ) (p : Word → Bool) (words : List Word) → AllFrom line words → AllFrom line (filter p words)
 from_filter line p [] all = tt
-from_filter line p (word ∷ words) all = go (p word) (from_filter line p words all.1)
-  where
-    go : (kept : Bool) → AllFrom line (filter p words)
-        → AllFrom line (cond kept (word ∷ filter p words) (filter p words))
-    go true rest = (all.0, rest)
-    go false rest = rest
-
-behind_grows : (line byte : ℕ) → line ≤ line_behind line byte
-behind_grows line byte = go (eqb byte 10)
-  where
-    go : (feed : Bool) → line ≤ cond feed (line + 1) line
-    go true = omega arith
-    go false = omega arith
+from_filter line p (word ∷ words) all =
+    let rest = from_filter line p words all.1 in
+    cond_both (p word) (word ∷ filter p words) (filter p words) (AllFrom line) (λ kept. (all.0, rest)) (λ out. rest)
 
 from_pieces : (line : ℕ) (text : List ℕ) → AllFrom line (pieces line text)
 from_pieces line [] = (omega arith, tt)
 from_pieces line (byte ∷ text) =
-    go (is_gap byte)
-    (from_before line (line_behind line byte) rest (behind_grows line byte) (from_pieces (line_behind line byte) text))
-  where
-    rest : List Word
-    rest = pieces (line_behind line byte) text
-
-    go : (gap : Bool) → AllFrom line rest
-        → AllFrom line (cond gap (record { line = line; bytes = [] } ∷ rest) (onto_first byte rest))
-    go true from = (omega arith, from)
-    go false from = from_onto_first line byte rest from
-
-other_line : (line next : ℕ) → line < next → eqb next line ≡ false
-other_line line next behind = grind (arith, nat_tests)
+    let rest = pieces (line_behind line byte) text in
+    let grows : line ≤ line_behind line byte = grind (arith, nat_tests) in
+    let all = from_before line (line_behind line byte) rest grows (from_pieces (line_behind line byte) text) in
+    cond_both (is_gap byte) (record { line = line; bytes = [] } ∷ rest) (onto_first byte rest) (AllFrom line)
+    (λ gap. (omega arith, all)) (λ other. from_onto_first line byte rest all)
 
 -- the words behind a line do not stand on it
 pub no_more_words : (line : ℕ) (place : TextPlace) (text : List ℕ) → line < place.line
@@ -87,7 +68,7 @@ no_more_words line place text behind =
   where
     go : (words : List Word) → AllFrom place.line words → has_more_words line words ≡ false
     go [] all = refl
-    go (word ∷ words) all = other_line line word.line (omega (arith, behind, all.0))
+    go (word ∷ words) all = ne_eqb word.line line (λ same. omega (arith, behind, all.0, same))
 
 -- what comes behind the line of a mark is the second capture
 pub second_behind : (line most : ℕ) (place : TextPlace) (rest more : List ℕ) (last : Option KeptFault)
@@ -101,17 +82,15 @@ pub Leads-start : (before : ℕ) (input : InputState) → input.fault ≡ None
 Leads-start before input fault = Took-start input fault (λ end more last. refl)
 
 -- more words were read
-pub Leads-words : (before : ℕ) (old now new : InputState) (words : List Word)
-    (F : ℕ → List Word → Option KeptFault → Both) (G : Said)
-    → Leads before old now (λ end more last. F end (ended_words now.place more) last) → Passed now words new
+pub Leads-words : (before : ℕ) {old now new : InputState} {words : List Word} (F : ℕ → List Word → Option KeptFault → Both)
+    {G : Said} → Leads before old now (λ end more last. F end (ended_words now.place more) last) → Passed now words new
     → ((end : ℕ) (more : List ℕ) (last : Option KeptFault)
     → F end (words ++ ended_words new.place more) last ≡ G end more last)
     → Leads before old new G
-Leads-words before old now new words F G leads passed each =
+Leads-words before F leads passed each =
     Took-join leads passed.took
     (λ first second says passes end more last.
-    ap (λ (bytes : List ℕ). both_from before old end bytes last) (append_assoc first second more)
-    ∙ says end (second ++ more) last ∙ ap (λ ws. F end ws last) (passes more) ∙ each end more last)
+    rw (append_assoc first second more, says end (second ++ more) last, passes more) (each end more last))
 
 -- halves of the first capture, and then what leads on from there
 pub Leads-join : (first before : ℕ) (start now new : InputState) (halves : List ℕ) (G H : Said)
@@ -121,8 +100,7 @@ pub Leads-join : (first before : ℕ) (start now new : InputState) (halves : Lis
 Leads-join first before start now new halves G H leads next each =
     Took-join leads next
     (λ front back says then end more last.
-    ap (λ (bytes : List ℕ). both_from first start end bytes last) (append_assoc front back more)
-    ∙ says end (back ++ more) last ∙ ap (in_front halves) (then end more last) ∙ each end more last)
+    rw (append_assoc front back more, says end (back ++ more) last, then end more last) (each end more last))
 
 -- what is said of the text is said of the rest
 pub in_limit_of : (before : ℕ) (old new : InputState) (said : Said) (text rest : List ℕ)
@@ -134,75 +112,40 @@ in_limit_of before old new said text rest leads =
     rest leads (λ more last. leads.is (all_lines new rest + 1) more last)
 
 -- a fault stands, whatever follows
-pub stops_said : (before : ℕ) (old mid : InputState) (fault : KeptFault)
+stops_said : (before : ℕ) {old mid : InputState} (fault : KeptFault)
     → Leads before old mid (λ end more last. fault_alone fault)
     → IfSome old.text (λ text. in_limit (both_from before old) old text ≡ fault_alone fault)
-stops_said before old mid fault leads =
-    map_text (LeadsIn before old mid (λ end more last. fault_alone fault))
-    (λ text. in_limit (both_from before old) old text ≡ fault_alone fault) old.text mid.text
-    (λ text rest uses. in_limit_of before old mid (λ end more last. fault_alone fault) text rest uses
-    ∙ same_cond (nat_le (length rest) mid.bytes) (fault_alone fault))
-    leads.text
+stops_said before {old = old} {mid = mid} fault leads =
+    map_text (LeadsIn before old mid (λ end more last. fault_alone fault)) _ old.text mid.text (λ text rest uses.
+    in_limit_of before old mid (λ end more last. fault_alone fault) text rest uses
+    ∙ same_cond (nat_le (length rest) mid.bytes) (fault_alone fault)) leads.text
 
-module _ (before : ℕ) (old mid : InputState) (F : ℕ → List Word → Option KeptFault → Both) where
-  abbrev Led : Type 0
-  Led = Leads before old mid (λ end more last. F end (ended_words mid.place more) last)
-
-  -- a fault before the next word
-  pub stops_word : (new : InputState) (fault : KeptFault) → Led → AnswersWord mid (Err fault) new
-      → ((end : ℕ) (f : KeptFault) → F end [] (Some f) ≡ fault_alone f)
-      → StopsBoth before old fault new × (new.fault ≡ Some fault) × FirstLinesAt before old fault new
-  stops_word new Read leads answer each = (
-    fails_behind leads (IsBeforeWord mid)
-        (λ used. (end : ℕ) → both_from before old end used (Some Read) ≡ fault_alone Read)
-        new answer.0
-        (λ first second says none end. says end second (Some Read) ∙ ap (λ ws. F end ws (Some Read)) none
-        ∙ each end Read),
-    answer.1,
-    LinesAt-behind leads new Read answer.2,
-  )
-  stops_word new TooMuch leads answer each = (
-    (
-      answer.0.0 ∙ leads.failures,
-      told_behind leads (λ rest. (mid.bytes < length rest) × IsBeforeWord mid (take (mid.bytes - 1) rest))
-          (λ text. in_limit (both_from before old) old text ≡ fault_alone TooMuch)
-          (λ text rest uses over.
-          in_limit_of before old mid (λ end more last. F end (ended_words mid.place more) last) text rest uses
-          ∙ rw (not_within (length rest) mid.bytes over.0, over.1) (each (all_lines mid rest + 1) TooMuch))
-          answer.0.1,
-    ),
-    answer.1,
-    inl (LinesAt-behind leads new TooMuch answer.2),
-  )
-  stops_word new (Number line) leads answer each = absurd answer
-  stops_word new (Line line fault) leads answer each = absurd answer
-
-counted_some : (most : ℕ) (run : Run) (rest : ℕ → Both) → run.n ≤ most
-    → counted_first most run rest ≡ in_front (replicate run.n run.us) (rest (most - run.n))
-counted_some most run rest fits = rw (enough run.n most fits) refl
-
-counted_too_many : (most : ℕ) (run : Run) (rest : ℕ → Both) → most < run.n
-    → counted_first most run rest ≡ fault_alone TooMuch
-counted_too_many most run rest above = rw (not_within run.n most above) refl
+-- a fault before the next word
+stops_word : (before : ℕ) {old mid : InputState} (F : ℕ → List Word → Option KeptFault → Both) (new : InputState)
+    (fault : KeptFault) → Leads before old mid (λ end more last. F end (ended_words mid.place more) last)
+    → AnswersWord mid (Err fault) new → ((end : ℕ) (f : KeptFault) → F end [] (Some f) ≡ fault_alone f)
+    → StopsBoth before old fault new × (new.fault ≡ Some fault) × FirstLinesAt before old fault new
+stops_word before {old = old} {mid = mid} F new Read leads answer each = (
+  fails_behind leads (IsBeforeWord mid) (λ used. (end : ℕ) → both_from before old end used (Some Read) ≡ fault_alone Read) new
+      answer.0 (λ first second says none end. rw (says end second (Some Read), none) (each end Read)),
+  answer.1,
+  LinesAt-behind leads new Read answer.2,
+)
+stops_word before {old = old} {mid = mid} F new TooMuch leads answer each = (
+  (
+    answer.0.0 ∙ leads.failures,
+    told_behind leads (λ rest. (mid.bytes < length rest) × IsBeforeWord mid (take (mid.bytes - 1) rest)) _
+        (λ text rest uses over.
+        in_limit_of before old mid (λ end more last. F end (ended_words mid.place more) last) text rest uses
+        ∙ rw (not_within (length rest) mid.bytes over.0, over.1) (each (all_lines mid rest + 1) TooMuch)) answer.0.1,
+  ),
+  answer.1,
+  inl (LinesAt-behind leads new TooMuch answer.2),
+)
+stops_word before F new fault leads answer each = absurd answer
 
 abbrev with_fault : InputState → KeptFault → InputState
-with_fault input told =
-    record {
-      text = input.text;
-      ahead = input.ahead;
-      place = input.place;
-      lines = input.lines;
-      halves = input.halves;
-      bytes = input.bytes;
-      fault = Some told;
-      failures = input.failures;
-    }
-
-eqb_same : (n : ℕ) → eqb n n ≡ true
-eqb_same n = grind (arith, nat_tests)
-
-past : (a b : ℕ) → a ≤ b → b ≢ a → a < b
-past a b before other = grind (arith, nat_tests)
+with_fault input told = record input { fault = Some told }
 
 module _ (before line : ℕ) (word : List ℕ) (old mid : InputState) (fault : old.fault ≡ None)
     (passed : Passed old (record { line = line; bytes = word } ∷ []) mid) where
@@ -216,18 +159,14 @@ module _ (before line : ℕ) (word : List ℕ) (old mid : InputState) (fault : o
       end more last)
       → Leads before old mid G
   led G each =
-      Leads-words before old old mid (record { line = line; bytes = word } ∷ [])
-      (λ end ws last. both_of before old.halves end ws last) G (Leads-start before old fault) passed each
+      Leads-words before (λ end ws last. both_of before old.halves end ws last) (Leads-start before old fault) passed each
 
   pub counts_run : (new : InputState) (taken : ℕ × Run) → mark ≡ false → mid.bytes < old.bytes
       → CountsWord mid line word (Ok (Some taken)) new → AnswersFirst before old (Ok (Some taken)) new
   counts_run new taken none fewer count = rw count.3 (
     rw count.0
         (Took-counted (mid.halves - taken.1.n)
-        (led said
-        (λ end more last. rw (none, count.1, ← passed.halves)
-        (counted_some mid.halves taken.1 (λ left. both_of line left end (ended_words mid.place more) last)
-        count.2)))
+        (led said (λ end more last. rw (none, count.1, ← passed.halves, enough taken.1.n mid.halves count.2) refl))
         (λ used says. says)),
     let fits = count.2 in omega (arith, fits, passed.halves),
     some_half word taken.1 count.1,
@@ -244,23 +183,16 @@ module _ (before line : ℕ) (word : List ℕ) (old mid : InputState) (fault : o
       → ((run_of word ≡ None) × (told ≡ Number line))
       ⊎ ((run : Run) × (run_of word ≡ Some run) × (told ≡ TooMuch) × (mid.halves < run.n))
       → StopsBoth before old told new × (new.fault ≡ Some told) × FirstLinesAt before old told new
-  refuses_word new told none lines is_new (inl bad) =
-      rw (is_new, bad.1) (
-        (
-          passed.failures,
-          stops_said before old mid (Number line)
-              (led (λ end more last. fault_alone (Number line)) (λ end more last. rw (none, bad.0) refl)),
-        ),
-        refl,
-        lines,
-      )
+  refuses_word new told none lines is_new (inl bad) = rw (is_new, bad.1) (
+    (passed.failures, stops_said before (Number line) (led _ (λ end more last. rw (none, bad.0) refl))),
+    refl,
+    lines,
+  )
   refuses_word new told none lines is_new (inr (run, spells, is_told, no_room)) = rw (is_new, is_told) (
     (
       passed.failures,
-      stops_said before old mid TooMuch (led (λ end more last. fault_alone TooMuch)
-          (λ end more last. rw (none, spells, ← passed.halves)
-          (counted_too_many mid.halves run (λ left. both_of line left end (ended_words mid.place more) last)
-          no_room))),
+      stops_said before TooMuch
+          (led _ (λ end more last. rw (none, spells, ← passed.halves, not_within run.n mid.halves no_room) refl)),
     ),
     refl,
     inr record {
@@ -268,7 +200,7 @@ module _ (before line : ℕ) (word : List ℕ) (old mid : InputState) (fault : o
       line = before;
       mid = old;
       leads = Leads-start before old fault;
-      next = next_runs_over old mid _ line run word passed spells no_room lines;
+      next = next_runs_over passed spells no_room lines;
     },
   )
 
@@ -281,9 +213,7 @@ module _ (before line : ℕ) (word : List ℕ) (old mid : InputState) (fault : o
 
   at_mark : mark ≡ true
       → Leads before old mid (λ end more last. behind_mark line old.halves (ended_words mid.place more) last)
-  at_mark begins =
-      led (λ end more last. behind_mark line old.halves (ended_words mid.place more) last)
-      (λ end more last. rw begins refl)
+  at_mark begins = led _ (λ end more last. rw begins refl)
 
   pub marks : (new : InputState) (result : Result (Option (ℕ × Run)) KeptFault) → mark ≡ true → line ≤ mid.place.line
       → EndsMark mid line result new → AnswersFirst before old result new
@@ -291,37 +221,30 @@ module _ (before line : ℕ) (word : List ℕ) (old mid : InputState) (fault : o
   marks new (Ok None) begins reached (inl kept) = rw kept.0 record {
     line = line;
     leads = led (first_is [] line mid) (λ end more last. rw (begins, passed.halves) refl);
-    behind =
-        if_some_all (λ rest. (rest ≡ []) ⊎ (line < mid.place.line)) mid.text
-        (λ rest. inr (past line mid.place.line reached kept.1));
+    behind = if_some_all _ mid.text (λ rest. inr (omega (arith, reached, kept.1)));
   }
   marks new (Ok None) begins reached (inr ended) = record {
     line = line;
-    leads = Leads-words before old mid new [] (λ end ws last. behind_mark line old.halves ws last)
-        (first_is [] line new) (at_mark begins) ended.1.0
+    leads = Leads-words before (λ end ws last. behind_mark line old.halves ws last) (at_mark begins) ended.1.0
         (λ end more last. rw (ended.1.0.halves ∙ passed.halves) refl);
-    behind = subst (λ (n : ℕ). IsBehindLine n new) ended.0 ended.1.1;
+    behind = rw ended.0 at ended.1.1;
   }
   marks new (Err told) begins reached (here, inl (next, more, is_told, is_new)) = rw (is_new, is_told) (
     (
       more.1.failures ∙ passed.failures,
-      stops_said before old next (Number line)
-          (Leads-words before old mid next (record { line = mid.place.line; bytes = more.0 } ∷ [])
-          (λ end ws last. behind_mark line old.halves ws last)
-          (λ end more last. fault_alone (Number line)) (at_mark begins) more.1
-          (λ end rest last. rw (here, eqb_same line) refl)),
+      stops_said before (Number line)
+          (Leads-words before (λ end ws last. behind_mark line old.halves ws last) (at_mark begins) more.1
+          (λ end rest last. rw (here, eq-eqb line line refl) refl)),
     ),
     refl,
-    told_behind passed.took (λ text. next.lines ≡ mid.place.line) (λ text. next.lines ≡ line)
-        (λ text rest uses same. same ∙ here) more.2,
+    told_behind passed.took (λ text. next.lines ≡ mid.place.line) _ (λ text rest uses same. same ∙ here) more.2,
   )
   marks new (Err told) begins reached (here, inr stops) =
-      stops_word before old mid (λ end ws last. behind_mark line old.halves ws last) new told (at_mark begins) stops
-      (λ end f. refl)
+      stops_word before (λ end ws last. behind_mark line old.halves ws last) new told (at_mark begins) stops (λ end f. refl)
 
 -- a fault before the next word
 pub answers_fault : (before : ℕ) (old new : InputState) (fault : KeptFault) → old.fault ≡ None
     → AnswersWord old (Err fault) new → AnswersFirst before old (Err fault) new
 answers_fault before old new fault none answer =
-    stops_word before old old (λ end ws last. both_of before old.halves end ws last) new fault
-    (Leads-start before old none) answer (λ end f. refl)
+    stops_word before (λ end ws last. both_of before old.halves end ws last) new fault (Leads-start before old none) answer
+    (λ end f. refl)

@@ -1,6 +1,6 @@
 -- What is a listing, and that outcomes have one.
 use Rattle.std.proofs.Common.{◌≡◌, ℕ, ◌+◌, ◌++◌, ◌∷◌, Bool, true, false, List, [], ◌⊎◌, inl, inr, refl, sym, ap, ◌∙◌}
-use Rattle.std.proofs.Common.{subst, append_assoc}
+use Rattle.std.proofs.Common.{append_assoc}
 use Rattle.std.proofs.lemmas.List.{append-nil}
 use Rattle.dcc_wire.specs.declared.seen.Seen.{Seen}
 use Rattle.dcc_wire.specs.declared.seen.Seen.TheVariants.{Nothing, Packet, Refused}
@@ -23,7 +23,7 @@ IsListing-append words (found ∷ outcomes) later text more first second = (
   first.1 ++ more,
   first.2,
   IsListing-append words outcomes later first.1 more first.3 second,
-  ap (λ (bytes : List ℕ). bytes ++ more) first.4 ∙ append_assoc first.0 first.1 more,
+  rw first.4 (append_assoc first.0 first.1 more),
 )
 
 -- the listing of one outcome is its line
@@ -38,10 +38,7 @@ pub IsListing-reported : (words : Bool) (place half : ℕ) (outcome : Seen) (lin
 unfolding report_at
 IsListing-reported words place half Nothing line (inl shown) same is_line = let e = shown.1 in cc
 IsListing-reported words place half Nothing line (inr shown) same is_line = let e = shown.1 in cc
-IsListing-reported words place half (Packet frame) line shown same is_line =
-    IsListing-one words place (Packet frame) line (subst (λ (n : ℕ). IsLine words n (Packet frame) line) same is_line)
-IsListing-reported words place half (Refused fault) line shown same is_line =
-    IsListing-one words place (Refused fault) line (subst (λ (n : ℕ). IsLine words n (Refused fault) line) same is_line)
+IsListing-reported words place half seen line shown same is_line = IsListing-one words place seen line (rw same at is_line)
 
 one_frame_text : (words : Bool) (frame one other : List ℕ) → IsFrameText words frame one → IsFrameText words frame other
     → one ≡ other
@@ -51,9 +48,8 @@ one_frame_text true frame one other first second =
 
 one_outcome_text : (words : Bool) (outcome : Seen) (one other : List ℕ) → IsOutcomeText words outcome one
     → IsOutcomeText words outcome other → one ≡ other
-one_outcome_text words Nothing one other first second = first ∙ sym second
 one_outcome_text words (Packet frame) one other first second = one_frame_text words frame one other first second
-one_outcome_text words (Refused fault) one other first second = first ∙ sym second
+one_outcome_text words seen one other first second = first ∙ sym second
 
 one_line : (words : Bool) (half : ℕ) (outcome : Seen) (one other : List ℕ) → IsLine words half outcome one
     → IsLine words half outcome other → one ≡ other
@@ -65,8 +61,7 @@ one_listing words [] one other first second = first ∙ sym second
 one_listing words (found ∷ more) one other first second =
     let line = one_line words (found.0 + 1) found.1 first.0 second.0 first.2 second.2 in
     let rest = one_listing words more first.1 second.1 first.3 second.3 in
-    first.4 ∙ ap (λ (bytes : List ℕ). bytes ++ first.1) line ∙ ap (λ (bytes : List ℕ). second.0 ++ bytes) rest
-    ∙ sym second.4
+    rw (first.4, line, rest) (sym second.4)
 
 outcome_in_hex : (outcome : Seen) → IsOutcomeText false outcome (outcome_text outcome)
 outcome_in_hex Nothing = refl

@@ -1,11 +1,11 @@
 -- A word that has ended in the bytes at hand.
 use Rattle.std.proofs.Common.{◌≡◌, ◌≢◌, ℕ, List, [], ◌∷◌, ◌++◌, drop, get_or, length, ◌<◌, ◌+◌, Bool, true, false}
-use Rattle.std.proofs.Common.{refl, sym, ap, ◌∙◌, subst, ◌||◌}
+use Rattle.std.proofs.Common.{refl, sym, ◌∙◌, ◌||◌}
 use Rattle.dcc_io.specs.TextPlace.{TextPlace, line_behind}
-use Rattle.dcc_io.specs.Words.{Word, is_gap, comments, ended_words, is_some_byte}
+use Rattle.dcc_io.specs.Words.{is_gap, comments, ended_words, is_some_byte}
 use Rattle.std.proofs.lemmas.List.{drop_more}
-use Rattle.dcc_io.proofs.PassedLemmas.{or_false, no_bytes}
-use Rattle.dcc_io.proofs.WordsLemmas.{behind, opened, opened-none, opened-word, opened-gap, ended}
+use Rattle.dcc_io.proofs.PassedLemmas.{or_false, no_bytes, ended-some}
+use Rattle.dcc_io.proofs.WordsLemmas.{opened, opened-none, opened-word, opened-gap}
 
 abbrev pub outside : ℕ → TextPlace
 outside line = record { line = line; in_comment = false }
@@ -20,49 +20,6 @@ pub record LooksAt (start : TextPlace) (bytes rest : List ℕ) (in_comment in_wo
 some_behind : (word : List ℕ) (byte : ℕ) → is_some_byte (word ++ byte ∷ []) ≡ true
 some_behind [] byte = refl
 some_behind (first ∷ word) byte = refl
-
-ends_some : (line : ℕ) (word : List ℕ) (more : List Word) → true ≡ is_some_byte word → ended line word ++ more ≢ []
-ends_some line [] more some = λ none. cc
-ends_some line (byte ∷ word) more some = λ none. cc
-
-module _ {start : TextPlace} {bytes rest : List ℕ} {byte : ℕ} {in_comment in_word : Bool}
-    (looks : LooksAt start bytes (byte ∷ rest) in_comment in_word) where
-  at_place : TextPlace
-  at_place = record { line = looks.at; in_comment = in_comment }
-
-  LooksAt-word : (comments in_comment byte || is_gap byte) ≡ false
-      → LooksAt start bytes rest (comments in_comment byte) true
-  unfolding at_place
-  LooksAt-word no_end =
-      let both = or_false (comments in_comment byte) (is_gap byte) no_end in
-      record {
-        at = line_behind looks.at byte;
-        word = looks.word ++ byte ∷ [];
-        goes_on = looks.goes_on ∙ opened-word at_place looks.word byte rest both.0 both.1;
-        is_word = sym (some_behind looks.word byte);
-      }
-
-  LooksAt-gap : in_word ≡ false → (comments in_comment byte || is_gap byte) ≡ true
-      → LooksAt start bytes rest (comments in_comment byte) in_word
-  unfolding at_place
-  LooksAt-gap none ends =
-      let empty = no_bytes looks.word (sym looks.is_word ∙ none) in
-      record {
-        at = line_behind looks.at byte;
-        word = [];
-        goes_on = looks.goes_on ∙ opened-gap at_place looks.word byte rest ends
-            ∙ ap (λ (word : List ℕ). ended looks.at word ++ ended_words (behind at_place byte) rest) empty
-            ∙ sym (opened-none (behind at_place byte) rest);
-        is_word = none;
-      }
-
-  -- a gap or a comment behind a word ends it
-  finds_word : (comments in_comment byte || is_gap byte) ≡ true → in_word ≡ true → ended_words start bytes ≢ []
-  unfolding at_place
-  finds_word ends some =
-      subst (λ (words : List Word). words ≢ [])
-      (sym (looks.goes_on ∙ opened-gap at_place looks.word byte rest ends))
-      (ends_some looks.at looks.word (ended_words (behind at_place byte) rest) (sym some ∙ looks.is_word))
 
 -- the same, of the bytes behind an index
 abbrev pub LooksBehind : Bool → List ℕ → ℕ → Bool → Bool → Type 0
@@ -80,22 +37,40 @@ looks_at_start first bytes line =
 
 module _ (first : Bool) (bytes : List ℕ) (index : ℕ) (in_comment in_word : Bool) (inside : index < length bytes)
     (looks : LooksBehind first bytes index in_comment in_word) where
-  next_at : (line : ℕ)
-      → LooksAt (record { line = line; in_comment = first }) bytes (get_or bytes index 0 ∷ drop (index + 1) bytes)
-      in_comment in_word
+  abbrev byte : ℕ
+  byte = get_or bytes index 0
+
+  next_at : (line : ℕ) → LooksAt (record { line = line; in_comment = first }) bytes (byte ∷ drop (index + 1) bytes) in_comment in_word
   next_at line = rw (drop_more bytes index 0 inside) at (looks line)
 
-  pub word_behind : (comments in_comment (get_or bytes index 0) || is_gap (get_or bytes index 0)) ≡ false
-      → LooksBehind first bytes (index + 1) (comments in_comment (get_or bytes index 0)) true
-  word_behind no_end = λ line.
-      LooksAt-word (next_at line) no_end
+  pub word_behind : (comments in_comment byte || is_gap byte) ≡ false
+      → LooksBehind first bytes (index + 1) (comments in_comment byte) true
+  word_behind no_end line =
+      let looks = next_at line in
+      let both = or_false (comments in_comment byte) (is_gap byte) no_end in
+      record {
+        at = line_behind looks.at byte;
+        word = looks.word ++ byte ∷ [];
+        goes_on = looks.goes_on ∙ opened-word _ looks.word byte _ both.0 both.1;
+        is_word = sym (some_behind looks.word byte);
+      }
 
-  pub gap_behind : in_word ≡ false → (comments in_comment (get_or bytes index 0) || is_gap (get_or bytes index 0)) ≡ true
-      → LooksBehind first bytes (index + 1) (comments in_comment (get_or bytes index 0)) in_word
-  gap_behind none ends = λ line.
-      LooksAt-gap (next_at line) none ends
+  pub gap_behind : in_word ≡ false → (comments in_comment byte || is_gap byte) ≡ true
+      → LooksBehind first bytes (index + 1) (comments in_comment byte) in_word
+  gap_behind none ends line =
+      let looks = next_at line in
+      let empty = no_bytes looks.word (sym looks.is_word ∙ none) in
+      record {
+        at = line_behind looks.at byte;
+        word = [];
+        goes_on = rw empty at (looks.goes_on ∙ opened-gap _ looks.word byte _ ends) ∙ sym (opened-none _ _);
+        is_word = none;
+      }
 
-  pub found_behind : (line : ℕ) → (comments in_comment (get_or bytes index 0) || is_gap (get_or bytes index 0)) ≡ true
-      → in_word ≡ true → ended_words (record { line = line; in_comment = first }) bytes ≢ []
+  -- a gap or a comment behind a word ends it
+  pub found_behind : (line : ℕ) → (comments in_comment byte || is_gap byte) ≡ true → in_word ≡ true
+      → ended_words (record { line = line; in_comment = first }) bytes ≢ []
   found_behind line ends some =
-      finds_word (next_at line) ends some
+      let looks = next_at line in
+      let word = ended-some looks.at looks.word (sym looks.is_word ∙ some) in
+      rw (looks.goes_on ∙ opened-gap _ looks.word byte _ ends, word) (λ none. cc)

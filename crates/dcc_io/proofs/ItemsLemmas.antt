@@ -1,13 +1,12 @@
 -- Items of an input, read one after the other.
 use Rattle.std.proofs.Common.{◌≡◌, ℕ, List, [], ◌++◌, length, nat_le, Bool, true, false, cond, Option, None}
-use Rattle.std.proofs.Common.{Some, refl, sym, ap, ◌∙◌, subst, append_assoc, IfSome}
+use Rattle.std.proofs.Common.{Some, refl, sym, ap, ◌∙◌, append_assoc, IfSome}
 use Rattle.std.proofs.lemmas.List.{append-nil}
 use Rattle.dcc_io.specs.declared.fault.KeptFault.{KeptFault}
 use Rattle.dcc_io.specs.declared.fault.KeptFault.TheVariants.{Read}
-use Rattle.dcc_io.specs.Failures.{HasRisen}
 use Rattle.dcc_io.specs.ReaderState.{IsAtEnd}
 use Rattle.dcc_io.specs.InputState.{InputState, all_lines, UsesAllLines}
-use Rattle.dcc_io.specs.Items.{Items, Grammar, in_text, before_failure, items_behind, only_fault, Gives, Gave, StopsAt}
+use Rattle.dcc_io.specs.Items.{Items, Grammar, in_text, items_behind, only_fault, Gives, Gave, StopsAt}
 use Rattle.dcc_io.specs.Items.{EndsWith, ReadsUpTo}
 use Rattle.dcc_io.proofs.TookLemmas.{Took-start, Took-join, told_behind, fails_behind, Stops-behind, within_limit-used}
 use Rattle.dcc_io.proofs.WrittenLemmas.{HasRisen-one_more}
@@ -16,18 +15,13 @@ module _ {A : Type 0} (grammar : Grammar A) where
   pub Gave-none : (input : InputState) → input.fault ≡ None → Gave grammar input [] input
   Gave-none input fault = Took-start input fault (λ more last. refl)
 
-  joined : (first second : List A) (items : Items A)
-      → items_behind first (items_behind second items) ≡ items_behind (first ++ second) items
-  joined first second items =
-      ap (λ (said : List A). record { said = said; fault = items.fault }) (sym (append_assoc first second items.said))
-
   pub Gave-append : (old mid new : InputState) (first second : List A) → Gave grammar old first mid
       → Gave grammar mid second new → Gave grammar old (first ++ second) new
   Gave-append old mid new first second a b =
       Took-join a b
-      (λ front back say then more last. ap (λ (bytes : List ℕ). grammar old bytes last) (append_assoc front back more)
-      ∙ say (back ++ more) last ∙ ap (items_behind first) (then more last)
-      ∙ joined first second (grammar new more last))
+      (λ front back say then more last.
+      let said = (grammar new more last).said in
+      rw (append_assoc front back more, say (back ++ more) last, then more last, append_assoc first second said) refl)
 
   -- what the text says, told of its rest
   pub in_whole : (old new : InputState) (items : List A) (text rest : List ℕ) → Gives grammar old items new text rest
@@ -41,34 +35,22 @@ module _ {A : Type 0} (grammar : Grammar A) where
       either true x y = refl
       either false x y = refl
 
-  -- items, and then no more before this fault
-  ends_with : (items : Items A) (fault : Option KeptFault) (said : List A) (fact : List A → Type 0)
-      → items ≡ items_behind said (only_fault fault) → fact said → EndsWith fault fact items
-  ends_with items fault said fact whole holds = rw (whole, append-nil said) (refl, holds)
-
   pub up_to_fault : (start now : InputState) (said : List A) (fault : Option KeptFault) (fact : List A → Type 0)
       → Gave grammar start said now
       → IfSome now.text (λ text. in_text grammar now text ≡ only_fault fault) → fact said
       → IfSome start.text (λ text. EndsWith fault fact (in_text grammar start text))
   up_to_fault start now said fault fact gave stops holds =
-      told_behind gave (λ text. in_text grammar now text ≡ only_fault fault)
-      (λ text. EndsWith fault fact (in_text grammar start text))
-      (λ text rest gives none. ends_with (in_text grammar start text) fault said fact
-      (in_whole start now said text rest gives ∙ ap (items_behind said) none) holds) stops
+      told_behind gave (λ text. in_text grammar now text ≡ only_fault fault) _ (λ text rest gives none.
+      rw (in_whole start now said text rest gives, none, append-nil said) (refl, holds)) stops
 
   -- what was read up to a fault
   pub reads_up_to : (start now new : InputState) (fault : KeptFault) (said : List A) (fact : List A → Type 0)
       → Gave grammar start said now → StopsAt grammar now fault new → fact said
       → ReadsUpTo grammar start (Some fault) new fact
   reads_up_to start now new Read said fact gave stops holds =
-      let fails = fails_behind gave (λ used. before_failure grammar now used ≡ only_fault (Some Read))
-      (λ used. EndsWith (Some Read) fact (before_failure grammar start used)) new stops
-      (λ front back say none. ends_with (before_failure grammar start (front ++ back)) (Some Read) said fact
-      (say back (Some Read) ∙ ap (items_behind said) none) holds) in (
-        fails.2,
-        fails.1,
-        subst (λ (n : ℕ). HasRisen start.failures n) (sym fails.0) (HasRisen-one_more start.failures),
-      )
+      let fails = fails_behind gave _ _ new stops (λ front back say none.
+      rw (say back (Some Read), none, append-nil said) (refl, holds)) in
+      (fails.2, fails.1, rw fails.0 (HasRisen-one_more start.failures))
   reads_up_to start now new fault said fact gave stops holds =
       (up_to_fault start now said (Some fault) fact gave stops.1 holds, stops.0 ∙ gave.failures)
 

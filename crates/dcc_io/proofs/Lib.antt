@@ -8,15 +8,11 @@ pub mod WrittenLemmas
 pub mod HeldLemmas
 pub mod HandLemmas
 pub mod FrontLemmas
-pub mod FrontRunLemmas
 pub mod LineFeedLemmas
-pub mod FrontLineLemmas
 pub mod LineLemmas
 pub mod ItemsLemmas
 pub mod PacketLineLemmas
-pub mod PacketReadLemmas
 pub mod LineCounts
 pub mod DecimalLemmas
-pub mod LineEndLemmas
 pub mod CallLemmas
 pub mod NumberWords

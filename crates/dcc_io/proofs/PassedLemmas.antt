@@ -1,31 +1,29 @@
--- A word that is being read, and what ends it.
-use Rattle.std.proofs.Common.{◌≡◌, ℕ, ◌<◌, ◌≤◌, List, [], ◌∷◌, ◌++◌, Bool, true, false, not, Ok, Err}
-use Rattle.std.proofs.Common.{refl, sym, ap, ◌∙◌, subst, arith, append_assoc, ◌||◌, ◌&&◌}
-use Rattle.std.proofs.Common.{IfSome, IsSomeAnd, Option, None, Some}
+-- A word that is being read, and what ends it, and how the rest of a line is passed.
+use Rattle.std.proofs.Common.{◌≡◌, ℕ, ◌<◌, List, [], ◌∷◌, ◌++◌, length, Bool, true, false, not, Ok, Err, refl, sym, ap}
+use Rattle.std.proofs.Common.{◌∙◌, subst, arith, rules, append_assoc, ◌||◌, IfSome, Option, Some, ◌≢◌, inr, ◌+◌}
+use Rattle.std.proofs.lemmas.Bool.{false_from_ne_true, ne_eqb}
+pub use Rattle.std.proofs.lemmas.Bool.{or_parts as or_false}
 use Rattle.std.proofs.lemmas.List.{append-nil}
 use Rattle.std.proofs.lemmas.Bool.Decides.{nat_tests}
 use Rattle.dcc_io.specs.declared.word.RunWord.{RunWord}
 use Rattle.dcc_io.specs.declared.fault.KeptFault.{KeptFault}
 use Rattle.dcc_io.specs.declared.fault.KeptFault.TheVariants.{Read, TooMuch}
-use Rattle.dcc_io.specs.TextPlace.{line_behind, lines_with}
-use Rattle.dcc_io.specs.ReaderState.{IsAtEnd}
+use Rattle.dcc_io.specs.TextPlace.{lines_with}
+use Rattle.dcc_io.specs.ReaderState.{BeginsWith, IsAtEnd}
 use Rattle.dcc_io.specs.InputState.{InputState, TakesByte, AnswersByte}
-use Rattle.dcc_io.specs.Words.{Word, ended_words, is_some_byte, is_gap, comments, Passes}
+use Rattle.dcc_io.specs.Words.{Word, ended_words, is_some_byte, is_gap, comments}
 use Rattle.dcc_io.specs.SpelledWords.{Spells}
 use Rattle.dcc_io.specs.Took.{Uses, Took}
 use Rattle.dcc_io.specs.PassedWords.{Passed, EndsWord, AnswersWord}
 use Rattle.dcc_io.proofs.WordsLemmas.{eqb_line_feed, behind, opened, opened-none, opened-word, opened-gap, ended}
-use Rattle.dcc_io.proofs.TookLemmas.{if_some_map, if_some_all, Took-map, Took-closed, Took-join}
-use Rattle.dcc_io.proofs.TookLemmas.{told_behind, took_byte, fails_to_read, has_too_many}
+use Rattle.dcc_io.proofs.TookLemmas.{Both, if_some_all, Took-map, Took-told, Took-join, told_behind, if_some_both}
+use Rattle.dcc_io.proofs.TookLemmas.{lines_with-some, lines_with-same, fails_to_read, has_too_many}
+use Rattle.dcc_io.specs.LineEnd.{EndsLine}
 
 -- these bytes end in the front of a word
 abbrev pub IsOpenBehind : InputState → InputState → List ℕ → List ℕ → Type 0
 IsOpenBehind old now word used =
     (more : List ℕ) → ended_words old.place (used ++ more) ≡ opened now.place word more
-
--- bytes were used, in which these words have ended
-abbrev pub PassesIn : InputState → InputState → List Word → List ℕ → List ℕ → Type 0
-PassesIn old new words text rest = Uses (λ used. Passes old.place used words new.place) old new text rest
 
 -- bytes were read, which end in the front of a word
 pub record Opens (old : InputState) (so_far : RunWord) (now : InputState) : Type 0 where
@@ -34,13 +32,8 @@ pub record Opens (old : InputState) (so_far : RunWord) (now : InputState) : Type
   pub took : Took (IsOpenBehind old now word) old now
   pub open took use *
   pub halves : now.halves ≡ old.halves
-  -- a text ends with a line feed, and so not within a word
-  pub closed : IfSome now.text (λ rest. rest ≡ [] → word ≡ [])
-  -- the line of a word is the last that was used
-  pub lines : IfSome now.text (λ rest. is_some_byte word ≡ true → now.lines ≡ now.place.line)
-
-abbrev no_word : List ℕ
-no_word = []
+  -- a text ends with a line feed, and so not within a word, whose line is the last that was used
+  pub within : IfSome now.text (λ rest. is_some_byte word ≡ true → (0 < length rest) × (now.lines ≡ now.place.line))
 
 abbrev pub noted : InputState → ℕ → InputState
 noted mid byte =
@@ -56,14 +49,36 @@ pub record TakesNoted (old : InputState) (byte : ℕ) (gap : Bool) (new : InputS
   pub last : IfSome new.text (λ rest. rest ≡ [] → byte ≡ 10)
   pub lines : IfSome new.text (λ rest. new.lines ≡ lines_with old.lines old.place.line rest)
 
+-- one byte was read
+pub took_byte : {old mid : InputState} {byte : ℕ} → TakesByte old byte mid → Took (λ used. used ≡ byte ∷ []) old (noted mid byte)
+took_byte {old = old} {mid = mid} {byte = byte} takes = record {
+  text = go old.text mid.text takes.text takes.lines takes.room;
+  bytes = let bytes = takes.bytes in omega arith;
+  fault = takes.fault;
+  failures = takes.failures;
+}
+  where
+    go : (x y : Option (List ℕ)) → BeginsWith x byte y → IfSome y (λ rest. mid.lines ≡ lines_with old.lines old.place.line rest)
+        → (mid.bytes ≡ 0 → IsAtEnd y)
+        → Both x y (Uses (λ used. used ≡ byte ∷ []) old (noted mid byte))
+    go (Some text) (Some rest) begins lines end = record {
+      used = byte ∷ [];
+      whole = begins;
+      is = refl;
+      bytes = takes.bytes;
+      room = λ some. end;
+      lines = rw (begins, lines, takes.line) refl;
+      counts = λ some next more. rw (lines, takes.line, lines_with-some old.lines old.place.line rest some) refl;
+    }
+    go x y begins lines end = search rules
+
 pub takes_noted : {old new : InputState} {next : Option ℕ} {byte : ℕ} {told gap : Bool} (mid : InputState)
     → next ≡ Some byte → AnswersByte old (Ok next) mid → new ≡ noted mid byte
     → told ≡ (comments mid.place.in_comment byte || is_gap byte) → told ≡ gap → TakesNoted old byte gap new
 takes_noted {old = old} {byte = byte} mid is_byte answer is_new is_told is_gap =
     let takes : TakesByte old byte mid = rw is_byte at answer in
     rw is_new record {
-      took = took_byte old (noted mid byte) byte takes.text takes.lines takes.line takes.bytes takes.room takes.fault
-          takes.failures;
+      took = took_byte takes;
       place = rw (takes.line, takes.in_comment) refl;
       is = rw takes.in_comment at (sym is_told ∙ is_gap);
       halves = takes.halves;
@@ -72,17 +87,13 @@ takes_noted {old = old} {byte = byte} mid is_byte answer is_new is_told is_gap =
       lines = takes.lines;
     }
 
-pub or_false : (a b : Bool) → (a || b) ≡ false → (a ≡ false) × (b ≡ false)
-or_false true b h = cc
-or_false false b h = (refl, h)
-
-line_feed_is_gap : (byte : ℕ) → byte ≡ 10 → is_gap byte ≡ true
-unfolding is_gap
-line_feed_is_gap byte is_line_feed = rw is_line_feed refl
-
 pub no_bytes : (word : List ℕ) → is_some_byte word ≡ false → word ≡ []
 no_bytes [] none = refl
 no_bytes (byte ∷ word) none = cc
+
+pub some_bytes : (word : List ℕ) → 0 < length word → is_some_byte word ≡ true
+some_bytes [] some = absurd (omega arith)
+some_bytes (byte ∷ word) some = refl
 
 pub ended-some : (line : ℕ) (word : List ℕ) → is_some_byte word ≡ true
     → ended line word ≡ record { line = line; bytes = word } ∷ []
@@ -90,15 +101,14 @@ ended-some line [] some = cc
 ended-some line (byte ∷ word) some = refl
 
 -- where no word is open and none has ended, none is open
-Opens-none : {old now new : InputState} {so_far : RunWord} (opens : Opens old so_far now)
+pub Opens-none : {old now new : InputState} {so_far : RunWord} (opens : Opens old so_far now)
     → is_some_byte opens.word ≡ false → Passed old [] new → Opens old so_far new
 Opens-none {new = new} {so_far = so_far} opens empty passed = record {
   word = [];
   spelled = subst (Spells so_far) (no_bytes opens.word empty) opens.spelled;
   took = Took-map passed.took (λ used passes more. passes more ∙ sym (opened-none new.place more));
   halves = passed.halves;
-  closed = if_some_all (λ rest. rest ≡ [] → no_word ≡ []) new.text (λ rest none. refl);
-  lines = if_some_all (λ rest. is_some_byte no_word ≡ true → new.lines ≡ new.place.line) new.text (λ rest some. cc);
+  within = if_some_all _ new.text (λ rest some. cc);
 }
 
 module _ {old now new : InputState} {so_far : RunWord} {byte : ℕ} (opens : Opens old so_far now) where
@@ -120,21 +130,17 @@ module _ {old now new : InputState} {so_far : RunWord} {byte : ℕ} (opens : Ope
     took = took_more takes (opened new.place (opens.word ++ byte ∷ []))
         (λ more. rw takes.place (opened-word now.place opens.word byte more apart.0 apart.1));
     halves = takes.halves ∙ opens.halves;
-    closed = if_some_map (λ rest. rest ≡ [] → byte ≡ 10) _ new.text
-        (λ rest last none. let clash = line_feed_is_gap byte (last none) in cc apart.1) takes.last;
-    lines = on_line new.text takes.lines takes.last;
+    within = if_some_both new.text takes.lines takes.last on_line;
   }
     where
       apart : (comments now.place.in_comment byte ≡ false) × (is_gap byte ≡ false)
       apart = or_false _ _ takes.is
 
       -- a byte of a word stands on its line
-      on_line : (x : Option (List ℕ)) → IfSome x (λ rest. new.lines ≡ lines_with now.lines now.place.line rest)
-          → IfSome x (λ rest. rest ≡ [] → byte ≡ 10)
-          → IfSome x (λ rest. is_some_byte (opens.word ++ byte ∷ []) ≡ true → new.lines ≡ new.place.line)
-      on_line None lines last = tt
-      on_line (Some []) lines last = λ some. let clash = line_feed_is_gap byte (last refl) in cc apart.1
-      on_line (Some (next ∷ rest)) lines last = λ some. rw (takes.place, eqb_line_feed byte apart.1) lines
+      on_line : (rest : List ℕ) → new.lines ≡ lines_with now.lines now.place.line rest → (rest ≡ [] → byte ≡ 10)
+          → is_some_byte (opens.word ++ byte ∷ []) ≡ true → (0 < length rest) × (new.lines ≡ new.place.line)
+      on_line [] lines last some = let clash = rw (last refl) at (eqb_line_feed byte apart.1) in cc
+      on_line (next ∷ rest) lines last some = (omega arith, rw (takes.place, eqb_line_feed byte apart.1) lines)
 
   module _ (takes : TakesNoted now byte true new) where
     -- a gap was taken, which ends the word
@@ -160,30 +166,21 @@ module _ {old now new : InputState} {so_far : RunWord} {byte : ℕ} (opens : Ope
       spelled = opens.spelled;
       passed = rw (ended-some now.place.line opens.word some) at Passed-ended;
       fewer = let before = opens.bytes in let fewer = takes.fewer in omega (arith, before, fewer);
-      behind = rw takes.place (line_grows byte);
-      lines = told_behind opens.took (λ rest. new.lines ≡ now.place.line) _ (λ text rest uses same. same)
-          (on_line now.text new.text takes.took.text opens.lines takes.lines);
+      behind = rw takes.place (grind (arith, nat_tests));
+      lines = told_behind opens.took (λ text. new.lines ≡ now.place.line) _ (λ text rest uses same. same)
+          (if_some_both now.text opens.within
+          (told_behind takes.took _ (λ text. now.lines ≡ now.place.line → new.lines ≡ now.place.line)
+          (λ text rest uses lines here. lines ∙ rw here (lines_with-same now.place.line rest)) takes.lines)
+          (λ text within go. go (within some).1));
     }
-      where
-        line_grows : (byte : ℕ) → now.place.line ≤ line_behind now.place.line byte
-        line_grows byte = grind (arith, nat_tests)
-
-        on_line : (x y : Option (List ℕ))
-            → IfSome x (λ text. IsSomeAnd y (λ rest. Uses (λ used. used ≡ byte ∷ []) now new text rest))
-            → IfSome x (λ rest. is_some_byte opens.word ≡ true → now.lines ≡ now.place.line)
-            → IfSome y (λ rest. new.lines ≡ lines_with now.lines now.place.line rest)
-            → IfSome x (λ rest. new.lines ≡ now.place.line)
-        on_line None y uses here behind = tt
-        on_line (Some text) None uses here behind = absurd uses
-        on_line (Some text) (Some []) uses here behind = behind ∙ here some
-        on_line (Some text) (Some (next ∷ rest)) uses here behind = behind
 
 -- the end
 pub Passed-end : {old now : InputState} {so_far : RunWord} → Opens old so_far now → IsAtEnd now.text → Passed old [] now
 Passed-end {now = now} opens at_end = record {
-  took = Took-closed (opens.word ≡ []) opens.took opens.closed at_end
-      (λ used none goes_on more. goes_on more ∙ ap (λ (word : List ℕ). opened now.place word more) none
-      ∙ opened-none now.place more);
+  took = Took-told (opens.word ≡ []) now.halves opens.took
+      (if_some_both now.text opens.within at_end (λ rest within none. no_bytes opens.word
+      (false_from_ne_true _ (λ some. let more = (within some).0 in let few = ap length none in omega arith))))
+      (λ used none goes_on more. rw (goes_on more, none) (opened-none now.place more));
   halves = opens.halves;
 }
 
@@ -210,11 +207,10 @@ open_word {some = some} opens told is = go (is_some_byte opens.word) some (sym (
 -- these words were passed, and then those
 pub Passed-join : {old mid new : InputState} {front words : List Word} → Passed old front mid → Passed mid words new
     → Passed old (front ++ words) new
-Passed-join {old = old} {new = new} {front = front} {words = words} first next = record {
-  took = Took-join first.took next.took
-      (λ used behind passes then more.
-      rw (append_assoc used behind more, append_assoc front words (ended_words new.place more))
-      (passes (behind ++ more) ∙ ap (λ (ws : List Word). front ++ ws) (then more)));
+Passed-join {new = new} {front = front} {words = words} first next = record {
+  took = Took-join first.took next.took (λ used behind passes then more.
+      let whole = append_assoc front words (ended_words new.place more) in
+      rw (append_assoc used behind more, passes (behind ++ more), then more, whole) refl);
   halves = next.halves ∙ first.halves;
 }
 
@@ -230,7 +226,29 @@ ends_behind_gaps {new = new} {line = line} gaps ends = record {
   lines = told_behind gaps.took (λ rest. new.lines ≡ line) _ (λ text rest uses same. same) ends.lines;
 }
 
--- gaps where no word is open
-pub Opens-gaps : {old now mid new : InputState} {so_far : RunWord} (opens : Opens old so_far now)
-    → is_some_byte opens.word ≡ false → Passed old [] mid → Passed mid [] new → Opens old so_far new
-Opens-gaps opens empty first next = Opens-none opens empty (Passed-join first next)
+-- within a line, no word of which has ended
+pub record OpensHere (old : InputState) (so_far : RunWord) (now : InputState) : Type 0 where
+  pub opens : Opens old so_far now
+  pub here : now.place.line ≡ old.place.line
+
+module _ {old now new : InputState} {so_far : RunWord} {byte : ℕ} (so : OpensHere old so_far now) where
+  pub OpensHere-word : {more_far : RunWord} → TakesNoted now byte false new
+      → ((word : List ℕ) → Spells so_far word → Spells more_far (word ++ byte ∷ [])) → OpensHere old more_far new
+  OpensHere-word takes spells =
+      let other = eqb_line_feed byte (or_false _ _ takes.is).1 in
+      record { opens = Opens-word so.opens takes spells; here = rw (takes.place, other) so.here }
+
+  module _ (takes : TakesNoted now byte true new) where
+    pub OpensHere-gap : is_some_byte so.opens.word ≡ false → byte ≢ 10 → OpensHere old so_far new
+    OpensHere-gap empty other =
+        record { opens = Opens-gap so.opens takes empty; here = rw (takes.place, ne_eqb byte 10 other) so.here }
+
+    -- the line feed behind no word
+    pub ends_here : is_some_byte so.opens.word ≡ false → byte ≡ 10 → EndsLine old (Ok true) new
+    ends_here empty feed =
+        let line : new.place.line ≡ old.place.line + 1 = rw (takes.place, feed, so.here) refl in
+        (Passed-gap so.opens takes empty, if_some_all _ new.text (λ rest. inr (omega arith)))
+
+    pub ends_in_word : is_some_byte so.opens.word ≡ true → EndsLine old (Ok false) new
+    ends_in_word some =
+        let ends = rw so.here at (EndsWord-gap so.opens takes some) in (ends.word, ends.passed, ends.lines)

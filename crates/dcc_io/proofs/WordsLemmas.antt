@@ -1,6 +1,7 @@
 -- How the words of a text come to light byte by byte.
 use Rattle.std.proofs.Common.{◌≡◌, ℕ, List, [], ◌∷◌, ◌++◌, Bool, true, false, cond, filter, refl, sym, ap}
-use Rattle.std.proofs.Common.{append_assoc, eqb, ◌||◌, arith}
+use Rattle.std.proofs.Common.{append_assoc, eqb, ◌||◌, inl, inr, arith}
+use Rattle.std.proofs.lemmas.Bool.{cases_Bool}
 use Rattle.std.proofs.lemmas.List.{append-nil}
 use Rattle.std.proofs.lemmas.Bool.Decides.{nat_tests}
 use Rattle.dcc_io.specs.TextPlace.{TextPlace, line_behind}
@@ -36,17 +37,11 @@ onto_front-onto_first front byte (word ∷ words) =
     ap (λ bytes. record { line = word.line; bytes = bytes } ∷ words) (sym (append_assoc front (byte ∷ []) word.bytes))
 
 pub opened-none : (place : TextPlace) (text : List ℕ) → opened place [] text ≡ ended_words place text
-opened-none place text =
-    ap (λ words. filter has_bytes (but_last words))
-    (onto_front-none (pieces place.line (without_comments place.in_comment text)))
+opened-none place text = simp onto_front-none
 
 pub eqb_line_feed : (byte : ℕ) → is_gap byte ≡ false → eqb byte 10 ≡ false
 unfolding is_gap
 eqb_line_feed byte no_gap = grind (arith, nat_tests)
-
-comment_line : (in_comment : Bool) (byte line : ℕ) → comments in_comment byte ≡ true → line_behind line byte ≡ line
-unfolding comments
-comment_line in_comment byte line comment = grind (arith, nat_tests)
 
 -- a byte of a word
 pub opened-word : (place : TextPlace) (front : List ℕ) (byte : ℕ) (text : List ℕ)
@@ -54,37 +49,29 @@ pub opened-word : (place : TextPlace) (front : List ℕ) (byte : ℕ) (text : Li
     → is_gap byte ≡ false
     → opened place front (byte ∷ text) ≡ opened (behind place byte) (front ++ byte ∷ []) text
 opened-word place front byte text no_comment no_gap =
-    rw (no_comment, no_gap, eqb_line_feed byte no_gap)
-    (ap (λ words. filter has_bytes (but_last words))
-    (onto_front-onto_first front byte (pieces place.line (without_comments false text))))
+    rw (no_comment, no_gap, eqb_line_feed byte no_gap, onto_front-onto_first) refl
 
 -- some word is the first
-record HasFirst (words : List Word) : Type 0 where
-  word : Word
-  rest : List Word
-  is : words ≡ word ∷ rest
-
-some_pieces : (line : ℕ) (text : List ℕ) → HasFirst (pieces line text)
-some_pieces line [] = record { word = record { line = line; bytes = [] }; rest = []; is = refl }
-some_pieces line (byte ∷ text) = some_of (is_gap byte) _ (some_pieces (line_behind line byte) text)
-  where
-    some_of : (gap : Bool) (words : List Word) → HasFirst words
-        → HasFirst (cond gap (record { line = line; bytes = [] } ∷ words) (onto_first byte words))
-    some_of true words first = record { word = _; rest = _; is = refl }
-    some_of false words first = record { word = _; rest = _; is = ap (onto_first byte) first.is }
+some_pieces : (line : ℕ) (text : List ℕ) → (word : Word) × (rest : List Word) × (pieces line text ≡ word ∷ rest)
+some_pieces line [] = (record { line = line; bytes = [] }, [], refl)
+some_pieces line (byte ∷ text) =
+    let more = some_pieces (line_behind line byte) text in elim (cases_Bool (is_gap byte)) [
+      | inl gap ↦ (record { line = line; bytes = [] }, pieces (line_behind line byte) text, rw gap refl)
+      | inr other ↦ (record { line = more.0.line; bytes = byte ∷ more.0.bytes }, more.1, rw (other, more.2) refl)
+    ]
 
 -- a piece that is followed by more has ended
 closes : (line : ℕ) (front : List ℕ) (next : ℕ) (text : List ℕ)
     → filter has_bytes (but_last (record { line = line; bytes = front ++ [] } ∷ pieces next text)) ≡ ended line front
     ++ filter has_bytes (but_last (pieces next text))
-closes line front next text =
-    let more = some_pieces next text in rw (append-nil front, more.is) (go front more.word more.rest)
-  where
-    go : (front : List ℕ) (word : Word) (words : List Word)
-        → filter has_bytes (but_last (record { line = line; bytes = front } ∷ word ∷ words)) ≡ ended line front
-        ++ filter has_bytes (but_last (word ∷ words))
-    go [] word words = refl
-    go (byte ∷ front) word words = refl
+closes line [] next text = let more = some_pieces next text in rw more.2 refl
+closes line (byte ∷ front) next text = let more = some_pieces next text in rw (append-nil front, more.2) refl
+
+shown_line : (in_comment : Bool) (byte line : ℕ)
+    → line_behind line (cond (comments in_comment byte) 32 byte) ≡ line_behind line byte
+unfolding comments
+shown_line true byte line = grind (arith, nat_tests)
+shown_line false byte line = grind (arith, nat_tests)
 
 shown_gap : (c : Bool) (byte : ℕ) → (c || is_gap byte) ≡ true → is_gap (cond c 32 byte) ≡ true
 unfolding is_gap
@@ -96,12 +83,6 @@ pub opened-gap : (place : TextPlace) (front : List ℕ) (byte : ℕ) (text : Lis
     → (comments place.in_comment byte || is_gap byte) ≡ true
     → opened place front (byte ∷ text) ≡ ended place.line front ++ ended_words (behind place byte) text
 opened-gap place front byte text gap =
-    let shown = shown_gap (comments place.in_comment byte) byte gap in
-    let line = line_of (comments place.in_comment byte) refl in
-    rw (shown, line)
-    (closes place.line front (line_behind place.line byte) (without_comments (comments place.in_comment byte) text))
-  where
-    line_of : (c : Bool) → comments place.in_comment byte ≡ c
-        → line_behind place.line (cond c 32 byte) ≡ line_behind place.line byte
-    line_of true h = sym (comment_line place.in_comment byte place.line h)
-    line_of false h = refl
+    let comment = comments place.in_comment byte in
+    rw (shown_gap comment byte gap, shown_line place.in_comment byte place.line)
+    (closes place.line front (line_behind place.line byte) (without_comments comment text))

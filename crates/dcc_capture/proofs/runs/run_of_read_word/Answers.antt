@@ -6,8 +6,7 @@ use Rattle.dcc_capture.proofs.runs.run_of_read_word.Goals as goal
 pub returns-in-Some-run : goal.returns-in-Some-run
 returns-in-Some-run g c =
     let ends = rw c.in-Some.is at (c.in_ok-line.ensures.reads c.requires) in
-    counts_answer c.args.input.now c.next_word.new.input c.count_run.new.input c.in-Some.line c.in-Some-run.run'
-    c.in-Some.word c.count_run.result c.requires ends
+    counts_answer _ c.in-Some-run.run' c.count_run.result c.requires ends
     (sym (c.in-Some-run.ensures ends.word ends.spelled)) c.count_run.ensures
 
 pub returns-in-None-run : goal.returns-in-None-run
@@ -15,8 +14,7 @@ returns-in-None-run g c =
     let ends = rw c.in-Some.is at (c.in_ok-line.ensures.reads c.requires) in
     let refused = c.refuse_number.ensures.refuses ends.passed.fault in
     simp (refused.0, refused.1)
-    (stops_at_word c.args.input.now c.next_word.new.input c.in-Some.line ends.word ends.passed ends.lines
-    (sym (c.in-None-run.ensures ends.word ends.spelled)))
+    (stops_at_word ends.passed ends.lines (sym (c.in-None-run.ensures ends.word ends.spelled)))
 
 pub returns-in_err-line : goal.returns-in_err-line
 returns-in_err-line g c =

@@ -1,6 +1,6 @@
 use Rattle.std.proofs.Common.{◌+◌, ◌-◌, take, drop, length, arith, sym, ◌∙◌, length-drop}
 use Rattle.std.proofs.lemmas.List.{take_all}
-use Rattle.dcc_io.proofs.FrontRunLemmas.{is_front_run}
+use Rattle.dcc_io.proofs.FrontLemmas.{is_front_run}
 use Rattle.dcc_io.proofs.front_run.front_run.Goals as goal
 
 pub returns : goal.returns

@@ -1,6 +1,6 @@
 use Rattle.std.proofs.Common.{sym, ◌∙◌}
 use Rattle.std.proofs.lemmas.Result.{err_from_is_err_and}
-use Rattle.dcc_io.proofs.PacketReadLemmas.{Gave-passed, answers_said, answers_fault}
+use Rattle.dcc_io.proofs.PacketLineLemmas.{Gave-passed, answers_said, answers_fault}
 use Rattle.dcc_io.proofs.said_line.next_said.Goals as goal
 
 pub lines-preserved-then-take_skipped_line : goal.lines-preserved-then-take_skipped_line

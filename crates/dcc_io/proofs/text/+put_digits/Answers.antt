@@ -1,35 +1,35 @@
-use Rattle.std.proofs.Common.{◌+◌, ◌/◌, ◌%◌, ◌∷◌, [], length, decimal, ap, ◌∙◌, arith, append_assoc, length-append}
+use Rattle.std.proofs.Common.{◌≡◌, ℕ, ◌<◌, ◌≤◌, ◌+◌, ◌/◌, ◌^◌, length, decimal, ap, ◌∙◌, arith, append_assoc, length-append, refl}
 use Rattle.std.proofs.Common.{rules}
 use Rattle.std.proofs.lemmas.Fmt.{decimal_digit, decimal_step}
 use Rattle.dcc_io.proofs.text.+put_digits.Goals as goal
 
+-- how many digits a number has
+digit_len : (n : ℕ) → n < 10 → length (decimal n) ≡ 1
+digit_len n small = ap length (decimal_digit n small)
+
+step_len : (n : ℕ) → 10 ≤ n → n < 2 ^ 64 → length (decimal n) ≡ length (decimal (n / 10)) + 1
+step_len n large small = ap length (decimal_step n large small) ∙ length-append (decimal (n / 10)) _
+
 pub put_digits-requires : goal.put_digits-requires
 put_digits-requires t c =
-    let step = decimal_step c.args.number c.if-number-lt10.false (omega arith) in
-    let len = ap length step ∙ length-append (decimal (c.args.number / 10)) ((48 + c.args.number % 10) ∷ []) in
-    (search rules, omega (arith, len, c.requires))
+    (search rules, omega (arith, step_len c.args.number c.if-number-lt10.false (omega arith), c.requires))
 
 pub push-requires : goal.push-requires
-push-requires t c =
-    let digit = ap length (decimal_digit c.args.number c.if-number-lt10.true) in
-    (omega arith, omega (arith, digit, c.requires))
+push-requires t c = (omega arith, omega (arith, digit_len c.args.number c.if-number-lt10.true, c.requires))
 
 pub push-requires-2 : goal.push-requires-2
 push-requires-2 t c =
-    let step = decimal_step c.args.number c.if-number-lt10.false (omega arith) in
-    let len = ap length step ∙ length-append (decimal (c.args.number / 10)) ((48 + c.args.number % 10) ∷ []) in
+    let len = step_len c.args.number c.if-number-lt10.false (omega arith) in
     (omega arith, omega (arith, len, c.requires, c.put_digits.ensures.len))
 
 pub returns-clause-items : goal.returns-clause-items
 returns-clause-items t c =
     let step = decimal_step c.args.number c.if-number-lt10.false (omega arith) in
-    rw (step, c.push-2.ensures.items, c.put_digits.ensures.items)
-    (append_assoc c.args.digits.now.items (decimal (c.args.number / 10)) ((48 + c.args.number % 10) ∷ []))
+    rw (step, c.push-2.ensures.items, c.put_digits.ensures.items, append_assoc) refl
 
 pub returns-clause-len : goal.returns-clause-len
 returns-clause-len t c =
-    let step = decimal_step c.args.number c.if-number-lt10.false (omega arith) in
-    let len = ap length step ∙ length-append (decimal (c.args.number / 10)) ((48 + c.args.number % 10) ∷ []) in
+    let len = step_len c.args.number c.if-number-lt10.false (omega arith) in
     omega (arith, len, c.put_digits.ensures.len, c.push-2.ensures.len)
 
 pub returns-then-number-lt10-clause-items : goal.returns-then-number-lt10-clause-items
@@ -37,5 +37,4 @@ returns-then-number-lt10-clause-items t c = rw (decimal_digit c.args.number c.if
 
 pub returns-then-number-lt10-clause-len : goal.returns-then-number-lt10-clause-len
 returns-then-number-lt10-clause-len t c =
-    let digit = ap length (decimal_digit c.args.number c.if-number-lt10.true) in omega
-    (arith, digit, c.push.ensures.len)
+    omega (arith, digit_len c.args.number c.if-number-lt10.true, c.push.ensures.len)

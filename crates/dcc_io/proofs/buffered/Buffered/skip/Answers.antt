@@ -1,18 +1,14 @@
-use Rattle.dcc_io.proofs.BufferedLemmas.{slice_range-skip, within_slice, consumes_front}
+use Rattle.dcc_io.proofs.BufferedLemmas.{slice_range-skip, consumes_front}
 use Rattle.dcc_io.proofs.buffered.Buffered.skip.Goals as goal
 
 pub returns-clause-ahead : goal.returns-clause-ahead
 returns-clause-ahead g c =
-    let few = rw (← c.self.view_is) at c.requires in
-    let fits = within_slice c.self.inside.buffer c.self.inside.start c.args.count c.self.inside.end c.self.invariant.0
-    few in
     rw (← c.self.view_is)
-    (slice_range-skip c.self.inside.buffer c.self.inside.start c.args.count c.self.inside.end fits)
+    (slice_range-skip c.self.inside.buffer c.self.inside.start c.args.count c.self.inside.end c.self.invariant.0
+    (rw (← c.self.view_is) at c.requires))
 
 pub returns-clause-text : goal.returns-clause-text
 returns-clause-text g c =
-    let few = rw (← c.self.view_is) at c.requires in
-    let fits = within_slice c.self.inside.buffer c.self.inside.start c.args.count c.self.inside.end c.self.invariant.0
-    few in
-    rw (← c.self.view_is, slice_range-skip c.self.inside.buffer c.self.inside.start c.args.count c.self.inside.end fits)
-    (consumes_front _ c.args.count _)
+    let ahead = slice_range-skip c.self.inside.buffer c.self.inside.start c.args.count c.self.inside.end c.self.invariant.0
+    (rw (← c.self.view_is) at c.requires) in
+    rw (← c.self.view_is, ahead) (consumes_front _ c.args.count _)

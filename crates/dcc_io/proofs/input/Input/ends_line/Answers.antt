@@ -1,6 +1,6 @@
 use Rattle.std.proofs.lemmas.Result.{err_from_is_err_and}
-use Rattle.dcc_io.proofs.LineEndLemmas.{OpensHere-word, OpensHere-gap, ends_here, ends_in_word}
-use Rattle.dcc_io.proofs.PassedLemmas.{answers_err, takes_noted, open_word}
+use Rattle.dcc_io.proofs.PassedLemmas.{OpensHere-word, OpensHere-gap, ends_here, ends_in_word, answers_err, takes_noted}
+use Rattle.dcc_io.proofs.PassedLemmas.{open_word}
 use Rattle.dcc_io.proofs.input.Input.ends_line.Goals as goal
 
 pub returns-in_err-byte : goal.returns-in_err-byte

@@ -1,4 +1,4 @@
-use Rattle.dcc_io.proofs.LineEndLemmas.{OpensHere}
+use Rattle.dcc_io.proofs.PassedLemmas.{OpensHere}
 use Rattle.dcc_io.proofs.input.Input.ends_line.Given as goal
 
 abbrev pub invariant-bytes : goal.invariant-bytes

@@ -1,6 +1,7 @@
 use Rattle.std.proofs.Common.{refl, ap, ◌∙◌, add-zero, true}
 use Rattle.dcc_io.specs.InputState.{InputState, closed_text}
-use Rattle.dcc_io.proofs.InputLemmas.{begins_with_close, ends_behind_close, line_feed_is_last, no_line_of_close}
+use Rattle.dcc_io.proofs.InputLemmas.{begins_with_close, ends_behind_close, no_line_of_close}
+use Rattle.dcc_io.proofs.TookLemmas.{if_some_all}
 use Rattle.dcc_io.proofs.input.Input.next_byte.Goals as goal
 
 pub returns-in-Ok-None : goal.returns-in-Ok-None
@@ -14,7 +15,7 @@ returns-in-Ok-None g c =
       halves = refl;
       bytes = rw (c.if-self.false, add-zero) refl;
       room = λ none. ends_behind_close c.next.new.self.text;
-      last = line_feed_is_last 10 (closed_text true c.next.new.self.text) refl;
+      last = if_some_all _ (closed_text true c.next.new.self.text) (λ rest none. refl);
       fault = ap (λ (state : InputState). state.fault) c.self.view_is ∙ c.requires;
       failures = end.3;
     }

@@ -6,7 +6,6 @@ pub returns : goal.returns
 returns g c =
     let known = rw (← c.self.view_is) at c.requires in
     rw (← c.self.view_is)
-    (passes_comment_at c.self.inside.source c.skip.new.self c.self.inside.line c.self.inside.lines
-    c.self.inside.halves_left c.self.inside.bytes_left c.len_of_line-len.result _ _ _ c.self.invariant.2 known
-    c.skip.ensures.failures c.if-not-self.false c.if-self-len.false (omega arith)
+    (passes_comment_at c.self.inside.source c.skip.new.self c.self.inside.bytes_left c.self.invariant.2 known
+    c.skip.ensures.failures c.len_of_line-len.result c.if-not-self.false c.if-self-len.false (omega arith)
     (rw c.ahead.ensures.bytes at c.len_of_line-len.ensures) c.skip.ensures.text)

@@ -5,6 +5,5 @@ pub returns-clause-passed : goal.returns-clause-passed
 returns-clause-passed g c =
     let known = rw (← c.self.view_is) at c.requires in
     rw (← c.self.view_is)
-    (passes_line_feed_at c.self.inside.source c.skip.new.self c.self.inside.line c.self.inside.lines
-    c.self.inside.halves_left c.self.inside.bytes_left 0 _ _ _ c.self.invariant.2 known.fault c.skip.ensures.failures
-    known.no_comment known.room known.begins c.skip.ensures.text)
+    (passes_line_feed_at c.self.inside.source c.skip.new.self c.self.inside.bytes_left c.self.invariant.2 known.fault
+    c.skip.ensures.failures known.no_comment known.room known.begins c.skip.ensures.text)

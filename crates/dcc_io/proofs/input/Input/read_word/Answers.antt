@@ -1,5 +1,5 @@
 use Rattle.std.proofs.lemmas.Result.{err_from_is_err_and}
-use Rattle.dcc_io.proofs.PassedLemmas.{Opens-word, Opens-gaps, Passed-join, Passed-gap, ends_behind_gaps, EndsWord-gap, Passed-end}
+use Rattle.dcc_io.proofs.PassedLemmas.{Opens-word, Opens-none, Passed-join, Passed-gap, ends_behind_gaps, EndsWord-gap, Passed-end}
 use Rattle.dcc_io.proofs.PassedLemmas.{answers_err, takes_noted, open_word}
 use Rattle.dcc_io.proofs.input.Input.read_word.Goals as goal
 
@@ -31,7 +31,7 @@ bytes-preserved g c =
     c.passes_gap.ensures.gap c.if-not-passes_gap.false in
     let none = open_word c.bytes.invariant c.is_empty.ensures c.if-not-is_empty.false in
     rw c.in_default.ensures.none
-    (Opens-gaps c.bytes.invariant none (Passed-gap c.bytes.invariant noted none) c.pass_comment.ensures)
+    (Opens-none c.bytes.invariant none (Passed-join (Passed-gap c.bytes.invariant noted none) c.pass_comment.ensures))
 
 pub returns-in-Some-word_at_hand : goal.returns-in-Some-word_at_hand
 returns-in-Some-word_at_hand g c =

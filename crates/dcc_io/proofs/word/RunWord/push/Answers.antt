@@ -4,15 +4,12 @@ use Rattle.dcc_io.proofs.word.RunWord.push.Goals as goal
 
 pub returns-in-Some : goal.returns-in-Some
 returns-in-Some c word spells =
-    Spells-count c.args.self.now _ c.in-Some.count c.push.new.self word c.args.byte c.in-Some.is c.push.ensures refl
-    refl c.still_dashes-self.ensures spells
+    Spells-count _ c.args.byte spells c.still_dashes-self.ensures c.in-Some.is c.push.ensures refl refl
 
 pub returns-then-byte-eq42 : goal.returns-then-byte-eq42
 returns-then-byte-eq42 c word spells =
-    Spells-star c.args.self.now _ c.new.result word c.args.byte c.in-None.is c.if-byte-eq42.true c.new.ensures refl refl
-    c.still_dashes-self.ensures spells
+    Spells-star _ c.args.byte spells c.still_dashes-self.ensures c.in-None.is c.if-byte-eq42.true c.new.ensures refl refl
 
 pub returns-else-byte-eq42 : goal.returns-else-byte-eq42
 returns-else-byte-eq42 c word spells =
-    Spells-byte c.args.self.now _ word c.args.byte c.in-None.is c.if-byte-eq42.false c.push-else-byte-eq42.ensures refl
-    c.still_dashes-self.ensures spells
+    Spells-byte _ c.args.byte spells c.still_dashes-self.ensures c.in-None.is c.if-byte-eq42.false c.push-else-byte-eq42.ensures refl
