@@ -1,29 +1,34 @@
--- Lists that are alike for a decoder leave the same registers.
+-- Lists, and halves, that are alike for a decoder leave the same registers.
 use Rattle.std.proofs.Common.{◌≡◌, ◌∙◌, refl, sym, ap, Bool, true, false, cond, List, [], ◌∷◌, ◌++◌, Option, Some, inl}
-use Rattle.std.proofs.Common.{inr, ℕ, zero, suc}
+use Rattle.std.proofs.Common.{inr, ℕ, zero, suc, ◌+◌, ◌≤◌, arith}
 use Rattle.std.specs.Prelude.{◌&&◌}
-use Rattle.std.proofs.lemmas.Bool.{cases_Bool, and_parts}
 use Rattle.std.specs.List.{AllByRecursion}
+use Rattle.std.proofs.Math.Path.{fun_ext}
+use Rattle.std.proofs.lemmas.Bool.{cases_Bool, and_parts}
 use Rattle.std.proofs.lemmas.List.Elements.{filter_passes, recursion_from_All}
 use Rattle.dcc_packet.specs.declared.packet.Packet.{Packet}
+use Rattle.dcc_packet.specs.SamePacket.{same}
+use Rattle.dcc_packet.proofs.SameFrames.{Decides-same}
 use Rattle.dcc_regs.specs.declared.register.Value.{Value}
 use Rattle.dcc_regs.specs.declared.register.Who.{Who}
-use Rattle.dcc_packet.specs.SamePacket.{same}
 use Rattle.dcc_regs.specs.Writes.{is_own_write}
 use Rattle.dcc_regs.specs.Heard.{hears, heard}
 use Rattle.dcc_regs.specs.Setting.{value_over, mode_in}
-use Rattle.dcc_regs.specs.Result.{is_pending, left_pending}
+use Rattle.dcc_regs.specs.Result.{is_pending, left_pending, RegisterMap, result}
 use Rattle.dcc_regs.specs.declared.register.Value.TheVariants.{Pending as PendingValue}
-use Rattle.dcc_packet.proofs.SameFrames.{Decides-same}
+use Rattle.dcc_regs.specs.declared.register.Register.TheVariants.{CvBit}
 use Rattle.dcc_regs.proofs.OwnWrites.{sets-own_write}
 use Rattle.dcc_regs.proofs.RegisterStep.{overwritten-none}
 use Rattle.dcc_regs.proofs.ResultByParts.{State, step, state_after, start, read, read-state_after, state_after-append}
 use Rattle.dcc_regs.proofs.ResultByParts.{same_state, sets_bit, overwritten-twice}
 use Rattle.dcc_order.specs.AlikeLists.{begins_with_two, without_third_copies, Cut, LastBlock, Block, in_first_block}
-use Rattle.dcc_order.specs.AlikeLists.{cut, cut_for, AlikeCuts, AlikeBlocks}
+use Rattle.dcc_order.specs.AlikeLists.{cut, cut_for, AlikeCuts}
+use Rattle.dcc_order.specs.GivenLists.{writes_in}
 use Rattle.dcc_order.specs.Laws.{AlikeListsLeaveTheSame, AlikeListsAgreeAfterEachBlock, through_block}
-use Rattle.dcc_regs.specs.declared.register.Register.TheVariants.{CvBit}
+use Rattle.dcc_order.specs.Hearing.{HasHeardHalves, ArePackets}
+use Rattle.dcc_order.specs.HearingLaws.{AlikeHalvesLeaveTheSame}
 use Rattle.dcc_order.proofs.AlikeBlocks.{InBlock, alike_blocks}
+use Rattle.dcc_order.proofs.HearingLemmas.{one_list_of_packets}
 
 -- the packets of a cut list
 abbrev pub flat : Cut → List Packet
@@ -51,38 +56,46 @@ well_in_first_block : (who : Who) (p : Packet) (x : Cut) → InBlock who p → W
 well_in_first_block who p (LastBlock block) here well = (here, well)
 well_in_first_block who p (Block block write rest) here well = ((here, well.0), well.1)
 
-well_cut : (who : Who) (l : List Packet) → AllByRecursion (λ p. hears who p ≡ true) l → WellCut who (cut l)
+well_cut : (who : Who) (l : List Packet) → AllByRecursion (λ p. hears who p ≡ true) l
+    → WellCut who (cut (without_third_copies l))
 well_cut who [] all = tt
-well_cut who (p ∷ l) all = elim (cases_Bool (is_own_write p)) [
-  | inl e ↦ rw e (tt, well_cut who l all.1)
-  | inr e ↦ rw e (well_in_first_block who p (cut l) (all.0, e) (well_cut who l all.1))
+well_cut who (p ∷ l) all = elim (cases_Bool (is_own_write p && begins_with_two l p)) [
+  | inl third ↦ rw third (well_cut who l all.1)
+  | inr kept ↦ rw kept (elim (cases_Bool (is_own_write p)) [
+    | inl e ↦ rw e (tt, well_cut who l all.1)
+    | inr e ↦ rw e (well_in_first_block who p (cut (without_third_copies l)) (all.0, e) (well_cut who l all.1))
+  ])
 ]
 
--- alike blocks, one write behind them, and what leaves the same behind that
-behind_blocks : (who : Who) (s : State) (left right : List Packet) (write other : Packet) (m n : List Packet)
-    → AllByRecursion (InBlock who) left → AllByRecursion (InBlock who) right → AlikeBlocks left right → write ≡ other →
-    ((t : State) → state_after t m ≡ state_after t n)
-    → state_after s (left ++ write ∷ m) ≡ state_after s (right ++ other ∷ n)
-behind_blocks who s left right write other m n lefts rights alike is later =
-    rw (
-      state_after-append s left (write ∷ m),
-      state_after-append s right (other ∷ n),
-      alike_blocks who s left right lefts rights alike,
-      is,
-    ) (later (step (state_after s right) other))
+well_cut_for : (who : Who) (l : List Packet) → WellCut who (cut_for who l)
+well_cut_for who l = well_cut who (heard who l)
+    (recursion_from_All (λ p. hears who p ≡ true) (heard who l) (filter_passes (hears who) l))
 
-alike_cuts : (who : Who) (s : State) (x y : Cut) → WellCut who x → WellCut who y → AlikeCuts x y
-    → state_after s (flat x) ≡ state_after s (flat y)
-alike_cuts who s (LastBlock left) (LastBlock right) lefts rights alike =
+-- alike cut lists leave the same up to the end of a block
+alike_through : (who : Who) (s : State) (k : ℕ) (x y : Cut) → WellCut who x → WellCut who y → AlikeCuts x y
+    → state_after s (through_block k x) ≡ state_after s (through_block k y)
+alike_through who s k (LastBlock left) (LastBlock right) lefts rights alike =
     alike_blocks who s left right lefts rights alike
-alike_cuts who s (Block left write x) (Block right other y) lefts rights alike =
-    behind_blocks who s left right write other (flat x) (flat y) lefts.0 rights.0 alike.0 alike.1
-    (λ t. alike_cuts who t x y lefts.1 rights.1 alike.2)
-alike_cuts who s x y lefts rights alike = absurd alike
+alike_through who s zero (Block left write x) (Block right other y) lefts rights alike =
+    alike_blocks who s left right lefts.0 rights.0 alike.0
+alike_through who s (suc k) (Block left write x) (Block right other y) lefts rights alike = rw (
+  state_after-append s left (write ∷ through_block k x),
+  state_after-append s right (other ∷ through_block k y),
+  alike_blocks who s left right lefts.0 rights.0 alike.0,
+  alike.1,
+) (alike_through who (step (state_after s right) other) k x y lefts.1 rights.1 alike.2)
+alike_through who s k x y lefts rights alike = absurd alike
+
+-- and behind the last block too
+through_all : (k : ℕ) (x : Cut) → writes_in x ≤ k → through_block k x ≡ flat x
+through_all k (LastBlock block) all = refl
+through_all zero (Block block write rest) all = absurd (omega arith)
+through_all (suc k) (Block block write rest) all = ap (λ l. block ++ write ∷ l) (through_all k rest (omega arith))
 
 -- a third copy of an own write writes the same again
 third_copy : (s : State) (p : Packet) → is_own_write p ≡ true → step (step (step s p) p) p ≡ step (step s p) p
-third_copy s p write = same_state (step (step (step s p) p) p) (step (step s p) p) pending_again
+third_copy s p write = same_state (step (step (step s p) p) p) (step (step s p) p)
+    (overwritten-twice (value_over s.pending (Some (PendingValue (left_pending p)))) (Some (PendingValue (left_pending p))))
     (λ r. ap
     (λ v. cond (is_own_write p && is_pending v p) (value_over ((step (step s p) p).bits r) (sets_bit p r))
     ((step (step s p) p).bits r)) (overwritten-twice s.pending (Some (PendingValue (left_pending p))))
@@ -90,12 +103,6 @@ third_copy s p write = same_state (step (step (step s p) p) p) (step (step s p) 
     (λ r. ap (value_over ((step (step s p) p).plain r)) (sets-own_write (mode_in (step (step s p) p).bits) p r write)
     ∙ overwritten-none ((step (step s p) p).plain r))
   where
-    -- a register that has it stays, and one that a decoder does not have stays none
-    pending_again : (step (step (step s p) p) p).pending ≡ (step (step s p) p).pending
-    pending_again =
-        overwritten-twice (value_over s.pending (Some (PendingValue (left_pending p))))
-        (Some (PendingValue (left_pending p)))
-
     written_again : (t : Bool) (v o : Option Value)
         → cond t (value_over (cond t (value_over v o) v) o) (cond t (value_over v o) v) ≡ cond t (value_over v o) v
     written_again true v o = overwritten-twice v o
@@ -120,43 +127,21 @@ state_after-capped s (p ∷ l) = elim (cases_Bool (is_own_write p && begins_with
   | inr e ↦ rw e (state_after-capped (step s p) l)
 ]
 
-all_capped : (P : Packet → Type 0) (l : List Packet) → AllByRecursion P l → AllByRecursion P (without_third_copies l)
-all_capped P [] all = tt
-all_capped P (p ∷ l) all = elim (cases_Bool (is_own_write p && begins_with_two l p)) [
-  | inl e ↦ rw e (all_capped P l all.1)
-  | inr e ↦ rw e (all.0, all_capped P l all.1)
-]
-
-well_cut_for : (who : Who) (l : List Packet) → WellCut who (cut_for who l)
-well_cut_for who l =
-    well_cut who (without_third_copies (heard who l)) (all_capped (λ p. hears who p ≡ true) (heard who l)
-    (recursion_from_All (λ p. hears who p ≡ true) (heard who l) (filter_passes (hears who) l)))
-
-state_after-cut_for : (who : Who) (s : State) (l : List Packet)
-    → state_after s (flat (cut_for who l)) ≡ state_after s (heard who l)
-state_after-cut_for who s l =
-    ap (state_after s) (flat-cut (without_third_copies (heard who l))) ∙ state_after-capped s (heard who l)
+-- a list leaves what it leaves as it is cut for the decoder
+state_after-cut_for : (who : Who) (s : State) (k : ℕ) (l : List Packet) → writes_in (cut_for who l) ≤ k
+    → state_after s (through_block k (cut_for who l)) ≡ state_after s (heard who l)
+state_after-cut_for who s k l all = rw (through_all k (cut_for who l) all, flat-cut (without_third_copies (heard who l)))
+    (state_after-capped s (heard who l))
 
 pub alike_lists : AlikeListsLeaveTheSame
 alike_lists who left right alike m r =
+    let k = writes_in (cut_for who left) + writes_in (cut_for who right) in
     read-state_after m (heard who left) r
-    ∙ ap (λ s. read s r) (
-    sym (state_after-cut_for who (start m) left)
-    ∙ alike_cuts who (start m) (cut_for who left) (cut_for who right) (well_cut_for who left)
+    ∙ ap (λ s. read s r) (sym (state_after-cut_for who (start m) k left (omega arith))
+    ∙ alike_through who (start m) k (cut_for who left) (cut_for who right) (well_cut_for who left)
     (well_cut_for who right) alike
-    ∙ state_after-cut_for who (start m) right)
+    ∙ state_after-cut_for who (start m) k right (omega arith))
     ∙ sym (read-state_after m (heard who right) r)
-
-alike_through : (who : Who) (s : State) (k : ℕ) (x y : Cut) → WellCut who x → WellCut who y → AlikeCuts x y
-    → state_after s (through_block k x) ≡ state_after s (through_block k y)
-alike_through who s k (LastBlock left) (LastBlock right) lefts rights alike =
-    alike_blocks who s left right lefts rights alike
-alike_through who s zero (Block left write x) (Block right other y) lefts rights alike =
-    alike_blocks who s left right lefts.0 rights.0 alike.0
-alike_through who s (suc k) (Block left write x) (Block right other y) lefts rights alike =
-    behind_blocks who s left right write other (through_block k x) (through_block k y) lefts.0 rights.0 alike.0 alike.1
-    (λ t. alike_through who t k x y lefts.1 rights.1 alike.2)
-alike_through who s k x y lefts rights alike = absurd alike
 
 pub alike_after_each_block : AlikeListsAgreeAfterEachBlock
 alike_after_each_block who left right alike k m cv place =
@@ -164,3 +149,16 @@ alike_after_each_block who left right alike k m cv place =
     ∙ ap (λ s. read s (CvBit cv place)) (alike_through who (start m) k (cut_for who left) (cut_for who right)
     (well_cut_for who left) (well_cut_for who right) alike)
     ∙ sym (read-state_after m (through_block k (cut_for who right)) (CvBit cv place))
+
+-- the registers are the result of the packets that the halves hold
+pub holds : (who : Who) (start : RegisterMap) (halves : List ℕ) (who' : Who) (now : RegisterMap) (packets : List Packet)
+    → ArePackets packets halves
+    → HasHeardHalves halves who start who' now → now ≡ result who start packets
+holds who start halves who' now packets are heard =
+    heard.heard.registers ∙ ap (result who start) (one_list_of_packets halves heard.packets packets heard.seen are)
+
+pub alike_halves_leave_the_same : AlikeHalvesLeaveTheSame
+alike_halves_leave_the_same who start left right a one other now after h k =
+    holds who start left one now a.packets a.seen h
+    ∙ fun_ext (alike_lists who a.packets a.others a.alike start)
+    ∙ sym (holds who start right other after a.others a.others_seen k)

@@ -2,7 +2,7 @@
 use Rattle.std.proofs.Common.{◌≡◌, ℕ, List, [], ◌∷◌, ◌++◌, map, refl, sym, ◌∙◌, ap, append_assoc}
 use Rattle.std.proofs.lemmas.List.{map-append}
 use Rattle.dcc_wire.specs.declared.seen.Seen.{Seen}
-use Rattle.dcc_wire.specs.declared.seen.Seen.TheVariants.{Nothing, Packet as PacketSeen, Refused}
+use Rattle.dcc_wire.specs.declared.seen.Seen.TheVariants.{Packet as PacketSeen}
 use Rattle.dcc_wire.specs.Framing.{seen, report_at}
 use Rattle.dcc_wire.proofs.SeenLemmas.{seen-none}
 use Rattle.dcc_packet.specs.declared.packet.Packet.{Packet}
@@ -21,23 +21,15 @@ frames_in-append (at ∷ later) b =
 
 frames_in-reported : (place : ℕ) (answer : Seen) → frames_in (report_at place answer) ≡ frames_of answer
 unfolding report_at
-frames_in-reported place Nothing = refl
 frames_in-reported place (PacketSeen frame) = refl
-frames_in-reported place (Refused fault) = refl
+frames_in-reported place answer = refl
 
 -- a half more adds the packets that it shows
 pub packets_more : (halves more : List ℕ) (answer : Seen) (place : ℕ) (packets shown : List Packet)
     → seen more ≡ seen halves ++ report_at place answer
     → ArePackets packets halves → AreSpelled shown (frames_of answer) → ArePackets (packets ++ shown) more
 packets_more halves more answer place packets shown e before now =
-    rw (
-      e,
-      map-append spelling packets shown,
-      frames_in-append (seen halves) (report_at place answer),
-      frames_in-reported place answer,
-      before,
-      now,
-    ) refl
+    rw (e, map-append, frames_in-append, frames_in-reported, before, now) refl
 
 pub heard_half : {who who' who'' : Who} {m m' m'' : RegisterMap} (halves more : List ℕ) (answer : Seen) (place : ℕ)
     (shown : List Packet) → seen more ≡ seen halves ++ report_at place answer
@@ -51,19 +43,23 @@ heard_half halves more answer place shown e spelled before now = record {
 
 same_packets : (ps qs : List Packet) → map spelling ps ≡ map spelling qs → ps ≡ qs
 same_packets [] [] e = refl
-same_packets (p ∷ ps) (q ∷ qs) e =
-    let first : spelling p ≡ spelling q = cc in
-    let rest : map spelling ps ≡ map spelling qs = cc in
-    rw (one.one_packet p q first, same_packets ps qs rest) refl
+same_packets (p ∷ ps) (q ∷ qs) e = rw (one.one_packet p q (cc), same_packets ps qs (cc)) refl
 same_packets ps qs e = absurd (cc)
+
+pub no_packet : (packets : List Packet) → AreSpelled packets [] → packets ≡ []
+no_packet packets = same_packets packets []
+
+pub one_packet : (packets : List Packet) (frame : List ℕ) (p : Packet) → ((q : Packet) → spelling q ≡ frame → q ≡ p)
+    → AreSpelled packets (frame ∷ []) → packets ≡ p ∷ []
+one_packet (q ∷ []) frame p only e = let same : spelling q ≡ frame = cc in rw (only q same) refl
+one_packet packets frame p only e = absurd (cc)
 
 pub one_list_of_packets : OneListOfPackets
 one_list_of_packets halves ps qs e f = same_packets ps qs (e ∙ sym f)
 
-pub no_halves_heard : NoHalvesHeard
-no_halves_heard who start =
-    record { packets = []; seen = ap frames_in (sym seen-none); heard = heard_nothing who start }
-
 -- no halves hold no packets
 pub no_packets : ArePackets [] []
 no_packets = ap frames_in (sym seen-none)
+
+pub no_halves_heard : NoHalvesHeard
+no_halves_heard who start = record { packets = []; seen = no_packets; heard = heard_nothing who start }

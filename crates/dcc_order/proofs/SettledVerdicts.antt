@@ -1,6 +1,6 @@
 -- A verdict that is settled stays, whatever packets follow on a side that has not ended.
 use Rattle.std.proofs.Common.{◌≡◌, ◌∙◌, refl, sym, ap, subst, Bool, true, false, List, [], ◌++◌, append-nil, ℕ, zero}
-use Rattle.std.proofs.Common.{suc, ◌+◌, add-zero, inl, inr, Option, Some, None, arith}
+use Rattle.std.proofs.Common.{suc, ◌+◌, inl, inr, Option, Some, None, arith}
 use Rattle.std.specs.Prelude.{Contains}
 use Rattle.std.proofs.lemmas.List.Elements.{Contains-append_left}
 use Rattle.dcc_packet.specs.declared.packet.Packet.{Packet}
@@ -12,7 +12,7 @@ use Rattle.dcc_order.specs.Verdicts.{IsVerdictFrom}
 use Rattle.dcc_order.specs.OneMore.{GoesOnAs}
 use Rattle.dcc_order.specs.GivenLists.{MayFollow}
 use Rattle.dcc_order.specs.Comparisons.{AlikeUpTo, open_cut, cut_then, IsVerdictAtEnds}
-use Rattle.dcc_order.proofs.CutTests.{at_first, alike_from_verdict}
+use Rattle.dcc_order.proofs.AlikeVerdicts.{cuts_alike}
 use Rattle.dcc_order.proofs.OneMorePacket.{finished_blocks_stay}
 
 -- how the cut of a list that has ended, or has not, goes on
@@ -25,83 +25,56 @@ abbrev pub SettledFrom : Bool → Bool → ℕ → Cut → Cut → Verdict → T
 SettledFrom left_ended right_ended k x y verdict =
     (u w : Cut) → Continues left_ended x u → Continues right_ended y w → IsVerdictFrom k u w verdict
 
-record Opened (ended : Bool) (block : List Packet) (write : Packet) (x y : Cut) : Type 0 where
-  rest : Cut
-  is : y ≡ Block block write rest
-  goes_on : Continues ended x rest
-
-opened : (ended : Bool) (block : List Packet) (write : Packet) (x y : Cut) → Continues ended (Block block write x) y
-    → Opened ended block write x y
-opened true block write x y e = record { rest = x; is = e; goes_on = refl }
-opened false block write x (LastBlock longer) g = absurd g
-opened false block write x (Block b w y) g =
-    record { rest = y; is = ap (λ z. Block z w y) g.0 ∙ ap (λ z. Block block z y) g.1; goes_on = g.2 }
-
--- behind alike blocks a verdict that is settled is settled for the whole
-pub settled_behind : (le re : Bool) (j k : ℕ) (x y u w : Cut) (v : Verdict) → AlikeUpTo j x y u w
-    → SettledFrom le re (k + j) u w v → SettledFrom le re k x y v
-settled_behind le re zero k x y u w v up s = rw (up.0, up.1) (rw (add-zero k) at s)
-settled_behind le re (suc j) k (Block left write x) (Block right other y) u w v up s = λ p q f g.
-    let first = opened le left write x p f in
-    let second = opened re right other y q g in
-    at_first k p q (Block left write first.rest) (Block right other second.rest) v first.is second.is
-    (inr (inr (
-      up.0.members,
-      up.0.order,
-      inr (
-        up.1,
-        settled_behind le re j (k + 1) x y u w v up.2
-            (subst (λ n. SettledFrom le re n u w v) (let e : k + suc j ≡ (k + 1) + j = omega arith in e) s) first.rest
-            second.rest first.goes_on second.goes_on,
-      ),
-    )))
-settled_behind le re (suc j) k x y u w v up s = absurd up
-
 -- a side is finished where a write ends its block, or the list has ended
 abbrev pub Finished : Bool → Option Packet → Type 0
-Finished ended None = ended ≡ true
-Finished ended (Some write) = Unit {0}
+Finished ended end = end ≡ None → ended ≡ true
 
--- a cut list that begins with a finished block
-record Ends (block : List Packet) (write : Option Packet) (x : Cut) : Type 0 where
-  rest : Cut
-  is : x ≡ cut_then block write rest
+-- a cut list that begins with a finished block goes on so
+opened : (ended : Bool) (block : List Packet) (end : Option Packet) (x y : Cut) → Finished ended end
+    → Continues ended (cut_then block end x) y → (rest : Cut) × (y ≡ cut_then block end rest) × Continues ended x rest
+opened true block end x y f e = (x, e, refl)
+opened false block None x y f g = cc (f refl)
+opened false block (Some write) x (LastBlock longer) f g = absurd g
+opened false block (Some write) x (Block b w y) f g = (y, rw (g.0, g.1) refl, g.2)
 
-finished_stays : (ended : Bool) (block : List Packet) (write : Option Packet) (x : Cut) → Finished ended write
-    → Continues ended (open_cut block write) x → Ends block write x
-finished_stays true block None x f e = record { rest = LastBlock []; is = e }
-finished_stays false block None x f g = cc
-finished_stays ended block (Some write) x f g =
-    let first = opened ended block write (LastBlock []) x g in record { rest = first.rest; is = first.is }
+-- behind alike blocks a verdict that is settled is settled for the whole
+pub settled_behind : (le re : Bool) (j k n : ℕ) (x y u w : Cut) (v : Verdict) → n ≡ k + j → AlikeUpTo j x y u w
+    → SettledFrom le re n u w v → SettledFrom le re k x y v
+settled_behind le re zero k n x y u w v e up s = let is : k ≡ n = omega arith in rw (up.0, up.1, is) s
+settled_behind le re (suc j) k n (Block left write x) (Block right other y) u w v e up s = λ p q f g.
+    let first = opened le left (Some write) x p (λ e. cc) f in
+    let second = opened re right (Some other) y q (λ e. cc) g in
+    let behind = settled_behind le re j (k + 1) n x y u w v (omega arith) up.2 s first.0 second.0 first.2 second.2 in
+    rw (first.1, second.1) (inr (inr (up.0.members, up.0.order, inr (up.1, behind))))
+settled_behind le re (suc j) k n x y u w v e up s = absurd up
 
 -- a verdict on two finished blocks is settled
 pub settled_at_ends : (le re : Bool) (k : ℕ) (left right : List Packet) (w u : Option Packet) (v : Verdict)
     → Finished le w → Finished re u →
     IsVerdictAtEnds k left w right u v → SettledFrom le re k (open_cut left w) (open_cut right u) v
 settled_at_ends le re k left right w u v f g d = λ p q h i.
-    let first = finished_stays le left w p f h in
-    let second = finished_stays re right u q g i in
-    at_first k p q (cut_then left w first.rest) (cut_then right u second.rest) v first.is second.is
-    (d first.rest second.rest)
+    let first = opened le left w (LastBlock []) p f h in
+    let second = opened re right u (LastBlock []) q g i in
+    rw (first.1, second.1) (d first.0 second.0)
 
 -- the verdict at two ends is Alike only where both lists end there
 pub alike_at_ends : (k : ℕ) (left right : List Packet) (w u : Option Packet) → IsVerdictAtEnds k left w right u Alike
     → (w ≡ None) × (u ≡ None)
 alike_at_ends k left right None None d = (refl, refl)
 alike_at_ends k left right None (Some u) d =
-    absurd (alike_from_verdict k (LastBlock left) (Block right u (LastBlock [])) (d (LastBlock []) (LastBlock [])))
+    absurd ((cuts_alike k (LastBlock left) (Block right u (LastBlock [])) Alike (d (LastBlock []) (LastBlock []))).0 refl)
 alike_at_ends k left right (Some w) None d =
-    absurd (alike_from_verdict k (Block left w (LastBlock [])) (LastBlock right) (d (LastBlock []) (LastBlock [])))
-alike_at_ends k left right (Some w) (Some u) d = absurd (alike_from_verdict k (Block left w (LastBlock []))
-    (Block right u (Block [] u (LastBlock []))) (d (LastBlock []) (Block [] u (LastBlock [])))).2
+    absurd ((cuts_alike k (Block left w (LastBlock [])) (LastBlock right) Alike (d (LastBlock []) (LastBlock []))).0 refl)
+alike_at_ends k left right (Some w) (Some u) d = absurd ((cuts_alike k (Block left w (LastBlock []))
+    (Block right u (Block [] u (LastBlock []))) Alike (d (LastBlock []) (Block [] u (LastBlock [])))).0 refl).2
 
 -- a packet of the second block that is not in the first, which is finished
 pub foreign_packet : (k : ℕ) (left right : List Packet) (x : Packet) (le : Bool) (w : Option Packet) → Finished le w
     → (Contains left x → ⊥) → Contains right x →
     SettledFrom le false k (open_cut left w) (LastBlock right) (Members k)
 foreign_packet k left right x le w f none here = λ p q h i.
-    let first = finished_stays le left w p f h in
-    at_first k p q (cut_then left w first.rest) q (Members k) first.is refl (by_end w first.rest q i)
+    let first = opened le left w (LastBlock []) p f h in
+    rw first.1 (by_end w first.0 q i)
   where
     differ : (longer : List Packet) → (more : List Packet) × (longer ≡ right ++ more) → ¬ SameMembers left longer
     differ longer m same =
@@ -110,8 +83,8 @@ foreign_packet k left right x le w f none here = λ p q h i.
     by_end : (w : Option Packet) (rest q : Cut) → GoesOnAs (LastBlock right) q
         → IsVerdictFrom k (cut_then left w rest) q (Members k)
     by_end None rest (LastBlock longer) i = inl (differ longer i, refl)
-    by_end None rest (Block longer u further) i = inl (differ longer i, refl)
     by_end (Some w) rest (LastBlock longer) i = inl (differ longer i, refl)
+    by_end None rest (Block longer u further) i = inl (differ longer i, refl)
     by_end (Some w) rest (Block longer u further) i = inl (differ longer i, refl)
 
 pub continues : (who : Who) (ended : Bool) (l more : List Packet) → MayFollow ended more

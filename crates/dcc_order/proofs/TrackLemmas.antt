@@ -1,33 +1,55 @@
 -- Tracks in pieces, and fleets member by member.
-use Rattle.std.proofs.Common.{◌≡◌, ℕ, ◌+◌, ◌<◌, ◌≤◌, List, [], ◌∷◌, ◌++◌, map, length, take, slice_index_or, arith, ◌∙◌}
-use Rattle.std.proofs.Common.{ap, refl, Bor}
-use Rattle.std.proofs.lemmas.Grind.{common_steps}
-use Rattle.std.proofs.lemmas.List.{map-append, append-nil}
+use Rattle.std.proofs.Common.{zero, suc, get_or, arith, ◌≤◌, ◌≡◌, ℕ, ◌+◌, ◌<◌, List, [], ◌∷◌, ◌++◌, map, length, take}
+use Rattle.std.proofs.Common.{slice_index_or, Bor}
+use Rattle.std.proofs.Math.ListN.{set}
+use Rattle.std.specs.Prelude.{⊤}
+use Rattle.std.proofs.lemmas.List.{map-append, append-nil, take_more}
 use Rattle.std.proofs.lemmas.List.Folds.{concat-append}
-use Rattle.std.specs.List.{AllZip, concat}
+use Rattle.std.specs.List.{AllZip}
 use Rattle.dcc_order.specs.Hearing.{whole_track}
-
-take_more : (pieces : List (Bor (List ℕ))) (n : ℕ) (d : Bor (List ℕ)) → n < length pieces
-    → take (n + 1) pieces ≡ take n pieces ++ slice_index_or pieces n d ∷ []
-take_more pieces n d h = grind (arith, common_steps)
-
-take_all : (pieces : List (Bor (List ℕ))) (n : ℕ) → length pieces ≤ n → take n pieces ≡ pieces
-take_all pieces n h = grind (arith, common_steps)
 
 -- one piece more
 pub piece_more : (pieces : List (Bor (List ℕ))) (n : ℕ) (d : Bor (List ℕ)) → n < length pieces
     → whole_track (take (n + 1) pieces) ≡ whole_track (take n pieces) ++ (slice_index_or pieces n d).now
-piece_more pieces n d h =
-    let halves : Bor (List ℕ) → List ℕ = λ piece. piece.now in
-    let last : Bor (List ℕ) = slice_index_or pieces n d in
-    ap whole_track (take_more pieces n d h)
-    ∙ ap concat (map-append halves (take n pieces) (last ∷ []))
-    ∙ rw (concat-append (map halves (take n pieces)) (halves last ∷ []), append-nil (halves last)) refl
+piece_more pieces n d h = rw (take_more pieces n d h) (simp (map-append, concat-append, append-nil))
 
--- all pieces
-pub pieces_all : (pieces : List (Bor (List ℕ))) (n : ℕ) → length pieces ≤ n
-    → whole_track (take n pieces) ≡ whole_track pieces
-pieces_all pieces n h = ap whole_track (take_all pieces n h)
+-- the first n elements of a list were changed as R says, and the others were not
+abbrev pub SteppedTo : {A : Type 0} → (A → A → Type 0) → ℕ → List A → List A → Type 0
+SteppedTo R zero xs ys = ys ≡ xs
+SteppedTo R (suc n) [] [] = ⊤
+SteppedTo R (suc n) (x ∷ xs) (y ∷ ys) = R x y × SteppedTo R n xs ys
+SteppedTo R n xs ys = ⊥
+
+-- one more element is changed
+pub SteppedTo-more : {A : Type 0} → (R : A → A → Type 0) (n : ℕ) (xs ys : List A) (d y : A) → n < length xs
+    → SteppedTo R n xs ys → R (get_or ys n d) y → SteppedTo R (suc n) xs (set ys n y)
+SteppedTo-more R n [] ys d y h s r = absurd (omega arith)
+SteppedTo-more R zero (x ∷ xs) (z ∷ zs) d y h s r = let first : x ≡ z = cc in (rw first r, cc)
+SteppedTo-more R (suc n) (x ∷ xs) (z ∷ zs) d y h s r = (s.0, SteppedTo-more R n xs zs d y (omega arith) s.1 r)
+SteppedTo-more R zero xs ys d y h s r = absurd (cc)
+SteppedTo-more R n xs ys d y h s r = absurd s
+
+-- all elements were changed
+pub AllZip-from_stepped : {A : Type 0} → (R : A → A → Type 0) (n : ℕ) (xs ys : List A) → length xs ≤ n
+    → SteppedTo R n xs ys → AllZip R xs ys
+AllZip-from_stepped R n [] [] h s = tt
+AllZip-from_stepped R zero (x ∷ xs) ys h s = absurd (omega arith)
+AllZip-from_stepped R (suc n) (x ∷ xs) (y ∷ ys) h s = (s.0, AllZip-from_stepped R n xs ys (omega arith) s.1)
+AllZip-from_stepped R zero xs ys h s = absurd (cc)
+AllZip-from_stepped R n xs ys h s = absurd s
+
+-- two relations of each element, one after the other
+pub AllZip-then : {A B C : Type 0} → (R : A → B → Type 0) (S : B → C → Type 0) (T : A → C → Type 0)
+    → ((x : A) (y : B) (z : C) → R x y → S y z → T x z)
+    → (xs : List A) (ys : List B) (zs : List C) → AllZip R xs ys → AllZip S ys zs → AllZip T xs zs
+AllZip-then R S T join [] [] [] r s = tt
+AllZip-then R S T join (x ∷ xs) (y ∷ ys) (z ∷ zs) r s = (join x y z r.0 s.0, AllZip-then R S T join xs ys zs r.1 s.1)
+AllZip-then R S T join xs ys zs r s = absurd (assumption)
+
+-- each element is as it was
+pub AllZip-same : {A : Type 0} → (R : A → A → Type 0) → ((x : A) → R x x) → (xs : List A) → AllZip R xs xs
+AllZip-same R same [] = tt
+AllZip-same R same (x ∷ xs) = (same x, AllZip-same R same xs)
 
 -- what is so of the view of each member is so of each member
 pub AllZip-viewed : {A B C : Type 0} → (v : A → B) (R : B → C → Type 0) (xs : List A) (ys : List C)

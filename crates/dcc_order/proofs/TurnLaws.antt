@@ -1,32 +1,25 @@
--- Turns, told by who has the last one and how many there are.
-use Rattle.std.proofs.Common.{ℕ, zero, suc, ◌+◌, ◌<◌, ◌≡◌, ◌∙◌, refl, sym, ap, subst, Bool, true, false, cond, List, []}
-use Rattle.std.proofs.Common.{◌∷◌, ◌++◌, Option, Some, None, length, arith, append_assoc, add-one, inl, inr}
-use Rattle.std.specs.Prelude.{◌↔◌, filter}
-use Rattle.std.proofs.lemmas.Bool.{cases_Bool, ne_eqb}
-use Rattle.std.proofs.lemmas.List.{length-append, append-nil}
-use Rattle.std.proofs.lemmas.List.Elements.{filter-append}
+-- Turns: how they are told in short, and counted by the numbers of packets.
+use Rattle.std.proofs.Common.{ℕ, zero, suc, ◌≡◌, ◌∙◌, refl, sym, ap, Bool, true, false, cond, List, [], ◌∷◌, ◌++◌}
+use Rattle.std.proofs.Common.{Option, Some, None, length, arith, add-one, inl, inr, ◌<◌, ◌≤◌, ◌+◌, eqb, subst, get_or}
+use Rattle.std.proofs.Common.{map}
+use Rattle.std.specs.Prelude.{◌↔◌, filter, not, ◌⊎◌, Contains, IsTrue}
+use Rattle.std.proofs.lemmas.Bool.{cases_Bool, ne_eqb, or_right, false≢true}
+use Rattle.std.proofs.lemmas.List.{length-append, append-nil, map-append}
+use Rattle.std.proofs.lemmas.List.Elements.{filter-append, Contains-append_left, Contains-push, Contains-push_cases}
+use Rattle.std.proofs.lemmas.Bool.Decides.{eqb_tells, nat_tests}
+use Rattle.std.proofs.lemmas.List.Sums.{fold-append}
 use Rattle.dcc_packet.specs.declared.packet.Packet.{Packet}
 use Rattle.dcc_packet.specs.SamePacket.{same}
+use Rattle.dcc_packet.specs.declared.packet.Packet.TheVariants.{Idle}
 use Rattle.dcc_packet.proofs.SameFrames.{same-refl}
 use Rattle.dcc_regs.specs.Result.{is_repeated}
 use Rattle.dcc_order.specs.AlikeLists.{is_one_of, without_repeats, turns, SameTurns}
 use Rattle.dcc_order.specs.declared.turns.Turns.{Turns}
-use Rattle.dcc_order.specs.Turns.{last_behind, last_turn, turns_taken, own_turn, rival_turn}
-use Rattle.dcc_order.proofs.AlikeBlocks.{same_tells, repeated_is_last, last_behind-unrepeated}
-
--- which of two packets has the last turn, and how many turns they take
-pub record Summary : Type 0 where
-  pub last : Option Packet
-  pub count : ℕ
-
-abbrev pub summary : Packet → Packet → List Packet → Summary
-summary p q block = record { last = last_turn p q block; count = length (turns p q block) }
-
--- one more packet: where it is one of the two and has not the last turn already, it takes one
-abbrev pub one_more : Packet → Packet → Summary → Packet → Summary
-one_more p q taken x =
-    cond (is_one_of p q x) (cond (is_repeated taken.last x) taken (record { last = Some x; count = taken.count + 1 }))
-    taken
+use Rattle.dcc_order.specs.Turns.{last_behind, own_turn, rival_turn, no_turns, with_turn, turns_of, Counted}
+use Rattle.dcc_order.specs.Members.{member_number, EachOnce}
+use Rattle.dcc_order.proofs.AlikeBlocks.{same_tells, last_behind-unrepeated}
+use Rattle.dcc_order.proofs.Contained.{contains_none, snoc}
+use Rattle.dcc_order.proofs.MemberLaws.{stands_at}
 
 last_behind-append : (before : Option Packet) (l : List Packet) (x : Packet) → last_behind before (l ++ x ∷ []) ≡ Some x
 last_behind-append before [] x = refl
@@ -41,183 +34,156 @@ unrepeated-append before (y ∷ l) x = elim (cases_Bool (is_repeated before y)) 
   | inr e ↦ rw (e, unrepeated-append (Some y) l x) refl
 ]
 
+-- turns with one packet more that takes one unless it had the last
+abbrev with_packet : List Packet → Packet → List Packet
+with_packet taken x = taken ++ cond (is_repeated (last_behind None taken) x) [] (x ∷ [])
+
 -- the turns of two packets with one more packet
-pub turns-append : (p q : Packet) (block : List Packet) (x : Packet) →
-    turns p q (block ++ x ∷ []) ≡ cond (is_one_of p q x)
-    (turns p q block ++ cond (is_repeated (summary p q block).last x) [] (x ∷ [])) (turns p q block)
-turns-append p q block x = rw (filter-append (is_one_of p q) block (x ∷ [])) (elim (cases_Bool (is_one_of p q x)) [
+turns-append : (p q : Packet) (block : List Packet) (x : Packet)
+    → turns p q (block ++ x ∷ []) ≡ cond (is_one_of p q x) (with_packet (turns p q block) x) (turns p q block)
+turns-append p q block x = rw (
+  filter-append (is_one_of p q) block (x ∷ []),
+  last_behind-unrepeated None (filter (is_one_of p q) block),
+) (elim (cases_Bool (is_one_of p q x)) [
   | inl e ↦ rw e (unrepeated-append None (filter (is_one_of p q) block) x)
   | inr e ↦ rw (e, append-nil (filter (is_one_of p q) block)) refl
 ])
 
--- the last turn of two packets with one more packet
-pub last-append : (p q : Packet) (block : List Packet) (x : Packet) →
-    (summary p q (block ++ x ∷ [])).last ≡ cond (is_one_of p q x) (Some x) (summary p q block).last
-last-append p q block x = rw (filter-append (is_one_of p q) block (x ∷ [])) (elim (cases_Bool (is_one_of p q x)) [
-  | inl e ↦ rw e (last_behind-append None (filter (is_one_of p q) block) x)
-  | inr e ↦ rw (e, append-nil (filter (is_one_of p q) block)) refl
-])
+-- two packets that take so many turns, the rival the last or not
+abbrev ended : Packet → Packet → Bool → ℕ → List Packet
+ended p q last zero = []
+ended p q last (suc n) = ended p q (not last) n ++ cond last q p ∷ []
 
-pub summary-append : (p q : Packet) (block : List Packet) (x : Packet)
-    → summary p q (block ++ x ∷ []) ≡ one_more p q (summary p q block) x
-summary-append p q block x = rw (last-append p q block x, turns-append p q block x)
-    (elim (cases_Bool (is_one_of p q x)) [
-      | inl e ↦ rw e (elim (cases_Bool (is_repeated (summary p q block).last x)) [
-        | inl r ↦ rw (r, append-nil (turns p q block), repeated_is_last (summary p q block).last x r) refl
-        | inr r ↦ rw (r, length-append (turns p q block) (x ∷ [])) refl
+module _ (p q : Packet) where
+  -- turns as they are told in short
+  abbrev Told : List Packet → Turns → Type 0
+  Told taken t = (taken ≡ ended p q t.rival_last t.count) × (t.count ≡ 0 → t.rival_last ≡ false)
+
+  -- the packet itself comes, or its rival
+  abbrev turn_of : Bool → Turns → Turns
+  turn_of rival t = cond rival (rival_turn t) (own_turn t)
+
+  module _ (apart : p ≡ q → ⊥) where
+    differ : (same p q ≡ false) × (same q p ≡ false)
+    differ = (grind (arith, same_tells p q), grind (arith, same_tells q p))
+
+    comes : (rival last : Bool) (n : ℕ) → (n ≡ 0 → last ≡ false) → Told (with_packet (ended p q last n) (cond rival q p))
+        (turn_of rival (record { count = n; rival_last = last }))
+    comes true last zero none = rw (none refl) (refl, λ e. absurd (omega arith))
+    comes false last zero none = rw (none refl) (refl, λ e. refl)
+    comes true true (suc n) none = rw (last_behind-append None (ended p q false n) q, same-refl q, append-nil) (refl, none)
+    comes false false (suc n) none =
+        rw (last_behind-append None (ended p q true n) p, same-refl p, append-nil, ne_eqb (suc n) 0 (omega arith)) (refl, none)
+    comes true false (suc n) none =
+        rw (last_behind-append None (ended p q true n) p, differ.0, add-one (suc n)) (refl, λ e. absurd (omega arith))
+    comes false true (suc n) none =
+        rw (last_behind-append None (ended p q false n) q, differ.1, add-one (suc n)) (refl, λ e. refl)
+
+    one_comes : (rival : Bool) {taken : List Packet} {t : Turns} → Told taken t
+        → Told (with_packet taken (cond rival q p)) (turn_of rival t)
+    one_comes rival {t = t} told = rw told.0 (comes rival t.rival_last t.count told.1)
+
+    length_ended : (last : Bool) (n : ℕ) → length (ended p q last n) ≡ n
+    length_ended last zero = refl
+    length_ended last (suc n) =
+        omega (arith, length_ended (not last) n, length-append (ended p q (not last) n) (cond last q p ∷ []))
+
+    last_told : (last : Bool) (n : ℕ) → (n ≡ 0 → last ≡ false) → is_repeated (last_behind None (ended p q last n)) q ≡ last
+    last_told last zero none = sym (none refl)
+    last_told true (suc n) none = rw (last_behind-append None (ended p q false n) q) (same-refl q)
+    last_told false (suc n) none = rw (last_behind-append None (ended p q true n) p) differ.0
+
+    read : {taken : List Packet} {t : Turns} → Told taken t
+        → (let z : Turns = record { count = length taken; rival_last = is_repeated (last_behind None taken) q } in z) ≡ t
+    read {t = t} told = rw told.0
+        (λ i. record { count = length_ended t.rival_last t.count i; rival_last = last_told t.rival_last t.count told.1 i })
+
+    -- two lists of turns are the same exactly where they are told so
+    same_told : {one other : List Packet} {t u : Turns} → Told one t → Told other u → (one ≡ other) ↔ (t ≡ u)
+    same_told told then = (
+      λ e. sym (read told)
+          ∙ ap (λ l. let z : Turns = record { count = length l; rival_last = is_repeated (last_behind None l) q } in z) e
+          ∙ read then,
+      λ e. told.0 ∙ ap (λ (z : Turns). ended p q z.rival_last z.count) e ∙ sym then.0,
+    )
+
+-- one more number
+turns_of-more : (own rival : ℕ) (numbers : List ℕ) (n : ℕ)
+    → turns_of own rival (numbers ++ n ∷ []) ≡ with_turn own rival (turns_of own rival numbers) n
+turns_of-more own rival numbers n = fold-append (with_turn own rival) no_turns numbers (n ∷ [])
+
+turn_count : (own rival : ℕ) (taken : Turns) (number : ℕ) → (with_turn own rival taken number).count ≤ taken.count + 1
+turn_count own rival taken number =
+    grind (arith, nat_tests, cases_Bool taken.rival_last, cases_Bool (eqb number own), cases_Bool (eqb number rival))
+
+-- there are no more turns than numbers
+turns_fit : (own rival : ℕ) (numbers : List ℕ) → (turns_of own rival numbers).count ≤ length numbers
+turns_fit own rival = snoc (λ numbers. (turns_of own rival numbers).count ≤ length numbers) (omega arith)
+    (λ numbers n few. rw (turns_of-more own rival numbers n)
+    (omega (arith, few, turn_count own rival (turns_of own rival numbers) n, length-append numbers (n ∷ []))))
+
+-- so counted turns are no more than the numbers that came
+pub few_turns : {turns : List Turns} {own count : ℕ} {ns : List ℕ} (most : ℕ) → Counted turns own count ns
+    → length ns < most → (rival : ℕ) (d : Turns) → rival < length turns → (get_or turns rival d).count < most
+few_turns {own = own} {ns = ns} most counted few rival d inside =
+    rw (counted.told rival d inside) (omega (arith, turns_fit own rival ns))
+
+module _ (members : List Packet) (once : EachOnce members) (own rival : ℕ) (own_in : own < length members)
+    (rival_in : rival < length members) where
+  abbrev at : ℕ → Packet
+  at k = get_or members k Idle
+
+  -- a packet with a number is the member of that place, and one with another number is another packet
+  placed : (x : Packet) (k : ℕ) → k < length members
+      → ((eqb (member_number members x) k ≡ true) × (at k ≡ x))
+      ⊎ ((eqb (member_number members x) k ≡ false) × (same (at k) x ≡ false))
+  placed x k inside = elim (eqb_tells (member_number members x) k) [
+    | inl (t, is) ↦ inl (t, rw (← is) (sym (stands_at members x Idle (rw is inside))))
+    | inr (f, other) ↦ inr (f, elim (same_tells (at k) x) [
+        | inl (t, is) ↦ absurd (other (rw (← is) (once k Idle inside)))
+        | inr (t, apart) ↦ t
       ])
-      | inr e ↦ rw e refl
-    ])
+  ]
 
--- of two packets the one that x is not
-abbrev other : Packet → Packet → Packet → Packet
-other p q x = cond (same p x) q p
+  -- turns that are counted by numbers tell those of the packets
+  turns_counted : (at own ≡ at rival → ⊥) → (block : List Packet)
+      → Told (at own) (at rival) (turns (at own) (at rival) block) (turns_of own rival (map (member_number members) block))
+  turns_counted apart = snoc
+      (λ block. Told (at own) (at rival) (turns (at own) (at rival) block)
+      (turns_of own rival (map (member_number members) block))) (refl, λ e. refl)
+      (λ block x told. rw (
+        map-append (member_number members) block (x ∷ []),
+        turns_of-more own rival (map (member_number members) block) (member_number members x),
+        turns-append (at own) (at rival) block x,
+      ) (elim (placed x own own_in) [
+        | inl (i, is) ↦ rw (i, ← is, same-refl (at own)) (one_comes (at own) (at rival) apart false told)
+        | inr (i, not_own) ↦ elim (placed x rival rival_in) [
+          | inl (j, is) ↦ rw (i, j, ← is, or_right (same (at own) (at rival)) (same (at rival) (at rival)) (same-refl (at rival)))
+              (one_comes (at own) (at rival) apart true told)
+          | inr (j, not_rival) ↦ rw (i, j, not_own, not_rival) told
+        ]
+      ]))
 
--- two packets that take turns so often that the last is as given
-abbrev ended : Packet → Packet → Option Packet → ℕ → List Packet
-ended p q None n = []
-ended p q (Some x) zero = []
-ended p q (Some x) (suc n) = ended p q (Some (other p q x)) n ++ x ∷ []
+  -- members that are two packets take the same turns in two blocks exactly where the count is the same
+  pub same_turns_counted : (at own ≡ at rival → ⊥) → (left right : List Packet)
+      → SameTurns left right (at own) (at rival) ↔
+      (turns_of own rival (map (member_number members) left) ≡ turns_of own rival (map (member_number members) right))
+  same_turns_counted apart left right =
+      same_told (at own) (at rival) apart (turns_counted apart left) (turns_counted apart right)
 
--- there is a last turn exactly where there is a turn, and it is that of one of the two packets
-abbrev Fits : Packet → Packet → Option Packet → ℕ → Type 0
-Fits p q None n = n ≡ 0
-Fits p q (Some y) n = (is_one_of p q y ≡ true) × (0 < n)
-
--- turns as their summary tells them
-abbrev Told : Packet → Packet → List Packet → Summary → Type 0
-Told p q list taken = (list ≡ ended p q taken.last taken.count) × Fits p q taken.last taken.count
-
-turn_passes : (p q x y : Packet) → is_one_of p q y ≡ true → is_one_of p q x ≡ true → same y x ≡ false → y ≡ other p q x
-turn_passes p q x y hy hx ne =
-    grind (arith, same_tells p x, same_tells p y, same_tells q x, same_tells q y, same_tells y x, hy, hx, ne)
-
-same_end : (p q x : Packet) (last : Option Packet) (n : ℕ) → Fits p q last n → is_one_of p q x ≡ true
-    → is_repeated last x ≡ false → ended p q last n ≡ ended p q (Some (other p q x)) n
-same_end p q x None n fits hx ne = rw fits refl
-same_end p q x (Some y) n fits hx ne = ap (λ z. ended p q (Some z) n) (turn_passes p q x y fits.0 hx ne)
-
-told_more : (p q x : Packet) (list : List Packet) (taken : Summary) → Told p q list taken → (t r : Bool)
-    → is_one_of p q x ≡ t → is_repeated taken.last x ≡ r →
-    Told p q (cond t (list ++ cond r [] (x ∷ [])) list)
-    (cond t (cond r taken (record { last = Some x; count = taken.count + 1 })) taken)
-told_more p q x list taken told false r et er = told
-told_more p q x list taken told true true et er = (append-nil list ∙ told.0, told.1)
-told_more p q x list taken told true false et er = (
-  rw (told.0, add-one taken.count, same_end p q x taken.last taken.count told.1 et er) refl,
-  (et, omega arith),
-)
-
-pub snoc : (P : List Packet → Type 0) → P [] → ((l : List Packet) (x : Packet) → P l → P (l ++ x ∷ []))
-    → (l : List Packet) → P l
-snoc P none more l = go [] l none
-  where
-    go : (done rest : List Packet) → P done → P (done ++ rest)
-    go done [] h = subst P (sym (append-nil done)) h
-    go done (x ∷ rest) h = subst P (append_assoc done (x ∷ []) rest) (go (done ++ x ∷ []) rest (more done x h))
-
-told : (p q : Packet) (block : List Packet) → Told p q (turns p q block) (summary p q block)
-told p q = snoc (λ block. Told p q (turns p q block) (summary p q block)) (refl, refl)
-    (λ block x h. subst (Told p q (turns p q (block ++ x ∷ []))) (sym (summary-append p q block x))
-    (rw (turns-append p q block x) (told_more p q x (turns p q block) (summary p q block) h (is_one_of p q x)
-    (is_repeated (summary p q block).last x) refl refl)))
-
--- the summary is that of the turns alone
-summary_of_turns : (p q : Packet) (block : List Packet)
-    → summary p q
-    block ≡ (let z : Summary = record { last = last_behind None (turns p q block); count = length (turns p q block) } in
-    z)
-summary_of_turns p q block =
-    ap (λ l. let z : Summary = record { last = l; count = length (turns p q block) } in z)
-    (sym (last_behind-unrepeated None (filter (is_one_of p q) block)))
-
-summary_tells : (p q : Packet) (left right : List Packet)
-    → SameTurns left right p q ↔ (summary p q left ≡ summary p q right)
-summary_tells p q left right = (
-  λ e. summary_of_turns p q left
-      ∙ ap (λ l. let z : Summary = record { last = last_behind None l; count = length l } in z) e
-      ∙ sym (summary_of_turns p q right),
-  λ e. (told p q left).0 ∙ ap (λ (z : Summary). ended p q z.last z.count) e ∙ sym (told p q right).0,
-)
-
--- a summary as a packet and its rival keep it
-abbrev shown : Packet → Summary → Turns
-shown q taken = record { count = taken.count; rival_last = is_repeated taken.last q }
-
-differs : (p q : Packet) → (p ≡ q → ⊥) → same p q ≡ false
-differs p q apart = grind (arith, same_tells p q, apart)
-
-one_left : (p q : Packet) → is_one_of p q p ≡ true
-one_left p q = rw (same-refl p) refl
-
-one_right : (p q : Packet) → is_one_of p q q ≡ true
-one_right p q = grind (arith, same-refl q, cases_Bool (same p q))
-
--- a packet that is one of two and not the first is the second
-other_one : (p q y : Packet) → is_one_of p q y ≡ true → same y p ≡ false → y ≡ q
-other_one p q y one apart = grind (arith, same_tells y p, same_tells p y, same_tells q y, one, apart)
-
--- the packet itself comes
-pub own_comes : (p q : Packet) → (p ≡ q → ⊥) → (block : List Packet)
-    → turns_taken p q (block ++ p ∷ []) ≡ own_turn (turns_taken p q block)
-own_comes p q apart block =
-    ap (shown q) (summary-append p q block p) ∙ rw (one_left p q) (by_last taken.last taken.count (told p q block).1)
-  where
-    taken : Summary
-    taken = summary p q block
-
-    by_last : (last : Option Packet) (n : ℕ) → Fits p q last n →
-        shown q (cond (is_repeated last p) (record { last = last; count = n })
-        (record { last = Some p; count = n + 1 })) ≡ own_turn
-        (record { count = n; rival_last = is_repeated last q })
-    by_last None n fit = rw (differs p q apart, fit) refl
-    by_last (Some y) n fit = elim (same_tells y p) [
-      | inl (e, is) ↦ rw (is, same-refl p, differs p q apart, ne_eqb n 0 (omega (arith, fit.1))) refl
-      | inr (e, other) ↦ rw (e, differs p q apart, other_one p q y fit.0 e, same-refl q) refl
-    ]
-
--- its rival comes
-pub rival_comes : (p q : Packet) (block : List Packet)
-    → turns_taken p q (block ++ q ∷ []) ≡ rival_turn (turns_taken p q block)
-rival_comes p q block = ap (shown q) (summary-append p q block q) ∙ rw (one_right p q)
-    (elim (cases_Bool (is_repeated (summary p q block).last q)) [
-      | inl e ↦ rw (e, e) refl
-      | inr e ↦ rw (e, same-refl q) refl
-    ])
-
--- another packet comes
-pub other_comes : (p q x : Packet) → is_one_of p q x ≡ false → (block : List Packet)
-    → turns_taken p q (block ++ x ∷ []) ≡ turns_taken p q block
-other_comes p q x neither block = ap (shown q) (summary-append p q block x) ∙ rw neither refl
-
--- what a packet and its rival keep tells the last turn
-last_told : (p q : Packet) (a b : Option Packet) (n m : ℕ) → Fits p q a n → Fits p q b m → n ≡ m
-    → is_repeated a q ≡ is_repeated b q → a ≡ b
-last_told p q None None n m f g e h = refl
-last_told p q None (Some z) n m f g e h = absurd (let high : 0 < m = g.1 in omega arith)
-last_told p q (Some y) None n m f g e h = absurd (let high : 0 < n = f.1 in omega arith)
-last_told p q (Some y) (Some z) n m f g e h = ap (λ x. Some x)
-    (grind (
-      arith,
-      same_tells y q,
-      same_tells z q,
-      same_tells p y,
-      same_tells p z,
-      same_tells q y,
-      same_tells q z,
-      f.0,
-      g.0,
-      h,
-    ))
-
--- two packets take the same turns in two blocks exactly where they take as many, and the same has the last
-pub turns_told : (p q : Packet) (left right : List Packet)
-    → SameTurns left right p q ↔ (turns_taken p q left ≡ turns_taken p q right)
-turns_told p q left right = (
-  λ e. ap (shown q) ((summary_tells p q left right).0 e),
-  λ e.
-      let count : (summary p q left).count ≡ (summary p q right).count = ap (λ (t : Turns). t.count) e in
-      let last = last_told p q (summary p q left).last (summary p q right).last (summary p q left).count
-      (summary p q right).count (told p q left).1 (told p q right).1 count (ap (λ (t : Turns). t.rival_last) e) in
-      (summary_tells p q left right).1 (λ i. record { last = last i; count = count i }),
-)
+-- whether a number is among others, told by turns: the rival is the last that came where it came at all, and the packet
+-- itself did not
+pub has_come : (own rival : ℕ) (ns : List ℕ) → ((k : ℕ) → Contains ns k → k < own)
+    → IsTrue (turns_of own rival ns).rival_last ↔ Contains ns rival
+has_come own rival = snoc
+    (λ ns. ((k : ℕ) → Contains ns k → k < own) → IsTrue (turns_of own rival ns).rival_last ↔ Contains ns rival)
+    (λ low. (λ t. absurd (false≢true t), λ h. absurd (contains_none rival h)))
+    (λ ns n so_far low.
+    let before = so_far (λ k h. low k (Contains-append_left ns (n ∷ []) k h)) in
+    let other : n ≡ own → ⊥ = λ e. absurd (omega (arith, low n (Contains-push ns n), e)) in
+    rw (turns_of-more own rival ns n, ne_eqb n own other) (elim (eqb_tells n rival) [
+      | inl (e, is) ↦ rw e (λ t. subst (Contains (ns ++ n ∷ [])) is (Contains-push ns n),
+          λ h. grind (arith, cases_Bool (turns_of own rival ns).rival_last))
+      | inr (e, apart) ↦ rw e (λ t. Contains-append_left ns (n ∷ []) rival (before.0 t),
+          λ h. before.1 (elim (Contains-push_cases ns n rival h) [ inl old ↦ old | inr is ↦ absurd (apart is) ]))
+    ]))

@@ -1,7 +1,8 @@
-use Rattle.std.proofs.Common.{ℕ, List, take, sym}
+use Rattle.std.proofs.Common.{ℕ, List, take}
 use Rattle.dcc_order.specs.Hearing.{whole_track}
 use Rattle.dcc_order.proofs.HearingLemmas.{no_halves_heard}
-use Rattle.dcc_order.proofs.TrackLemmas.{piece_more, pieces_all, AllZip-viewed, AllZip-start}
+use Rattle.std.proofs.lemmas.List.{take_all}
+use Rattle.dcc_order.proofs.TrackLemmas.{piece_more, AllZip-viewed, AllZip-start}
 use Rattle.dcc_order.proofs.alike_tracks.hear_track.Goals as goal
 
 pub loop-piece-init : goal.loop-piece-init
@@ -23,5 +24,5 @@ loop-piece-preserved g c =
 
 pub returns : goal.returns
 returns g c =
-    rw (sym (pieces_all c.args.pieces.now c.loop-piece.piece-index c.loop-piece-test.false))
+    rw (take_all c.loop-piece.piece-index c.args.pieces.now c.loop-piece-test.false) at
     (AllZip-viewed _ _ c.args.decoders.now c.loop-piece.decoders c.loop-piece.invariant.since)

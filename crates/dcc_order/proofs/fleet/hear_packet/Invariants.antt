@@ -1,6 +1,6 @@
 use Rattle.std.proofs.Common.{◌∷◌, []}
 use Rattle.dcc_regs.specs.Result.{HasHeard}
-use Rattle.dcc_order.proofs.ListWalk.{SteppedTo}
+use Rattle.dcc_order.proofs.TrackLemmas.{SteppedTo}
 use Rattle.dcc_order.proofs.fleet.hear_packet.Given as goal
 
 abbrev pub invariant-loop-decoder : goal.invariant-loop-decoder

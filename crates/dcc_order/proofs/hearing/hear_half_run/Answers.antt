@@ -1,6 +1,6 @@
 use Rattle.std.proofs.Common.{◌+◌, ◌-◌, ◌++◌, length, replicate}
 use Rattle.dcc_order.proofs.HearingLemmas.{heard_half}
-use Rattle.dcc_order.proofs.ListWalk.{AllZip-then}
+use Rattle.dcc_order.proofs.TrackLemmas.{AllZip-then}
 use Rattle.dcc_order.proofs.hearing.hear_half_run.Goals as goal
 
 pub returns-clause-since : goal.returns-clause-since

@@ -1,7 +1,7 @@
 use Rattle.std.proofs.Common.{◌∷◌, [], List, ℕ, ap}
 use Rattle.dcc_regs.proofs.InParts.{heard_nothing}
-use Rattle.dcc_order.proofs.ListWalk.{AllZip-same}
-use Rattle.dcc_order.proofs.SpelledLemmas.{no_packet, one_packet}
+use Rattle.dcc_order.proofs.TrackLemmas.{AllZip-same}
+use Rattle.dcc_order.proofs.HearingLemmas.{no_packet, one_packet}
 use Rattle.dcc_order.proofs.hearing.hear_seen.Goals as goal
 
 pub returns-in-Packet-clause-hears : goal.returns-in-Packet-clause-hears

@@ -1,4 +1,4 @@
-use Rattle.dcc_order.proofs.WholeTheorem.{alike_halves_leave_the_same}
+use Rattle.dcc_order.proofs.AlikeCuts.{alike_halves_leave_the_same}
 use Rattle.dcc_order.proofs.laws.alike_halves_leave_the_same.Goals as goal
 
 pub returns : goal.returns

@@ -1,5 +1,5 @@
 use Rattle.std.proofs.Common.{arith, length-take}
-use Rattle.dcc_order.proofs.NumberLaws.{few_turns}
+use Rattle.dcc_order.proofs.TurnLaws.{few_turns}
 use Rattle.dcc_order.proofs.places.count_turns.Goals as goal
 
 pub take_turn-requires : goal.take_turn-requires

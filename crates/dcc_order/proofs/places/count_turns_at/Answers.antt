@@ -1,6 +1,6 @@
 use Rattle.std.proofs.Common.{arith, length-take}
 use Rattle.std.proofs.lemmas.List.{length-map}
-use Rattle.dcc_order.proofs.NumberLaws.{few_turns}
+use Rattle.dcc_order.proofs.TurnLaws.{few_turns}
 use Rattle.dcc_order.proofs.places.count_turns_at.Goals as goal
 
 pub take_turn-requires : goal.take_turn-requires

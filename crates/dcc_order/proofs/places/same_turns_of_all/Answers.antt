@@ -1,14 +1,14 @@
 use Rattle.std.proofs.Common.{◌∙◌, refl, sym, arith}
 use borrow.Author.Count.{below_more}
 use Rattle.dcc_order.specs.HeldPlaces.{NumberedAlike}
-use Rattle.dcc_order.proofs.AlikeBlocks.{true_is_not_false}
+use Rattle.std.proofs.lemmas.Bool.{true≢false}
 use Rattle.dcc_order.proofs.places.same_turns_of_all.Goals as goal
 
 pub returns-then-not-same_turns_of-clause-same : goal.returns-then-not-same_turns_of-clause-same
 returns-then-not-same_turns_of-clause-same c = (
-  λ t. absurd (true_is_not_false (sym t)),
+  λ t. absurd (true≢false (sym t)),
   λ all. absurd
-      (true_is_not_false
+      (true≢false
       (sym (c.same_turns_of.ensures.same.1 (all c.loop-own.own c.loop-own-test.true))
       ∙ c.if-not-same_turns_of.true)),
 )

@@ -1,7 +1,8 @@
-use Rattle.std.proofs.Common.{ℕ, List, take, sym}
+use Rattle.std.proofs.Common.{ℕ, List, take}
 use Rattle.dcc_order.specs.Hearing.{whole_track}
 use Rattle.dcc_order.proofs.HearingLemmas.{no_halves_heard}
-use Rattle.dcc_order.proofs.TrackLemmas.{piece_more, pieces_all}
+use Rattle.std.proofs.lemmas.List.{take_all}
+use Rattle.dcc_order.proofs.TrackLemmas.{piece_more}
 use Rattle.dcc_order.proofs.single.hear_one.Goals as goal
 
 pub loop-piece-init : goal.loop-piece-init
@@ -19,4 +20,4 @@ loop-piece-preserved g c =
 
 pub returns : goal.returns
 returns g c =
-    rw (sym (pieces_all c.args.pieces.now c.loop-piece.piece-index c.loop-piece-test.false)) c.loop-piece.invariant.since
+    rw (take_all c.loop-piece.piece-index c.args.pieces.now c.loop-piece-test.false) at c.loop-piece.invariant.since
