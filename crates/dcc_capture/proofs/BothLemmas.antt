@@ -61,10 +61,10 @@ from_pieces line (byte ∷ text) =
 pub no_more_words : (line : ℕ) (place : TextPlace) (text : List ℕ) → line < place.line
     → has_more_words line (ended_words place text) ≡ false
 no_more_words line place text behind =
-    let all = from_pieces place.line (without_comments place.in_comment text) in
-    go (ended_words place text)
-    (from_filter place.line has_bytes (but_last (pieces place.line (without_comments place.in_comment text)))
-    (from_but_last place.line (pieces place.line (without_comments place.in_comment text)) all))
+    let shown = without_comments place.in_comment text in
+    let words = pieces place.line shown in
+    go (ended_words place text) (from_filter place.line has_bytes (but_last words)
+    (from_but_last place.line words (from_pieces place.line shown)))
   where
     go : (words : List Word) → AllFrom place.line words → has_more_words line words ≡ false
     go [] all = refl

@@ -1,11 +1,9 @@
 -- A call that gives up at a fault of its input.
 use Rattle.dcc_io.specs.declared.fault.KeptFault.{KeptFault}
-use Rattle.dcc_io.specs.declared.fault.KeptFault.TheVariants.{Number, Line, Read, TooMuch}
+use Rattle.dcc_io.specs.declared.fault.KeptFault.TheVariants.{Number}
 use Rattle.dcc_io.specs.Faults.{as_tool_fault, GivesUp}
 
 pub gives_up : (stopped : KeptFault → Type 0) (unwritten no_memory : Type 0) (fault : KeptFault) → stopped fault
     → GivesUp stopped unwritten no_memory (as_tool_fault fault)
 gives_up stopped unwritten no_memory (Number line) stands = stands
-gives_up stopped unwritten no_memory (Line line fault) stands = stands
-gives_up stopped unwritten no_memory Read stands = stands
-gives_up stopped unwritten no_memory TooMuch stands = stands
+gives_up stopped unwritten no_memory fault stands = stands

@@ -69,9 +69,9 @@ opened-plain line front [] more digits = rw (append-nil front) refl
 opened-plain line front (byte ∷ word) more digits =
     let parts = and_parts (is_plain byte) (list_all is_plain word) digits in
     let plain = plain_parts byte parts.0 in
+    let rest = rw append_assoc at (opened-plain line (front ++ byte ∷ []) word more parts.1) in
     opened-word (outside line) front byte (word ++ more) plain.no_comment plain.no_gap
-    ∙ rw (plain.no_comment, plain.no_line) (opened-plain line (front ++ byte ∷ []) word more parts.1)
-    ∙ ap (λ (xs : List ℕ). opened (outside line) xs more) (append_assoc front (byte ∷ []) word)
+    ∙ rw (plain.no_comment, plain.no_line) rest
 
 -- a gap begins no comment
 gap_outside : (gap : ℕ) → is_gap gap ≡ true → comments false gap ≡ false
@@ -252,9 +252,7 @@ pub SpellsNumber-digit : (number : ℕ) (bytes : List ℕ) (len : ℕ) → len <
     → 48 ≤ get_or bytes len 0 → get_or bytes len 0 ≤ 57
     → SpellsNumber (number * 10 + (get_or bytes len 0 - 48)) (take (len + 1) bytes)
 SpellsNumber-digit number bytes len inside spells few low high = record {
-  digits =
-      list_all_more is_ascii_digit bytes len 0 inside
-      ∙ rw (spells.digits, is_ascii_digit-digit (get_or bytes len 0) low high) refl;
+  digits = rw (list_all_more is_ascii_digit bytes len 0 inside, spells.digits) (is_ascii_digit-digit _ low high);
   value =
       rw (take_more bytes len 0 inside, ← digit_value-digit (get_or bytes len 0) low high, spells.value)
       (sym (digits_value_after-push 0 (take len bytes) (get_or bytes len 0)));

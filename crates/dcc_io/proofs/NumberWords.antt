@@ -1,5 +1,5 @@
 -- Numbers in a row are words.
-use Rattle.std.proofs.Common.{◌≡◌, ℕ, ◌+◌, ◌<◌, List, [], ◌∷◌, ◌++◌, true, refl, ap, ◌∙◌, arith, append_assoc}
+use Rattle.std.proofs.Common.{◌≡◌, ℕ, ◌+◌, ◌<◌, List, [], ◌∷◌, ◌++◌, true, refl, arith, append_assoc}
 use Rattle.std.proofs.lemmas.Fmt.{decimal_is_IsNumeral, decimal_nonempty}
 use Rattle.std.specs.Char.{is_ascii_digit}
 use Rattle.std.specs.Fmt.{decimal}
@@ -44,6 +44,5 @@ pub numbers_back : (line n : ℕ) (ns more : List ℕ) → AllByRecursion IsSmal
 unfolding is_gap
 numbers_back line n [] more small = decimal_passes line n 10 more small.0 refl
 numbers_back line n (m ∷ ns) more small =
-    rw (append_assoc (behind_space m) (flat_map behind_space ns) (10 ∷ more))
-    (decimal_passes line n 32 (decimal m ++ (flat_map behind_space ns ++ 10 ∷ more)) small.0 refl)
-    ∙ ap (λ (ws : List Word). record { line = line; bytes = decimal n } ∷ ws) (numbers_back line m ns more small.1)
+    let here = decimal_passes line n 32 (decimal m ++ (flat_map behind_space ns ++ 10 ∷ more)) small.0 refl in
+    rw (append_assoc (behind_space m) (flat_map behind_space ns) (10 ∷ more), here, numbers_back line m ns more small.1) refl

@@ -140,8 +140,8 @@ module _ {c : Comparison} {lists : Lists} (s : StandsFor c lists) (p : Packet) (
   left_next e third is =
       let w = stage_of s e in
       let next = one_heard c.who lists.left p c.left_heard third w.goes_on.left_heard hear is in
-      (next.0, rw next.1 (up_to_more third p c.block (cut_for c.who lists.left) (cut_for c.who lists.right)
-      (LastBlock c.held.first) (LastBlock []) w.up_to).0)
+      let up = up_to_more third p c.block (cut_for c.who lists.left) (cut_for c.who lists.right) (LastBlock c.held.first)
+      (LastBlock []) w.up_to in (next.0, rw next.1 up.0)
 
   -- the packet is left out, ends the block or joins it
   pub left_given : c.wants ≡ Left → (own third : Bool) → is_own_write p ≡ own → is_third c.left_heard p ≡ third
@@ -163,8 +163,8 @@ module _ {c : Comparison} {lists : Lists} (s : StandsFor c lists) (p : Packet) (
   right_next e third is =
       let w = stage_of s e in
       let next = one_heard c.who lists.right p c.right_heard third w.goes_on.right_heard hear is in
-      (next.0, rw next.1 (up_to_more third p c.block (cut_for c.who lists.left) (cut_for c.who lists.right)
-      (open_cut c.held.first c.left_end) (LastBlock c.held.second) w.up_to).1)
+      let up = up_to_more third p c.block (cut_for c.who lists.left) (cut_for c.who lists.right)
+      (open_cut c.held.first c.left_end) (LastBlock c.held.second) w.up_to in (next.0, rw next.1 up.1)
 
   pub right_left_out : c.wants ≡ Right → is_own_write p ≡ true → is_third c.right_heard p ≡ true
       → StandsFor (heard_right c p) (with_item Right (Some p) lists)
@@ -257,8 +257,9 @@ held_fits c lists going left right s = by_wants c.wants s.stage going
 
     fits : (end : Option Packet) → GoesOn c lists → AlikeUpTo c.block (cut_for c.who lists.left)
         (cut_for c.who lists.right) (open_cut c.held.first end) (LastBlock c.held.second) → HeldFits c lists
-    fits end g up = (omega arith, held end ∙ sym (open_behind c.block (cut_for c.who lists.left)
-        (cut_for c.who lists.right) (open_cut c.held.first end) (LastBlock c.held.second) up))
+    fits end g up =
+        let behind = open_behind c.block (cut_for c.who lists.left) (cut_for c.who lists.right)
+        (open_cut c.held.first end) (LastBlock c.held.second) up in (omega arith, held end ∙ sym behind)
 
     by_wants : (w : Wants) → Stage w c lists → ((v : Verdict) → w ≡ Done v → ⊥) → HeldFits c lists
     by_wants Left w going = fits None w.goes_on (as_ended w)

@@ -29,7 +29,7 @@ pub packets_more : (halves more : List ℕ) (answer : Seen) (place : ℕ) (packe
     → seen more ≡ seen halves ++ report_at place answer
     → ArePackets packets halves → AreSpelled shown (frames_of answer) → ArePackets (packets ++ shown) more
 packets_more halves more answer place packets shown e before now =
-    rw (e, map-append, frames_in-append, frames_in-reported, before, now) refl
+    rw (e, map-append spelling packets shown, frames_in-append, frames_in-reported, before, now) refl
 
 pub heard_half : {who who' who'' : Who} {m m' m'' : RegisterMap} (halves more : List ℕ) (answer : Seen) (place : ℕ)
     (shown : List Packet) → seen more ≡ seen halves ++ report_at place answer

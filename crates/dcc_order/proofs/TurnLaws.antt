@@ -139,10 +139,13 @@ module _ (members : List Packet) (once : EachOnce members) (own rival : ℕ) (ow
       ⊎ ((eqb (member_number members x) k ≡ false) × (same (at k) x ≡ false))
   placed x k inside = elim (eqb_tells (member_number members x) k) [
     | inl (t, is) ↦ inl (t, rw (← is) (sym (stands_at members x Idle (rw is inside))))
-    | inr (f, other) ↦ inr (f, elim (same_tells (at k) x) [
+    | inr (f, other) ↦ inr (
+      f,
+      elim (same_tells (at k) x) [
         | inl (t, is) ↦ absurd (other (rw (← is) (once k Idle inside)))
         | inr (t, apart) ↦ t
-      ])
+      ],
+    )
   ]
 
   -- turns that are counted by numbers tell those of the packets
@@ -182,8 +185,12 @@ has_come own rival = snoc
     let before = so_far (λ k h. low k (Contains-append_left ns (n ∷ []) k h)) in
     let other : n ≡ own → ⊥ = λ e. absurd (omega (arith, low n (Contains-push ns n), e)) in
     rw (turns_of-more own rival ns n, ne_eqb n own other) (elim (eqb_tells n rival) [
-      | inl (e, is) ↦ rw e (λ t. subst (Contains (ns ++ n ∷ [])) is (Contains-push ns n),
-          λ h. grind (arith, cases_Bool (turns_of own rival ns).rival_last))
-      | inr (e, apart) ↦ rw e (λ t. Contains-append_left ns (n ∷ []) rival (before.0 t),
-          λ h. before.1 (elim (Contains-push_cases ns n rival h) [ inl old ↦ old | inr is ↦ absurd (apart is) ]))
+      | inl (e, is) ↦ rw e (
+        λ t. subst (Contains (ns ++ n ∷ [])) is (Contains-push ns n),
+        λ h. grind (arith, cases_Bool (turns_of own rival ns).rival_last),
+      )
+      | inr (e, apart) ↦ rw e (
+        λ t. Contains-append_left ns (n ∷ []) rival (before.0 t),
+        λ h. before.1 (elim (Contains-push_cases ns n rival h) [ inl old ↦ old | inr is ↦ absurd (apart is) ]),
+      )
     ]))

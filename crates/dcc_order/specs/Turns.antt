@@ -1,24 +1,13 @@
 -- How two packets take turns in a block, in short: how many turns they take, and which has the last.
 use Rattle.std.specs.Prelude.{ℕ, ◌+◌, ◌≡◌, ◌<◌, slice_index_or, ◌||◌, ◌==◌, true, false, List, [], ◌∷◌, Option, Some}
-use Rattle.std.specs.Prelude.{None, filter, fold, length, if◌then◌else◌}
+use Rattle.std.specs.Prelude.{fold, length, if◌then◌else◌}
 use Rattle.dcc_packet.specs.declared.packet.Packet.{Packet}
-use Rattle.dcc_regs.specs.Result.{is_repeated}
 use Rattle.dcc_order.specs.declared.turns.Turns.{Turns}
-use Rattle.dcc_order.specs.AlikeLists.{is_one_of, turns}
 
 -- the last packet of a list, or, where the list is empty, the one before it
 abbrev pub last_behind : Option Packet → List Packet → Option Packet
 last_behind before [] = before
 last_behind before (p ∷ later) = last_behind (Some p) later
-
--- which of two packets has the last turn in a block
-abbrev pub last_turn : Packet → Packet → List Packet → Option Packet
-last_turn p q block = last_behind None (filter (is_one_of p q) block)
-
--- how many turns a packet and its rival take in a block, and whether the rival has the last
-abbrev pub turns_taken : Packet → Packet → List Packet → Turns
-turns_taken p rival block =
-    record { count = length (turns p rival block); rival_last = is_repeated (last_turn p rival block) rival }
 
 -- before any turn
 abbrev pub no_turns : Turns

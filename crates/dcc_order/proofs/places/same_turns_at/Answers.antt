@@ -16,10 +16,10 @@ loop-rival-preserved c = λ k d e t below clash. elim (cases_eq k c.loop-rival.r
             ∙ c.is.ensures.0 w.if-not-is.false
             ∙ get_or_default c.args.right.now i no_turns t (omega (arith, c.requires.each, c.loop-rival-test.true))
         | else-not-is-via-then-not-is+else-conflict w ↦ absurd (true≢false (sym (w.conflict.ensures.1 (rw (
-            get_or_default c.args.places.now c.args.own w.index-places-own.result d (omega arith),
-            get_or_default c.args.places.now i w.index-places-rival.result e (omega arith),
-            ← same,
-          ) clash)) ∙ w.if-conflict.false))
+          get_or_default c.args.places.now c.args.own w.index-places-own.result d (omega arith),
+          get_or_default c.args.places.now i w.index-places-rival.result e (omega arith),
+          ← same,
+        ) clash)) ∙ w.if-conflict.false))
       ]))
 ]
 
