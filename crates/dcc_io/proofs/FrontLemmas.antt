@@ -299,7 +299,8 @@ takes_line_at {line = line} {closed = closed} source later bytes len text at_end
     rw is_open record {
       at = refl;
       is_line = front.is_line;
-      text = consumes_both _ source.text later.text _ consumed (λ rest. rw is_front (append_assoc text (10 ∷ []) (rest ++ 10 ∷ [])));
+      text = consumes_both _ source.text later.text _ consumed
+          (λ rest. rw is_front (append_assoc text (10 ∷ []) (rest ++ 10 ∷ [])));
       next = refl;
       lines = consumes_both _ source.text later.text _ consumed
           (λ rest. sym (lines_with-some _ line (rest ++ 10 ∷ []) (simp length-append (omega arith))));

@@ -40,7 +40,8 @@ module _ (first : Bool) (bytes : List ℕ) (index : ℕ) (in_comment in_word : B
   abbrev byte : ℕ
   byte = get_or bytes index 0
 
-  next_at : (line : ℕ) → LooksAt (record { line = line; in_comment = first }) bytes (byte ∷ drop (index + 1) bytes) in_comment in_word
+  next_at : (line : ℕ)
+      → LooksAt (record { line = line; in_comment = first }) bytes (byte ∷ drop (index + 1) bytes) in_comment in_word
   next_at line = rw (drop_more bytes index 0 inside) at (looks line)
 
   pub word_behind : (comments in_comment byte || is_gap byte) ≡ false

@@ -75,7 +75,8 @@ OpensLine-bad {old = old} {now = now} {mid = mid} {line = line} {byte = byte} nu
     used = Took-join opens.took (took_byte takes) (λ front back is more. rw (is, more) refl)
 
     found : IfSome old.text (λ text. IsBadAt old text × (mid.lines ≡ number))
-    found = told_behind used (λ rest. (rest ≡ [] → byte ≡ 10) × (mid.lines ≡ lines_with now.lines now.place.line rest)) _ (λ text rest uses facts.
+    found = told_behind used (λ rest. (rest ≡ [] → byte ≡ 10) × (mid.lines ≡ lines_with now.lines now.place.line rest)) _
+        (λ text rest uses facts.
         let more : length rest ≡ 0 → ⊥ = λ none. other (facts.0 (nil_from_length rest none)) in
         let some : 0 < length uses.used = rw uses.is (simp length-append (omega arith)) in
         let left : mid.bytes ≡ 0 → ⊥ = λ none. more (ap length (uses.room some none)) in (

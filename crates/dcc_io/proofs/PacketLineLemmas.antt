@@ -109,8 +109,8 @@ module _ {A B : Type 0} (saying : Saying A B) where
   stops_at_bad_line old new number meets = (
     (
       meets.failures,
-      if_some_map _ _ old.text (λ text bad. within_limit-front old (lines_by saying old) _ text bad.line bad.rest bad.whole bad.within
-          (λ more last.
+      if_some_map _ _ old.text (λ text bad.
+          within_limit-front old (lines_by saying old) _ text bad.line bad.rest bad.whole bad.within (λ more last.
           let first = begins old.place.line more in
           rw (lines_from-front _ bad.line more first.0 first.1 bad.one first.2, meets.at)
           (items_of-bad (numbered _ (bad.line ++ first.0)) first.1 last (bad-more bad.line first.0 bad.bad)))) meets.text,

@@ -8,7 +8,8 @@ use Rattle.std.proofs.lemmas.List.{append-nil}
 use Rattle.std.proofs.lemmas.Slice.Eq.{bytes_eq-Decides}
 use Rattle.dcc_packet.specs.Words.{Word, is_word}
 use Rattle.dcc_packet.specs.Fields.{FieldOf, IsToken, IsReadBack}
-use Rattle.dcc_packet.specs.Forms.{FormOf, RowOf, row, read_by, whole_by, written_by, choice, IsForm, IsRowBack, AreBack, SaidBy, are_distinct, has_keyword}
+use Rattle.dcc_packet.specs.Forms.{FormOf, RowOf, row, read_by, whole_by, written_by, choice, IsForm, IsRowBack, AreBack}
+use Rattle.dcc_packet.specs.Forms.{SaidBy, are_distinct, has_keyword}
 use Rattle.dcc_packet.proofs.Tokens.{keyword_token}
 
 -- a form is read back

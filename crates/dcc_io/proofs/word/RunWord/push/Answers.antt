@@ -12,4 +12,5 @@ returns-then-byte-eq42 c word spells =
 
 pub returns-else-byte-eq42 : goal.returns-else-byte-eq42
 returns-else-byte-eq42 c word spells =
-    Spells-byte _ c.args.byte spells c.still_dashes-self.ensures c.in-None.is c.if-byte-eq42.false c.push-else-byte-eq42.ensures refl
+    Spells-byte _ c.args.byte spells c.still_dashes-self.ensures c.in-None.is c.if-byte-eq42.false
+    c.push-else-byte-eq42.ensures refl
