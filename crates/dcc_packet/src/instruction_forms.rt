@@ -18,11 +18,22 @@ use crate::{
 };
 
 /// The words after a locomotive's address.
-type Instructions =
-    (ResetForm, (Speed28Form, (Speed128Form, (FunctionsForm, (StateForm, (CvAccessForm, ()))))));
+type Instructions = (
+    ResetForm,
+    (
+        Speed28Form,
+        (
+            Speed128Form,
+            (FunctionsForm, (StateForm, (CvAccessForm, ()))),
+        ),
+    ),
+);
 
 /// The words after `cv`.
-type CvAccesses = (CvWriteForm, (CvVerifyForm, (CvBitWriteForm, (CvBitVerifyForm, ()))));
+type CvAccesses = (
+    CvWriteForm,
+    (CvVerifyForm, (CvBitWriteForm, (CvBitVerifyForm, ()))),
+);
 
 impl Field for What {
     ghost field = { instruction_field };
@@ -92,8 +103,8 @@ impl Form<What> for ResetForm {
     }
 
     ghost is_form = { record {
-        token = refl;
-        back = elim [ Reset ↦ λ x e. cc | what ↦ λ x e. absurd cc ];
+      token = refl;
+      back = elim [ Reset ↦ λ x e. cc | what ↦ λ x e. absurd cc ];
     } };
 }
 
@@ -110,7 +121,10 @@ impl Form<What> for Speed28Form {
     }
 
     fn says((direction, bits): (Direction, SpeedBits28)) -> What {
-        What::Speed28 { forward: direction.forward, bits }
+        What::Speed28 {
+            forward: direction.forward,
+            bits,
+        }
     }
 
     fn said(what: &What) -> Option<(Direction, SpeedBits28)> {
@@ -121,8 +135,8 @@ impl Form<What> for Speed28Form {
     }
 
     ghost is_form = { record {
-        token = refl;
-        back = elim [ Speed28 forward bits ↦ λ x e. cc | what ↦ λ x e. absurd cc ];
+      token = refl;
+      back = elim [ Speed28 forward bits ↦ λ x e. cc | what ↦ λ x e. absurd cc ];
     } };
 }
 
@@ -139,7 +153,10 @@ impl Form<What> for Speed128Form {
     }
 
     fn says((direction, bits): (Direction, SpeedBits128)) -> What {
-        What::Speed128 { forward: direction.forward, bits }
+        What::Speed128 {
+            forward: direction.forward,
+            bits,
+        }
     }
 
     fn said(what: &What) -> Option<(Direction, SpeedBits128)> {
@@ -150,8 +167,8 @@ impl Form<What> for Speed128Form {
     }
 
     ghost is_form = { record {
-        token = refl;
-        back = elim [ Speed128 forward bits ↦ λ x e. cc | what ↦ λ x e. absurd cc ];
+      token = refl;
+      back = elim [ Speed128 forward bits ↦ λ x e. cc | what ↦ λ x e. absurd cc ];
     } };
 }
 
@@ -179,8 +196,8 @@ impl Form<What> for FunctionsForm {
     }
 
     ghost is_form = { record {
-        token = refl;
-        back = elim [ Functions functions ↦ λ x e. cc | what ↦ λ x e. absurd cc ];
+      token = refl;
+      back = elim [ Functions functions ↦ λ x e. cc | what ↦ λ x e. absurd cc ];
     } };
 }
 
@@ -197,7 +214,10 @@ impl Form<What> for StateForm {
     }
 
     fn says((number, switch): (StateNumber, Switch)) -> What {
-        What::BinaryState { number, on: switch.on }
+        What::BinaryState {
+            number,
+            on: switch.on,
+        }
     }
 
     fn said(what: &What) -> Option<(StateNumber, Switch)> {
@@ -208,8 +228,8 @@ impl Form<What> for StateForm {
     }
 
     ghost is_form = { record {
-        token = refl;
-        back = elim [ BinaryState number on ↦ λ x e. cc | what ↦ λ x e. absurd cc ];
+      token = refl;
+      back = elim [ BinaryState number on ↦ λ x e. cc | what ↦ λ x e. absurd cc ];
     } };
 }
 
@@ -231,18 +251,22 @@ impl Form<What> for CvAccessForm {
     }
 
     fn said(what: &What) -> Option<CvAccess> {
-        if what.is_cv_access() { Some(CvAccess { what: *what }) } else { None }
+        if what.is_cv_access() {
+            Some(CvAccess { what: *what })
+        } else {
+            None
+        }
     }
 
     ghost is_form = { record {
-        token = refl;
-        back = elim [
-            | CvWrite cv value ↦ λ x e. cc
-            | CvVerify cv value ↦ λ x e. cc
-            | CvBitWrite cv place one ↦ λ x e. cc
-            | CvBitVerify cv place one ↦ λ x e. cc
-            | what ↦ λ x e. absurd cc
-        ];
+      token = refl;
+      back = elim [
+        | CvWrite cv value ↦ λ x e. cc
+        | CvVerify cv value ↦ λ x e. cc
+        | CvBitWrite cv place one ↦ λ x e. cc
+        | CvBitVerify cv place one ↦ λ x e. cc
+        | what ↦ λ x e. absurd cc
+      ];
     } };
 }
 
@@ -270,8 +294,8 @@ impl Form<What> for CvWriteForm {
     }
 
     ghost is_form = { record {
-        token = refl;
-        back = elim [ CvWrite cv value ↦ λ x e. cc | what ↦ λ x e. absurd cc ];
+      token = refl;
+      back = elim [ CvWrite cv value ↦ λ x e. cc | what ↦ λ x e. absurd cc ];
     } };
 }
 
@@ -299,8 +323,8 @@ impl Form<What> for CvVerifyForm {
     }
 
     ghost is_form = { record {
-        token = refl;
-        back = elim [ CvVerify cv value ↦ λ x e. cc | what ↦ λ x e. absurd cc ];
+      token = refl;
+      back = elim [ CvVerify cv value ↦ λ x e. cc | what ↦ λ x e. absurd cc ];
     } };
 }
 
@@ -317,7 +341,11 @@ impl Form<What> for CvBitWriteForm {
     }
 
     fn says((cv, (place, bit)): (CvNumber, (BitPlace, Bit))) -> What {
-        What::CvBitWrite { cv, place, one: bit.one }
+        What::CvBitWrite {
+            cv,
+            place,
+            one: bit.one,
+        }
     }
 
     fn said(what: &What) -> Option<(CvNumber, (BitPlace, Bit))> {
@@ -328,8 +356,8 @@ impl Form<What> for CvBitWriteForm {
     }
 
     ghost is_form = { record {
-        token = refl;
-        back = elim [ CvBitWrite cv place one ↦ λ x e. cc | what ↦ λ x e. absurd cc ];
+      token = refl;
+      back = elim [ CvBitWrite cv place one ↦ λ x e. cc | what ↦ λ x e. absurd cc ];
     } };
 }
 
@@ -345,8 +373,12 @@ impl Form<What> for CvBitVerifyForm {
         "bitverify"
     }
 
-    fn says((cv, (place, bit)): (CvNumber, (BitPlace, Bit))) -> What {
-        What::CvBitVerify { cv, place, one: bit.one }
+    fn says((cv, (place, asked)): (CvNumber, (BitPlace, Bit))) -> What {
+        What::CvBitVerify {
+            cv,
+            place,
+            one: asked.one,
+        }
     }
 
     fn said(what: &What) -> Option<(CvNumber, (BitPlace, Bit))> {
@@ -357,7 +389,7 @@ impl Form<What> for CvBitVerifyForm {
     }
 
     ghost is_form = { record {
-        token = refl;
-        back = elim [ CvBitVerify cv place one ↦ λ x e. cc | what ↦ λ x e. absurd cc ];
+      token = refl;
+      back = elim [ CvBitVerify cv place one ↦ λ x e. cc | what ↦ λ x e. absurd cc ];
     } };
 }

@@ -34,8 +34,8 @@ impl Form<Packet> for IdleForm {
     }
 
     ghost is_form = { record {
-        token = refl;
-        back = elim [ Idle ↦ λ x e. cc | packet ↦ λ x e. absurd cc ];
+      token = refl;
+      back = elim [ Idle ↦ λ x e. cc | packet ↦ λ x e. absurd cc ];
     } };
 }
 
@@ -63,8 +63,8 @@ impl Form<Packet> for LocoForm {
     }
 
     ghost is_form = { record {
-        token = refl;
-        back = elim [ Loco to what ↦ λ x e. cc | packet ↦ λ x e. absurd cc ];
+      token = refl;
+      back = elim [ Loco to what ↦ λ x e. cc | packet ↦ λ x e. absurd cc ];
     } };
 }
 
@@ -81,7 +81,11 @@ impl Form<Packet> for AccessoryForm {
     }
 
     fn says((board, (output, switch)): (Board, (Output, Switch))) -> Packet {
-        Packet::Accessory { board, output, on: switch.on }
+        Packet::Accessory {
+            board,
+            output,
+            on: switch.on,
+        }
     }
 
     fn said(packet: &Packet) -> Option<(Board, (Output, Switch))> {
@@ -94,8 +98,8 @@ impl Form<Packet> for AccessoryForm {
     }
 
     ghost is_form = { record {
-        token = refl;
-        back = elim [ Accessory board output on ↦ λ x e. cc | packet ↦ λ x e. absurd cc ];
+      token = refl;
+      back = elim [ Accessory board output on ↦ λ x e. cc | packet ↦ λ x e. absurd cc ];
     } };
 }
 
@@ -123,7 +127,7 @@ impl Form<Packet> for SignalForm {
     }
 
     ghost is_form = { record {
-        token = refl;
-        back = elim [ Signal address aspect ↦ λ x e. cc | packet ↦ λ x e. absurd cc ];
+      token = refl;
+      back = elim [ Signal address aspect ↦ λ x e. cc | packet ↦ λ x e. absurd cc ];
     } };
 }

@@ -236,7 +236,7 @@ step_by halves half (start ∷ earlier) (below, all) = elim (cases_Option (outco
   | inl none ↦
       let within : start ≤ length halves = omega (arith, below) in
       rw (not_start (halves ++ half ∷ []) (start ∷ earlier) (length halves)
-          (omega (arith, open_used_up halves half start earlier within none)))
+      (omega (arith, open_used_up halves half start earlier within none)))
       (body_step halves half start earlier within all none)
   | inr some ↦
       let long = outcome_of-long (drop start halves) some.0 some.1 in
