@@ -10,7 +10,7 @@ use Rattle.dcc_io.specs.declared.fault.KeptFault.{KeptFault}
 use Rattle.dcc_io.specs.declared.fault.KeptFault.TheVariants as kept
 use Rattle.dcc_io.specs.InputState.{InputState}
 use Rattle.dcc_io.specs.NumberedLines.{NumberedLine, lines_from, is_good}
-use Rattle.dcc_io.specs.Items.{Items, Grammar, in_text, before_failure, only_fault, items_behind}
+use Rattle.dcc_io.specs.Items.{Items, Grammar, in_text, only_fault, items_behind}
 
 -- a line whose first character is #
 abbrev pub is_comment_line : List ℕ → Bool
@@ -56,10 +56,6 @@ lines_by saying input bytes last = items_of saying (lines_from input.place.line 
 -- the items in an input with this text
 abbrev pub items_in : {A B : Type 0} → Saying A B → InputState → List ℕ → Items A
 items_in saying input text = in_text (lines_by saying) input text
-
--- the items in an input whose reader fails behind these bytes
-abbrev pub items_before_failure : {A B : Type 0} → Saying A B → InputState → List ℕ → Items A
-items_before_failure saying input used = before_failure (lines_by saying) input used
 
 -- the words of a packet line say one frame
 abbrev pub packet_words : Saying (List ℕ) (List ℕ)
