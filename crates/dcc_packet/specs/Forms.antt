@@ -1,5 +1,6 @@
 -- Forms of lines. A form is a keyword and fields; lines of one kind are in one of several forms, told apart by their keywords.
-use Rattle.std.specs.Prelude.{◌≡◌, Bool, true, false, not, ◌&&◌, ◌||◌, List, [], ◌∷◌, ◌++◌, if◌then◌else◌, Option, Some, is_some, MatchOption, Result, Ok, Err}
+use Rattle.std.specs.Prelude.{◌≡◌, Bool, true, false, not, ◌&&◌, ◌||◌, List, [], ◌∷◌, ◌++◌, if◌then◌else◌}
+use Rattle.std.specs.Prelude.{Option, Some, is_some, MatchOption, Result, Ok, Err}
 use Rattle.std.specs.List.{AllByRecursion}
 use Rattle.std.specs.Option.{option_map, option_map_or}
 use Rattle.dcc_packet.specs.declared.fault.PacketFault.{PacketFault}
@@ -27,6 +28,7 @@ pub record RowOf (A : Type 0) : Type 1 where
   -- the words behind the keyword for a value that is said in this form
   pub written : A → Option (List Word)
 
+-- a form whose fields are read and written so
 abbrev pub row : {A B : Type 0} → FieldOf B → FormOf A B → RowOf A
 row fields form = record {
   keyword = form.keyword;
@@ -55,11 +57,12 @@ written_by [] value = []
 written_by (form ∷ forms) value =
     option_map_or (λ words. form.keyword ∷ words) (form.written value) (written_by forms value)
 
+-- what the words of a line say in the form of which the first is the keyword, and the words after it
 abbrev pub read_line_by : {A : Type 0} → List (RowOf A) → List Word → Result (A × List Word) PacketFault
 read_line_by forms [] = Err faults.Word
 read_line_by forms (word ∷ words) = read_by forms word words
 
--- a line in one of these forms, of the values that may stand in one
+-- a field whose words are a keyword and the fields behind it, in one of these forms
 abbrev pub choice : {A : Type 0} → (A → Type 0) → List (RowOf A) → FieldOf A
 choice Fits forms = record { Fits = Fits; read = λ words. read_line_by forms words; written = λ value. written_by forms value }
 
