@@ -1,8 +1,6 @@
--- What was read of an input's lines that say something, and of its packet lines.
+-- What was read of an input's lines that say something.
 use Rattle.std.specs.Prelude.{◌≡◌, ◌<◌, [], Option, None, Some, Result, Ok, Err, IfSome}
-use Rattle.dcc_packet.specs.declared.packet.Packet.{Packet}
 use Rattle.dcc_packet.specs.declared.fault.PacketFault.{PacketFault}
-use Rattle.dcc_packet.specs.Spelling.{spelling}
 use Rattle.dcc_packet.specs.Words.{words}
 use Rattle.dcc_io.specs.declared.text_line.TextLine.{TextLine}
 use Rattle.dcc_io.specs.declared.fault.KeptFault.{KeptFault}
@@ -11,7 +9,7 @@ use Rattle.dcc_io.specs.ReaderState.{IsAtEnd}
 use Rattle.dcc_io.specs.InputState.{InputState}
 use Rattle.dcc_io.specs.Took.{LinesAt}
 use Rattle.dcc_io.specs.Items.{Gave, StopsAt, only_fault}
-use Rattle.dcc_io.specs.PacketLines.{Saying, lines_by, items_in, packet_words}
+use Rattle.dcc_io.specs.PacketLines.{Saying, lines_by, items_in}
 
 -- what the words of a line say where this comes of them, or their fault
 abbrev pub said_or_fault : {B C : Type 0} → (C → B) → Result C PacketFault → Result B PacketFault
@@ -39,7 +37,3 @@ ReadsSaid saying as_said old line (Ok None) new = ⊥
 ReadsSaid saying as_said old line (Err answer) new =
     (fault : PacketFault) × (answer ≡ kept.Line line.number fault) × (saying.said (words line.text.bytes) ≡ Err fault)
     × (new ≡ record old { fault = Some (kept.Line line.number fault) })
-
--- the packet of the next line that says one
-abbrev pub AnswersPacket : InputState → Result (Option Packet) KeptFault → InputState → Type 0
-AnswersPacket old result new = AnswersSaid packet_words spelling old result new

@@ -166,13 +166,6 @@ impl<R: Source> Input<R> {
         has_ended_word(self.in_comment, ahead)
     }
 
-    /// The line of the next byte, from 1.
-    pub(crate) fn line(&self) -> u64
-        ensures { result ≡ self.now.place.line }
-    {
-        self.line
-    }
-
     /// Whether the byte counts as a gap between words, as each byte of a comment does.
     #[inline(always)]
     pub(crate) fn passes_gap(&mut self, byte: u8) -> bool
@@ -187,17 +180,6 @@ impl<R: Source> Input<R> {
         let comment = is_comment(self.in_comment, byte);
         self.in_comment = comment;
         comment || is_gap(byte)
-    }
-
-    /// The next word and its line, or none at the end.
-    pub(crate) fn next_word(&mut self) -> Result<Option<(u64, RunWord)>, KeptFault>
-        requires { self.old.fault ≡ None }
-        ensures { AnswersWord self.old result self.new }
-    {
-        match self.word_at_hand(false) {
-            Some(word) => Ok(Some(word)),
-            None => self.read_word(),
-        }
     }
 
     /// The next word and its line, where the bytes at hand begin with it and hold it whole. The line feed of a CR LF is left unless it
@@ -310,7 +292,7 @@ impl<R: Source> Input<R> {
     {
         let mut word = RunWord::new();
         'bytes: loop {
-            let line = self.line();
+            let line = self.line;
             match self.next_byte()? {
                 Some(byte) => {
                     if !self.passes_gap(byte) {
@@ -326,24 +308,6 @@ impl<R: Source> Input<R> {
                 }
                 None => return Ok(None),
             }
-        }
-    }
-
-    /// The next half, where its word is a duration alone that stands at the front of the bytes that were read and has ended.
-    /// So most halves cost one look at each byte.
-    #[inline(always)]
-    pub(crate) fn half_at_hand(&mut self) -> Option<u16>
-        requires { self.old.fault ≡ None }
-        ensures some { IfSome result (λ us. TakesHalf self.old us self.new) }
-        ensures none { IfNone result (self.new ≡ self.old) }
-    {
-        if self.in_comment || self.halves_left == 0 {
-            return None;
-        }
-        match short_front_word(self.source.ahead()) {
-            Some(front) => self.take_front(front, false),
-            None if begins_with_run(self.source.ahead()) => None,
-            None => self.any_half_at_hand(),
         }
     }
 
@@ -379,43 +343,12 @@ impl<R: Source> Input<R> {
         Some(front.us)
     }
 
-    /// The run of the next word, where that word has a `*`, stands at the front of the bytes that were read and has ended, and its halves
-    /// are not too many.
-    pub(crate) fn run_at_hand(&mut self) -> Option<Run>
-        requires { self.old.fault ≡ None }
-        ensures some { IfSome result (λ run. TakesRun self.old run self.new) }
-        ensures none { IfNone result (self.new ≡ self.old) }
-    {
-        if self.in_comment {
-            return None;
-        }
-        let front = front_run(self.source.ahead())?;
-        // (the word, its gap, and a line feed behind that)
-        if self.bytes_left as usize <= front.len + 2 || self.halves_left < front.run.n {
-            return None;
-        }
-        self.pass_word_and_gap(front.len, front.ends_line, true);
-        self.halves_left -= front.run.n;
-        Some(front.run)
-    }
-
-    /// Takes the halves of a run, unless they are too many: then none of them counts.
-    pub(crate) fn count_run(&mut self, run: Run) -> Result<Option<Run>, KeptFault>
-        ensures { CountsRun self.old run result self.new }
-    {
-        if self.halves_left < run.n {
-            return Err(self.refuse(KeptFault::TooMuch));
-        }
-        self.halves_left -= run.n;
-        Ok(Some(run))
-    }
-
     /// The next line and its number, or none at the end. A fault is kept.
     pub(crate) fn next_line(&mut self) -> Result<Option<TextLine>, KeptFault>
         requires { self.old.fault ≡ None }
         ensures { AnswersLine self.old result self.new }
     {
-        let mut line = TextLine::new(self.line());
+        let mut line = TextLine::new(self.line);
         'bytes: loop {
             match self.next_byte()? {
                 Some(byte) => {
@@ -482,6 +415,79 @@ impl<R: Source> Input<R> {
         self.fault = Some(fault);
         fault
     }
+}
+
+/// The next word and its line, or none at the end. A fault is kept.
+#[inline(always)]
+pub fn next_word<R: Source>(input: &mut Input<R>) -> Result<Option<(u64, RunWord)>, KeptFault>
+    ensures kept { AnswersKept input.old result input.new }
+    ensures reads { input.old.fault ≡ None → AnswersWord input.old result input.new }
+{
+    if let Some(fault) = input.fault() {
+        return Err(fault);
+    }
+    match input.word_at_hand(false) {
+        Some(word) => Ok(Some(word)),
+        None => input.read_word(),
+    }
+}
+
+/// The duration of the next word, where that word is a duration alone which stands at the front of the bytes that were read and
+/// has ended. Its one half counts. So most halves cost one look at each byte.
+#[inline(always)]
+pub fn half_at_hand<R: Source>(input: &mut Input<R>) -> Option<u16>
+    requires { input.old.fault ≡ None }
+    ensures some { IfSome result (λ us. TakesHalf input.old us input.new) }
+    ensures none { IfNone result (input.new ≡ input.old) }
+{
+    if input.in_comment || input.halves_left == 0 {
+        return None;
+    }
+    match short_front_word(input.source.ahead()) {
+        Some(front) => input.take_front(front, false),
+        None if begins_with_run(input.source.ahead()) => None,
+        None => input.any_half_at_hand(),
+    }
+}
+
+/// The run of the next word, where that word has a `*`, stands at the front of the bytes that were read and has ended, and its halves are
+/// not too many. They count.
+pub fn run_at_hand<R: Source>(input: &mut Input<R>) -> Option<Run>
+    requires { input.old.fault ≡ None }
+    ensures some { IfSome result (λ run. TakesRun input.old run input.new) }
+    ensures none { IfNone result (input.new ≡ input.old) }
+{
+    if input.in_comment {
+        return None;
+    }
+    let front = front_run(input.source.ahead())?;
+    // (the word, its gap, and a line feed behind that)
+    if input.bytes_left as usize <= front.len + 2 || input.halves_left < front.run.n {
+        return None;
+    }
+    input.pass_word_and_gap(front.len, front.ends_line, true);
+    input.halves_left -= front.run.n;
+    Some(front.run)
+}
+
+/// Takes the halves of a run, unless they are too many: then none of them counts, and the input keeps U7.
+#[inline(always)]
+pub fn count_run<R: Source>(input: &mut Input<R>, run: Run) -> Result<Option<Run>, KeptFault>
+    requires { input.old.fault ≡ None }
+    ensures { CountsRun input.old run result input.new }
+{
+    if input.halves_left < run.n {
+        return Err(input.refuse(KeptFault::TooMuch));
+    }
+    input.halves_left -= run.n;
+    Ok(Some(run))
+}
+
+/// The line of the next byte, from 1: behind a line that was read, the one after it.
+pub fn line_of_next_byte<R: Source>(input: &Input<R>) -> u64
+    ensures { result ≡ input.now.place.line }
+{
+    input.line
 }
 
 /// Whether a word has ended in these bytes, the first of which stand in a comment or not.

@@ -13,15 +13,17 @@ use crate::text_line::TextLine;
 use dcc_packet::{Packet, PacketFault};
 
 /// What a line of a text says.
-pub(crate) trait SaidLine: Drop {
-    // What it stands for in the text, and what the words of its line say.
+pub trait SaidLine: Drop {
+    // What a line of the text stands for.
     ghost Item: { Type 0 };
 
+    // What the words of a line say.
     ghost Said: { Type 0 };
 
-    // How the words are read, and what they say where this comes of them.
+    // How the words of a line are read, and for which items it stands.
     ghost saying: { Saying Item Said };
 
+    // What the words of the line have said of which this comes.
     ghost as_said: { Self → Said };
 
     /// What the words of a line say, or their first fault.
@@ -43,40 +45,38 @@ impl SaidLine for Packet {
     }
 }
 
-impl<R: Source> Input<R> {
-    /// What the next line says that says anything, or none at the end. A fault is kept.
-    pub(crate) fn next_said<L: SaidLine>(&mut self) -> Result<Option<L>, KeptFault>
-        ensures kept { AnswersKept self.old result self.new }
-        ensures reads { self.old.fault ≡ None → AnswersSaid L.saying L.as_said self.old result self.new }
-    {
-        match self.fault() {
-            Some(fault) => Err(fault),
-            None => next_said(self),
-        }
+/// What the next line says that says anything, or none at the end. A fault is kept.
+pub fn next_said<R: Source, L: SaidLine>(input: &mut Input<R>) -> Result<Option<L>, KeptFault>
+    ensures kept { AnswersKept input.old result input.new }
+    ensures reads { input.old.fault ≡ None → AnswersSaid L.saying L.as_said input.old result input.new }
+{
+    match input.fault() {
+        Some(fault) => Err(fault),
+        None => read_lines(input),
     }
+}
 
-    /// What the next line says, if it stands whole in the bytes that were read and says anything. So most lines take no
-    /// read, and no copy of them is made. Any other line is left to `next_said`, a skipped or a bad one too, and so is each
-    /// where a fault is kept.
-    pub(crate) fn said_at_hand<L: SaidLine>(&mut self) -> Option<L>
-        ensures some { IfSome result (λ says. AnswersSaid L.saying L.as_said self.old (Ok (Some says)) self.new) }
-        ensures none { IfNone result (self.new ≡ self.old) }
-        ensures kept { IfSome self.old.fault (λ fault. result ≡ None) }
-    {
-        if self.fault().is_some() {
-            return None;
-        }
-        let line = self.whole_line()?;
-        let len = line.len();
-        match L::from_line(line) {
-            Ok(says) if self.take_line(len) => Some(says),
-            Ok(_) | Err(_) => None,
-        }
+/// What the next line says, if it stands whole in the bytes that were read and says anything. So most lines take no
+/// read, and no copy of them is made. Any other line is left to `next_said`, a skipped or a bad one too, and so is each
+/// where a fault is kept.
+pub fn said_at_hand<R: Source, L: SaidLine>(input: &mut Input<R>) -> Option<L>
+    ensures some { IfSome result (λ says. AnswersSaid L.saying L.as_said input.old (Ok (Some says)) input.new) }
+    ensures none { IfNone result (input.new ≡ input.old) }
+    ensures kept { IfSome input.old.fault (λ fault. result ≡ None) }
+{
+    if input.fault().is_some() {
+        return None;
+    }
+    let line = input.whole_line()?;
+    let len = line.len();
+    match L::from_line(line) {
+        Ok(says) if input.take_line(len) => Some(says),
+        Ok(_) | Err(_) => None,
     }
 }
 
 /// What the next line says that says anything, or none at the end.
-fn next_said<R: Source, L: SaidLine>(input: &mut Input<R>) -> Result<Option<L>, KeptFault>
+fn read_lines<R: Source, L: SaidLine>(input: &mut Input<R>) -> Result<Option<L>, KeptFault>
     requires { input.old.fault ≡ None }
     ensures { AnswersSaid L.saying L.as_said input.old result input.new }
 {

@@ -16,7 +16,7 @@ use Rattle.dcc_io.specs.WrittenBytes.{AppendsFront}
 use Rattle.dcc_io.specs.Held.{Holds}
 use Rattle.dcc_io.specs.Items.{Gives, Gave}
 use Rattle.dcc_io.specs.PacketLines.{packet_lines, packet_words, frames_in}
-use Rattle.dcc_io.specs.PacketRead.{AnswersPacket}
+use Rattle.dcc_io.specs.PacketRead.{AnswersSaid}
 use Rattle.dcc_send.specs.Inner.Held.{WritesOut}
 use Rattle.dcc_send.specs.Encoded.{frame_line, encoding, Encodes, EncodesText}
 use Rattle.dcc_io.proofs.HeldLemmas.{Holds-same, Holds-wrote, Holds-append, Holds-fails, Holds-fails_with, Holds-rest}
@@ -73,7 +73,8 @@ module _ {how : Encode} {start : InputState} {before : WriterState} where
       }
 
       pub Encoding-packet : {new : InputState} {left : List ℕ} {then : WriterState} (packet : Packet)
-          → AnswersPacket now (Ok (Some packet)) new → Holds after then (held ++ frame_line how (spelling packet)) left
+          → AnswersSaid packet_words spelling now (Ok (Some packet)) new
+          → Holds after then (held ++ frame_line how (spelling packet)) left
           → then.failures ≡ after.failures → Encoding how start new left before then
       Encoding-packet {new} packet answer holds same =
           record {
@@ -86,7 +87,8 @@ module _ {how : Encode} {start : InputState} {before : WriterState} where
 
       -- a write failed where a line was to be held
       pub stops_at_write : (new : InputState) {then : WriterState} (packet : Packet)
-          → AnswersPacket now (Ok (Some packet)) new → AppendsFront after then (held ++ frame_line how (spelling packet))
+          → AnswersSaid packet_words spelling now (Ok (Some packet)) new
+          → AppendsFront after then (held ++ frame_line how (spelling packet))
           → HasRisen after.failures then.failures → EncodesText how start before (Err Write) new then
       stops_at_write new {then} packet answer wrote risen =
           stopped how (so_far.frames ++ spelling packet ∷ []) after
@@ -102,7 +104,7 @@ module _ {how : Encode} {start : InputState} {before : WriterState} where
 
 -- the input has ended, and what was held was written
 pub encodes_all : (how : Encode) (start now new : InputState) (held left : List ℕ) (before after then : WriterState)
-    → Encoding how start now held before after → AnswersPacket now (Ok None) new
+    → Encoding how start now held before after → AnswersSaid packet_words spelling now (Ok None) new
     → WritesOut after held left then → EncodesText how start before (Ok tt) new then
 encodes_all how start now new held left before after then so_far answer wrote =
     writes_all packet_words spelling start now new so_far.frames (Encodes how before then)
@@ -112,7 +114,7 @@ encodes_all how start now new held left before after then so_far answer wrote =
 
 -- the input has a fault, and what was held was written
 pub encodes_up_to : (how : Encode) (start now new : InputState) (held left : List ℕ) (before after then : WriterState)
-    (fault : KeptFault) → Encoding how start now held before after → AnswersPacket now (Err fault) new
+    (fault : KeptFault) → Encoding how start now held before after → AnswersSaid packet_words spelling now (Err fault) new
     → WritesOut after held left then → EncodesText how start before (Err (as_tool_fault fault)) new then
 encodes_up_to how start now new held left before after then fault so_far answer wrote =
     writes_up_to packet_words spelling start now new so_far.frames (Encodes how before then)

@@ -5,14 +5,13 @@ ghost use Rattle.dcc_io.specs.Faults.{as_tool_fault};
 ghost use Rattle.dcc_io.specs.InputState.{HasCause};
 ghost use Rattle.dcc_send.specs.Encoded.{EncodesText};
 ghost use Rattle.dcc_send.specs.EncodeStation.{is_past_limits, has_begun};
-ghost use Rattle.dcc_io.specs.PacketRead.{AnswersPacket};
 ghost use Rattle.dcc_send.specs.StationEncoded.{StationText};
-ghost use Rattle.dcc_send.specs.Inner.Held.{TakesNext};
 
 use crate::encoded_line::hold_frame;
 use crate::encoding::Encode;
+use crate::next_line::next_line;
 use crate::station_encoding::encode_by_station;
-use dcc_io::{Failed, HeldLines, Input, KeptFault, Sink, Source, ToolFault, Usage, inputs};
+use dcc_io::{HeldLines, Input, Sink, Source, ToolFault, Usage};
 use dcc_packet::Packet;
 use dcc_station::{Station, StationFault};
 use std::alloc::Global;
@@ -86,28 +85,9 @@ fn encode_packets<R: Source, W: Sink>(
     }
     let mut held = HeldLines::new();
     'packets: loop {
-        match next_packet(input, &mut held, writer)?? {
+        match next_line::<R, W, Packet>(input, &mut held, writer)?? {
             Some(packet) => hold_frame(&mut held, &packet.frame(), how, writer)?,
             None => return Ok(()),
         }
     }
-}
-
-/// The packet of the next line that says one, or none at the end. What is held is written before more is read for it, and before
-/// a fault of a line is kept.
-fn next_packet<R: Source, W: Sink>(
-    input: &mut Input<R>,
-    held: &mut HeldLines,
-    writer: &mut W,
-) -> Result<Result<Option<Packet>, KeptFault>, Failed>
-    requires { input.old.fault ≡ None }
-    ensures { TakesNext AnswersPacket input.old (W.state writer.old) held.old result
-        input.new held.new
-        (W.state writer.new) }
-{
-    if let Some(packet) = inputs::packet_at_hand(input) {
-        return Ok(Ok(Some(packet)));
-    }
-    held.write_out(writer)?;
-    Ok(inputs::next_packet(input))
 }

@@ -4,6 +4,7 @@
 mod encode_call;
 mod encoded_line;
 mod encoding;
+mod next_line;
 mod programming_track_decoder;
 mod programming_track_line;
 mod readcv_call;

@@ -11,8 +11,8 @@ ghost use Rattle.dcc_send.specs.Inner.Held.{TakesNext, HoldsAnswersOrFails};
 
 use crate::encoded_line::hold_frame;
 use crate::encoding::Encode;
-use dcc_io::inputs::{next_station_line, station_line_at_hand};
-use dcc_io::{Failed, HeldLines, Input, KeptFault, Sink, Source, StationLine, ToolFault};
+use crate::next_line::next_line;
+use dcc_io::{Failed, HeldLines, Input, Sink, Source, StationLine, ToolFault};
 use dcc_packet::Packet;
 use dcc_station::{Refused, Station};
 
@@ -36,30 +36,11 @@ pub(crate) fn encode_by_station<R: Source, W: Sink>(
     }
     let mut held = HeldLines::new();
     'lines: loop {
-        match next_line(input, &mut held, writer)?? {
+        match next_line::<R, W, StationLine>(input, &mut held, writer)?? {
             Some(line) => answer(station, &mut held, how, line, writer)?,
             None => return Ok(()),
         }
     }
-}
-
-/// What the next line asks that asks anything, or none at the end. What is held is written before more is read for it, and
-/// before a fault of a line is kept.
-fn next_line<R: Source, W: Sink>(
-    input: &mut Input<R>,
-    held: &mut HeldLines,
-    writer: &mut W,
-) -> Result<Result<Option<StationLine>, KeptFault>, Failed>
-    requires { input.old.fault ≡ None }
-    ensures { TakesNext (AnswersSaid station_words asked_by) input.old (W.state writer.old)
-        held.old result
-        input.new held.new (W.state writer.new) }
-{
-    if let Some(line) = station_line_at_hand(input) {
-        return Ok(Ok(Some(line)));
-    }
-    held.write_out(writer)?;
-    Ok(next_station_line(input))
 }
 
 /// Does what a line asks.

@@ -9,7 +9,7 @@ packets-init g c = rw c.new-held.ensures (Encoding-start (sym c.fault.ensures.fa
 
 pub packets-preserved : goal.packets-preserved
 packets-preserved g c =
-    let took = rw (rw c.in_ok-packet.is at c.branch-packet.ensures, c.in-Some-2.is) at c.in_ok-next_packet.ensures in
+    let took = rw (rw c.in_ok-packet.is at c.branch-packet.ensures, c.in-Some-2.is) at c.in_ok-next_line.ensures in
     let held = rw c.frame.ensures.spelled at c.in_ok-hold_frame-in-Some-2.ensures in
     Encoding-packet (Encoding-wrote c.packets.invariant took.1 took.2) c.in-Some-2.packet took.0 held.0 held.1
 
@@ -17,21 +17,21 @@ pub returns-in_err-hold_frame-in-Some-2-clause-encodes : goal.returns-in_err-hol
 returns-in_err-hold_frame-in-Some-2-clause-encodes g c fault =
     let p = err_from_is_err_and c.from_residual-in_err-hold_frame-in-Some-2.result
     c.from_residual-in_err-hold_frame-in-Some-2.ensures.1 in
-    let took = rw (rw c.in_ok-packet.is at c.branch-packet.ensures, c.in-Some-2.is) at c.in_ok-next_packet.ensures in
+    let took = rw (rw c.in_ok-packet.is at c.branch-packet.ensures, c.in-Some-2.is) at c.in_ok-next_line.ensures in
     let failed = rw c.frame.ensures.spelled at c.in_err-hold_frame-in-Some-2.ensures in
     rw (p.1, p.2) (stops_at_write (Encoding-wrote c.packets.invariant took.1 took.2) _ c.in-Some-2.packet took.0 failed.0
     failed.1)
 
-pub returns-in_err-next_packet-clause-encodes : goal.returns-in_err-next_packet-clause-encodes
-returns-in_err-next_packet-clause-encodes g c fault =
+pub returns-in_err-next_line-clause-encodes : goal.returns-in_err-next_line-clause-encodes
+returns-in_err-next_line-clause-encodes g c fault =
     let p = err_from_is_err_and c.from_residual.result c.from_residual.ensures.1 in
-    let failed = c.in_err-next_packet.ensures in
+    let failed = c.in_err-next_line.ensures in
     rw (p.1, p.2, failed.0) (stops_before_read c.packets.invariant failed.1 failed.2)
 
 pub returns-in_err-packet-clause-encodes : goal.returns-in_err-packet-clause-encodes
 returns-in_err-packet-clause-encodes g c fault =
     let p = err_from_is_err_and c.from_residual-in_err-packet.result c.from_residual-in_err-packet.ensures.1 in
-    let took = rw (rw c.in_err-packet.is at c.branch-packet.ensures) at c.in_ok-next_packet.ensures in
+    let took = rw (rw c.in_err-packet.is at c.branch-packet.ensures) at c.in_ok-next_line.ensures in
     rw (p.1, p.2)
-    (encodes_up_to c.args.how c.args.input.now c.packets.input c.next_packet.new.input c.packets.held
-    c.next_packet.new.held _ _ _ _ c.packets.invariant took.0 took.1)
+    (encodes_up_to c.args.how c.args.input.now c.packets.input c.next_line.new.input c.packets.held
+    c.next_line.new.held _ _ _ _ c.packets.invariant took.0 took.1)

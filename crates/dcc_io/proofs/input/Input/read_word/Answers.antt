@@ -1,4 +1,6 @@
+use Rattle.std.proofs.Common.{ap}
 use Rattle.std.proofs.lemmas.Result.{err_from_is_err_and}
+use Rattle.dcc_io.specs.InputState.{InputState}
 use Rattle.dcc_io.proofs.PassedLemmas.{Opens-word, Opens-none, Passed-join, Passed-gap, ends_behind_gaps, EndsWord-gap, Passed-end}
 use Rattle.dcc_io.proofs.PassedLemmas.{answers_err, takes_noted, open_word}
 use Rattle.dcc_io.proofs.input.Input.read_word.Goals as goal
@@ -22,7 +24,7 @@ pub returns-then-not-is_empty : goal.returns-then-not-is_empty
 returns-then-not-is_empty g c =
     let noted = takes_noted c.next_byte.new.self c.in-Some.is c.in_ok-byte.ensures c.passes_gap.ensures.place
     c.passes_gap.ensures.gap c.if-not-passes_gap.false in
-    rw c.line-line.ensures
+    rw (ap (λ (i : InputState). i.place.line) c.self.view_is)
     (EndsWord-gap c.bytes.invariant noted (open_word c.bytes.invariant c.is_empty.ensures c.if-not-is_empty.true))
 
 pub bytes-preserved : goal.bytes-preserved

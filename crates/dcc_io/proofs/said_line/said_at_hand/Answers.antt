@@ -1,6 +1,6 @@
 use Rattle.std.proofs.Common.{sym, refl}
 use Rattle.dcc_io.proofs.PacketLineLemmas.{answers_line}
-use Rattle.dcc_io.proofs.input.Input.said_at_hand.Goals as goal
+use Rattle.dcc_io.proofs.said_line.said_at_hand.Goals as goal
 
 pub returns-in-Ok-clause-some : goal.returns-in-Ok-clause-some
 returns-in-Ok-clause-some g c =

@@ -1,7 +1,7 @@
 use Rattle.std.proofs.Common.{sym, ◌∙◌}
 use Rattle.std.proofs.lemmas.Result.{err_from_is_err_and}
 use Rattle.dcc_io.proofs.PacketLineLemmas.{Gave-passed, answers_said, answers_fault}
-use Rattle.dcc_io.proofs.said_line.next_said.Goals as goal
+use Rattle.dcc_io.proofs.said_line.read_lines.Goals as goal
 
 pub lines-preserved-then-take_skipped_line : goal.lines-preserved-then-take_skipped_line
 lines-preserved-then-take_skipped_line g c =
