@@ -9,5 +9,6 @@ pub mod NumbersBack
 pub mod PendingBack
 pub mod CvsBack
 pub mod RowsBack
+pub mod HeadsBack
 pub mod MapsBack
 pub mod DecodersBack

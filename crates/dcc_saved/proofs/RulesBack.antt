@@ -19,7 +19,7 @@ use Rattle.dcc_regs.specs.Addresses.{is_active}
 use Rattle.dcc_regs.specs.Loco.{is_speed}
 use Rattle.dcc_saved.specs.declared.decoder_line.Version.{Version}
 use Rattle.dcc_saved.specs.declared.decoder_line.Version.TheVariants as versions
-use Rattle.dcc_saved.specs.DecoderLines.{version_number, version_word, version_field, own_address, own_board}
+use Rattle.dcc_saved.specs.DecoderLines.{version_number, version_word, version_field, own_address, own_board, own_board_field}
 use Rattle.dcc_saved.specs.DecoderLines.{own_address_word, own_address_field, speed_step, speed_of, speed_words}
 use Rattle.dcc_saved.specs.DecoderLines.{speed_field, four}
 
@@ -32,7 +32,7 @@ pub version_is_back : IsReadBack version_field
 version_is_back =
     one_word_back version_number version_word (λ v. (version_back v).0) (λ v. (version_back v).1)
 
-pub own_address_back : (a : Option Address) → is_active a ≡ true
+own_address_back : (a : Option Address) → is_active a ≡ true
     → (own_address (own_address_word a) ≡ Ok a) × IsToken (own_address_word a)
 own_address_back None h = (refl, keyword_token (codes "none") refl)
 own_address_back (Some Broadcast) h = cc
@@ -46,11 +46,17 @@ own_address_is_back =
       tokens = λ own h. ((own_address_back own.address h).1, tt);
     }
 
-pub own_board_back : (b : Board) → nat_le b.number 510 ≡ true → own_board (decimal b.number) ≡ Ok b
-own_board_back b h =
-    let few = leb-true b.number 510 h in
+own_board_back : (b : Board) → b.number ≤ 510 → own_board (decimal b.number) ≡ Ok (record { board = b })
+own_board_back b few =
     let other : eqb b.number 511 ≡ false = grind (arith, nat_tests) in
     rw (board_back b, other) refl
+
+pub own_board_is_back : IsReadBack own_board_field
+own_board_is_back =
+    record {
+      back = λ own rest h. rw (own_board_back own.board (leb-true own.board.number 510 h)) refl;
+      tokens = λ own h. (decimal_token own.board.number (omega (arith, leb-true own.board.number 510 h)), tt);
+    }
 
 -- the words of a speed that has a step
 step_back : (name : Word) (step : ℕ → Speed) (last n : ℕ) → last < 256 → IsToken name

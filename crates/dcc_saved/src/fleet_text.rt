@@ -4,7 +4,8 @@ ghost use Rattle.dcc_regs.specs.Loco.{cv_held};
 ghost use Rattle.dcc_io.specs.WrittenBytes.{Writes};
 ghost use Rattle.dcc_saved.specs.FleetText.{cv_line, cvs_text, written_decoder, fleet_text};
 
-use crate::decoder_rows::{board_rows, cv_line, loco_front};
+use crate::decoder_line::Head;
+use crate::decoder_rows::{board_rows, cv_line, head_row, loco_front};
 use dcc_io::{Failed, Sink, write_all};
 use dcc_regs::{Decoder, Who};
 
@@ -19,7 +20,7 @@ pub fn write_fleet<W: Sink>(decoders: &[Box<dyn Decoder>], writer: &mut W) -> Re
     for decoder in decoders {
         write_decoder(&**decoder, writer)?;
     }
-    write_all(writer, b"end\n")
+    write_all(writer, head_row(&Head::End).as_slice())
 }
 
 /// Writes the lines of a decoder.
