@@ -1,10 +1,12 @@
 -- Decoders are read again, each behind its first line and up to the first line of the next, and so are fleets.
-use Rattle.std.proofs.Common.{◌≡◌, ℕ, ◌≤◌, List, [], ◌∷◌, ◌++◌, length, codes, Ok, refl, arith, append_assoc}
+use Rattle.std.proofs.Common.{◌≡◌, ℕ, ◌≤◌, false, List, [], ◌∷◌, ◌++◌, length, codes, Ok, refl, arith, append_assoc}
 use Rattle.std.proofs.Common.{zero, suc, ◌+◌, ap}
 use Rattle.std.specs.List.{AllByRecursion, flat_map}
 use Rattle.std.proofs.lemmas.List.{append-nil}
-use Rattle.dcc_packet.specs.Forms.{AreBack}
+use Rattle.dcc_packet.specs.Forms.{AreBack, SaidBy, has_keyword, written_by}
+use Rattle.dcc_packet.specs.Words.{is_word}
 use Rattle.dcc_packet.proofs.BitLemmas.{byte_of-lt}
+use Rattle.dcc_packet.proofs.FormsBack.{found, other_word, whole_by_back}
 use Rattle.dcc_packet.proofs.Tokens.{keyword_token}
 use Rattle.dcc_regs.specs.declared.register.Who.{Who}
 use Rattle.dcc_regs.specs.declared.register.Register.TheVariants as registers
@@ -18,30 +20,34 @@ use Rattle.dcc_saved.specs.declared.decoder_line.Head.TheVariants as heads
 use Rattle.dcc_saved.specs.declared.decoder_line.LocoLine.TheVariants as behind
 use Rattle.dcc_saved.specs.declared.decoder_line.Numbered.TheVariants as kinds
 use Rattle.dcc_saved.specs.declared.decoder_line.Version.TheVariants as versions
-use Rattle.dcc_saved.specs.DecoderLines.{head_forms, version_line}
+use Rattle.dcc_saved.specs.DecoderLines.{head_forms, head_line, loco_line, version_line}
 use Rattle.dcc_saved.specs.DecoderText.{decoder_lines, loco_lines, board_lines, decoders_from, decoder_text}
 use Rattle.dcc_saved.specs.FleetText.{cvs_text, head_text, written_speed, written_numbers}
 use Rattle.dcc_saved.specs.FleetText.{written_pending, written_positions, written_aspects, text_of, fleet_text}
-use Rattle.dcc_saved.specs.PossibleLines.{IsPossibleHead}
 use Rattle.dcc_saved.specs.ReadBack.{Saves, IsPossibleDecoder, line_feeds, SavesEach, FleetsAreReadBack}
 use Rattle.dcc_saved.specs.TextReader.{line_by, done}
 use Rattle.dcc_saved.proofs.CvsBack.{cvs_read}
-use Rattle.dcc_saved.proofs.HeadsBack.{IsHead, is_head}
 use Rattle.dcc_saved.proofs.LinesBack.{Reads, Reads-then, Reads-last, few_read, at}
 use Rattle.dcc_saved.proofs.MapsBack.{speed_is, pending_is, no_state_0, loco_state, same_loco, side_at, aspects_small}
 use Rattle.dcc_saved.proofs.MapsBack.{board_state, same_board}
 use Rattle.dcc_saved.proofs.NumbersBack.{numbers_read}
 use Rattle.dcc_saved.proofs.RowsBack.{speed_read, pending_read, positions_read, aspects_read}
 
+-- a line that says what follows the decoder before it
+record IsHead (head : Head) : Type 0 where
+  first : Reads (line_by head_line) (head_text head) head
+  behind_cvs : (least : ℕ) → Reads (line_by (loco_line least)) (head_text head) (behind.Head head)
+
 -- what the first line of a fleet behind the version says
 abbrev head_of : List (Who × RegisterMap) → Head
 head_of [] = heads.End
 head_of (decoder ∷ fleet) = heads.Decoder decoder.0
 
-head_possible : (fleet : List (Who × RegisterMap)) → AllByRecursion IsPossibleDecoder fleet
-    → IsPossibleHead (head_of fleet)
-head_possible [] possible = tt
-head_possible (decoder ∷ fleet) possible = possible.0.decoder
+head_said : (fleet : List (Who × RegisterMap)) → AllByRecursion IsPossibleDecoder fleet
+    → SaidBy head_forms (head_of fleet) × (length (written_by head_forms (head_of fleet)) ≤ 38)
+head_said [] possible = (tt, omega arith)
+head_said ((who.Loco address, m) ∷ fleet) possible = (possible.0.decoder, omega arith)
+head_said ((who.Board board, m) ∷ fleet) possible = (possible.0.decoder, omega arith)
 
 -- the lines of a decoder behind its first, and the line behind them
 abbrev lines_to : Who × RegisterMap → List ℕ → List ℕ
@@ -127,7 +133,19 @@ no_more before =
 
 module _ (back : AreBack head_forms) where
   fleet_head : (fleet : List (Who × RegisterMap)) → AllByRecursion IsPossibleDecoder fleet → IsHead (head_of fleet)
-  fleet_head fleet possible = is_head back (head_of fleet) (head_possible fleet possible)
+  unfolding head_line loco_line
+  fleet_head fleet possible =
+      let said = head_said fleet possible in
+      let f = found head_forms (head_of fleet) back refl said.0 in
+      let few = rw f.is at said.1 in
+      let read = whole_by_back head_forms (head_of fleet) f in
+      let other : is_word f.keyword (codes "cv") ≡ false =
+      other_word f.keyword (codes "cv") (has_keyword head_forms (codes "cv")) refl (λ e. rw e at f.has) in
+      record {
+        first = rw f.is (few_read head_line _ f.keyword f.words f.tokens (omega arith) read);
+        behind_cvs = λ least.
+            rw f.is (few_read (loco_line least) _ f.keyword f.words f.tokens (omega arith) (rw (other, read) refl));
+      }
 
   decoders_read : (fleet : List (Who × RegisterMap)) (room : ℕ) (before : List Saved) → length fleet ≤ room
       → AllByRecursion IsPossibleDecoder fleet → ReadsDecoders fleet room before

@@ -9,6 +9,5 @@ pub mod NumbersBack
 pub mod PendingBack
 pub mod CvsBack
 pub mod RowsBack
-pub mod HeadsBack
 pub mod MapsBack
 pub mod DecodersBack

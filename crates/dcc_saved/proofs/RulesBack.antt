@@ -46,16 +46,17 @@ own_address_is_back =
       tokens = λ own h. ((own_address_back own.address h).1, tt);
     }
 
-own_board_back : (b : Board) → b.number ≤ 510 → own_board (decimal b.number) ≡ Ok (record { board = b })
-own_board_back b few =
+own_board_back : (b : Board) → nat_le b.number 510 ≡ true → own_board (decimal b.number) ≡ Ok (record { board = b })
+own_board_back b h =
+    let few = leb-true b.number 510 h in
     let other : eqb b.number 511 ≡ false = grind (arith, nat_tests) in
     rw (board_back b, other) refl
 
 pub own_board_is_back : IsReadBack own_board_field
 own_board_is_back =
     record {
-      back = λ own rest h. rw (own_board_back own.board (leb-true own.board.number 510 h)) refl;
-      tokens = λ own h. (decimal_token own.board.number (omega (arith, leb-true own.board.number 510 h)), tt);
+      back = λ own rest h. rw (own_board_back own.board h) refl;
+      tokens = λ own h. (decimal_token own.board.number (omega (arith, own.board.in_range)), tt);
     }
 
 -- the words of a speed that has a step
