@@ -22,8 +22,8 @@ use Rattle.dcc_saved.specs.declared.decoder_line.Numbered.TheVariants as kinds
 use Rattle.dcc_saved.specs.declared.decoder_line.Version.TheVariants as versions
 use Rattle.dcc_saved.specs.DecoderLines.{head_forms, head_line, loco_line, version_line}
 use Rattle.dcc_saved.specs.DecoderText.{decoder_lines, loco_lines, board_lines, decoders_from, decoder_text}
-use Rattle.dcc_saved.specs.FleetText.{cvs_text, head_text, written_speed, written_numbers}
-use Rattle.dcc_saved.specs.FleetText.{written_pending, written_positions, written_aspects, text_of, fleet_text}
+use Rattle.dcc_saved.specs.FleetText.{head_text, lines_behind, loco_front, written_speed, written_numbers}
+use Rattle.dcc_saved.specs.FleetText.{written_positions, text_of, fleet_text}
 use Rattle.dcc_saved.specs.ReadBack.{Saves, IsPossibleDecoder, line_feeds, SavesEach, FleetsAreReadBack}
 use Rattle.dcc_saved.specs.TextReader.{line_by, done}
 use Rattle.dcc_saved.proofs.CvsBack.{cvs_read}
@@ -49,33 +49,10 @@ head_said [] possible = (tt, omega arith)
 head_said ((who.Loco address, m) ∷ fleet) possible = (possible.0.decoder, omega arith)
 head_said ((who.Board board, m) ∷ fleet) possible = (possible.0.decoder, omega arith)
 
--- the lines of a decoder behind its first, and the line behind them
-abbrev lines_to : Who × RegisterMap → List ℕ → List ℕ
-lines_to (who.Loco address, m) line =
-    written_speed m ++ (written_numbers kinds.Function m ++ (written_numbers kinds.State m
-    ++ (written_pending m ++ (cvs_text (cv_held m) 1024 ++ line))))
-lines_to (who.Board board, m) line = written_numbers kinds.Out m ++ (written_positions m ++ (written_aspects m ++ line))
-
--- a decoder's text, the first line behind it and what follows that
-text_is : (decoder : Who × RegisterMap) (line rest : List ℕ)
-    → text_of decoder ++ (line ++ rest) ≡ head_text (heads.Decoder decoder.0) ++ (lines_to decoder line ++ rest)
-text_is (who.Loco address, m) line rest =
-    regroup (head_text (heads.Decoder (who.Loco address))) (written_speed m) (written_numbers kinds.Function m)
-    (written_numbers kinds.State m) (written_pending m) (cvs_text (cv_held m) 1024)
-  where
-    regroup : (h s f b p c : List ℕ) → ((h ++ (s ++ (f ++ (b ++ p)))) ++ c) ++ (line ++ rest)
-        ≡ h ++ ((s ++ (f ++ (b ++ (p ++ (c ++ line))))) ++ rest)
-    regroup h s f b p c = simp append_assoc refl
-text_is (who.Board board, m) line rest =
-    regroup (head_text (heads.Decoder (who.Board board))) (written_numbers kinds.Out m) (written_positions m) (written_aspects m)
-  where
-    regroup : (h o p a : List ℕ) → (h ++ (o ++ (p ++ a))) ++ (line ++ rest) ≡ h ++ ((o ++ (p ++ (a ++ line))) ++ rest)
-    regroup h o p a = simp append_assoc refl
-
 -- a decoder that its lines save, and the first line behind them
 record ReadsDecoder (decoder : Who × RegisterMap) (head : Head) : Type 0 where
   state : Saved
-  reads : Reads (decoder_lines versions.Two decoder.0) (lines_to decoder (head_text head)) (state, head)
+  reads : Reads (decoder_lines versions.Two decoder.0) (lines_behind decoder.0 decoder.1 ++ head_text head) (state, head)
   saves : Saves state decoder
 
 decoder_read : (decoder : Who × RegisterMap) (head : Head) → IsPossibleDecoder decoder → IsHead head
@@ -91,10 +68,16 @@ decoder_read (who.Loco address, m) head possible is =
     record {
       state = saved.Loco (loco_state address m possible functions states cvs);
       reads =
-          Reads-then _ (speed_read _ speed.1)
+          rw (
+            append_assoc (loco_front m),
+            append_assoc (written_speed m),
+            append_assoc (written_numbers kinds.Function m),
+            append_assoc (written_numbers kinds.State m),
+          )
+          (Reads-then _ (speed_read _ speed.1)
           (Reads-then _ functions.reads (Reads-then _ states.reads
           (Reads-then _ (pending_read address _ pending.1)
-          (Reads-last _ cvs.reads (λ text. refl)))));
+          (Reads-last _ cvs.reads (λ text. refl))))));
       saves = (refl, same_loco address m possible functions states cvs);
     }
 decoder_read (who.Board board, m) head possible is =
@@ -102,24 +85,28 @@ decoder_read (who.Board board, m) head possible is =
     record {
       state = saved.Board (board_state board m possible outs);
       reads =
-          Reads-then _ outs.reads
+          rw (append_assoc (written_numbers kinds.Out m), append_assoc (written_positions m))
+          (Reads-then _ outs.reads
           (Reads-then _ (positions_read _ _ (λ n. (side_at board m possible n).1))
           (Reads-then _ (aspects_read _ (aspects_small board m possible))
-          (Reads-last _ is.first (λ text. refl))));
+          (Reads-last _ is.first (λ text. refl)))));
       saves = (refl, same_board board m possible outs);
     }
 
 -- the lines of a fleet behind the first line of its first decoder
 abbrev rest_of : List (Who × RegisterMap) → List ℕ
 rest_of [] = []
-rest_of (decoder ∷ fleet) = lines_to decoder (head_text (head_of fleet)) ++ rest_of fleet
+rest_of (decoder ∷ fleet) = (lines_behind decoder.0 decoder.1 ++ head_text (head_of fleet)) ++ rest_of fleet
 
 fleet_is : (fleet : List (Who × RegisterMap))
     → flat_map text_of fleet ++ head_text heads.End ≡ head_text (head_of fleet) ++ rest_of fleet
 fleet_is [] = refl
 fleet_is (decoder ∷ fleet) =
     rw (append_assoc (text_of decoder) (flat_map text_of fleet) (head_text heads.End), fleet_is fleet)
-    (text_is decoder (head_text (head_of fleet)) (rest_of fleet))
+    (regroup (head_text (heads.Decoder decoder.0)) (lines_behind decoder.0 decoder.1) (head_text (head_of fleet)))
+  where
+    regroup : (h b t : List ℕ) → (h ++ b) ++ (t ++ rest_of fleet) ≡ h ++ ((b ++ t) ++ rest_of fleet)
+    regroup h b t = simp append_assoc refl
 
 -- the decoders from here on
 record ReadsDecoders (fleet : List (Who × RegisterMap)) (room : ℕ) (before : List Saved) : Type 0 where

@@ -23,14 +23,10 @@ use Rattle.dcc_saved.specs.DecoderLines.{version_number, version_word, version_f
 use Rattle.dcc_saved.specs.DecoderLines.{own_address_word, own_address_field, speed_step, speed_of, speed_words}
 use Rattle.dcc_saved.specs.DecoderLines.{speed_field, four}
 
-version_back : (version : Version)
-    → (version_number (version_word version) ≡ Ok version) × IsToken (version_word version)
-version_back versions.One = (refl, keyword_token (codes "1") refl)
-version_back versions.Two = (refl, keyword_token (codes "2") refl)
-
 pub version_is_back : IsReadBack version_field
 version_is_back =
-    one_word_back version_number version_word (λ v. (version_back v).0) (λ v. (version_back v).1)
+    one_word_back version_number version_word (elim [ versions.One ↦ refl | versions.Two ↦ refl ])
+    (elim [ versions.One ↦ keyword_token (codes "1") refl | versions.Two ↦ keyword_token (codes "2") refl ])
 
 own_address_back : (a : Option Address) → is_active a ≡ true
     → (own_address (own_address_word a) ≡ Ok a) × IsToken (own_address_word a)

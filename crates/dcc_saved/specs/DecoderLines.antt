@@ -89,6 +89,7 @@ own_address_of word = do
   address ← own_address word
   Ok (record { address = address })
 
+-- ADDRESS
 abbrev pub own_address_field : FieldOf OwnAddress
 own_address_field =
     record {
@@ -103,6 +104,7 @@ own_board word = do
   board ← board_number word
   if board.number == 511 then Err faults.Board else Ok (record { board = board })
 
+-- BOARD
 abbrev pub own_board_field : FieldOf OwnBoard
 own_board_field =
     record {

@@ -72,11 +72,7 @@ unfoldable pub cvs_text : (ℕ → ℕ) → ℕ → List ℕ
 cvs_text cvs zero = []
 cvs_text cvs (suc n) = cvs_text cvs n ++ (if cvs (suc n) == 0 then [] else cv_line (suc n) (cvs (suc n)))
 
--- the line that begins a decoder, or the last line
-abbrev pub head_text : Head → List ℕ
-head_text head = line_of (written_by head_forms head)
-
--- the lines of a locomotive decoder before its CVs
+-- the lines of a locomotive decoder behind its first and before its CVs
 abbrev pub written_speed : RegisterMap → List ℕ
 written_speed m =
     line_text (codes "speed") (both speed_field direction_field)
@@ -89,12 +85,11 @@ written_numbers kind m =
 abbrev pub written_pending : RegisterMap → List ℕ
 written_pending m = (codes "pending " ++ pending_text (pending_held (m registers.Pending))) ++ codes "\n"
 
-abbrev pub loco_front : Option Address → RegisterMap → List ℕ
-loco_front address m =
-    head_text (heads.Decoder (who.Loco address))
-    ++ (written_speed m ++ (written_numbers kinds.Function m ++ (written_numbers kinds.State m ++ written_pending m)))
+abbrev pub loco_front : RegisterMap → List ℕ
+loco_front m =
+    written_speed m ++ (written_numbers kinds.Function m ++ (written_numbers kinds.State m ++ written_pending m))
 
--- the lines of an accessory decoder
+-- the lines of an accessory decoder behind its first
 abbrev pub first_four : {A : Type 0} → (ℕ → A) → Four A
 first_four each = (each 0, (each 1, (each 2, each 3)))
 
@@ -106,15 +101,21 @@ abbrev pub written_aspects : RegisterMap → List ℕ
 written_aspects m =
     line_text (codes "aspect") (four small_field) (first_four (λ n. number_held (m (registers.Aspect n))))
 
-abbrev pub board_text : Board → RegisterMap → List ℕ
-board_text board m =
-    head_text (heads.Decoder (who.Board board))
-    ++ (written_numbers kinds.Out m ++ (written_positions m ++ written_aspects m))
+abbrev pub board_text : RegisterMap → List ℕ
+board_text m = written_numbers kinds.Out m ++ (written_positions m ++ written_aspects m)
+
+-- the line that begins a decoder, or the last line
+abbrev pub head_text : Head → List ℕ
+head_text head = line_of (written_by head_forms head)
+
+-- the lines behind it
+abbrev pub lines_behind : Who → RegisterMap → List ℕ
+lines_behind (who.Loco address) m = loco_front m ++ cvs_text (cv_held m) 1024
+lines_behind (who.Board board) m = board_text m
 
 -- the lines of a decoder
 abbrev pub written_decoder : Who → RegisterMap → List ℕ
-written_decoder (who.Loco address) m = loco_front address m ++ cvs_text (cv_held m) 1024
-written_decoder (who.Board board) m = board_text board m
+written_decoder decoder m = head_text (heads.Decoder decoder) ++ lines_behind decoder m
 
 abbrev pub text_of : Who × RegisterMap → List ℕ
 text_of decoder = written_decoder decoder.0 decoder.1

@@ -155,7 +155,7 @@ pub(crate) fn head_row(head: &Head) -> Rows
 
 /// The lines of a locomotive decoder before its CVs.
 pub(crate) fn loco_front(address: &Option<Address>, decoder: &dyn Decoder) -> Rows
-    ensures { result.items ≡ loco_front address.now (registers decoder.now) }
+    ensures { result.items ≡ head_text (Head.Decoder (Who.Loco address.now)) ++ loco_front (registers decoder.now) }
 {
     let mut rows = head_row(&Head::Decoder(Who::Loco(*address)));
     append_speed_line(&mut rows, decoder);
@@ -235,7 +235,7 @@ fn append_aspect_line(rows: &mut Rows, decoder: &dyn Decoder)
 
 /// The lines of an accessory decoder.
 pub(crate) fn board_rows(board: &Board, decoder: &dyn Decoder) -> Rows
-    ensures { result.items ≡ board_text board.now (registers decoder.now) }
+    ensures { result.items ≡ head_text (Head.Decoder (Who.Board board.now)) ++ board_text (registers decoder.now) }
 {
     let mut rows = head_row(&Head::Decoder(Who::Board(*board)));
     append_numbers(&mut rows, Numbered::Out, decoder);

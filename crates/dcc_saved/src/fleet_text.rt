@@ -1,5 +1,5 @@
 //! The decoder text of a fleet.
-ghost use Rattle.std.specs.Prelude.{◌≡◌, ◌==◌, [], map, if◌then◌else◌};
+ghost use Rattle.std.specs.Prelude.{◌≡◌, ◌==◌, ◌++◌, [], map, if◌then◌else◌};
 ghost use Rattle.dcc_regs.specs.Loco.{cv_held};
 ghost use Rattle.dcc_io.specs.WrittenBytes.{Writes};
 ghost use Rattle.dcc_saved.specs.FleetText.{cv_line, cvs_text, written_decoder, fleet_text};
@@ -30,12 +30,27 @@ fn write_decoder<W: Sink>(decoder: &dyn Decoder, writer: &mut W) -> Result<(), F
         (W.state writer.new) }
 {
     match decoder.who() {
-        Who::Loco(address) => {
-            write_all(writer, loco_front(&address, decoder).as_slice())?;
-            write_cvs(decoder, writer)
-        }
+        Who::Loco(address) => write_with_cvs(
+            loco_front(&address, decoder).as_slice(),
+            decoder,
+            writer,
+        ),
         Who::Board(board) => write_all(writer, board_rows(&board, decoder).as_slice()),
     }
+}
+
+/// Writes these lines, and behind them those of the CVs that are not 0.
+fn write_with_cvs<W: Sink>(
+    front: &[u8],
+    decoder: &dyn Decoder,
+    writer: &mut W,
+) -> Result<(), Failed>
+    ensures { Writes (W.state writer.old) (front.now ++ cvs_text (cv_held (registers decoder.now)) 1024)
+        result
+        (W.state writer.new) }
+{
+    write_all(writer, front)?;
+    write_cvs(decoder, writer)
 }
 
 /// Writes the lines of the CVs that are not 0.
