@@ -102,11 +102,12 @@ fleet_is : (fleet : List (Who × RegisterMap))
     → flat_map text_of fleet ++ head_text heads.End ≡ head_text (head_of fleet) ++ rest_of fleet
 fleet_is [] = refl
 fleet_is (decoder ∷ fleet) =
-    rw (append_assoc (text_of decoder) (flat_map text_of fleet) (head_text heads.End), fleet_is fleet)
-    (regroup (head_text (heads.Decoder decoder.0)) (lines_behind decoder.0 decoder.1) (head_text (head_of fleet)))
-  where
-    regroup : (h b t : List ℕ) → (h ++ b) ++ (t ++ rest_of fleet) ≡ h ++ ((b ++ t) ++ rest_of fleet)
-    regroup h b t = simp append_assoc refl
+    rw (
+      append_assoc (text_of decoder) (flat_map text_of fleet) (head_text heads.End),
+      fleet_is fleet,
+      append_assoc (head_text (heads.Decoder decoder.0)) (lines_behind decoder.0 decoder.1),
+      append_assoc (lines_behind decoder.0 decoder.1),
+    ) refl
 
 -- the decoders from here on
 record ReadsDecoders (fleet : List (Who × RegisterMap)) (room : ℕ) (before : List Saved) : Type 0 where

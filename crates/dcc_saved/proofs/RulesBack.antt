@@ -5,7 +5,6 @@ use Rattle.std.specs.Fmt.{decimal}
 use Rattle.std.specs.List.{AllByRecursion}
 use Rattle.std.proofs.lemmas.Bool.{and_parts, le-ltb, leb-true}
 use Rattle.std.proofs.lemmas.Bool.Decides.{nat_tests}
-use Rattle.dcc_packet.specs.declared.accessory.Board.{Board}
 use Rattle.dcc_packet.specs.declared.address.Address.{Address}
 use Rattle.dcc_packet.specs.declared.address.Address.TheVariants.{Broadcast, Short, Long}
 use Rattle.dcc_packet.specs.Fields.{FieldOf, both, IsToken, IsReadBack}
@@ -17,7 +16,6 @@ use Rattle.dcc_regs.specs.declared.register.Speed.{Speed}
 use Rattle.dcc_regs.specs.declared.register.Speed.TheVariants.{Stop, Emergency, Step14, Step28, Step126}
 use Rattle.dcc_regs.specs.Addresses.{is_active}
 use Rattle.dcc_regs.specs.Loco.{is_speed}
-use Rattle.dcc_saved.specs.declared.decoder_line.Version.{Version}
 use Rattle.dcc_saved.specs.declared.decoder_line.Version.TheVariants as versions
 use Rattle.dcc_saved.specs.DecoderLines.{version_number, version_word, version_field, own_address, own_board, own_board_field}
 use Rattle.dcc_saved.specs.DecoderLines.{own_address_word, own_address_field, speed_step, speed_of, speed_words}
@@ -42,16 +40,13 @@ own_address_is_back =
       tokens = λ own h. ((own_address_back own.address h).1, tt);
     }
 
-own_board_back : (b : Board) → nat_le b.number 510 ≡ true → own_board (decimal b.number) ≡ Ok (record { board = b })
-own_board_back b h =
-    let few = leb-true b.number 510 h in
-    let other : eqb b.number 511 ≡ false = grind (arith, nat_tests) in
-    rw (board_back b, other) refl
+not_511 : (n : ℕ) → nat_le n 510 ≡ true → eqb n 511 ≡ false
+not_511 n h = grind (arith, nat_tests)
 
 pub own_board_is_back : IsReadBack own_board_field
 own_board_is_back =
     record {
-      back = λ own rest h. rw (own_board_back own.board h) refl;
+      back = λ own rest h. rw (board_back own.board, not_511 own.board.number h) refl;
       tokens = λ own h. (decimal_token own.board.number (omega (arith, own.board.in_range)), tt);
     }
 
