@@ -84,5 +84,4 @@ speed_is_back =
 
 pub four_back : {A : Type 0} (field : FieldOf A) → IsReadBack field → IsReadBack (four field)
 four_back field back =
-    both_back field (both field (both field field)) back
-    (both_back field (both field field) back (both_back field field back back))
+    both_back field _ back (both_back field _ back (both_back field field back back))

@@ -30,35 +30,18 @@ fn write_decoder<W: Sink>(decoder: &dyn Decoder, writer: &mut W) -> Result<(), F
         (W.state writer.new) }
 {
     match decoder.who() {
-        Who::Loco(address) => write_with_cvs(
-            loco_front(&address, decoder).as_slice(),
-            decoder,
-            writer,
-        ),
+        Who::Loco(address) => write_cvs(loco_front(&address, decoder).as_slice(), decoder, writer),
         Who::Board(board) => write_all(writer, board_rows(&board, decoder).as_slice()),
     }
 }
 
 /// Writes these lines, and behind them those of the CVs that are not 0.
-fn write_with_cvs<W: Sink>(
-    front: &[u8],
-    decoder: &dyn Decoder,
-    writer: &mut W,
-) -> Result<(), Failed>
+fn write_cvs<W: Sink>(front: &[u8], decoder: &dyn Decoder, writer: &mut W) -> Result<(), Failed>
     ensures { Writes (W.state writer.old) (front.now ++ cvs_text (cv_held (registers decoder.now)) 1024)
         result
         (W.state writer.new) }
 {
     write_all(writer, front)?;
-    write_cvs(decoder, writer)
-}
-
-/// Writes the lines of the CVs that are not 0.
-fn write_cvs<W: Sink>(decoder: &dyn Decoder, writer: &mut W) -> Result<(), Failed>
-    ensures { Writes (W.state writer.old) (cvs_text (cv_held (registers decoder.now)) 1024)
-        result
-        (W.state writer.new) }
-{
     for n in 0..1024u16 {
         write_cv(n + 1, decoder.cv_byte(n + 1), writer)?;
     }
