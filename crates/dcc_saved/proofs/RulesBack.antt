@@ -7,7 +7,7 @@ use Rattle.std.proofs.lemmas.Bool.{and_parts, le-ltb, leb-true}
 use Rattle.std.proofs.lemmas.Bool.Decides.{nat_tests}
 use Rattle.dcc_packet.specs.declared.address.Address.{Address}
 use Rattle.dcc_packet.specs.declared.address.Address.TheVariants.{Broadcast, Short, Long}
-use Rattle.dcc_packet.specs.Fields.{FieldOf, both, IsToken, IsReadBack}
+use Rattle.dcc_packet.specs.Fields.{FieldOf, IsToken, IsReadBack}
 use Rattle.dcc_packet.specs.Words.{Word}
 use Rattle.dcc_packet.proofs.FieldsBack.{one_word_back, both_back}
 use Rattle.dcc_packet.proofs.Tokens.{address_word_token, keyword_token, decimal_token}
@@ -17,7 +17,7 @@ use Rattle.dcc_regs.specs.declared.register.Speed.TheVariants.{Stop, Emergency, 
 use Rattle.dcc_regs.specs.Addresses.{is_active}
 use Rattle.dcc_regs.specs.Loco.{is_speed}
 use Rattle.dcc_saved.specs.declared.decoder_line.Version.TheVariants as versions
-use Rattle.dcc_saved.specs.DecoderLines.{version_number, version_word, version_field, own_address, own_board, own_board_field}
+use Rattle.dcc_saved.specs.DecoderLines.{version_number, version_word, version_field, own_address, own_board_field}
 use Rattle.dcc_saved.specs.DecoderLines.{own_address_word, own_address_field, speed_step, speed_of, speed_words}
 use Rattle.dcc_saved.specs.DecoderLines.{speed_field, four}
 

@@ -2,7 +2,7 @@
 ghost use Rattle.dcc_saved.specs.DecoderLines.{version_field, own_address_field, own_board_field, speed_field};
 
 use crate::decoder_line::Version;
-use crate::decoder_words::{own_address, own_board, take_speed, version_number};
+use crate::decoder_words::{own_address, take_speed, version_number};
 use dcc_packet::field::{Field, Line};
 use dcc_packet::words::Words;
 use dcc_packet::{Address, Board, PacketFault};
@@ -76,7 +76,11 @@ impl Field for OwnBoard {
     ghost most = { 6 };
 
     fn take(words: &mut Words) -> Result<OwnBoard, PacketFault> {
-        words.word().and_then(own_board)
+        let board = Board::take(words)?;
+        if board.number() == 511 {
+            return Err(PacketFault::Board);
+        }
+        Ok(OwnBoard { board })
     }
 
     fn put(&self, line: &mut Line) {

@@ -1,5 +1,5 @@
 //! The words of the lines of a decoder text.
-ghost use Rattle.std.specs.Prelude.{◌≡◌, ◌+◌, ◌^◌, ◌%◌, ◌≤◌, ◌<◌, ◌&&◌, Some, true, nat_le, IfOk, OnOk};
+ghost use Rattle.std.specs.Prelude.{◌≡◌, ◌+◌, ◌^◌, ◌%◌, ◌≤◌, ◌<◌, ◌&&◌, Some, true, IfOk, OnOk};
 ghost use Rattle.dcc_packet.specs.Forms.{whole_by};
 ghost use Rattle.dcc_packet.specs.Words.{words};
 ghost use Rattle.dcc_regs.specs.declared.register.Who.TheVariants.{Loco as LocoWho};
@@ -7,7 +7,7 @@ ghost use Rattle.dcc_regs.specs.Addresses.{is_active};
 ghost use Rattle.dcc_regs.specs.Heard.{hears as hears_packet};
 ghost use Rattle.dcc_regs.specs.Loco.{is_speed, is_byte_write, is_pending_for};
 ghost use Rattle.dcc_regs.specs.Writes.{is_own_write};
-ghost use Rattle.dcc_saved.specs.DecoderLines.{in_order, version_number, own_address, own_board};
+ghost use Rattle.dcc_saved.specs.DecoderLines.{in_order, version_number, own_address};
 ghost use Rattle.dcc_saved.specs.DecoderLines.{head_forms, head_line, step_up_to};
 ghost use Rattle.dcc_saved.specs.DecoderLines.{speed_of, speed_after, function_number, binary_state};
 ghost use Rattle.dcc_saved.specs.DecoderLines.{number_of, numbers_from, numbers_line, pending_word};
@@ -19,12 +19,11 @@ ghost use Rattle.dcc_packet.specs.Fields.{word_and_rest, Gives};
 ghost use Rattle.dcc_saved.specs.PendingWrite.{pending_write};
 ghost use Rattle.dcc_saved.specs.PossibleLines.{IsPossibleHead, IsSoundLine};
 
-use crate::decoder_fields::OwnBoard;
 use crate::decoder_line::{Head, LocoLine, Numbered, Version};
 use crate::head_forms::HeadForms;
 use dcc_packet::field::Field;
 use dcc_packet::form::Forms;
-use dcc_packet::line_word::{address, board_number, cv_number, hex_frame, output_number};
+use dcc_packet::line_word::{address, cv_number, hex_frame, output_number};
 use dcc_packet::numeral::small_number;
 use dcc_packet::words::Words;
 use dcc_packet::{Address, Packet, PacketFault};
@@ -77,19 +76,6 @@ pub fn own_address(word: &[u8]) -> Result<Option<Address>, PacketFault>
         Err(PacketFault::Word)
     } else {
         Ok(Some(address(word)?))
-    }
-}
-
-/// A board that an accessory decoder can be: 511 is the broadcast.
-pub(crate) fn own_board(word: &[u8]) -> Result<OwnBoard, PacketFault>
-    ensures is { result ≡ own_board word.now }
-    ensures own { IfOk result (λ own. nat_le own.board.number 510 ≡ true) }
-{
-    let board = board_number(word)?;
-    if board.number() == 511 {
-        Err(PacketFault::Board)
-    } else {
-        Ok(OwnBoard { board })
     }
 }
 
