@@ -7,6 +7,7 @@ use crate::head_forms::HeadForms;
 use dcc_packet::form::Forms;
 
 /// The text that is written for at most 64 decoders is read back as the same decoders.
+#[tactic(auto, using(crate::proofs::DecodersBack::fleets_read_back))]
 pub fn fleets_are_read_back()
     ensures { FleetsAreReadBack }
 {
