@@ -52,7 +52,8 @@ head_said ((who.Board board, m) ∷ fleet) possible = (possible.0.decoder, omega
 -- a decoder that its lines save, and the first line behind them
 record ReadsDecoder (decoder : Who × RegisterMap) (head : Head) : Type 0 where
   state : Saved
-  reads : Reads (decoder_lines versions.Two decoder.0) (lines_behind decoder.0 decoder.1 ++ head_text head) (state, head)
+  reads : Reads (decoder_lines versions.Two decoder.0) (lines_behind decoder.0 decoder.1 ++ head_text head)
+      (state, head)
   saves : Saves state decoder
 
 decoder_read : (decoder : Who × RegisterMap) (head : Head) → IsPossibleDecoder decoder → IsHead head
@@ -63,7 +64,7 @@ decoder_read (who.Loco address, m) head possible is =
     let pending = pending_is address {v = m registers.Pending} (possible.registers registers.Pending) in
     let functions = numbers_read kinds.Function m (λ is. absurd cc) in
     let states = numbers_read kinds.State m (λ is. no_state_0 address m possible) in
-    let cvs = cvs_read (cv_held m) (λ cv. byte_of-lt (λ place. holds_one (m (registers.CvBit cv place)))) (head_text head) head
+    let cvs = cvs_read (cv_held m) (λ cv. byte_of-lt (λ place. holds_one (m (registers.CvBit cv place)))) _ head
     is.behind_cvs in
     record {
       state = saved.Loco (loco_state address m possible functions states cvs);
