@@ -5,10 +5,9 @@ use Rattle.std.specs.Fmt.{decimal}
 use Rattle.std.specs.List.{AllByRecursion}
 use Rattle.std.proofs.lemmas.Bool.{and_parts, le-ltb, leb-true}
 use Rattle.std.proofs.lemmas.Bool.Decides.{nat_tests}
-use Rattle.dcc_packet.specs.declared.accessory.Board.{Board}
 use Rattle.dcc_packet.specs.declared.address.Address.{Address}
 use Rattle.dcc_packet.specs.declared.address.Address.TheVariants.{Broadcast, Short, Long}
-use Rattle.dcc_packet.specs.Fields.{FieldOf, both, IsToken, IsReadBack}
+use Rattle.dcc_packet.specs.Fields.{FieldOf, IsToken, IsReadBack}
 use Rattle.dcc_packet.specs.Words.{Word}
 use Rattle.dcc_packet.proofs.FieldsBack.{one_word_back, both_back}
 use Rattle.dcc_packet.proofs.Tokens.{address_word_token, keyword_token, decimal_token}
@@ -17,22 +16,17 @@ use Rattle.dcc_regs.specs.declared.register.Speed.{Speed}
 use Rattle.dcc_regs.specs.declared.register.Speed.TheVariants.{Stop, Emergency, Step14, Step28, Step126}
 use Rattle.dcc_regs.specs.Addresses.{is_active}
 use Rattle.dcc_regs.specs.Loco.{is_speed}
-use Rattle.dcc_saved.specs.declared.decoder_line.Version.{Version}
 use Rattle.dcc_saved.specs.declared.decoder_line.Version.TheVariants as versions
-use Rattle.dcc_saved.specs.DecoderLines.{version_number, version_word, version_field, own_address, own_board}
+use Rattle.dcc_saved.specs.DecoderLines.{version_number, version_word, version_field, own_address, own_board_field}
 use Rattle.dcc_saved.specs.DecoderLines.{own_address_word, own_address_field, speed_step, speed_of, speed_words}
 use Rattle.dcc_saved.specs.DecoderLines.{speed_field, four}
 
-version_back : (version : Version)
-    → (version_number (version_word version) ≡ Ok version) × IsToken (version_word version)
-version_back versions.One = (refl, keyword_token (codes "1") refl)
-version_back versions.Two = (refl, keyword_token (codes "2") refl)
-
 pub version_is_back : IsReadBack version_field
 version_is_back =
-    one_word_back version_number version_word (λ v. (version_back v).0) (λ v. (version_back v).1)
+    one_word_back version_number version_word (elim [ versions.One ↦ refl | versions.Two ↦ refl ])
+    (elim [ versions.One ↦ keyword_token (codes "1") refl | versions.Two ↦ keyword_token (codes "2") refl ])
 
-pub own_address_back : (a : Option Address) → is_active a ≡ true
+own_address_back : (a : Option Address) → is_active a ≡ true
     → (own_address (own_address_word a) ≡ Ok a) × IsToken (own_address_word a)
 own_address_back None h = (refl, keyword_token (codes "none") refl)
 own_address_back (Some Broadcast) h = cc
@@ -46,11 +40,15 @@ own_address_is_back =
       tokens = λ own h. ((own_address_back own.address h).1, tt);
     }
 
-pub own_board_back : (b : Board) → nat_le b.number 510 ≡ true → own_board (decimal b.number) ≡ Ok b
-own_board_back b h =
-    let few = leb-true b.number 510 h in
-    let other : eqb b.number 511 ≡ false = grind (arith, nat_tests) in
-    rw (board_back b, other) refl
+not_511 : (n : ℕ) → nat_le n 510 ≡ true → eqb n 511 ≡ false
+not_511 n h = grind (arith, nat_tests)
+
+pub own_board_is_back : IsReadBack own_board_field
+own_board_is_back =
+    record {
+      back = λ own rest h. rw (board_back own.board, not_511 own.board.number h) refl;
+      tokens = λ own h. (decimal_token own.board.number (omega (arith, own.board.in_range)), tt);
+    }
 
 -- the words of a speed that has a step
 step_back : (name : Word) (step : ℕ → Speed) (last n : ℕ) → last < 256 → IsToken name
@@ -86,5 +84,4 @@ speed_is_back =
 
 pub four_back : {A : Type 0} (field : FieldOf A) → IsReadBack field → IsReadBack (four field)
 four_back field back =
-    both_back field (both field (both field field)) back
-    (both_back field (both field field) back (both_back field field back back))
+    both_back field _ back (both_back field _ back (both_back field field back back))

@@ -1,9 +1,8 @@
 -- The lines of a decoder text: what the words of each say, or the first fault from left to right. Of one
 -- word first the number decides, then its range, then its order.
-use Rattle.std.specs.Prelude.{◌≡◌, ℕ, ◌+◌, ◌^◌, ◌==◌, nat_lt, true, List, [], ◌∷◌, codes, Option, None, Some, Result, Ok}
-use Rattle.std.specs.Prelude.{Err, if◌then◌else◌}
+use Rattle.std.specs.Prelude.{◌≡◌, ℕ, ◌+◌, ◌^◌, ◌==◌, nat_le, nat_lt, true, List, [], ◌∷◌, codes, Option, None, Some}
+use Rattle.std.specs.Prelude.{Result, Ok, Err, if◌then◌else◌}
 use Rattle.std.specs.Fmt.{decimal}
-use Rattle.dcc_packet.specs.declared.accessory.Board.{Board}
 use Rattle.dcc_packet.specs.declared.address.Address.{Address}
 use Rattle.dcc_packet.specs.declared.packet.Packet.{Packet}
 use Rattle.dcc_packet.specs.declared.fault.PacketFault.{PacketFault}
@@ -14,7 +13,8 @@ use Rattle.dcc_packet.specs.LineWords.{output_number, hex_frame}
 use Rattle.dcc_packet.specs.declared.fields.Direction.{Direction}
 use Rattle.dcc_packet.specs.declared.fields.Bit.{Bit}
 use Rattle.dcc_packet.specs.Fields.{FieldOf, one_word, both, whole, word_and_rest, no_more_words}
-use Rattle.dcc_packet.specs.LineFields.{direction_field, bit_field, small_field}
+use Rattle.dcc_packet.specs.Forms.{FormOf, RowOf, row, whole_by}
+use Rattle.dcc_packet.specs.LineFields.{no_fields, direction_field, bit_field, small_field}
 use Rattle.dcc_regs.specs.declared.register.Who.TheVariants as who
 use Rattle.dcc_regs.specs.declared.register.Speed.{Speed}
 use Rattle.dcc_regs.specs.declared.register.Speed.TheVariants as speeds
@@ -33,6 +33,7 @@ use Rattle.dcc_saved.specs.declared.decoder_fields.SavedSpeed.{SavedSpeed}
 use Rattle.dcc_packet.specs.LineWords.{address_word}
 use Rattle.dcc_regs.specs.Addresses.{is_active}
 use Rattle.dcc_saved.specs.declared.decoder_fields.OwnAddress.{OwnAddress}
+use Rattle.dcc_saved.specs.declared.decoder_fields.OwnBoard.{OwnBoard}
 
 -- the word that begins a line of this kind
 abbrev pub keyword : List ℕ → Word → Result (Unit {0}) PacketFault
@@ -83,17 +84,12 @@ own_address word =
     else if is_word word (codes "all") then Err faults.Word
     else some_address word
 
--- a board that an accessory decoder can be: 511 is the broadcast
-abbrev pub own_board : Word → Result Board PacketFault
-own_board word = do
-  board ← board_number word
-  if board.number == 511 then Err faults.Board else Ok board
-
 abbrev pub own_address_of : Word → Result OwnAddress PacketFault
 own_address_of word = do
   address ← own_address word
   Ok (record { address = address })
 
+-- ADDRESS
 abbrev pub own_address_field : FieldOf OwnAddress
 own_address_field =
     record {
@@ -102,33 +98,52 @@ own_address_field =
       written = λ own. own_address_word own.address ∷ [];
     }
 
-abbrev pub loco_head : List Word → Result Head PacketFault
-loco_head rest = do
-  own ← whole own_address_field rest
-  Ok (heads.Decoder (who.Loco own.address))
+-- a board that an accessory decoder can be: 511 is the broadcast
+abbrev pub own_board : Word → Result OwnBoard PacketFault
+own_board word = do
+  board ← board_number word
+  if board.number == 511 then Err faults.Board else Ok (record { board = board })
 
-abbrev pub board_head : List Word → Result Head PacketFault
-board_head rest = do
-  board ← word_and_rest own_board rest
-  end ← no_more_words board.1
-  Ok (heads.Decoder (who.Board board.0))
+-- BOARD
+abbrev pub own_board_field : FieldOf OwnBoard
+own_board_field =
+    record {
+      Fits = λ own. nat_le own.board.number 510 ≡ true;
+      read = λ words. word_and_rest own_board words;
+      written = λ own. decimal own.board.number ∷ [];
+    }
 
-abbrev pub end_head : List Word → Result Head PacketFault
-end_head rest = do
-  end ← no_more_words rest
-  Ok heads.End
+-- loco ADDRESS
+abbrev pub loco_form : FormOf Head OwnAddress
+loco_form =
+    record {
+      keyword = codes "loco";
+      says = λ own. heads.Decoder (who.Loco own.address);
+      said = elim [ heads.Decoder (who.Loco address) ↦ Some (record { address = address }) | head ↦ None ];
+    }
 
-abbrev pub head_after : Word → List Word → Result Head PacketFault
-head_after word rest =
-    if is_word word (codes "loco") then loco_head rest
-    else if is_word word (codes "board") then board_head rest
-    else if is_word word (codes "end") then end_head rest
-    else Err faults.Word
+-- board BOARD
+abbrev pub board_form : FormOf Head OwnBoard
+board_form =
+    record {
+      keyword = codes "board";
+      says = λ own. heads.Decoder (who.Board own.board);
+      said = elim [ heads.Decoder (who.Board board) ↦ Some (record { board = board }) | head ↦ None ];
+    }
+
+-- end
+abbrev pub end_form : FormOf Head (Unit {0})
+end_form =
+    record { keyword = codes "end"; says = λ none. heads.End; said = elim [ heads.End ↦ Some tt | head ↦ None ] }
+
+-- the lines that begin a decoder, and the last line
+abbrev pub head_forms : List (RowOf Head)
+head_forms = row own_address_field loco_form ∷ row own_board_field board_form ∷ row no_fields end_form ∷ []
 
 -- loco ADDRESS, board BOARD or end
 unfoldable pub head_line : List Word → Result Head PacketFault
 head_line [] = Err faults.Word
-head_line (word ∷ rest) = head_after word rest
+head_line (word ∷ rest) = whole_by head_forms word rest
 
 -- a step from 1 to the last one
 abbrev pub step_up_to : ℕ → Word → Result ℕ PacketFault
@@ -246,7 +261,7 @@ cv_words least rest = do
 
 abbrev pub head_behind : Word → List Word → Result LocoLine PacketFault
 head_behind word rest = do
-  head ← head_after word rest
+  head ← whole_by head_forms word rest
   Ok (behind.Head head)
 
 abbrev pub loco_line_after : ℕ → Word → List Word → Result LocoLine PacketFault

@@ -4,13 +4,12 @@ use Rattle.std.specs.Prelude.{if◌then◌else◌}
 use Rattle.std.specs.Fmt.{decimal}
 use Rattle.std.specs.List.{flat_map}
 use Rattle.hex.specs.Hex.{encode_lower}
-use Rattle.dcc_packet.specs.declared.address.Address.{Address}
-use Rattle.dcc_packet.specs.declared.accessory.Board.{Board}
 use Rattle.dcc_packet.specs.declared.packet.Packet.{Packet}
 use Rattle.dcc_packet.specs.Spelling.{spelling}
 use Rattle.dcc_packet.specs.Words.{Word}
 use Rattle.dcc_packet.specs.Written.{words_in_line}
 use Rattle.dcc_packet.specs.Fields.{FieldOf, both}
+use Rattle.dcc_packet.specs.Forms.{written_by}
 use Rattle.dcc_packet.specs.LineFields.{direction_field, small_field}
 use Rattle.dcc_regs.specs.declared.register.Who.{Who}
 use Rattle.dcc_regs.specs.declared.register.Who.TheVariants as who
@@ -22,10 +21,12 @@ use Rattle.dcc_regs.specs.declared.register.Value.TheVariants as values
 use Rattle.dcc_regs.specs.Loco.{holds_one, cv_held}
 use Rattle.dcc_regs.specs.Result.{RegisterMap}
 use Rattle.dcc_io.specs.Spaced.{behind_space}
+use Rattle.dcc_saved.specs.declared.decoder_line.Head.{Head}
+use Rattle.dcc_saved.specs.declared.decoder_line.Head.TheVariants as heads
 use Rattle.dcc_saved.specs.declared.decoder_line.Numbered.{Numbered}
 use Rattle.dcc_saved.specs.declared.decoder_line.Numbered.TheVariants as kinds
 use Rattle.dcc_saved.specs.Numbered.{name_of, end_of, register_of}
-use Rattle.dcc_saved.specs.DecoderLines.{own_address_word, Four, four, speed_field}
+use Rattle.dcc_saved.specs.DecoderLines.{head_forms, Four, four, speed_field}
 
 -- these words in a line
 abbrev pub line_of : List Word → List ℕ
@@ -69,10 +70,7 @@ unfoldable pub cvs_text : (ℕ → ℕ) → ℕ → List ℕ
 cvs_text cvs zero = []
 cvs_text cvs (suc n) = cvs_text cvs n ++ (if cvs (suc n) == 0 then [] else cv_line (suc n) (cvs (suc n)))
 
--- the lines of a locomotive decoder before its CVs
-abbrev pub loco_address_line : Option Address → List ℕ
-loco_address_line address = line_of (codes "loco" ∷ own_address_word address ∷ [])
-
+-- the lines of a locomotive decoder behind its first and before its CVs
 abbrev pub written_speed : RegisterMap → List ℕ
 written_speed m =
     line_text (codes "speed") (both speed_field direction_field)
@@ -85,15 +83,11 @@ written_numbers kind m =
 abbrev pub written_pending : RegisterMap → List ℕ
 written_pending m = (codes "pending " ++ pending_text (pending_held (m registers.Pending))) ++ codes "\n"
 
-abbrev pub loco_front : Option Address → RegisterMap → List ℕ
-loco_front address m =
-    loco_address_line address
-    ++ (written_speed m ++ (written_numbers kinds.Function m ++ (written_numbers kinds.State m ++ written_pending m)))
+abbrev pub loco_front : RegisterMap → List ℕ
+loco_front m =
+    written_speed m ++ (written_numbers kinds.Function m ++ (written_numbers kinds.State m ++ written_pending m))
 
--- the lines of an accessory decoder
-abbrev pub board_line : Board → List ℕ
-board_line board = line_of (codes "board" ∷ decimal board.number ∷ [])
-
+-- the lines of an accessory decoder behind its first
 abbrev pub first_four : {A : Type 0} → (ℕ → A) → Four A
 first_four each = (each 0, (each 1, (each 2, each 3)))
 
@@ -105,17 +99,25 @@ abbrev pub written_aspects : RegisterMap → List ℕ
 written_aspects m =
     line_text (codes "aspect") (four small_field) (first_four (λ n. number_held (m (registers.Aspect n))))
 
-abbrev pub board_text : Board → RegisterMap → List ℕ
-board_text board m = board_line board ++ (written_numbers kinds.Out m ++ (written_positions m ++ written_aspects m))
+abbrev pub board_text : RegisterMap → List ℕ
+board_text m = written_numbers kinds.Out m ++ (written_positions m ++ written_aspects m)
+
+-- the line that begins a decoder, or the last line
+abbrev pub head_text : Head → List ℕ
+head_text head = line_of (written_by head_forms head)
+
+-- the lines behind it
+abbrev pub lines_behind : Who → RegisterMap → List ℕ
+lines_behind (who.Loco address) m = loco_front m ++ cvs_text (cv_held m) 1024
+lines_behind (who.Board board) m = board_text m
 
 -- the lines of a decoder
 abbrev pub written_decoder : Who → RegisterMap → List ℕ
-written_decoder (who.Loco address) m = loco_front address m ++ cvs_text (cv_held m) 1024
-written_decoder (who.Board board) m = board_text board m
+written_decoder decoder m = head_text (heads.Decoder decoder) ++ lines_behind decoder m
 
 abbrev pub text_of : Who × RegisterMap → List ℕ
 text_of decoder = written_decoder decoder.0 decoder.1
 
 -- the text of a fleet, from its decoders
 abbrev pub fleet_text : List (Who × RegisterMap) → List ℕ
-fleet_text fleet = codes "dcc-decoders 2\n" ++ (flat_map text_of fleet ++ codes "end\n")
+fleet_text fleet = codes "dcc-decoders 2\n" ++ (flat_map text_of fleet ++ head_text heads.End)

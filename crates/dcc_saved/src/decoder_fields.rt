@@ -1,11 +1,11 @@
 //! The fields of decoder texts.
-ghost use Rattle.dcc_saved.specs.DecoderLines.{version_field, own_address_field, speed_field};
+ghost use Rattle.dcc_saved.specs.DecoderLines.{version_field, own_address_field, own_board_field, speed_field};
 
 use crate::decoder_line::Version;
 use crate::decoder_words::{own_address, take_speed, version_number};
 use dcc_packet::field::{Field, Line};
 use dcc_packet::words::Words;
-use dcc_packet::{Address, PacketFault};
+use dcc_packet::{Address, Board, PacketFault};
 use dcc_regs::Speed;
 
 /// The active address of a locomotive decoder, or that it has none.
@@ -13,6 +13,13 @@ use dcc_regs::Speed;
 pub struct OwnAddress {
     /// The address, where it has one.
     pub address: Option<Address>,
+}
+
+/// A board that an accessory decoder can be.
+#[derive(Clone, Copy)]
+pub struct OwnBoard {
+    /// The board, 0 to 510.
+    pub board: Board,
 }
 
 /// The speed of a locomotive decoder.
@@ -60,6 +67,27 @@ impl Field for OwnAddress {
     }
 
     #[tactic(auto, using(crate::proofs::RulesBack::own_address_is_back))]
+    fn is_read_back() {}
+}
+
+impl Field for OwnBoard {
+    ghost field = { own_board_field };
+
+    ghost most = { 6 };
+
+    fn take(words: &mut Words) -> Result<OwnBoard, PacketFault> {
+        let board = Board::take(words)?;
+        if board.number() == 511 {
+            return Err(PacketFault::Board);
+        }
+        Ok(OwnBoard { board })
+    }
+
+    fn put(&self, line: &mut Line) {
+        self.board.put(line);
+    }
+
+    #[tactic(auto, using(crate::proofs::RulesBack::own_board_is_back))]
     fn is_read_back() {}
 }
 

@@ -5,20 +5,22 @@ ghost use Rattle.dcc_regs.specs.Loco.{holds_one as is_on_value};
 ghost use Rattle.dcc_io.specs.Spaced.{behind_space};
 ghost use Rattle.dcc_saved.specs.Numbered.{register_of};
 ghost use Rattle.dcc_saved.specs.FleetText.{speed_held, forward_held, pending_held, number_held, numbers_below};
-ghost use Rattle.dcc_saved.specs.FleetText.{pending_text, cv_line, loco_address_line};
+ghost use Rattle.dcc_saved.specs.FleetText.{pending_text, cv_line, head_text};
 ghost use Rattle.dcc_saved.specs.FleetText.{written_speed, written_numbers, written_pending};
 ghost use Rattle.dcc_saved.specs.FleetText.{loco_front};
-ghost use Rattle.dcc_saved.specs.FleetText.{board_line, line_text, written_positions};
+ghost use Rattle.dcc_saved.specs.FleetText.{line_text, written_positions};
 ghost use Rattle.dcc_saved.specs.FleetText.{written_aspects};
 ghost use Rattle.dcc_saved.specs.FleetText.{board_text};
 
-use crate::decoder_fields::{OwnAddress, SavedSpeed};
-use crate::decoder_line::Numbered;
+use crate::decoder_fields::SavedSpeed;
+use crate::decoder_line::{Head, Numbered};
+use crate::head_forms::HeadForms;
 use arrayvec::ArrayVec;
 use dcc_io::{append, append_decimal, append_hex};
 use dcc_packet::field::{Field, Line};
+use dcc_packet::form::Forms;
 use dcc_packet::{Address, Board, Direction, Packet};
-use dcc_regs::{Decoder, Register, Speed, Value};
+use dcc_regs::{Decoder, Register, Speed, Value, Who};
 
 /// Some lines of a decoder, at most all of them before its CVs.
 pub(crate) type Rows = ArrayVec<u8, 4096>;
@@ -130,14 +132,6 @@ fn append_where_on(rows: &mut Rows, numbered: Numbered, n: u8, decoder: &dyn Dec
     }
 }
 
-fn append_address_line(rows: &mut Rows, address: &Option<Address>)
-    requires { array_vec_len rows.old + 41 ≤ 4096 }
-    ensures items { rows.new.items ≡ rows.old.items ++ loco_address_line address.now }
-    ensures len { array_vec_len rows.new ≤ array_vec_len rows.old + 41 }
-{
-    append_line(rows, "loco", &OwnAddress { address: *address });
-}
-
 fn append_pending_line(rows: &mut Rows, decoder: &dyn Decoder)
     requires { array_vec_len rows.old + 21 ≤ 4096 }
     ensures items { rows.new.items ≡ rows.old.items ++ written_pending (registers decoder.now) }
@@ -148,12 +142,22 @@ fn append_pending_line(rows: &mut Rows, decoder: &dyn Decoder)
     append(rows, b"\n");
 }
 
-/// The lines of a locomotive decoder before its CVs.
-pub(crate) fn loco_front(address: &Option<Address>, decoder: &dyn Decoder) -> Rows
-    ensures { result.items ≡ loco_front address.now (registers decoder.now) }
+/// The line that begins a decoder, or the last line.
+pub(crate) fn head_row(head: &Head) -> Rows
+    ensures items { result.items ≡ head_text head.now }
+    ensures len { array_vec_len result ≤ 41 }
 {
     let mut rows = Rows::new();
-    append_address_line(&mut rows, address);
+    append(&mut rows, <HeadForms as Forms<Head>>::line(head).as_bytes());
+    append(&mut rows, b"\n");
+    rows
+}
+
+/// The lines of a locomotive decoder before its CVs.
+pub(crate) fn loco_front(address: &Option<Address>, decoder: &dyn Decoder) -> Rows
+    ensures { result.items ≡ head_text (Head.Decoder (Who.Loco address.now)) ++ loco_front (registers decoder.now) }
+{
+    let mut rows = head_row(&Head::Decoder(Who::Loco(*address)));
     append_speed_line(&mut rows, decoder);
     append_numbers(&mut rows, Numbered::Function, decoder);
     append_numbers(&mut rows, Numbered::State, decoder);
@@ -231,10 +235,9 @@ fn append_aspect_line(rows: &mut Rows, decoder: &dyn Decoder)
 
 /// The lines of an accessory decoder.
 pub(crate) fn board_rows(board: &Board, decoder: &dyn Decoder) -> Rows
-    ensures { result.items ≡ board_text board.now (registers decoder.now) }
+    ensures { result.items ≡ head_text (Head.Decoder (Who.Board board.now)) ++ board_text (registers decoder.now) }
 {
-    let mut rows = Rows::new();
-    append_line(&mut rows, "board", board);
+    let mut rows = head_row(&Head::Decoder(Who::Board(*board)));
     append_numbers(&mut rows, Numbered::Out, decoder);
     append_position_line(&mut rows, decoder);
     append_aspect_line(&mut rows, decoder);

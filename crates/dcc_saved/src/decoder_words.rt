@@ -1,13 +1,14 @@
 //! The words of the lines of a decoder text.
-ghost use Rattle.std.specs.Prelude.{◌≡◌, ◌+◌, ◌^◌, ◌%◌, ◌≤◌, ◌<◌, ◌&&◌, Some, true, nat_le, IfOk, OnOk};
+ghost use Rattle.std.specs.Prelude.{◌≡◌, ◌+◌, ◌^◌, ◌%◌, ◌≤◌, ◌<◌, ◌&&◌, Some, true, IfOk, OnOk};
+ghost use Rattle.dcc_packet.specs.Forms.{whole_by};
 ghost use Rattle.dcc_packet.specs.Words.{words};
 ghost use Rattle.dcc_regs.specs.declared.register.Who.TheVariants.{Loco as LocoWho};
 ghost use Rattle.dcc_regs.specs.Addresses.{is_active};
 ghost use Rattle.dcc_regs.specs.Heard.{hears as hears_packet};
 ghost use Rattle.dcc_regs.specs.Loco.{is_speed, is_byte_write, is_pending_for};
 ghost use Rattle.dcc_regs.specs.Writes.{is_own_write};
-ghost use Rattle.dcc_saved.specs.DecoderLines.{in_order, version_number, own_address, own_board};
-ghost use Rattle.dcc_saved.specs.DecoderLines.{loco_head, board_head, end_head, head_after, head_line, step_up_to};
+ghost use Rattle.dcc_saved.specs.DecoderLines.{in_order, version_number, own_address};
+ghost use Rattle.dcc_saved.specs.DecoderLines.{head_forms, head_line, step_up_to};
 ghost use Rattle.dcc_saved.specs.DecoderLines.{speed_of, speed_after, function_number, binary_state};
 ghost use Rattle.dcc_saved.specs.DecoderLines.{number_of, numbers_from, numbers_line, pending_word};
 ghost use Rattle.dcc_saved.specs.DecoderLines.{pending_line, cv_words, loco_line_after, loco_line};
@@ -18,13 +19,14 @@ ghost use Rattle.dcc_packet.specs.Fields.{word_and_rest, Gives};
 ghost use Rattle.dcc_saved.specs.PendingWrite.{pending_write};
 ghost use Rattle.dcc_saved.specs.PossibleLines.{IsPossibleHead, IsSoundLine};
 
-use crate::decoder_fields::OwnAddress;
 use crate::decoder_line::{Head, LocoLine, Numbered, Version};
+use crate::head_forms::HeadForms;
 use dcc_packet::field::Field;
-use dcc_packet::line_word::{address, board_number, cv_number, hex_frame, output_number};
+use dcc_packet::form::Forms;
+use dcc_packet::line_word::{address, cv_number, hex_frame, output_number};
 use dcc_packet::numeral::small_number;
 use dcc_packet::words::Words;
-use dcc_packet::{Address, Board, Packet, PacketFault};
+use dcc_packet::{Address, Packet, PacketFault};
 use dcc_regs::{Speed, Who, hears, is_own_write};
 use dcc_wire::Frame;
 
@@ -77,57 +79,14 @@ pub fn own_address(word: &[u8]) -> Result<Option<Address>, PacketFault>
     }
 }
 
-/// The board of an accessory decoder.
-fn own_board(word: &[u8]) -> Result<Board, PacketFault>
-    ensures is { result ≡ own_board word.now }
-    ensures own { IfOk result (λ board. nat_le board.number 510 ≡ true) }
-{
-    let board = board_number(word)?;
-    if board.number() == 511 {
-        Err(PacketFault::Board)
-    } else {
-        Ok(board)
-    }
-}
-
-fn loco_head(words: &mut Words) -> Result<Head, PacketFault>
-    ensures is { result ≡ loco_head words.old }
-    ensures possible { IfOk result IsPossibleHead }
-{
-    let own: OwnAddress = words.fields()?;
-    Ok(Head::Decoder(Who::Loco(own.address)))
-}
-
-fn board_head(words: &mut Words) -> Result<Head, PacketFault>
-    ensures is { result ≡ board_head words.old }
-    ensures possible { IfOk result IsPossibleHead }
-{
-    let board = words.word().and_then(own_board)?;
-    words.end()?;
-    Ok(Head::Decoder(Who::Board(board)))
-}
-
-fn end_head(words: &mut Words) -> Result<Head, PacketFault>
-    ensures is { result ≡ end_head words.old }
-    ensures possible { IfOk result IsPossibleHead }
-{
-    words.end()?;
-    Ok(Head::End)
-}
-
+/// The line that begins with this word.
 fn head_after(word: &[u8], rest: &mut Words) -> Result<Head, PacketFault>
-    ensures is { result ≡ head_after word.now rest.old }
+    ensures is { result ≡ whole_by head_forms word.now rest.old }
     ensures possible { IfOk result IsPossibleHead }
 {
-    if word == b"loco".as_slice() {
-        loco_head(rest)
-    } else if word == b"board".as_slice() {
-        board_head(rest)
-    } else if word == b"end".as_slice() {
-        end_head(rest)
-    } else {
-        Err(PacketFault::Word)
-    }
+    let head = <HeadForms as Forms<Head>>::take(word, rest)?;
+    rest.end()?;
+    Ok(head)
 }
 
 /// `loco ADDRESS`, `board BOARD` or `end`

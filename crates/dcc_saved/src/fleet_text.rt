@@ -1,10 +1,11 @@
 //! The decoder text of a fleet.
-ghost use Rattle.std.specs.Prelude.{◌≡◌, ◌==◌, [], map, if◌then◌else◌};
+ghost use Rattle.std.specs.Prelude.{◌≡◌, ◌==◌, ◌++◌, [], map, if◌then◌else◌};
 ghost use Rattle.dcc_regs.specs.Loco.{cv_held};
 ghost use Rattle.dcc_io.specs.WrittenBytes.{Writes};
 ghost use Rattle.dcc_saved.specs.FleetText.{cv_line, cvs_text, written_decoder, fleet_text};
 
-use crate::decoder_rows::{board_rows, cv_line, loco_front};
+use crate::decoder_line::Head;
+use crate::decoder_rows::{board_rows, cv_line, head_row, loco_front};
 use dcc_io::{Failed, Sink, write_all};
 use dcc_regs::{Decoder, Who};
 
@@ -19,7 +20,7 @@ pub fn write_fleet<W: Sink>(decoders: &[Box<dyn Decoder>], writer: &mut W) -> Re
     for decoder in decoders {
         write_decoder(&**decoder, writer)?;
     }
-    write_all(writer, b"end\n")
+    write_all(writer, head_row(&Head::End).as_slice())
 }
 
 /// Writes the lines of a decoder.
@@ -29,20 +30,18 @@ fn write_decoder<W: Sink>(decoder: &dyn Decoder, writer: &mut W) -> Result<(), F
         (W.state writer.new) }
 {
     match decoder.who() {
-        Who::Loco(address) => {
-            write_all(writer, loco_front(&address, decoder).as_slice())?;
-            write_cvs(decoder, writer)
-        }
+        Who::Loco(address) => write_cvs(loco_front(&address, decoder).as_slice(), decoder, writer),
         Who::Board(board) => write_all(writer, board_rows(&board, decoder).as_slice()),
     }
 }
 
-/// Writes the lines of the CVs that are not 0.
-fn write_cvs<W: Sink>(decoder: &dyn Decoder, writer: &mut W) -> Result<(), Failed>
-    ensures { Writes (W.state writer.old) (cvs_text (cv_held (registers decoder.now)) 1024)
+/// Writes these lines, and behind them those of the CVs that are not 0.
+fn write_cvs<W: Sink>(front: &[u8], decoder: &dyn Decoder, writer: &mut W) -> Result<(), Failed>
+    ensures { Writes (W.state writer.old) (front.now ++ cvs_text (cv_held (registers decoder.now)) 1024)
         result
         (W.state writer.new) }
 {
+    write_all(writer, front)?;
     for n in 0..1024u16 {
         write_cv(n + 1, decoder.cv_byte(n + 1), writer)?;
     }

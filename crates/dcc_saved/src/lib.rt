@@ -7,6 +7,7 @@ mod decoder_rows;
 mod decoder_text;
 mod decoder_words;
 mod fleet_text;
+mod head_forms;
 pub mod laws;
 mod line_rule;
 mod saved;

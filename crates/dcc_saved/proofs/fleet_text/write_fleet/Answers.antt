@@ -24,5 +24,6 @@ loop-decoder-preserved g c =
 
 pub returns : goal.returns
 returns g c =
-    Writes-last _ (codes "end\n") c.write_all-2.result c.loop-decoder.invariant
-    (texts_none _ _ c.loop-decoder.decoder-index c.loop-decoder-test.false) c.write_all-2.ensures
+    let wrote = rw (c.as_slice.ensures.value, c.head_row.ensures.items) at c.write_all-2.ensures in
+    Writes-last _ _ c.write_all-2.result c.loop-decoder.invariant
+    (texts_none _ _ c.loop-decoder.decoder-index c.loop-decoder-test.false) wrote

@@ -1,0 +1,20 @@
+use Rattle.std.proofs.Common.{◌≡◌, List, codes, Ok, inl, inr, arith}
+use Rattle.std.proofs.lemmas.Bool.{cases_Bool}
+use Rattle.std.proofs.lemmas.Grind.{common_steps}
+use Rattle.dcc_packet.specs.Forms.{read_by}
+use Rattle.dcc_packet.specs.Words.{Word, is_word}
+use Rattle.dcc_saved.specs.declared.decoder_line.Head.{Head}
+use Rattle.dcc_saved.specs.DecoderLines.{head_forms}
+use Rattle.dcc_saved.specs.PossibleLines.{IsPossibleHead}
+use Rattle.dcc_saved.proofs.decoder_words.head_after.Goals as goal
+
+-- what such a line says may be
+is_possible : (word : Word) (ws rest : List Word) (head : Head) → read_by head_forms word ws ≡ Ok (head, rest)
+    → IsPossibleHead head
+is_possible word ws rest head is = elim (cases_Bool (is_word word (codes "loco"))) [
+  | inl e ↦ grind (arith, common_steps)
+  | inr e ↦ grind (arith, common_steps)
+]
+
+pub returns-clause-possible : goal.returns-clause-possible
+returns-clause-possible c = is_possible c.args.word.now c.args.rest.now _ _ c.in_ok-head.ensures.is
