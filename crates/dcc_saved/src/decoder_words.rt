@@ -8,12 +8,11 @@ ghost use Rattle.dcc_regs.specs.Heard.{hears as hears_packet};
 ghost use Rattle.dcc_regs.specs.Loco.{is_speed, is_byte_write, is_pending_for};
 ghost use Rattle.dcc_regs.specs.Writes.{is_own_write};
 ghost use Rattle.dcc_saved.specs.DecoderLines.{in_order, version_number, own_address};
-ghost use Rattle.dcc_saved.specs.DecoderLines.{head_forms, head_line, step_up_to};
+ghost use Rattle.dcc_saved.specs.DecoderLines.{head_forms, step_up_to};
 ghost use Rattle.dcc_saved.specs.DecoderLines.{speed_of, speed_after, function_number, binary_state};
-ghost use Rattle.dcc_saved.specs.DecoderLines.{number_of, numbers_from, numbers_line, pending_word};
-ghost use Rattle.dcc_saved.specs.DecoderLines.{pending_line, cv_words, loco_line_after, loco_line};
+ghost use Rattle.dcc_saved.specs.DecoderLines.{number_of, numbers_from, pending_word};
+ghost use Rattle.dcc_saved.specs.DecoderLines.{cv_words, loco_line_after};
 ghost use Rattle.dcc_saved.specs.Numbered.{end_of};
-ghost use Rattle.dcc_saved.specs.DecoderLines.{keyed};
 ghost use Rattle.dcc_saved.specs.Inner.DecoderWords.{TakesKeyword, TakesSpeed};
 ghost use Rattle.dcc_packet.specs.Fields.{word_and_rest, Gives};
 ghost use Rattle.dcc_saved.specs.PendingWrite.{pending_write};
@@ -21,7 +20,6 @@ ghost use Rattle.dcc_saved.specs.PossibleLines.{IsPossibleHead, IsSoundLine};
 
 use crate::decoder_line::{Head, LocoLine, Numbered, Version};
 use crate::head_forms::HeadForms;
-use dcc_packet::field::Field;
 use dcc_packet::form::Forms;
 use dcc_packet::line_word::{address, cv_number, hex_frame, output_number};
 use dcc_packet::numeral::small_number;
@@ -31,7 +29,7 @@ use dcc_regs::{Speed, Who, hears, is_own_write};
 use dcc_wire::Frame;
 
 /// Takes the word that begins a line of this kind.
-fn take_keyword(words: &mut Words, name: &[u8]) -> Result<(), PacketFault>
+pub(crate) fn take_keyword(words: &mut Words, name: &[u8]) -> Result<(), PacketFault>
     ensures { TakesKeyword name.now words.old result words.new }
 {
     let word = words.word()?;
@@ -80,24 +78,13 @@ pub fn own_address(word: &[u8]) -> Result<Option<Address>, PacketFault>
 }
 
 /// The line that begins with this word.
-fn head_after(word: &[u8], rest: &mut Words) -> Result<Head, PacketFault>
+pub(crate) fn head_after(word: &[u8], rest: &mut Words) -> Result<Head, PacketFault>
     ensures is { result ≡ whole_by head_forms word.now rest.old }
     ensures possible { IfOk result IsPossibleHead }
 {
     let head = <HeadForms as Forms<Head>>::take(word, rest)?;
     rest.end()?;
     Ok(head)
-}
-
-/// `loco ADDRESS`, `board BOARD` or `end`
-#[tactic(auto, unfolding(crate::specs::DecoderLines::head_line))]
-pub fn head_line(line: &[u8]) -> Result<Head, PacketFault>
-    ensures is { result ≡ head_line (words line.now) }
-    ensures possible { IfOk result IsPossibleHead }
-{
-    let mut words = Words::new(line);
-    let word = words.word()?;
-    head_after(word, &mut words)
 }
 
 /// A step from 1 to the last one.
@@ -187,7 +174,11 @@ fn number(numbered: Numbered, word: &[u8]) -> Result<u8, PacketFault>
     }
 }
 
-fn numbers_from(words: &mut Words, numbered: Numbered, least: u8) -> Result<u128, PacketFault>
+pub(crate) fn numbers_from(
+    words: &mut Words,
+    numbered: Numbered,
+    least: u8,
+) -> Result<u128, PacketFault>
     requires { least ≤ end_of numbered }
     ensures is { result ≡ numbers_from numbered least words.old }
     ensures fits { IfOk result (λ bits. bits + 2 ^ least ≤ 2 ^ end_of numbered) }
@@ -202,18 +193,6 @@ fn numbers_from(words: &mut Words, numbered: Numbered, least: u8) -> Result<u128
         }
         None => Ok(0),
     }
-}
-
-/// `on FUNCTION ..`, `states STATE ..` or `out OUTPUT ..`, as bits
-#[tactic(auto, unfolding(crate::specs::DecoderLines::numbers_line))]
-pub fn numbers_line(numbered: Numbered, line: &[u8]) -> Result<u128, PacketFault>
-    ensures is { result ≡ numbers_line numbered (words line.now) }
-    ensures fits { IfOk result (λ bits. bits < 2 ^ end_of numbered) }
-    ensures even { numbered ≡ Numbered.State → IfOk result (λ bits. bits % 2 ≡ 0) }
-{
-    let mut words = Words::new(line);
-    take_keyword(&mut words, numbered.name())?;
-    numbers_from(&mut words, numbered, 0)
 }
 
 /// Whether the packet is a CV write to a decoder's own address.
@@ -239,7 +218,10 @@ fn pending_write(active: &Option<Address>, frame: &Frame) -> Result<Packet, Pack
 }
 
 /// `none`, or the frame of a CV write to the decoder's address.
-fn pending_word(active: &Option<Address>, word: &[u8]) -> Result<Option<Packet>, PacketFault>
+pub(crate) fn pending_word(
+    active: &Option<Address>,
+    word: &[u8],
+) -> Result<Option<Packet>, PacketFault>
     ensures is { result ≡ pending_word active.now word.now }
     ensures possible { IfOk result (λ pending. is_pending_for active.now pending ≡ true) }
 {
@@ -248,19 +230,6 @@ fn pending_word(active: &Option<Address>, word: &[u8]) -> Result<Option<Packet>,
     }
     let frame = hex_frame(word)?;
     Ok(Some(pending_write(active, &frame)?))
-}
-
-/// `pending PACKET`
-#[tactic(auto, unfolding(crate::specs::DecoderLines::pending_line))]
-pub fn pending_line(active: &Option<Address>, line: &[u8]) -> Result<Option<Packet>, PacketFault>
-    ensures is { result ≡ pending_line active.now (words line.now) }
-    ensures possible { IfOk result (λ pending. is_pending_for active.now pending ≡ true) }
-{
-    let mut words = Words::new(line);
-    take_keyword(&mut words, b"pending")?;
-    let pending = pending_word(active, words.word()?)?;
-    words.end()?;
-    Ok(pending)
 }
 
 fn cv_words(words: &mut Words, least: u16) -> Result<LocoLine, PacketFault>
@@ -274,7 +243,11 @@ fn cv_words(words: &mut Words, least: u16) -> Result<LocoLine, PacketFault>
     Ok(LocoLine::Cv { cv, value })
 }
 
-fn loco_line_after(word: &[u8], rest: &mut Words, least: u16) -> Result<LocoLine, PacketFault>
+pub(crate) fn loco_line_after(
+    word: &[u8],
+    rest: &mut Words,
+    least: u16,
+) -> Result<LocoLine, PacketFault>
     ensures is { result ≡ loco_line_after least word.now rest.old }
     ensures sound { IfOk result (IsSoundLine least) }
 {
@@ -283,25 +256,4 @@ fn loco_line_after(word: &[u8], rest: &mut Words, least: u16) -> Result<LocoLine
     } else {
         Ok(LocoLine::Head(head_after(word, rest)?))
     }
-}
-
-/// `cv CV VALUE`, the CV not below this one, or what stands behind the CVs
-#[tactic(auto, unfolding(crate::specs::DecoderLines::loco_line))]
-pub fn loco_line(line: &[u8], least: u16) -> Result<LocoLine, PacketFault>
-    ensures is { result ≡ loco_line least (words line.now) }
-    ensures sound { IfOk result (IsSoundLine least) }
-{
-    let mut words = Words::new(line);
-    let word = words.word()?;
-    loco_line_after(word, &mut words, least)
-}
-
-/// The fields of a line that begins with this word.
-pub fn keyed<F: Field>(name: &[u8], line: &[u8]) -> Result<F, PacketFault>
-    ensures is { result ≡ keyed name.now F.field (words line.now) }
-    ensures fits { IfOk result F.field.Fits }
-{
-    let mut words = Words::new(line);
-    take_keyword(&mut words, name)?;
-    words.fields()
 }

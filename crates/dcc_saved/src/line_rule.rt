@@ -10,8 +10,9 @@ ghost use Rattle.dcc_saved.specs.declared.decoder_line.Numbered.TheVariants.{Sta
 ghost use Rattle.dcc_saved.specs.PossibleLines.{IsPossibleHead, IsSoundLine};
 
 use crate::decoder_line::{Head, LocoLine, Numbered};
-use crate::decoder_words::{head_line, keyed, loco_line, numbers_line, pending_line};
+use crate::decoder_words::{head_after, loco_line_after, numbers_from, pending_word, take_keyword};
 use dcc_packet::field::Field;
+use dcc_packet::words::Words;
 use dcc_packet::{Address, Packet, PacketFault};
 use std::marker::PhantomData;
 
@@ -33,7 +34,7 @@ pub(crate) trait LineRule: Copy {
         ensures blank { rule self [] ≡ Err PacketFault.Word };
 }
 
-/// The line that begins a decoder, or the last line.
+/// `loco ADDRESS`, `board BOARD` or `end`: the line that begins a decoder, or the last line.
 #[derive(Clone, Copy)]
 pub(crate) struct HeadLine;
 
@@ -46,11 +47,13 @@ impl LineRule for HeadLine {
 
     #[tactic(auto, unfolding(crate::specs::DecoderLines::head_line))]
     fn read(self, line: &[u8]) -> Result<Head, PacketFault> {
-        head_line(line)
+        let mut words = Words::new(line);
+        let word = words.word()?;
+        head_after(word, &mut words)
     }
 }
 
-/// The line of the numbers that are on.
+/// `on FUNCTION ..`, `states STATE ..` or `out OUTPUT ..`, as bits: the line of the numbers that are on.
 impl LineRule for Numbered {
     type Value = u128;
 
@@ -60,11 +63,13 @@ impl LineRule for Numbered {
 
     #[tactic(auto, unfolding(crate::specs::DecoderLines::numbers_line))]
     fn read(self, line: &[u8]) -> Result<u128, PacketFault> {
-        numbers_line(self, line)
+        let mut words = Words::new(line);
+        take_keyword(&mut words, self.name())?;
+        numbers_from(&mut words, self, 0)
     }
 }
 
-/// The line of the pending CV write to this address.
+/// `pending PACKET`: the line of the pending CV write to this address.
 #[derive(Clone, Copy)]
 pub(crate) struct PendingLine {
     pub address: Option<Address>,
@@ -79,11 +84,15 @@ impl LineRule for PendingLine {
 
     #[tactic(auto, unfolding(crate::specs::DecoderLines::pending_line))]
     fn read(self, line: &[u8]) -> Result<Option<Packet>, PacketFault> {
-        pending_line(&self.address, line)
+        let mut words = Words::new(line);
+        take_keyword(&mut words, b"pending")?;
+        let pending = pending_word(&self.address, words.word()?)?;
+        words.end()?;
+        Ok(pending)
     }
 }
 
-/// A line of a CV, not below this one, or the line behind the CVs.
+/// `cv CV VALUE`: a line of a CV, not below this one, or the line behind the CVs.
 #[derive(Clone, Copy)]
 pub(crate) struct CvLine {
     pub least: u16,
@@ -98,7 +107,9 @@ impl LineRule for CvLine {
 
     #[tactic(auto, unfolding(crate::specs::DecoderLines::loco_line))]
     fn read(self, line: &[u8]) -> Result<LocoLine, PacketFault> {
-        loco_line(line, self.least)
+        let mut words = Words::new(line);
+        let word = words.word()?;
+        loco_line_after(word, &mut words, self.least)
     }
 }
 
@@ -117,6 +128,8 @@ impl<F: Field + Copy> LineRule for Keyed<F> {
     ghost Holds = { λ self. F.field.Fits };
 
     fn read(self, line: &[u8]) -> Result<F, PacketFault> {
-        keyed(self.name, line)
+        let mut words = Words::new(line);
+        take_keyword(&mut words, self.name)?;
+        words.fields()
     }
 }

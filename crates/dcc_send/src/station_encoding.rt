@@ -4,10 +4,9 @@ ghost use Rattle.dcc_packet.specs.Spelling.{spelling};
 ghost use Rattle.dcc_io.specs.Faults.{as_tool_fault};
 ghost use Rattle.dcc_io.specs.InputState.{HasCause};
 ghost use Rattle.dcc_send.specs.declared.encoding.Encode.{Encode};
-ghost use Rattle.dcc_io.specs.PacketRead.{AnswersSaid};
-ghost use Rattle.dcc_io.specs.StationLines.{asked_by, station_words, Command, Next};
+ghost use Rattle.dcc_io.specs.StationLines.{asked_by, Command, Next};
 ghost use Rattle.dcc_send.specs.StationEncoded.{StationText, refusal_line};
-ghost use Rattle.dcc_send.specs.Inner.Held.{TakesNext, HoldsAnswersOrFails};
+ghost use Rattle.dcc_send.specs.Inner.Held.{HoldsAnswersOrFails};
 
 use crate::encoded_line::hold_frame;
 use crate::encoding::Encode;
