@@ -1,7 +1,5 @@
 -- What the half of a word at hand says of a capture.
-use Rattle.std.proofs.Common.{◌≡◌, ℕ, List, [], ◌∷◌, length, false, eqb, Option, None}
-use Rattle.std.proofs.Common.{Some, Ok, IfSome, refl, ap, arith}
-use Rattle.std.proofs.lemmas.Option.{IfSome_then}
+use Rattle.std.proofs.Common.{◌≡◌, ℕ, List, [], ◌∷◌, length, false, eqb, None, Some, Ok, refl, ap, arith}
 use Rattle.std.proofs.lemmas.Bool.{and_parts, false_from_ne_true, eqb-true}
 use Rattle.std.specs.List.{list_all}
 use Rattle.std.specs.Char.{is_ascii_digit}
@@ -17,8 +15,9 @@ use Rattle.dcc_capture.proofs.RunWordLemmas.{run_of_duration, spelled_parts, som
 use Rattle.dcc_capture.proofs.CaptureLemmas.{Gave-word}
 use Rattle.dcc_capture.proofs.BothLemmas.{counts_run}
 
-pub counted_run_taken : (old new : InputState) (run : Run) → TakesRun old run new → AnswersRun old (Ok (Some run)) new
-counted_run_taken old new run takes = (
+-- a run that was at hand is the next of a capture
+pub run_taken : {old new : InputState} {run : Run} → TakesRun old run new → AnswersRun old (Ok (Some run)) new
+run_taken {run = run} takes = (
   Gave-word takes.passed takes.spells takes.enough takes.counted,
   some_half takes.word run takes.spells,
   takes.fewer,
@@ -35,10 +34,10 @@ no_run (byte ∷ word) run spells = false_from_ne_true _ (λ mark.
     let dash = (and_parts (is_dash byte) (list_all is_dash word) dashes).0 in
     omega (arith, eqb-true byte 45 dash, digit_bounds byte digit))
 
--- as runs of the first of two captures
-first_counted_run_taken : (before : ℕ) (old new : InputState) (run : Run) → old.fault ≡ None → TakesRun old run new
+-- and of the first of two captures
+pub first_run_taken : {old new : InputState} {run : Run} (before : ℕ) → old.fault ≡ None → TakesRun old run new
     → AnswersFirst before old (Ok (Some (old.place.line, run))) new
-first_counted_run_taken before old new run none takes =
+first_run_taken {old} {new} {run} before none takes =
     let fewer = takes.fewer in
     let bytes : new.bytes ≡ takes.mid.bytes = ap (λ (state : InputState). state.bytes) takes.counted in
     counts_run before old.place.line takes.word old takes.mid none takes.passed new (old.place.line, run)
@@ -57,25 +56,10 @@ as_run {us = us} takes = record {
   fewer = takes.fewer;
 }
 
--- both, of a half that is at hand or not
-pub run_at_hand : (old new : InputState) (half : Option ℕ) → IfSome half (λ us. TakesHalf old us new)
-    → IfSome half (λ us. AnswersRun old (Ok (Some (record { us = us; n = 1 }))) new)
-run_at_hand old new half takes = IfSome_then half takes (λ us taken. counted_run_taken old new _ (as_run taken))
+pub half_taken : {old new : InputState} {us : ℕ} → TakesHalf old us new
+    → AnswersRun old (Ok (Some (record { us = us; n = 1 }))) new
+half_taken takes = run_taken (as_run takes)
 
-pub first_at_hand : (old new : InputState) (half : Option ℕ) → old.fault ≡ None
-    → IfSome half (λ us. TakesHalf old us new)
-    → IfSome half (λ us. (before : ℕ)
-    → AnswersFirst before old (Ok (Some (old.place.line, record { us = us; n = 1 }))) new)
-first_at_hand old new half none takes =
-    IfSome_then half takes (λ us taken before. first_counted_run_taken before old new _ none (as_run taken))
-
--- the same of a run that has a count
-pub counted_run_at_hand : (old new : InputState) (run : Option Run) → IfSome run (λ run. TakesRun old run new)
-    → IfSome run (λ run. AnswersRun old (Ok (Some run)) new)
-counted_run_at_hand old new run takes = IfSome_then run takes (counted_run_taken old new)
-
-pub first_run_at_hand : (old new : InputState) (run : Option Run) → old.fault ≡ None
-    → IfSome run (λ run. TakesRun old run new)
-    → IfSome run (λ run. (before : ℕ) → AnswersFirst before old (Ok (Some (old.place.line, run))) new)
-first_run_at_hand old new run none takes =
-    IfSome_then run takes (λ run taken before. first_counted_run_taken before old new run none taken)
+pub first_half_taken : {old new : InputState} {us : ℕ} (before : ℕ) → old.fault ≡ None → TakesHalf old us new
+    → AnswersFirst before old (Ok (Some (old.place.line, record { us = us; n = 1 }))) new
+first_half_taken before none takes = first_run_taken before none (as_run takes)

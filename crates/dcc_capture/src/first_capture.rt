@@ -7,9 +7,9 @@ ghost use Rattle.dcc_io.specs.KeptAnswers.{AnswersKept};
 ghost use Rattle.dcc_capture.specs.FirstRead.{AnswersFirst};
 ghost use Rattle.dcc_capture.specs.Inner.FirstSteps.{CountsWord, EndsMark};
 
-use crate::runs::{half_at_hand, run_at_hand};
 use dcc_io::inputs::{
-    count_run, ends_line, line_of_next_byte, next_word, refuse_line, refuse_number,
+    count_run, ends_line, half_at_hand, line_of_next_byte, next_word, refuse_line, refuse_number,
+    run_at_hand,
 };
 use dcc_io::{Input, KeptFault, Run, RunWord, Source};
 use dcc_packet::PacketFault;
@@ -30,6 +30,7 @@ pub fn next_of_first<R: Source>(
 }
 
 /// The same, where no fault is kept. Most words are durations that stand whole among the bytes at hand.
+#[tactic(auto, using(crate::proofs::HalfLemmas::first_half_taken))]
 fn first_at_hand<R: Source>(
     input: &mut Input<R>,
     before: u64,

@@ -9,4 +9,4 @@ mod runs;
 
 pub use first_capture::next_of_first;
 pub use listing::outcome_line;
-pub use runs::{half_at_hand, next_run, read_run, run_at_hand};
+pub use runs::{next_run, read_run};

@@ -4,8 +4,8 @@ ghost use Rattle.dcc_listen.specs.GatheredBoth.{BothFail, GatheredFirst};
 ghost use Rattle.dcc_listen.specs.Inner.Pushing.{PushesFirst};
 
 use crate::gathering::hold_seen;
-use dcc_capture::{half_at_hand, next_of_first};
-use dcc_io::inputs::line_of_next_byte;
+use dcc_capture::next_of_first;
+use dcc_io::inputs::{half_at_hand, line_of_next_byte};
 use dcc_io::{Input, KeptFault, Source, ToolFault};
 use dcc_packet::Packet;
 use dcc_wire::{Framer, Seen};

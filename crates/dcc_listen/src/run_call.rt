@@ -4,7 +4,8 @@ ghost use Rattle.dcc_io.specs.Faults.{as_tool_fault};
 ghost use Rattle.dcc_listen.specs.FleetRun.{Runs};
 ghost use Rattle.dcc_io.specs.InputState.{HasCause};
 
-use dcc_capture::{half_at_hand, read_run};
+use dcc_capture::read_run;
+use dcc_io::inputs::half_at_hand;
 use dcc_io::{Input, Sink, Source, ToolFault};
 use dcc_order::{hear_half, hear_half_run};
 use dcc_regs::Decoder;

@@ -9,7 +9,8 @@ ghost use Rattle.dcc_io.specs.Words.{ended_words};
 ghost use Rattle.dcc_capture.specs.Listing.{IsLine};
 ghost use Rattle.dcc_listen.specs.Shown.{Shows};
 
-use dcc_capture::{half_at_hand, outcome_line, read_run, run_at_hand};
+use dcc_capture::{outcome_line, read_run};
+use dcc_io::inputs::{half_at_hand, run_at_hand};
 use dcc_io::{Failed, HeldLines, Input, KeptFault, Run, Sink, Source, ToolFault};
 use dcc_wire::{Framer, Seen};
 

@@ -7,7 +7,8 @@ ghost use Rattle.dcc_io.specs.InputState.{InputState};
 ghost use Rattle.dcc_listen.specs.Taking.{Gathering, TakesPacket};
 ghost use Rattle.dcc_listen.specs.Inner.Pushing.{PushesNext};
 
-use dcc_capture::{half_at_hand, read_run};
+use dcc_capture::read_run;
+use dcc_io::inputs::half_at_hand;
 use dcc_io::{Input, KeptFault, Source};
 use dcc_packet::Packet;
 use dcc_wire::{Framer, Seen};

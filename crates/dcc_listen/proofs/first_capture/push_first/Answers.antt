@@ -1,5 +1,6 @@
 use Rattle.std.proofs.Common.{None, Ok, Some, ◌≡◌, sym, subst}
 use Rattle.dcc_capture.specs.FirstRead.{AnswersFirst}
+use Rattle.dcc_capture.proofs.HalfLemmas.{first_half_taken}
 use Rattle.dcc_listen.proofs.ShowLemmas.{answers_one}
 use Rattle.dcc_listen.proofs.first_capture.push_first.Goals as goal
 
@@ -7,7 +8,7 @@ pub returns-in-Some : goal.returns-in-Some
 returns-in-Some g c = (
   record { us = c.in-Some.us; n = 1 },
   subst (λ n. AnswersFirst c.args.before c.args.input.now (Ok (Some (n, record { us = c.in-Some.us; n = 1 })))
-      c.half_at_hand.new.input) (sym c.line_of_next_byte-line.ensures) (c.in-Some.ensures.first c.args.before),
+      c.half_at_hand.new.input) (sym c.line_of_next_byte-line.ensures) (first_half_taken c.args.before c.requires c.in-Some.ensures.some),
   record {
     at = 1;
     stands = c.push.ensures.stands;

@@ -1,6 +1,7 @@
 use Rattle.std.proofs.Common.{[], ◌∷◌, replicate, ap, ◌∙◌}
 use Rattle.std.proofs.lemmas.Result.{err_from_is_err_and}
 use Rattle.dcc_io.specs.InputState.{InputState}
+use Rattle.dcc_capture.proofs.HalfLemmas.{half_taken}
 use Rattle.dcc_listen.proofs.RunLemmas.{Hearing-start, Hearing-more, hears_up_to, hears_all}
 use Rattle.dcc_listen.proofs.run_call.play.Goals as goal
 
@@ -21,7 +22,7 @@ runs-preserved g c =
 pub runs-preserved-in-Some : goal.runs-preserved-in-Some
 runs-preserved-in-Some g c =
     let before = c.runs.invariant in
-    Hearing-more before (c.in-Some.us ∷ []) c.in-Some.ensures.some.0.items
+    Hearing-more before (c.in-Some.us ∷ []) (half_taken c.in-Some.ensures.some).0.items
     (c.hear_half.ensures.stands before.halves before.stands)
     (c.hear_half.ensures.since before.halves before.stands _ before.heard)
 

@@ -2,6 +2,7 @@ use Rattle.std.proofs.Common.{length, ◌+◌, ◌-◌, arith}
 use Rattle.std.proofs.lemmas.Result.{err_from_is_err_and}
 use Rattle.dcc_wire.specs.declared.run.RunSeen.{RunSeen}
 use Rattle.dcc_io.specs.declared.word.Run.{Run}
+use Rattle.dcc_capture.proofs.HalfLemmas.{half_taken}
 use Rattle.dcc_listen.proofs.ShowLemmas.{Showing-start, Showing-wrote, Showing-run, at_some_half, counted, answers_one}
 use Rattle.dcc_listen.proofs.ShowLemmas.{stops_before_read, stops_at_run, stops_at_fault, stops_at_end}
 use Rattle.dcc_listen.proofs.show_call.list.Goals as goal
@@ -14,7 +15,7 @@ runs-init g c = rw c.new-held.ensures (Showing-start c.requires c.new-framer.ens
 pub hold_seen-requires : goal.hold_seen-requires
 hold_seen-requires g c =
     let one : Run = record { us = c.in-Some.us; n = 1 } in
-    let half = counted one c.runs.invariant c.in-Some.ensures.some.0 c.halves_left-most.ensures c.halves_left.ensures in
+    let half = counted one c.runs.invariant (half_taken c.in-Some.ensures.some).0 c.halves_left-most.ensures c.halves_left.ensures in
     omega (arith, half)
 
 pub runs-preserved-in-Continue-1 : goal.runs-preserved-in-Continue-1
@@ -22,7 +23,7 @@ runs-preserved-in-Continue-1 g c =
     let one : Run = record { us = c.in-Some.us; n = 1 } in
     let answer : RunSeen = record { seen = c.push-seen.result; at = 1 } in
     let showing = c.runs.invariant in
-    let gave = c.in-Some.ensures.some.0 in
+    let gave = (half_taken c.in-Some.ensures.some).0 in
     let half = counted one showing gave c.halves_left-most.ensures c.halves_left.ensures in
     let wrote = c.in_ok-hold_seen-in-Some.ensures (length showing.halves + 1 - 1) (omega (arith, half)) in
     Showing-run one showing gave _ answer (c.push-seen.ensures.stands showing.halves showing.stands)
@@ -35,7 +36,7 @@ returns-in_err-hold_seen-in-Some g c =
     let one : Run = record { us = c.in-Some.us; n = 1 } in
     let answer : RunSeen = record { seen = c.push-seen.result; at = 1 } in
     let showing = c.runs.invariant in
-    let gave = c.in-Some.ensures.some.0 in
+    let gave = (half_taken c.in-Some.ensures.some).0 in
     let half = counted one showing gave c.halves_left-most.ensures c.halves_left.ensures in
     let wrote = c.in_err-hold_seen-in-Some.ensures (length showing.halves + 1 - 1) (omega (arith, half)) in
     rw (p.1, p.2) (stops_at_run one showing gave _ answer

@@ -1,12 +1,13 @@
 use Rattle.std.proofs.Common.{None, Ok, Some, ◌≡◌, sym, subst}
 use Rattle.dcc_capture.specs.Capture.{AnswersRun}
+use Rattle.dcc_capture.proofs.HalfLemmas.{half_taken}
 use Rattle.dcc_listen.proofs.ShowLemmas.{answers_one}
 use Rattle.dcc_listen.proofs.taking.push_next.Goals as goal
 
 pub returns-in-Some : goal.returns-in-Some
 returns-in-Some g c = (
   record { us = c.in-Some.us; n = 1 },
-  c.in-Some.ensures.some,
+  half_taken c.in-Some.ensures.some,
   record {
     at = 1;
     stands = c.push.ensures.stands;
