@@ -1,22 +1,20 @@
 -- The lines of CVs are read again, with the line behind them.
 use Rattle.std.proofs.Common.{zero, suc, ◌≡◌, ℕ, ◌+◌, ◌-◌, ◌<◌, ◌≤◌, Bool, true, false, eqb, List, [], ◌∷◌, ◌++◌}
-use Rattle.std.proofs.Common.{length, codes, replicate, slice_set, if◌then◌else◌, inl, inr, refl}
+use Rattle.std.proofs.Common.{length, replicate, slice_set, if◌then◌else◌, inl, inr, refl}
 use Rattle.std.proofs.Common.{◌∙◌, arith, append_assoc}
-use Rattle.std.specs.Fmt.{decimal}
-use Rattle.std.proofs.lemmas.Bool.{eqb-true, le-ltb, cases_lt}
+use Rattle.std.proofs.lemmas.Bool.{eqb-true, cases_lt}
 use Rattle.std.proofs.lemmas.Grind.{common_steps}
 use Rattle.std.proofs.lemmas.List.{get_or-replicate, set-get_or, length-set, length-replicate}
 use Rattle.dcc_packet.specs.declared.cv.CvNumber.{CvNumber}
 use Rattle.dcc_packet.specs.Cvs.{cv_in}
-use Rattle.dcc_packet.proofs.Tokens.{decimal_token, keyword_token}
-use Rattle.dcc_packet.proofs.WordsBack.{cv_back, small_number-decimal}
 use Rattle.dcc_saved.specs.declared.decoder_line.Head.{Head}
 use Rattle.dcc_saved.specs.declared.decoder_line.LocoLine.TheVariants as behind
-use Rattle.dcc_saved.specs.DecoderLines.{loco_line}
+use Rattle.dcc_saved.specs.DecoderLines.{head_line, loco_line}
 use Rattle.dcc_saved.specs.DecoderText.{cvs_from, cvs_lines}
 use Rattle.dcc_saved.specs.FleetText.{cv_line, cvs_text}
-use Rattle.dcc_saved.specs.TextReader.{line_by}
-use Rattle.dcc_saved.proofs.LinesBack.{Reads, Reads-then, Reads-last, few_read}
+use Rattle.dcc_saved.specs.Lines.{line_text}
+use Rattle.dcc_saved.specs.PossibleLines.{IsPossibleHead}
+use Rattle.dcc_saved.proofs.LinesBack.{Reads, Reads-then, Reads-last, IsLineBack, line_back}
 
 module _ (cvs : ℕ → ℕ) where
   -- the list behind the lines up to this CV
@@ -51,49 +49,46 @@ module _ (cvs : ℕ → ℕ) where
   same_list n few is =
       rw (is, ← (none n (suc n) (omega arith) few)) (set-get_or (so_far n) (suc n - 1) 0)
 
-  module _ (small : (n : ℕ) → cvs n < 256) (read : List ℕ × Head) where
-    -- what stands behind the lines up to this CV is read so
-    abbrev Behind : ℕ → List ℕ → Type 0
-    Behind n text =
-        (most least : ℕ) → 1024 ≤ most + n → least ≤ suc n → Reads (cvs_from (suc most) least (so_far n)) text read
+  module _ (small : (n : ℕ) → cvs n < 256) (lines : (least : ℕ) → IsLineBack (loco_line least)) (read : List ℕ × Head)
+    where
+      -- what stands behind the lines up to this CV is read so
+      abbrev Behind : ℕ → List ℕ → Type 0
+      Behind n text =
+          (most least : ℕ) → 1024 ≤ most + n → least ≤ suc n → Reads (cvs_from (suc most) least (so_far n)) text read
 
-    one_line : (n : ℕ) (text : List ℕ) → n < 1024 → Behind (suc n) text → (b : Bool) → eqb (cvs (suc n)) 0 ≡ b
-        → Behind n ((if b then [] else cv_line (suc n) (cvs (suc n))) ++ text)
-    unfolding so_far loco_line
-    one_line n text few after true is most least room ascends =
-        let same = same_list n few (eqb-true (cvs (suc n)) 0 is) in
-        rw same at (after most least (omega (arith, room)) (omega (arith, ascends)))
-    one_line n text few after false is zero least room ascends = absurd (omega (arith, few, room))
-    one_line n text few after false is (suc most) least room ascends =
-        let cv : CvNumber = record { number = suc n; in_range = (omega arith, omega (arith, few)) } in
-        let x : ℕ = cvs (suc n) in
-        let number = decimal_token (suc n) (omega (arith, few)) in
-        let value = decimal_token x (omega (arith, small (suc n))) in
-        Reads-then _ (few_read (loco_line least) (behind.Cv cv x) (codes "cv") (decimal (suc n) ∷ decimal x ∷ [])
-        (keyword_token (codes "cv") refl, (number, (value, tt))) (omega arith)
-        (rw (cv_back cv, le-ltb (suc n) least ascends, small_number-decimal x (small (suc n))) refl))
-        (after most (suc n + 1) (omega (arith, room)) (omega arith))
+      one_line : (n : ℕ) (text : List ℕ) → n < 1024 → Behind (suc n) text → (b : Bool) → eqb (cvs (suc n)) 0 ≡ b
+          → Behind n ((if b then [] else cv_line (suc n) (cvs (suc n))) ++ text)
+      unfolding so_far
+      one_line n text few after true is most least room ascends =
+          let same = same_list n few (eqb-true (cvs (suc n)) 0 is) in
+          rw same at (after most least (omega (arith, room)) (omega (arith, ascends)))
+      one_line n text few after false is zero least room ascends = absurd (omega (arith, few, room))
+      one_line n text few after false is (suc most) least room ascends =
+          let cv : CvNumber = record { number = suc n; in_range = (omega arith, omega (arith, few)) } in
+          Reads-then _ (line_back (loco_line least) (lines least) (behind.Cv cv (cvs (suc n))) (ascends, small (suc n)))
+          (after most (suc n + 1) (omega (arith, room)) (omega arith))
 
-    all_lines : (n : ℕ) (text : List ℕ) → n ≤ 1024 → Behind n text
-        → Reads (cvs_from 1025 1 (replicate 1024 0)) (cvs_text cvs n ++ text) read
-    unfolding cvs_text so_far
-    all_lines zero text few after = after 1024 1 (omega arith) (omega arith)
-    all_lines (suc n) text few after =
-        rw (append_assoc (cvs_text cvs n))
-        (all_lines n _ (omega (arith, few)) (one_line n text few after (eqb (cvs (suc n)) 0) refl))
+      all_lines : (n : ℕ) (text : List ℕ) → n ≤ 1024 → Behind n text
+          → Reads (cvs_from 1025 1 (replicate 1024 0)) (cvs_text cvs n ++ text) read
+      unfolding cvs_text so_far
+      all_lines zero text few after = after 1024 1 (omega arith) (omega arith)
+      all_lines (suc n) text few after =
+          rw (append_assoc (cvs_text cvs n))
+          (all_lines n _ (omega (arith, few)) (one_line n text few after (eqb (cvs (suc n)) 0) refl))
 
 -- all CVs, and the line behind them
-pub record ReadsCvs (cvs : ℕ → ℕ) (bytes : List ℕ) (head : Head) : Type 0 where
+pub record ReadsCvs (cvs : ℕ → ℕ) (head : Head) : Type 0 where
   pub given : List ℕ
-  pub reads : Reads cvs_lines (cvs_text cvs 1024 ++ bytes) (given, head)
+  pub reads : Reads cvs_lines (cvs_text cvs 1024 ++ line_text head_line head) (given, head)
   pub each : (cv : ℕ) → 1 ≤ cv → cv ≤ 1024 → cv_in given cv ≡ cvs cv
 
-pub cvs_read : (cvs : ℕ → ℕ) → ((n : ℕ) → cvs n < 256) → (bytes : List ℕ) (head : Head)
-    → ((least : ℕ) → Reads (line_by (loco_line least)) bytes (behind.Head head)) → ReadsCvs cvs bytes head
+pub cvs_read : (cvs : ℕ → ℕ) → ((n : ℕ) → cvs n < 256) → ((least : ℕ) → IsLineBack (loco_line least))
+    → (head : Head) → IsPossibleHead head → ReadsCvs cvs head
 unfolding cvs_lines
-cvs_read cvs small bytes head ends = record {
+cvs_read cvs small lines head possible = record {
   given = so_far cvs 1024;
-  reads = all_lines cvs small (so_far cvs 1024, head) 1024 bytes (omega arith)
-      (λ most least room ascends. Reads-last _ (ends least) (λ text. refl));
+  reads = all_lines cvs small lines (so_far cvs 1024, head) 1024 (line_text head_line head) (omega arith)
+      (λ most least room ascends.
+      Reads-last _ (line_back (loco_line least) (lines least) (behind.Head head) possible) (λ text. refl));
   each = λ cv some within. given cvs 1024 cv (omega arith) some within;
 }

@@ -13,7 +13,10 @@ use Rattle.dcc_io.proofs.WrittenLemmas.{Appends-none, Appends-append, front_behi
 use Rattle.dcc_regs.specs.declared.register.Who.{Who}
 use Rattle.dcc_regs.specs.Result.{RegisterMap}
 use Rattle.dcc_saved.specs.declared.decoder_line.Head.TheVariants as heads
-use Rattle.dcc_saved.specs.FleetText.{cv_line, cvs_text, head_text, text_of, fleet_text}
+use Rattle.dcc_saved.specs.declared.decoder_line.Version.TheVariants as versions
+use Rattle.dcc_saved.specs.DecoderLines.{version_line, head_line}
+use Rattle.dcc_saved.specs.FleetText.{cv_line, cvs_text, text_of, fleet_text}
+use Rattle.dcc_saved.specs.Lines.{line_text}
 
 -- of this text all but the rest was written
 pub record Wrote (before : WriterState) (whole rest : List ℕ) (now : WriterState) : Type 0 where
@@ -86,7 +89,7 @@ cvs_later cvs n (suc c) last is =
 -- the texts of the decoders from one on, and the line behind them
 module _ {A : Type 0} (view : A → Who × RegisterMap) where
   abbrev pub texts : List A → List ℕ
-  texts fleet = flat_map text_of (map view fleet) ++ head_text heads.End
+  texts fleet = flat_map text_of (map view fleet) ++ line_text head_line heads.End
 
   -- those before this one were written
   abbrev pub WroteUpTo : WriterState → List A → ℕ → WriterState → Type 0
@@ -96,7 +99,7 @@ module _ {A : Type 0} (view : A → Who × RegisterMap) where
       → texts (drop i xs) ≡ text_of (view x) ++ texts (drop (i + 1) xs)
   texts_next xs i x within is =
       rw (drop-cons xs i x within, ← is, add-one)
-      (append_assoc (text_of (view x)) (flat_map text_of (map view (drop (suc i) xs))) (head_text heads.End))
+      (append_assoc (text_of (view x)) (flat_map text_of (map view (drop (suc i) xs))) (line_text head_line heads.End))
 
-  pub texts_none : (xs : List A) (i : ℕ) → length xs ≤ i → texts (drop i xs) ≡ head_text heads.End
+  pub texts_none : (xs : List A) (i : ℕ) → length xs ≤ i → texts (drop i xs) ≡ line_text head_line heads.End
   texts_none xs i past = rw (drop_all i xs past) refl

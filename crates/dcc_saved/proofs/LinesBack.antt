@@ -1,16 +1,18 @@
--- A line that was written is read again by its rule, wherever it stands.
-use Rattle.std.proofs.Common.{◌≡◌, ℕ, ◌+◌, ◌*◌, ◌≤◌, true, false, not, ◌&&◌, eqb, List, [], ◌∷◌, ◌++◌, length}
-use Rattle.std.proofs.Common.{codes, Some, Result, Ok, refl, ap, arith, length-append, append_assoc}
+-- A line that was written is read again, wherever it stands.
+use Rattle.std.proofs.Common.{◌≡◌, ℕ, ◌+◌, ◌*◌, ◌<◌, ◌≤◌, true, false, not, ◌&&◌, eqb, List, [], ◌∷◌, ◌++◌, length}
+use Rattle.std.proofs.Common.{codes, Some, Ok, refl, ap, arith, length-append, append_assoc}
 use Rattle.std.specs.Char.{is_ascii}
 use Rattle.std.specs.List.{list_all, AllByRecursion}
 use Rattle.std.proofs.lemmas.Bool.{and_parts, le-leb}
 use Rattle.std.proofs.lemmas.Bool.Decides.{nat_tests}
-use Rattle.dcc_packet.specs.declared.fault.PacketFault.{PacketFault}
-use Rattle.dcc_packet.specs.Fields.{is_plain, IsToken}
+use Rattle.std.proofs.lemmas.Slice.Eq.{bytes_eq-Decides}
+use Rattle.dcc_packet.specs.Fields.{FieldOf, is_plain, IsToken, IsReadBack}
 use Rattle.dcc_packet.specs.Words.{Word, is_separator}
-use Rattle.dcc_packet.specs.Written.{spaced_words}
+use Rattle.dcc_packet.specs.Written.{spaced_words, words_in_line}
+use Rattle.dcc_packet.proofs.FieldsBack.{whole_back}
 use Rattle.dcc_packet.proofs.WrittenWords.{not_true, words_spaced}
-use Rattle.dcc_saved.specs.FleetText.{line_of}
+use Rattle.dcc_saved.specs.DecoderLines.{keyed}
+use Rattle.dcc_saved.specs.Lines.{LineOf, line_text}
 use Rattle.dcc_saved.specs.ReadBack.{line_feeds}
 use Rattle.dcc_saved.specs.TextReader.{Text, Reader, ◌>>=◌, first_line, behind_line, line_by}
 
@@ -73,35 +75,59 @@ Ends-spaced [] h = record { ascii = refl; feeds = refl; first = λ rest. refl; b
 Ends-spaced (w ∷ ws) h =
     Ends-byte 32 (w ++ spaced_words ws) refl refl (Ends-word w (spaced_words ws) h.0.plain (Ends-spaced ws h.1))
 
--- a line of words, of which its rule gives this value
-pub line_reads : {A : Type 0} (rule : List Word → Result A PacketFault) (x : A) (word : Word) (ws : List Word)
-    → AllByRecursion IsToken (word ∷ ws) → length (word ++ spaced_words ws) ≤ 512 → rule (word ∷ ws) ≡ Ok x
-    → Reads (line_by rule) (line_of (word ∷ ws)) x
-line_reads rule x word ws tokens short says =
-    let line : List ℕ = word ++ spaced_words ws in
-    let ends = Ends-word word (spaced_words ws) tokens.0.plain (Ends-spaced ws tokens.1) in
+-- these words are a line, and say the value
+pub record Says {A : Type 0} (line : LineOf A) (x : A) (ws : List Word) : Type 0 where
+  pub says : line.read ws ≡ Ok x
+  pub tokens : AllByRecursion IsToken ws
+  pub some : 0 < length ws
+  pub short : length (words_in_line ws) ≤ 512
+
+-- what is written for a value says it
+abbrev pub IsLineBack : {A : Type 0} → LineOf A → Type 0
+IsLineBack {A = A} line = (x : A) → line.Fits x → Says line x (line.written x)
+
+-- so the line is read again
+words_read : {A : Type 0} (line : LineOf A) (x : A) (ws : List Word) → Says line x ws
+    → Reads (line_by line) (words_in_line ws ++ codes "\n") x
+words_read line x [] is = absurd (omega (arith, is.some))
+words_read line x (word ∷ ws) is =
+    let bytes : List ℕ = word ++ spaced_words ws in
+    let ends = Ends-word word (spaced_words ws) is.tokens.0.plain (Ends-spaced ws is.tokens.1) in
     record {
       gives = λ n more.
           rw (
-            append_assoc line (codes "\n") more,
+            append_assoc bytes (codes "\n") more,
             ends.first more,
             ends.behind more,
-            le-leb (length line) 512 short,
+            le-leb (length bytes) 512 is.short,
             ends.ascii,
-            words_spaced word ws tokens.0 tokens.1,
-            says,
+            words_spaced word ws is.tokens.0 is.tokens.1,
+            is.says,
             ends.feeds,
           ) refl;
     }
+
+pub line_back : {A : Type 0} (line : LineOf A) → IsLineBack line → (x : A) → line.Fits x
+    → Reads (line_by line) (line_text line x) x
+line_back line is x fits = words_read line x (line.written x) (is x fits)
 
 spaced_short : (ws : List Word) → AllByRecursion IsToken ws → length (spaced_words ws) ≤ 13 * length ws
 spaced_short [] h = omega arith
 spaced_short (w ∷ ws) h = omega (arith, h.0.short, spaced_short ws h.1, length-append w (spaced_words ws))
 
--- a line of a few words
-pub few_read : {A : Type 0} (rule : List Word → Result A PacketFault) (x : A) (word : Word) (ws : List Word)
-    → AllByRecursion IsToken (word ∷ ws) → length ws ≤ 38 → rule (word ∷ ws) ≡ Ok x
-    → Reads (line_by rule) (line_of (word ∷ ws)) x
-few_read rule x word ws tokens few says =
-    line_reads rule x word ws tokens
-    (omega (arith, tokens.0.short, spaced_short ws tokens.1, length-append word (spaced_words ws))) says
+-- a few words are short enough
+pub few_say : {A : Type 0} (line : LineOf A) (x : A) (word : Word) (ws : List Word) → AllByRecursion IsToken (word ∷ ws)
+    → length ws ≤ 38 → line.read (word ∷ ws) ≡ Ok x → Says line x (word ∷ ws)
+few_say line x word ws tokens few says = record {
+  says = says;
+  tokens = tokens;
+  some = omega arith;
+  short = omega (arith, tokens.0.short, spaced_short ws tokens.1, length-append word (spaced_words ws));
+}
+
+-- a line of a keyword and a few fields
+pub keyed_back : {A : Type 0} (name : Word) (field : FieldOf A) → IsToken name → IsReadBack field
+    → ((x : A) → field.Fits x → length (field.written x) ≤ 38) → IsLineBack (keyed name field)
+keyed_back name field token back few x fits =
+    few_say (keyed name field) x name (field.written x) (token, back.tokens x fits) (few x fits)
+    (rw ((bytes_eq-Decides name name).1 refl, whole_back field back x fits) refl)

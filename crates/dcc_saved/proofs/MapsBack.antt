@@ -1,15 +1,12 @@
 -- A map that is possible is that of what its lines say.
 use Rattle.std.proofs.Common.{◌≡◌, ℕ, Bool, true, false, not, nat_le, List, Option, None, Some, if◌then◌else◌, refl}
 use Rattle.std.proofs.Common.{sym, ap, ◌∙◌, arith, zero, suc, ◌≤◌, ◌<◌, ◌&&◌, eqb, get_or}
-use Rattle.std.specs.Fmt.{decimal}
 use Rattle.std.proofs.lemmas.Bool.{and_parts, leb-true}
-use Rattle.std.proofs.lemmas.Fmt.{decimal_digit}
 use Rattle.dcc_packet.specs.declared.address.Address.{Address}
 use Rattle.dcc_packet.specs.Bits.{is_one}
 use Rattle.dcc_packet.specs.Cvs.{cv_in}
 use Rattle.dcc_packet.specs.declared.accessory.Board.{Board}
 use Rattle.dcc_packet.specs.declared.fields.Bit.{Bit}
-use Rattle.dcc_packet.specs.Written.{state_word}
 use Rattle.dcc_packet.proofs.BitLemmas.{is_one-byte_of}
 use Rattle.dcc_regs.specs.declared.loco_state.LocoState.{LocoState}
 use Rattle.dcc_regs.specs.declared.register.Value.{Value}
@@ -26,12 +23,12 @@ use Rattle.dcc_regs.specs.Board.{board_registers}
 use Rattle.dcc_regs.specs.BoardState.{content as board_content}
 use Rattle.dcc_saved.specs.declared.decoder_line.Head.{Head}
 use Rattle.dcc_saved.specs.declared.decoder_line.Numbered.TheVariants as kinds
-use Rattle.dcc_saved.specs.FleetText.{speed_held, forward_held, pending_held, number_held, first_four}
+use Rattle.dcc_saved.specs.FleetText.{speed_held, forward_held, pending_held, number_held, numbers_held, first_four}
 use Rattle.dcc_saved.specs.DecoderLines.{listed}
 use Rattle.dcc_saved.specs.DecoderText.{board_read}
 use Rattle.dcc_saved.specs.ReadBack.{SameRegisters}
 use Rattle.dcc_saved.proofs.CvsBack.{ReadsCvs}
-use Rattle.dcc_saved.proofs.NumbersBack.{ReadsBits}
+use Rattle.dcc_saved.proofs.NumbersBack.{held_are}
 
 -- what a register may hold that is a flag if it is there, and one that never is
 abbrev may_be_flag : Bool → Option Value → Bool
@@ -92,17 +89,16 @@ pub no_state_0 : (address : Option Address) (m : RegisterMap) → IsPossible (wh
 no_state_0 address m possible =
     ap holds_one (sym (flag_is false false (possible.registers (registers.State 0)) (λ there. cc)))
 
-module _ (address : Option Address) (m : RegisterMap) (possible : IsPossible (who.Loco address) m)
-    (functions : ReadsBits kinds.Function m) (states : ReadsBits kinds.State m) {line : List ℕ} {head : Head}
-    (cvs : ReadsCvs (cv_held m) line head) where
+module _ (address : Option Address) (m : RegisterMap) (possible : IsPossible (who.Loco address) m) {head : Head}
+    (cvs : ReadsCvs (cv_held m) head) where
   -- what a locomotive decoder's lines save
   abbrev pub loco_state : LocoState
   loco_state = record {
     address = address;
     speed = speed_held (m registers.Speed);
     forward = forward_held (m registers.Direction);
-    functions = functions.value;
-    states = states.value;
+    functions = numbers_held kinds.Function m;
+    states = numbers_held kinds.State m;
     pending = pending_held (m registers.Pending);
     cvs = cvs.given;
   }
@@ -121,10 +117,10 @@ module _ (address : Option Address) (m : RegisterMap) (possible : IsPossible (wh
   same_loco registers.Pending = (pending_is address (possible.registers registers.Pending)).0
   same_loco (registers.Function n) =
       flag_is (is_function n) _ (possible.registers (registers.Function n))
-      (λ there. functions.bits n (omega (arith, leb-true n 68 there)))
+      (λ there. held_are kinds.Function m n (omega (arith, leb-true n 68 there)))
   same_loco (registers.State n) =
       flag_is (is_binary_state n) _ (possible.registers (registers.State n))
-      (λ there. states.bits n (omega (arith, leb-true n 127 (and_parts (nat_le 1 n) (nat_le n 127) there).1)))
+      (λ there. held_are kinds.State m n (omega (arith, leb-true n 127 (and_parts (nat_le 1 n) (nat_le n 127) there).1)))
   same_loco (registers.CvBit cv place) =
       flag_is _ _ (possible.registers (registers.CvBit cv place)) (same_cv_bit cv place)
   same_loco (registers.Out n) = none_is (possible.registers (registers.Out n))
@@ -149,15 +145,14 @@ sides_of m n = record { one = eqb (positions_of m n) 1 }
 abbrev pub aspects_of : RegisterMap → ℕ → ℕ
 aspects_of m n = number_held (m (registers.Aspect n))
 
--- a side as a number, and as a word
-side_is : (k : ℕ) → k ≤ 1 → ((if eqb k 1 then 1 else 0) ≡ k) × (decimal k ≡ state_word (eqb k 1))
-side_is zero h = (refl, decimal_digit 0 (omega arith))
-side_is (suc zero) h = (refl, decimal_digit 1 (omega arith))
+-- a side as a number
+side_is : (k : ℕ) → k ≤ 1 → (if eqb k 1 then 1 else 0) ≡ k
+side_is zero h = refl
+side_is (suc zero) h = refl
 side_is (suc (suc k)) h = absurd (omega (arith, h))
 
 module _ (board : Board) (m : RegisterMap) (possible : IsPossible (who.Board board) m) where
-  pub side_at : (n : ℕ) → ((if (sides_of m n).one then 1 else 0) ≡ positions_of m n)
-      × (decimal (positions_of m n) ≡ state_word (sides_of m n).one)
+  side_at : (n : ℕ) → (if (sides_of m n).one then 1 else 0) ≡ positions_of m n
   side_at n =
       side_is (positions_of m n)
       (number_is (nat_le n 3) 1 {v = m (registers.Position n)} (possible.registers (registers.Position n))).0
@@ -167,22 +162,21 @@ module _ (board : Board) (m : RegisterMap) (possible : IsPossible (who.Board boa
       let held = number_is (nat_le n 3) 255 {v = m (registers.Aspect n)} (possible.registers (registers.Aspect n)) in
       omega (arith, held.0)
 
-  module _ (outs : ReadsBits kinds.Out m) where
-    abbrev pub board_state : BoardState
-    board_state = board_read board outs.value (first_four (sides_of m)) (first_four (aspects_of m))
+  abbrev pub board_state : BoardState
+  board_state = board_read board (numbers_held kinds.Out m) (first_four (sides_of m)) (first_four (aspects_of m))
 
-    pub same_board : SameRegisters (board_registers (board_content board_state)) m
-    same_board (registers.Out n) =
-        flag_is (nat_le n 7) _ (possible.registers (registers.Out n))
-        (λ there. outs.bits n (omega (arith, leb-true n 7 there)))
-    same_board (registers.Position n) =
-        (number_is (nat_le n 3) 1 (possible.registers (registers.Position n))).1 _
-        (λ there. rw (four_at (λ k. (sides_of m k).one) n false there) (side_at n).0)
-    same_board (registers.Aspect n) =
-        (number_is (nat_le n 3) 255 (possible.registers (registers.Aspect n))).1 _ (four_at (aspects_of m) n 0)
-    same_board registers.Speed = none_is (possible.registers registers.Speed)
-    same_board registers.Direction = none_is (possible.registers registers.Direction)
-    same_board registers.Pending = none_is (possible.registers registers.Pending)
-    same_board (registers.Function n) = none_is (possible.registers (registers.Function n))
-    same_board (registers.State n) = none_is (possible.registers (registers.State n))
-    same_board (registers.CvBit cv place) = none_is (possible.registers (registers.CvBit cv place))
+  pub same_board : SameRegisters (board_registers (board_content board_state)) m
+  same_board (registers.Out n) =
+      flag_is (nat_le n 7) _ (possible.registers (registers.Out n))
+      (λ there. held_are kinds.Out m n (omega (arith, leb-true n 7 there)))
+  same_board (registers.Position n) =
+      (number_is (nat_le n 3) 1 (possible.registers (registers.Position n))).1 _
+      (λ there. rw (four_at (λ k. (sides_of m k).one) n false there) (side_at n))
+  same_board (registers.Aspect n) =
+      (number_is (nat_le n 3) 255 (possible.registers (registers.Aspect n))).1 _ (four_at (aspects_of m) n 0)
+  same_board registers.Speed = none_is (possible.registers registers.Speed)
+  same_board registers.Direction = none_is (possible.registers registers.Direction)
+  same_board registers.Pending = none_is (possible.registers registers.Pending)
+  same_board (registers.Function n) = none_is (possible.registers (registers.Function n))
+  same_board (registers.State n) = none_is (possible.registers (registers.State n))
+  same_board (registers.CvBit cv place) = none_is (possible.registers (registers.CvBit cv place))

@@ -21,16 +21,18 @@ use Rattle.dcc_packet.specs.declared.packet.Packet.TheVariants.{Loco}
 use Rattle.dcc_packet.specs.Rows.{bit, address_bytes, instruction_bytes, loco_bytes}
 use Rattle.dcc_packet.specs.Spelling.{spelling, ValueFits}
 use Rattle.dcc_packet.specs.Values.{cv_of, place_of}
+use Rattle.dcc_packet.specs.Fields.{IsToken}
 use Rattle.dcc_packet.proofs.FrameSpellings.{spellings_are_frames}
 use Rattle.dcc_packet.proofs.OneSpelling.{one_packet}
 use Rattle.dcc_packet.proofs.SameAddresses.{one_short, one_long}
+use Rattle.dcc_packet.proofs.Tokens.{hex_token, keyword_token}
 use Rattle.dcc_packet.proofs.UpTo.{up_to_ok, from_one_to_ok}
 use Rattle.dcc_packet.proofs.WordsBack.{hex_back}
 use Rattle.dcc_regs.specs.Heard.{is_for}
 use Rattle.dcc_regs.specs.Loco.{writes_byte, is_pending_for}
 use Rattle.dcc_regs.specs.Writes.{is_cv_write, is_own_write}
-use Rattle.dcc_saved.specs.DecoderLines.{pending_line}
-use Rattle.dcc_saved.specs.FleetText.{pending_text}
+use Rattle.dcc_saved.specs.DecoderLines.{pending_word, pending_text, pending_field, pending_line}
+use Rattle.dcc_saved.proofs.LinesBack.{IsLineBack, keyed_back}
 use Rattle.dcc_saved.specs.PendingWrite.{cv_named, write_in, with_frame, pending_write}
 
 pub all_three : (a b c : Bool) → (a && b && c) ≡ true → (a ≡ true) × (b ≡ true) × (c ≡ true)
@@ -131,12 +133,23 @@ not_none word long =
     false_from_ne_true (bytes_eq word (codes "none"))
     (λ h. omega (arith, long, ap length ((bytes_eq-Decides word (codes "none")).0 h)))
 
-pub pending_back : (active : Option Address) (pending : Option Packet) → is_pending_for active pending ≡ true
-    → pending_line active (codes "pending" ∷ pending_text pending ∷ []) ≡ Ok pending
-unfolding pending_line
-pending_back active None h = refl
-pending_back active (Some p) h =
+pending_word_back : (active : Option Address) (pending : Option Packet) → is_pending_for active pending ≡ true
+    → (pending_word active (pending_text pending) ≡ Ok pending) × IsToken (pending_text pending)
+pending_word_back active None h = (refl, keyword_token (codes "none") refl)
+pending_word_back active (Some p) h =
     let write = IsWrite-pending active p h in
     let word : List ℕ = encode_lower (spelling p) in
-    let long : 4 < length word = omega (arith, length-encode_with lower_digits (spelling p), write.frame.least) in
-    rw (not_none word long, hex_back (spelling p) write.frame.each write.frame, write.read) refl
+    let long : 4 < length word = omega (arith, length-encode_with lower_digits (spelling p), write.frame.least) in (
+      rw (not_none word long, hex_back (spelling p) write.frame.each write.frame, write.read) refl,
+      hex_token (spelling p) (omega (arith, write.frame.least)) (omega (arith, write.frame.most)),
+    )
+
+-- the line of a pending write
+pub pending_line_back : (active : Option Address) → IsLineBack (pending_line active)
+pending_line_back active =
+    keyed_back (codes "pending") (pending_field active) (keyword_token (codes "pending") refl)
+    (record {
+      back = λ pending rest h. rw (pending_word_back active pending h).0 refl;
+      tokens = λ pending h. ((pending_word_back active pending h).1, tt);
+    })
+    (λ pending h. omega arith)

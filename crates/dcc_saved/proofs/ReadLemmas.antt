@@ -5,7 +5,7 @@ use Rattle.std.proofs.Common.{append_assoc, length-append, ◌⊎◌, inl, inr, 
 use Rattle.std.proofs.lemmas.List.{append-nil}
 use Rattle.dcc_packet.specs.declared.fault.PacketFault.{PacketFault}
 use Rattle.dcc_packet.specs.declared.fault.PacketFault.TheVariants as faults
-use Rattle.dcc_packet.specs.Words.{Word, words}
+use Rattle.dcc_packet.specs.Words.{words}
 use Rattle.dcc_io.specs.declared.fault.KeptFault.{KeptFault}
 use Rattle.dcc_io.specs.declared.fault.KeptFault.TheVariants.{Number, Line, Read, TooMuch}
 use Rattle.dcc_io.specs.KeptAnswers.{KeepsFault}
@@ -15,6 +15,7 @@ use Rattle.dcc_io.specs.InputState.{InputState, all_lines}
 use Rattle.dcc_io.specs.Took.{Uses, Took}
 use Rattle.dcc_io.specs.NextLine.{has_line_feed, lines_within, IsOneLine, EndsLine, IsBadAt}
 use Rattle.dcc_saved.specs.Inner.RequiredLine.{TakesLine}
+use Rattle.dcc_saved.specs.Lines.{LineOf}
 use Rattle.dcc_saved.specs.TextReader.{Text, Stop, Reader, read_on, ◌>>=◌, first_line, behind_line}
 use Rattle.dcc_saved.specs.TextReader.{line_verdict, ended_line, line_by}
 use Rattle.dcc_saved.specs.TextReader.Stop.{cut}
@@ -119,32 +120,32 @@ line-parts (byte ∷ line) rest one =
     let parts = line-parts line rest here.1 in
     rw (here.0, parts.0, parts.1) (refl, refl)
 
-module _ {A : Type 0} (rule : List Word → Result A PacketFault) where
+module _ {A : Type 0} (line_is : LineOf A) where
   -- the front of a line, and what follows it
   line-front : (n : ℕ) (line rest : List ℕ) → IsOneLine line → first_line rest ≡ []
-      → line_by rule (record { line = n; bytes = line ++ rest }) ≡ ended_line rule n line (behind_line rest)
+      → line_by line_is (record { line = n; bytes = line ++ rest }) ≡ ended_line line_is n line (behind_line rest)
   line-front n line rest is_line ends =
       let parts = line-parts line rest is_line.one in rw (parts.0, parts.1, ends, append-nil, is_line.good) refl
 
   -- a line that has not ended
-  line-cut : (n : ℕ) (line : List ℕ) → IsOneLine line → line_by rule (record { line = n; bytes = line }) ≡ Err (cut n)
+  line-cut : (n : ℕ) (line : List ℕ) → IsOneLine line → line_by line_is (record { line = n; bytes = line }) ≡ Err (cut n)
   line-cut n line is_line = rw append-nil at (line-front n line [] is_line refl)
 
   -- a line that is bad from its first bytes on, or none
   missed_text : (old : InputState) (text : List ℕ) → IsBadAt old text ⊎ (text ≡ [])
-      → answer_in (line_by rule) old text ≡ Err (Line old.place.line faults.Word)
+      → answer_in (line_by line_is) old text ≡ Err (Line old.place.line faults.Word)
   missed_text old text (inl bad) =
-      within_limit-front old (answer_at (line_by rule) old) _ text bad.line bad.rest bad.whole bad.within
+      within_limit-front old (answer_at (line_by line_is) old) _ text bad.line bad.rest bad.whole bad.within
       (λ more last. rw ((line-parts bad.line more bad.one).0, bad-more bad.line (first_line more) bad.bad) refl)
   missed_text old text (inr none) = rw (none, zero_fits old.bytes) refl
 
   -- a line that was not taken
   pub line-missed : (old new : InputState) (fault : KeptFault) → TakesLine old (Err fault) new
-      → Answers (line_by rule) old (Err fault) new
+      → Answers (line_by line_is) old (Err fault) new
   line-missed old new (Line n why) h =
       rw (h.0, h.1) ((h.2.failures, if_some_map _ _ old.text (missed_text old) h.2.text), h.2.fault, h.2.lines)
   line-missed old new TooMuch h = (
-    overflows IsOneLine (answer_at (line_by rule) old) (Err TooMuch) old new h.0
+    overflows IsOneLine (answer_at (line_by line_is) old) (Err TooMuch) old new h.0
         (λ used is_line. ap (answer_of (Some TooMuch)) (line-cut old.place.line used is_line)),
     h.1,
     inl h.2,
@@ -157,16 +158,16 @@ module _ {A : Type 0} (rule : List Word → Result A PacketFault) where
   )
   line-missed old new (Number n) h = absurd h
 
-  module _ (blank : rule [] ≡ Err faults.Word) (old mid : InputState) (n : ℕ) (line : List ℕ)
+  module _ (blank : line_is.read [] ≡ Err faults.Word) (old mid : InputState) (n : ℕ) (line : List ℕ)
       (ends : EndsLine old n line mid) where
     -- what is said of the line, whatever follows it
     given : (used more : List ℕ) → IsThrough old mid line used
-        → line_by rule (at old (used ++ more)) ≡ line_verdict old.place.line (rule (words line)) more
+        → line_by line_is (at old (used ++ more)) ≡ line_verdict old.place.line (line_is.read (words line)) more
     given used more through =
         rw (through.0, append_assoc) (line-front old.place.line line (10 ∷ more) ends.is_line refl)
 
     -- a line that has a value
-    pub line-read : (x : A) → Ok x ≡ rule (words line) → Answers (line_by rule) old (Ok x) mid
+    pub line-read : (x : A) → Ok x ≡ line_is.read (words line) → Answers (line_by line_is) old (Ok x) mid
     line-read x is = record {
       took = Took-map (took_line old mid n line ends) (λ used through. record {
         goes_on = λ more. given used more through ∙ rw (← is, ends.next) refl;
@@ -178,7 +179,7 @@ module _ {A : Type 0} (rule : List Word → Result A PacketFault) where
       halves = ends.halves;
     }
       where
-        some_bytes : (front : List ℕ) → Ok x ≡ rule (words front) → 0 < length front
+        some_bytes : (front : List ℕ) → Ok x ≡ line_is.read (words front) → 0 < length front
         some_bytes [] is = cc
         some_bytes (byte ∷ front) is = omega arith
 
@@ -196,14 +197,14 @@ module _ {A : Type 0} (rule : List Word → Result A PacketFault) where
     on_line (Some text) (Some (next ∷ rest)) lines uses = inl lines
 
     -- a line that is refused
-    pub line-refused : (why : PacketFault) (new : InputState) (fault : KeptFault) → Err why ≡ rule (words line)
-        → KeepsFault mid (Line n why) fault new → Answers (line_by rule) old (Err fault) new
+    pub line-refused : (why : PacketFault) (new : InputState) (fault : KeptFault) → Err why ≡ line_is.read (words line)
+        → KeepsFault mid (Line n why) fault new → Answers (line_by line_is) old (Err fault) new
     line-refused why new fault is keeps =
         let took = took_line old mid n line ends in
         rw (keeps.0, keeps.1, ends.at) (
           (
             ends.failures,
-            told_by (line_by rule) old mid (Err (Line old.place.line why)) took
+            told_by (line_by line_is) old mid (Err (Line old.place.line why)) took
                 (λ used more last through. ap (answer_of last) (given used more through) ∙ rw (← is) refl),
           ),
           refl,

@@ -1,24 +1,27 @@
--- The lines of a decoder text: what the words of each say, or the first fault from left to right. Of one
--- word first the number decides, then its range, then its order.
-use Rattle.std.specs.Prelude.{◌≡◌, ℕ, ◌+◌, ◌^◌, ◌==◌, nat_le, nat_lt, true, List, [], ◌∷◌, codes, Option, None, Some}
-use Rattle.std.specs.Prelude.{Result, Ok, Err, if◌then◌else◌}
+-- The lines of a decoder text. Of each: which values it may say; what its words say, or the first fault from left to right,
+-- where of one word first the number decides, then its range, then its order; and which words are written for a value.
+use Rattle.std.specs.Prelude.{◌≡◌, zero, suc, ℕ, ◌+◌, ◌^◌, ◌%◌, ◌<◌, ◌==◌, nat_le, nat_lt, Bool, true, List, [], ◌∷◌, ◌++◌}
+use Rattle.std.specs.Prelude.{codes, Option, None, Some, Result, Ok, Err, if◌then◌else◌}
 use Rattle.std.specs.Fmt.{decimal}
+use Rattle.hex.specs.Hex.{encode_lower}
 use Rattle.dcc_packet.specs.declared.address.Address.{Address}
 use Rattle.dcc_packet.specs.declared.packet.Packet.{Packet}
 use Rattle.dcc_packet.specs.declared.fault.PacketFault.{PacketFault}
 use Rattle.dcc_packet.specs.declared.fault.PacketFault.TheVariants as faults
+use Rattle.dcc_packet.specs.Bits.{is_one}
+use Rattle.dcc_packet.specs.Spelling.{spelling}
 use Rattle.dcc_packet.specs.Words.{Word, is_word}
 use Rattle.dcc_packet.specs.LineWords.{◌>>=◌, small_number, address, cv_number, board_number}
 use Rattle.dcc_packet.specs.LineWords.{output_number, hex_frame}
 use Rattle.dcc_packet.specs.declared.fields.Direction.{Direction}
 use Rattle.dcc_packet.specs.declared.fields.Bit.{Bit}
 use Rattle.dcc_packet.specs.Fields.{FieldOf, one_word, both, whole, word_and_rest, no_more_words}
-use Rattle.dcc_packet.specs.Forms.{FormOf, RowOf, row, whole_by}
+use Rattle.dcc_packet.specs.Forms.{FormOf, RowOf, row, whole_by, written_by}
 use Rattle.dcc_packet.specs.LineFields.{no_fields, direction_field, bit_field, small_field}
 use Rattle.dcc_regs.specs.declared.register.Who.TheVariants as who
 use Rattle.dcc_regs.specs.declared.register.Speed.{Speed}
 use Rattle.dcc_regs.specs.declared.register.Speed.TheVariants as speeds
-use Rattle.dcc_regs.specs.Loco.{is_speed}
+use Rattle.dcc_regs.specs.Loco.{is_speed, is_pending_for}
 use Rattle.dcc_saved.specs.declared.decoder_line.Head.{Head}
 use Rattle.dcc_saved.specs.declared.decoder_line.Head.TheVariants as heads
 use Rattle.dcc_saved.specs.declared.decoder_line.Version.{Version}
@@ -27,8 +30,10 @@ use Rattle.dcc_saved.specs.declared.decoder_line.LocoLine.{LocoLine}
 use Rattle.dcc_saved.specs.declared.decoder_line.LocoLine.TheVariants as behind
 use Rattle.dcc_saved.specs.declared.decoder_line.Numbered.{Numbered}
 use Rattle.dcc_saved.specs.declared.decoder_line.Numbered.TheVariants as kinds
-use Rattle.dcc_saved.specs.Numbered.{name_of}
+use Rattle.dcc_saved.specs.Lines.{LineOf}
+use Rattle.dcc_saved.specs.Numbered.{name_of, end_of}
 use Rattle.dcc_saved.specs.PendingWrite.{pending_write}
+use Rattle.dcc_saved.specs.PossibleLines.{IsPossibleHead, IsSoundLine}
 use Rattle.dcc_saved.specs.declared.decoder_fields.SavedSpeed.{SavedSpeed}
 use Rattle.dcc_packet.specs.LineWords.{address_word}
 use Rattle.dcc_regs.specs.Addresses.{is_active}
@@ -40,10 +45,14 @@ abbrev pub keyword : List ℕ → Word → Result (Unit {0}) PacketFault
 keyword name word = if is_word word name then Ok tt else Err faults.Word
 
 -- a line of this keyword and these fields, with which it ends
-abbrev pub keyed : {A : Type 0} → List ℕ → FieldOf A → List Word → Result A PacketFault
-keyed name field line = do
-  key ← word_and_rest (keyword name) line
-  whole field key.1
+abbrev pub keyed : {A : Type 0} → List ℕ → FieldOf A → LineOf A
+keyed name field = record {
+  Fits = field.Fits;
+  read = λ line. do
+    key ← word_and_rest (keyword name) line
+    whole field key.1;
+  written = λ x. name ∷ field.written x;
+}
 
 -- numbers ascend: each is at least the one after the number before it
 abbrev pub in_order : ℕ → ℕ → Result (Unit {0}) PacketFault
@@ -64,8 +73,8 @@ version_word versions.Two = codes "2"
 abbrev pub version_field : FieldOf Version
 version_field = one_word version_number version_word
 
-abbrev pub version_line : List Word → Result Version PacketFault
-version_line line = keyed (codes "dcc-decoders") version_field line
+abbrev pub version_line : LineOf Version
+version_line = keyed (codes "dcc-decoders") version_field
 
 abbrev pub some_address : Word → Result (Option Address) PacketFault
 some_address word = do
@@ -140,10 +149,13 @@ end_form =
 abbrev pub head_forms : List (RowOf Head)
 head_forms = row own_address_field loco_form ∷ row own_board_field board_form ∷ row no_fields end_form ∷ []
 
+unfoldable pub head_of : List Word → Result Head PacketFault
+head_of [] = Err faults.Word
+head_of (word ∷ rest) = whole_by head_forms word rest
+
 -- loco ADDRESS, board BOARD or end
-unfoldable pub head_line : List Word → Result Head PacketFault
-head_line [] = Err faults.Word
-head_line (word ∷ rest) = whole_by head_forms word rest
+abbrev pub head_line : LineOf Head
+head_line = record { Fits = IsPossibleHead; read = head_of; written = written_by head_forms }
 
 -- a step from 1 to the last one
 abbrev pub step_up_to : ℕ → Word → Result ℕ PacketFault
@@ -192,8 +204,8 @@ speed_field =
     }
 
 -- speed SPEED f|r
-abbrev pub speed_line : List Word → Result (SavedSpeed × Direction) PacketFault
-speed_line line = keyed (codes "speed") (both speed_field direction_field) line
+abbrev pub speed_line : LineOf (SavedSpeed × Direction)
+speed_line = keyed (codes "speed") (both speed_field direction_field)
 
 -- a function of a locomotive decoder, 0 to 68
 abbrev pub function_number : Word → Result ℕ PacketFault
@@ -226,11 +238,23 @@ numbers_from kind least (word ∷ rest) = do
   others ← numbers_from kind (n + 1) rest
   Ok (2 ^ n + others)
 
--- on FUNCTION .., states STATE .. or out OUTPUT ..
-unfoldable pub numbers_line : Numbered → List Word → Result ℕ PacketFault
-numbers_line kind line = do
+-- the numbers below this one that are on, ascending
+unfoldable pub numbers_on : (ℕ → Bool) → ℕ → List Word
+numbers_on on zero = []
+numbers_on on (suc n) = numbers_on on n ++ (if on n then decimal n ∷ [] else [])
+
+unfoldable pub numbers_of : Numbered → List Word → Result ℕ PacketFault
+numbers_of kind line = do
   key ← word_and_rest (keyword (name_of kind)) line
   numbers_from kind 0 key.1
+
+-- on FUNCTION .., states STATE .. or out OUTPUT .., as bits. There is no state 0
+abbrev pub numbers_line : Numbered → LineOf ℕ
+numbers_line kind = record {
+  Fits = λ bits. (bits < 2 ^ end_of kind) × (kind ≡ kinds.State → bits % 2 ≡ 0);
+  read = numbers_of kind;
+  written = λ bits. name_of kind ∷ numbers_on (is_one bits) (end_of kind);
+}
 
 abbrev pub framed_write : Option Address → Word → Result (Option Packet) PacketFault
 framed_write active word = do
@@ -242,13 +266,21 @@ framed_write active word = do
 abbrev pub pending_word : Option Address → Word → Result (Option Packet) PacketFault
 pending_word active word = if is_word word (codes "none") then Ok None else framed_write active word
 
+abbrev pub pending_text : Option Packet → Word
+pending_text None = codes "none"
+pending_text (Some packet) = encode_lower (spelling packet)
+
+-- PACKET, a CV write to this address
+abbrev pub pending_field : Option Address → FieldOf (Option Packet)
+pending_field active = record {
+  Fits = λ pending. is_pending_for active pending ≡ true;
+  read = λ words. word_and_rest (pending_word active) words;
+  written = λ pending. pending_text pending ∷ [];
+}
+
 -- pending PACKET
-unfoldable pub pending_line : Option Address → List Word → Result (Option Packet) PacketFault
-pending_line active line = do
-  key ← word_and_rest (keyword (codes "pending")) line
-  packet ← word_and_rest (pending_word active) key.1
-  end ← no_more_words packet.1
-  Ok packet.0
+abbrev pub pending_line : Option Address → LineOf (Option Packet)
+pending_line active = keyed (codes "pending") (pending_field active)
 
 -- CV VALUE, the CV not below this one
 abbrev pub cv_words : ℕ → List Word → Result LocoLine PacketFault
@@ -267,10 +299,20 @@ head_behind word rest = do
 abbrev pub loco_line_after : ℕ → Word → List Word → Result LocoLine PacketFault
 loco_line_after least word rest = if is_word word (codes "cv") then cv_words least rest else head_behind word rest
 
+unfoldable pub loco_line_of : ℕ → List Word → Result LocoLine PacketFault
+loco_line_of least [] = Err faults.Word
+loco_line_of least (word ∷ rest) = loco_line_after least word rest
+
+abbrev pub cv_written : ℕ → ℕ → List Word
+cv_written cv value = codes "cv" ∷ decimal cv ∷ decimal value ∷ []
+
+abbrev pub loco_line_written : LocoLine → List Word
+loco_line_written (behind.Cv cv value) = cv_written cv.number value
+loco_line_written (behind.Head head) = written_by head_forms head
+
 -- cv CV VALUE, or what stands behind the CVs
-unfoldable pub loco_line : ℕ → List Word → Result LocoLine PacketFault
-loco_line least [] = Err faults.Word
-loco_line least (word ∷ rest) = loco_line_after least word rest
+abbrev pub loco_line : ℕ → LineOf LocoLine
+loco_line least = record { Fits = IsSoundLine least; read = loco_line_of least; written = loco_line_written }
 
 -- four fields of a kind
 abbrev pub Four : Type 0 → Type 0
@@ -283,9 +325,9 @@ abbrev pub listed : {A : Type 0} → Four A → List A
 listed x = x.0 ∷ x.1.0 ∷ x.1.1.0 ∷ x.1.1.1 ∷ []
 
 -- position SIDE SIDE SIDE SIDE
-abbrev pub positions_line : List Word → Result (Four Bit) PacketFault
-positions_line line = keyed (codes "position") (four bit_field) line
+abbrev pub positions_line : LineOf (Four Bit)
+positions_line = keyed (codes "position") (four bit_field)
 
 -- aspect ASPECT ASPECT ASPECT ASPECT
-abbrev pub aspects_line : List Word → Result (Four ℕ) PacketFault
-aspects_line line = keyed (codes "aspect") (four small_field) line
+abbrev pub aspects_line : LineOf (Four ℕ)
+aspects_line = keyed (codes "aspect") (four small_field)

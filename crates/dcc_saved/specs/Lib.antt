@@ -1,3 +1,4 @@
+pub mod Lines
 pub mod PendingWrite
 pub mod Numbered
 pub mod DecoderLines

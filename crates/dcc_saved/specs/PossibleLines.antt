@@ -1,5 +1,5 @@
 -- What the lines of a decoder text can say.
-use Rattle.std.specs.Prelude.{◌≡◌, ◌≤◌, ℕ, Bool, true, nat_le}
+use Rattle.std.specs.Prelude.{◌≡◌, ◌<◌, ◌≤◌, ℕ, Bool, true, nat_le}
 use Rattle.dcc_regs.specs.LocoState.{is_state}
 use Rattle.dcc_regs.specs.Possible.{is_decoder}
 use Rattle.dcc_saved.specs.declared.saved.Saved.{Saved}
@@ -19,7 +19,7 @@ abbrev pub IsPossibleHead : Head → Type 0
 IsPossibleHead (heads.Decoder who) = is_decoder who ≡ true
 IsPossibleHead heads.End = Unit {0}
 
--- CVs ascend, and behind them stands such a line
+-- CVs ascend and are bytes, and behind them stands such a line
 abbrev pub IsSoundLine : ℕ → LocoLine → Type 0
-IsSoundLine least (behind.Cv cv value) = least ≤ cv.number
+IsSoundLine least (behind.Cv cv value) = (least ≤ cv.number) × (value < 256)
 IsSoundLine least (behind.Head head) = IsPossibleHead head

@@ -2,8 +2,9 @@
 use Rattle.std.specs.Prelude.{ℕ, ◌+◌, ◌==◌, List, [], ◌∷◌, Option, None, Some, Result, Ok, Err, if◌then◌else◌}
 use Rattle.dcc_packet.specs.declared.fault.PacketFault.{PacketFault}
 use Rattle.dcc_packet.specs.declared.fault.PacketFault.TheVariants as faults
-use Rattle.dcc_packet.specs.Words.{Word, words}
+use Rattle.dcc_packet.specs.Words.{words}
 use Rattle.dcc_io.specs.NumberedLines.{is_good}
+use Rattle.dcc_saved.specs.Lines.{LineOf}
 
 -- a text from this line on
 pub record Text : Type 0 where
@@ -48,18 +49,17 @@ abbrev pub behind_line : List ℕ → Option (List ℕ)
 behind_line [] = None
 behind_line (byte ∷ text) = if byte == 10 then Some text else behind_line text
 
--- what a rule says of the words of a line, and the text after it
+-- what the words of a line say, and the text after it
 abbrev pub line_verdict : {A : Type 0} → ℕ → Result A PacketFault → List ℕ → Result (A × Text) Stop
 line_verdict n (Ok x) rest = Ok (x, record { line = n + 1; bytes = rest })
 line_verdict n (Err fault) rest = Err (refused n fault)
 
-abbrev pub ended_line : {A : Type 0} → (List Word → Result A PacketFault) → ℕ → List ℕ → Option (List ℕ)
-    → Result (A × Text) Stop
-ended_line rule n line None = Err (cut n)
-ended_line rule n line (Some rest) = line_verdict n (rule (words line)) rest
+abbrev pub ended_line : {A : Type 0} → LineOf A → ℕ → List ℕ → Option (List ℕ) → Result (A × Text) Stop
+ended_line line n bytes None = Err (cut n)
+ended_line line n bytes (Some rest) = line_verdict n (line.read (words bytes)) rest
 
--- a line that is read by a rule
-abbrev pub line_by : {A : Type 0} → (List Word → Result A PacketFault) → Reader A
-line_by rule text =
-    if is_good (first_line text.bytes) then ended_line rule text.line (first_line text.bytes) (behind_line text.bytes)
+-- this line
+abbrev pub line_by : {A : Type 0} → LineOf A → Reader A
+line_by line text =
+    if is_good (first_line text.bytes) then ended_line line text.line (first_line text.bytes) (behind_line text.bytes)
     else Err (refused text.line faults.Word)

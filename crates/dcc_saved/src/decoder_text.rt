@@ -6,20 +6,16 @@ ghost use Rattle.dcc_regs.specs.Possible.{is_decoder};
 ghost use Rattle.dcc_saved.specs.Inner.RequiredLine.{TakesLine};
 ghost use Rattle.dcc_saved.specs.TextReader.{line_by};
 ghost use Rattle.dcc_saved.specs.TextRead.{Answers};
-ghost use Rattle.dcc_saved.specs.DecoderLines.{version_line, head_line, keyed};
 ghost use Rattle.dcc_saved.specs.DecoderText.{board_lines, cvs_lines, decoder_lines, loco_lines, states_by};
 ghost use Rattle.dcc_saved.specs.PossibleLines.{IsPossibleHead, is_possible};
 
-use crate::decoder_fields::SavedSpeed;
-use crate::decoder_line::{Four, Head, LocoLine, Numbered, Version};
-use crate::line_rule::{CvLine, HeadLine, Keyed, LineRule, PendingLine};
+use crate::decoder_line::{Head, LocoLine, Numbered, Version};
 use crate::saved::Saved;
+use crate::saved_line::{ASPECTS, CvLine, HeadLine, POSITIONS, PendingLine, SPEED, SavedLine};
 use dcc_io::inputs::{line_of_next_byte, next_line, refuse_line};
 use dcc_io::{Input, KeptFault, Source, TextLine};
-use dcc_packet::field::Field;
-use dcc_packet::{Address, Bit, Board, Direction, PacketFault};
+use dcc_packet::{Address, Board, PacketFault};
 use dcc_regs::{BoardState, LocoState, Who};
-use std::marker::PhantomData;
 
 /// The next line. Where there is none, the line behind the last is out of place.
 fn line_in_place<R: Source>(input: &mut Input<R>) -> Result<TextLine, KeptFault>
@@ -35,47 +31,20 @@ fn line_in_place<R: Source>(input: &mut Input<R>) -> Result<TextLine, KeptFault>
     }
 }
 
-/// What the next line says by its rule. Its fault is kept.
-fn read_line<R: Source, L: LineRule>(input: &mut Input<R>, rule: L) -> Result<L::Value, KeptFault>
-    requires { input.old.fault ≡ None }
-    ensures reads { Answers (line_by (L.rule rule)) input.old result input.new }
-    ensures holds { IfOk result (L.Holds rule) }
-{
-    let line = line_in_place(input)?;
-    match rule.read(line.text.as_bytes()) {
-        Ok(value) => Ok(value),
-        Err(fault) => Err(refuse_line(input, line.number, fault)),
-    }
-}
-
-/// The fields of the line that begins with this word.
-fn read_keyed<R: Source, F: Field + Copy>(
+/// What the next line says. Its fault is kept.
+pub(crate) fn read_line<R: Source, L: SavedLine>(
     input: &mut Input<R>,
-    name: &'static [u8],
-) -> Result<F, KeptFault>
+    line: L,
+) -> Result<L::Value, KeptFault>
     requires { input.old.fault ≡ None }
-    ensures reads { Answers (line_by (keyed name.now F.field)) input.old result input.new }
-    ensures fits { IfOk result F.field.Fits }
+    ensures reads { Answers (line_by (L.line line)) input.old result input.new }
+    ensures fits { IfOk result (L.line line).Fits }
 {
-    let fields = PhantomData;
-    read_line(input, Keyed { name, fields })
-}
-
-/// The line that begins the text.
-pub(crate) fn read_version<R: Source>(input: &mut Input<R>) -> Result<Version, KeptFault>
-    requires { input.old.fault ≡ None }
-    ensures { Answers (line_by version_line) input.old result input.new }
-{
-    read_keyed(input, b"dcc-decoders")
-}
-
-/// The line that begins a decoder, or the last line.
-pub(crate) fn read_head<R: Source>(input: &mut Input<R>) -> Result<Head, KeptFault>
-    requires { input.old.fault ≡ None }
-    ensures reads { Answers (line_by head_line) input.old result input.new }
-    ensures possible { IfOk result IsPossibleHead }
-{
-    read_line(input, HeadLine)
+    let taken = line_in_place(input)?;
+    match line.read(taken.text.as_bytes()) {
+        Ok(value) => Ok(value),
+        Err(fault) => Err(refuse_line(input, taken.number, fault)),
+    }
 }
 
 /// The binary states that are on. Version 1 has no line of them.
@@ -121,7 +90,7 @@ fn read_loco<R: Source>(
     ensures reads { Answers (loco_lines version address) input.old result input.new }
     ensures possible { IfOk result (λ read. (is_possible read.0 ≡ true) × IsPossibleHead read.1) }
 {
-    let (saved, direction): (SavedSpeed, Direction) = read_keyed(input, b"speed")?;
+    let (saved, direction) = read_line(input, SPEED)?;
     let functions = read_line(input, Numbered::Function)?;
     let states = states_of(input, version)?;
     let pending = read_line(input, PendingLine { address })?;
@@ -146,9 +115,9 @@ fn read_board<R: Source>(input: &mut Input<R>, board: Board) -> Result<(Saved, H
     ensures possible { IfOk result (λ read. (is_possible read.0 ≡ true) × IsPossibleHead read.1) }
 {
     let outs = read_line(input, Numbered::Out)?;
-    let positions: Four<Bit> = read_keyed(input, b"position")?;
-    let aspects: Four<u8> = read_keyed(input, b"aspect")?;
-    let head = read_head(input)?;
+    let positions = read_line(input, POSITIONS)?;
+    let aspects = read_line(input, ASPECTS)?;
+    let head = read_line(input, HeadLine)?;
     let state = BoardState {
         board,
         outs: outs as u8,

@@ -1,26 +1,22 @@
 //! The words of the lines of a decoder text.
 ghost use Rattle.std.specs.Prelude.{◌≡◌, ◌+◌, ◌^◌, ◌%◌, ◌≤◌, ◌<◌, ◌&&◌, Some, true, IfOk, OnOk};
-ghost use Rattle.dcc_packet.specs.Forms.{whole_by};
-ghost use Rattle.dcc_packet.specs.Words.{words};
 ghost use Rattle.dcc_regs.specs.declared.register.Who.TheVariants.{Loco as LocoWho};
 ghost use Rattle.dcc_regs.specs.Addresses.{is_active};
 ghost use Rattle.dcc_regs.specs.Heard.{hears as hears_packet};
 ghost use Rattle.dcc_regs.specs.Loco.{is_speed, is_byte_write, is_pending_for};
 ghost use Rattle.dcc_regs.specs.Writes.{is_own_write};
 ghost use Rattle.dcc_saved.specs.DecoderLines.{in_order, version_number, own_address};
-ghost use Rattle.dcc_saved.specs.DecoderLines.{head_forms, step_up_to};
+ghost use Rattle.dcc_saved.specs.DecoderLines.{step_up_to};
 ghost use Rattle.dcc_saved.specs.DecoderLines.{speed_of, speed_after, function_number, binary_state};
 ghost use Rattle.dcc_saved.specs.DecoderLines.{number_of, numbers_from, pending_word};
-ghost use Rattle.dcc_saved.specs.DecoderLines.{cv_words, loco_line_after};
+ghost use Rattle.dcc_saved.specs.DecoderLines.{cv_words};
 ghost use Rattle.dcc_saved.specs.Numbered.{end_of};
 ghost use Rattle.dcc_saved.specs.Inner.DecoderWords.{TakesKeyword, TakesSpeed};
 ghost use Rattle.dcc_packet.specs.Fields.{word_and_rest, Gives};
 ghost use Rattle.dcc_saved.specs.PendingWrite.{pending_write};
-ghost use Rattle.dcc_saved.specs.PossibleLines.{IsPossibleHead, IsSoundLine};
+ghost use Rattle.dcc_saved.specs.PossibleLines.{IsSoundLine};
 
-use crate::decoder_line::{Head, LocoLine, Numbered, Version};
-use crate::head_forms::HeadForms;
-use dcc_packet::form::Forms;
+use crate::decoder_line::{LocoLine, Numbered, Version};
 use dcc_packet::line_word::{address, cv_number, hex_frame, output_number};
 use dcc_packet::numeral::small_number;
 use dcc_packet::words::Words;
@@ -75,16 +71,6 @@ pub fn own_address(word: &[u8]) -> Result<Option<Address>, PacketFault>
     } else {
         Ok(Some(address(word)?))
     }
-}
-
-/// The line that begins with this word.
-pub(crate) fn head_after(word: &[u8], rest: &mut Words) -> Result<Head, PacketFault>
-    ensures is { result ≡ whole_by head_forms word.now rest.old }
-    ensures possible { IfOk result IsPossibleHead }
-{
-    let head = <HeadForms as Forms<Head>>::take(word, rest)?;
-    rest.end()?;
-    Ok(head)
 }
 
 /// A step from 1 to the last one.
@@ -232,7 +218,8 @@ pub(crate) fn pending_word(
     Ok(Some(pending_write(active, &frame)?))
 }
 
-fn cv_words(words: &mut Words, least: u16) -> Result<LocoLine, PacketFault>
+/// `CV VALUE`, the CV not below this one.
+pub(crate) fn cv_words(words: &mut Words, least: u16) -> Result<LocoLine, PacketFault>
     ensures is { result ≡ cv_words least words.old }
     ensures sound { IfOk result (IsSoundLine least) }
 {
@@ -241,19 +228,4 @@ fn cv_words(words: &mut Words, least: u16) -> Result<LocoLine, PacketFault>
     let value = words.word().and_then(small_number)?;
     words.end()?;
     Ok(LocoLine::Cv { cv, value })
-}
-
-pub(crate) fn loco_line_after(
-    word: &[u8],
-    rest: &mut Words,
-    least: u16,
-) -> Result<LocoLine, PacketFault>
-    ensures is { result ≡ loco_line_after least word.now rest.old }
-    ensures sound { IfOk result (IsSoundLine least) }
-{
-    if word == b"cv".as_slice() {
-        cv_words(rest, least)
-    } else {
-        Ok(LocoLine::Head(head_after(word, rest)?))
-    }
 }

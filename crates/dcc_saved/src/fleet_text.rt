@@ -1,12 +1,14 @@
 //! The decoder text of a fleet.
-ghost use Rattle.std.specs.Prelude.{◌≡◌, ◌==◌, ◌++◌, [], map, if◌then◌else◌};
+ghost use Rattle.std.specs.Prelude.{◌≡◌, ◌≤◌, ◌==◌, ◌++◌, [], map, if◌then◌else◌};
 ghost use Rattle.dcc_regs.specs.Loco.{cv_held};
 ghost use Rattle.dcc_io.specs.WrittenBytes.{Writes};
 ghost use Rattle.dcc_saved.specs.FleetText.{cv_line, cvs_text, written_decoder, fleet_text};
 
-use crate::decoder_line::Head;
-use crate::decoder_rows::{board_rows, cv_line, head_row, loco_front};
+use crate::decoder_line::{Head, LocoLine, Version};
+use crate::decoder_rows::{board_rows, loco_front};
+use crate::saved_line::{CvLine, HeadLine, VERSION, row};
 use dcc_io::{Failed, Sink, write_all};
+use dcc_packet::CvNumber;
 use dcc_regs::{Decoder, Who};
 
 /// Writes the decoder text of the fleet, version 2, in its order: the line that begins it, the lines of each decoder, and
@@ -16,11 +18,11 @@ pub fn write_fleet<W: Sink>(decoders: &[Box<dyn Decoder>], writer: &mut W) -> Re
         (fleet_text (map (λ decoder. (who decoder, registers decoder)) decoders.now)) result
         (W.state writer.new) }
 {
-    write_all(writer, b"dcc-decoders 2\n")?;
+    write_all(writer, row(VERSION, Version::Two).as_slice())?;
     for decoder in decoders {
         write_decoder(&**decoder, writer)?;
     }
-    write_all(writer, head_row(&Head::End).as_slice())
+    write_all(writer, row(HeadLine, Head::End).as_slice())
 }
 
 /// Writes the lines of a decoder.
@@ -50,10 +52,14 @@ fn write_cvs<W: Sink>(front: &[u8], decoder: &dyn Decoder, writer: &mut W) -> Re
 
 /// Writes the line of a CV, where it is not 0.
 fn write_cv<W: Sink>(cv: u16, value: u8, writer: &mut W) -> Result<(), Failed>
+    requires { (1 ≤ cv) × (cv ≤ 1024) }
     ensures { Writes (W.state writer.old) (if value == 0 then [] else cv_line cv value) result (W.state writer.new) }
 {
-    if value == 0 {
-        return Ok(());
+    match CvNumber::new(cv) {
+        Ok(cv) if value != 0 => {
+            let line = row(CvLine { least: 1 }, LocoLine::Cv { cv, value });
+            write_all(writer, line.as_slice())
+        }
+        _ => Ok(()),
     }
-    write_all(writer, cv_line(cv, value).as_slice())
 }

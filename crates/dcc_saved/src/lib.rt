@@ -9,9 +9,9 @@ mod decoder_words;
 mod fleet_text;
 mod head_forms;
 pub mod laws;
-mod line_rule;
 mod saved;
 mod saved_decoders;
+mod saved_line;
 mod who_word;
 
 pub use fleet_text::write_fleet;

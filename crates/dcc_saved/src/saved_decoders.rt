@@ -9,8 +9,9 @@ ghost use Rattle.dcc_saved.specs.TextRead.{Answers, UsedWholeLines};
 ghost use Rattle.dcc_saved.specs.TextReadOrNoMemory.{ReadFails};
 
 use crate::decoder_line::Head;
-use crate::decoder_text::{read_decoder, read_head, read_version};
+use crate::decoder_text::{read_decoder, read_line};
 use crate::saved::Saved;
+use crate::saved_line::{HeadLine, VERSION};
 use dcc_io::inputs::refuse_too_much;
 use dcc_io::{Input, KeptFault, Source, ToolFault};
 use std::alloc::Global;
@@ -64,8 +65,8 @@ fn fill<R: Source>(mut decoders: Vec<Saved>, input: &mut Input<R>) -> Result<Vec
     ensures lines { IfOk result (λ decoders. UsedWholeLines input.old input.new) }
     ensures possible { IfOk result (λ decoders. All (λ decoder. is_possible decoder ≡ true) decoders.items) }
 {
-    let version = read_version(input)?;
-    let mut head = read_head(input)?;
+    let version = read_line(input, VERSION)?;
+    let mut head = read_line(input, HeadLine)?;
     'decoders: loop {
         match head {
             Head::Decoder(who) => {

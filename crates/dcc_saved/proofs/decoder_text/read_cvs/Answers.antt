@@ -19,10 +19,10 @@ pub cvs-preserved : goal.cvs-preserved
 cvs-preserved g c =
     let read = rw c.in-Cv.is at c.in_ok-cv.ensures in
     let some : c.cvs.invariant.more ≡ suc (c.cvs.invariant.more - 1) =
-    omega (arith, c.cvs.invariant, read.holds, c.in-Cv.cv.in_range) in
+    omega (arith, c.cvs.invariant, read.fits.0, c.in-Cv.cv.in_range) in
     rw (c.number-least.ensures.value, c.number.ensures.value) record {
       more = c.cvs.invariant.more - 1;
-      room = omega (arith, c.cvs.invariant, read.holds);
+      room = omega (arith, c.cvs.invariant, read.fits.0);
       first = omega arith;
       last = omega (arith, c.in-Cv.cv.in_range);
       leads = rw some at (Leads-then (line_by (loco_line c.cvs.least)) _ c.cvs.invariant.leads read.reads);

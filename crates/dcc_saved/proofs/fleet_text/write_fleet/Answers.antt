@@ -4,8 +4,9 @@ use Rattle.dcc_saved.proofs.fleet_text.write_fleet.Goals as goal
 
 pub returns-in_err-write_all : goal.returns-in_err-write_all
 returns-in_err-write_all g c =
+    let wrote = rw (c.as_slice.ensures.value, c.row.ensures.items) at c.in_err-write_all.ensures in
     Writes-stopped _ (codes "dcc-decoders 2\n") _ c.from_residual.result _ c.from_residual.ensures.0 (Wrote-nothing _ _)
-    refl c.in_err-write_all.ensures
+    refl wrote
 
 pub returns-in_err-write_decoder : goal.returns-in_err-write_decoder
 returns-in_err-write_decoder g c =
@@ -14,7 +15,9 @@ returns-in_err-write_decoder g c =
     c.loop-decoder.invariant (texts_next _ _ _ c.decoder-item.result c.loop-decoder-test.true c.decoder-item.is) wrote
 
 pub loop-decoder-init : goal.loop-decoder-init
-loop-decoder-init g c = Wrote-more (codes "dcc-decoders 2\n") (Wrote-nothing _ _) refl c.in_ok-write_all.ensures
+loop-decoder-init g c =
+    let wrote = rw (c.as_slice.ensures.value, c.row.ensures.items) at c.in_ok-write_all.ensures in
+    Wrote-more (codes "dcc-decoders 2\n") (Wrote-nothing _ _) refl wrote
 
 pub loop-decoder-preserved : goal.loop-decoder-preserved
 loop-decoder-preserved g c =
@@ -24,6 +27,6 @@ loop-decoder-preserved g c =
 
 pub returns : goal.returns
 returns g c =
-    let wrote = rw (c.as_slice.ensures.value, c.head_row.ensures.items) at c.write_all-2.ensures in
+    let wrote = rw (c.as_slice-2.ensures.value, c.row-2.ensures.items) at c.write_all-2.ensures in
     Writes-last _ _ c.write_all-2.result c.loop-decoder.invariant
     (texts_none _ _ c.loop-decoder.decoder-index c.loop-decoder-test.false) wrote

@@ -6,7 +6,7 @@ use Rattle.dcc_packet.specs.Words.{Word, is_word}
 use Rattle.dcc_saved.specs.declared.decoder_line.Head.{Head}
 use Rattle.dcc_saved.specs.DecoderLines.{head_forms}
 use Rattle.dcc_saved.specs.PossibleLines.{IsPossibleHead}
-use Rattle.dcc_saved.proofs.decoder_words.head_after.Goals as goal
+use Rattle.dcc_saved.proofs.saved_line.HeadLineSavedLine.read.Goals as goal
 
 -- what such a line says may be
 is_possible : (word : Word) (ws rest : List Word) (head : Head) → read_by head_forms word ws ≡ Ok (head, rest)
@@ -16,5 +16,5 @@ is_possible word ws rest head is = elim (cases_Bool (is_word word (codes "loco")
   | inr e ↦ grind (arith, common_steps)
 ]
 
-pub returns-clause-possible : goal.returns-clause-possible
-returns-clause-possible c = is_possible c.args.word.now c.args.rest.now _ _ c.in_ok-head.ensures.is
+pub returns-clause-fits : goal.returns-clause-fits
+returns-clause-fits c = is_possible c.in_ok-word.word.now c.word.new.self _ _ c.in_ok-head.ensures.is
