@@ -1,6 +1,6 @@
 -- The lines of a decoder text. Of each: which values it may say; what its words say, or the first fault from left to right,
 -- where of one word first the number decides, then its range, then its order; and which words are written for a value.
-use Rattle.std.specs.Prelude.{◌≡◌, zero, suc, ℕ, ◌+◌, ◌^◌, ◌%◌, ◌<◌, ◌==◌, nat_le, nat_lt, Bool, true, List, [], ◌∷◌, ◌++◌}
+use Rattle.std.specs.Prelude.{◌≡◌, zero, suc, ℕ, ◌+◌, ◌^◌, ◌/◌, ◌%◌, ◌<◌, ◌==◌, nat_le, nat_lt, true, List, [], ◌∷◌, ◌++◌}
 use Rattle.std.specs.Prelude.{codes, Option, None, Some, Result, Ok, Err, if◌then◌else◌}
 use Rattle.std.specs.Fmt.{decimal}
 use Rattle.hex.specs.Hex.{encode_lower}
@@ -238,10 +238,11 @@ numbers_from kind least (word ∷ rest) = do
   others ← numbers_from kind (n + 1) rest
   Ok (2 ^ n + others)
 
--- the numbers below this one that are on, ascending
-unfoldable pub numbers_on : (ℕ → Bool) → ℕ → List Word
-numbers_on on zero = []
-numbers_on on (suc n) = numbers_on on n ++ (if on n then decimal n ∷ [] else [])
+-- of so many numbers from this one on those whose bits are one, the lowest bit first
+unfoldable pub numbers_on : ℕ → ℕ → ℕ → List Word
+numbers_on n zero bits = []
+numbers_on n (suc more) bits =
+    (if is_one bits 0 then decimal n ∷ [] else []) ++ numbers_on (n + 1) more (bits / 2)
 
 unfoldable pub numbers_of : Numbered → List Word → Result ℕ PacketFault
 numbers_of kind line = do
@@ -253,7 +254,7 @@ abbrev pub numbers_line : Numbered → LineOf ℕ
 numbers_line kind = record {
   Fits = λ bits. (bits < 2 ^ end_of kind) × (kind ≡ kinds.State → bits % 2 ≡ 0);
   read = numbers_of kind;
-  written = λ bits. name_of kind ∷ numbers_on (is_one bits) (end_of kind);
+  written = λ bits. name_of kind ∷ numbers_on 0 (end_of kind) bits;
 }
 
 abbrev pub framed_write : Option Address → Word → Result (Option Packet) PacketFault

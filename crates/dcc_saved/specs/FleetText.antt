@@ -1,5 +1,5 @@
 -- The decoder text that is written for a fleet, from who each decoder is and what its registers hold.
-use Rattle.std.specs.Prelude.{zero, suc, ℕ, ◌+◌, ◌*◌, ◌==◌, Bool, true, List, [], ◌++◌, codes, Option, None, Some}
+use Rattle.std.specs.Prelude.{zero, suc, ℕ, ◌+◌, ◌^◌, ◌==◌, Bool, true, List, [], ◌++◌, codes, Option, None, Some}
 use Rattle.std.specs.Prelude.{if◌then◌else◌}
 use Rattle.std.specs.List.{flat_map}
 use Rattle.dcc_packet.specs.declared.address.Address.{Address}
@@ -40,10 +40,10 @@ abbrev pub number_held : Option Value → ℕ
 number_held (Some (values.Number n)) = n
 number_held held = 0
 
--- those of the first n that are on, as bits, the lowest first
+-- the numbers below this one that are on, as bits
 unfoldable pub bits_on : (ℕ → Bool) → ℕ → ℕ
 bits_on on zero = 0
-bits_on on (suc n) = (if on 0 then 1 else 0) + 2 * bits_on (λ k. on (suc k)) n
+bits_on on (suc n) = (if on n then 2 ^ n else 0) + bits_on on n
 
 -- which registers of a kind are on, as bits
 abbrev pub numbers_held : Numbered → RegisterMap → ℕ
