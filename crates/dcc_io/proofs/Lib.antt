@@ -16,3 +16,4 @@ pub mod LineCounts
 pub mod DecimalLemmas
 pub mod CallLemmas
 pub mod NumberWords
+pub mod SendBack

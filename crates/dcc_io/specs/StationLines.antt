@@ -1,11 +1,15 @@
 -- The lines that `encode` reads for a station, and what they ask of it.
-use Rattle.std.specs.Prelude.{ℕ, ◌&&◌, nat_le, List, [], ◌∷◌, replicate, codes, Result, Ok, Err, if◌then◌else◌}
+use Rattle.std.specs.Prelude.{◌≡◌, ℕ, ◌&&◌, nat_le, Bool, true, List, [], ◌∷◌, replicate, codes, Result, Ok, Err}
+use Rattle.std.specs.Prelude.{if◌then◌else◌}
+use Rattle.std.specs.Fmt.{decimal}
 use Rattle.dcc_packet.specs.declared.fault.PacketFault.{PacketFault}
 use Rattle.dcc_packet.specs.declared.fault.PacketFault.TheVariants as faults
 use Rattle.dcc_packet.specs.Spelling.{spelling}
 use Rattle.dcc_packet.specs.Words.{Word, is_word}
 use Rattle.dcc_packet.specs.LineWords.{◌>>=◌, number}
-use Rattle.dcc_packet.specs.Line.{word_and_rest, no_more_words, frame_of_words}
+use Rattle.dcc_packet.specs.Fields.{FieldOf, word_and_rest, whole}
+use Rattle.dcc_packet.specs.Line.{frame_of_words}
+use Rattle.dcc_io.specs.declared.station_line.SendCount.{SendCount}
 use Rattle.dcc_io.specs.declared.station_line.StationLine.{StationLine}
 use Rattle.dcc_io.specs.declared.station_line.StationLine.TheVariants as lines
 use Rattle.dcc_io.specs.Items.{Grammar}
@@ -16,18 +20,23 @@ pub data Asked : Type 0 where
   Command : List ℕ → Asked
   Next : Asked
 
--- how many packets are sent: 1 to 1000
-abbrev pub send_count : Word → Result ℕ PacketFault
+-- 1 to 1000
+abbrev pub is_send_count : ℕ → Bool
+is_send_count n = nat_le 1 n && nat_le n 1000
+
+abbrev pub send_count : Word → Result SendCount PacketFault
 send_count word = do
   n ← number word
-  if nat_le 1 n && nat_le n 1000 then Ok n else Err faults.Number
+  if is_send_count n then Ok (record { count = n }) else Err faults.Number
 
--- the words after `send`
-unfoldable pub send : List Word → Result ℕ PacketFault
-send words = do
-  n ← word_and_rest send_count words
-  end ← no_more_words n.1
-  Ok n.0
+-- N of `send N`
+abbrev pub send_field : FieldOf SendCount
+send_field =
+    record {
+      Fits = λ send. is_send_count send.count ≡ true;
+      read = λ words. word_and_rest send_count words;
+      written = λ send. decimal send.count ∷ [];
+    }
 
 -- a packet line is one command
 abbrev pub command_of : Result (List ℕ) PacketFault → Result (List Asked) PacketFault
@@ -35,15 +44,15 @@ command_of (Ok frame) = Ok (Command frame ∷ [])
 command_of (Err fault) = Err fault
 
 -- `send` asks for so many packets
-abbrev pub packets_of : Result ℕ PacketFault → Result (List Asked) PacketFault
-packets_of (Ok n) = Ok (replicate n Next)
+abbrev pub packets_of : Result SendCount PacketFault → Result (List Asked) PacketFault
+packets_of (Ok send) = Ok (replicate send.count Next)
 packets_of (Err fault) = Err fault
 
 -- what a line's words ask for: `send N`, or a packet line
 unfoldable pub station_requests : List Word → Result (List Asked) PacketFault
 station_requests [] = command_of (frame_of_words [])
 station_requests (word ∷ rest) =
-    if is_word word (codes "send") then packets_of (send rest) else command_of (frame_of_words (word ∷ rest))
+    if is_word word (codes "send") then packets_of (whole send_field rest) else command_of (frame_of_words (word ∷ rest))
 
 abbrev pub station_words : Saying Asked (List Asked)
 station_words = record { said = station_requests; items = λ items. items }

@@ -1,9 +1,9 @@
 //! The lines that a station is driven by.
-ghost use Rattle.std.specs.Prelude.{◌≡◌, List};
-ghost use Rattle.dcc_io.specs.StationLines.{Asked, asked_by, send, send_count, station_words};
+ghost use Rattle.std.specs.Prelude.{List};
+ghost use Rattle.dcc_io.specs.StationLines.{Asked, asked_by, send_field, station_words};
 
 use crate::said_line::SaidLine;
-use dcc_packet::numeral::number;
+use dcc_packet::field::{Field, Line};
 use dcc_packet::words::Words;
 use dcc_packet::{Packet, PacketFault};
 
@@ -33,7 +33,8 @@ impl SaidLine for StationLine {
         match words.next() {
             Some(word) => {
                 if word == b"send".as_slice() {
-                    return Ok(StationLine::Send(send(&mut words)?));
+                    let send: SendCount = words.fields()?;
+                    return Ok(StationLine::Send(send.count));
                 }
             }
             None => (),
@@ -42,24 +43,31 @@ impl SaidLine for StationLine {
     }
 }
 
-/// The words after `send`.
-#[tactic(auto, unfolding(crate::specs::StationLines::send))]
-fn send(words: &mut Words) -> Result<u16, PacketFault>
-    ensures { result ≡ send words.old }
-{
-    let count = words.word().and_then(send_count)?;
-    words.end()?;
-    Ok(count)
+/// How many packets a line asks a station to send.
+#[derive(Clone, Copy)]
+pub struct SendCount {
+    /// The number, 1 to 1000.
+    pub count: u16,
 }
 
-/// How many packets are sent.
-fn send_count(word: &[u8]) -> Result<u16, PacketFault>
-    ensures { result ≡ send_count word.now }
-{
-    let count = number(word)?;
-    if 1 <= count && count <= 1000 {
-        Ok(count)
-    } else {
-        Err(PacketFault::Number)
+impl Field for SendCount {
+    ghost field = { send_field };
+
+    ghost most = { 6 };
+
+    fn take(words: &mut Words) -> Result<SendCount, PacketFault> {
+        let count = u16::take(words)?;
+        if 1 <= count && count <= 1000 {
+            Ok(SendCount { count })
+        } else {
+            Err(PacketFault::Number)
+        }
     }
+
+    fn put(&self, line: &mut Line) {
+        self.count.put(line);
+    }
+
+    #[tactic(auto, using(crate::proofs::SendBack::send_is_back))]
+    fn is_read_back() {}
 }
