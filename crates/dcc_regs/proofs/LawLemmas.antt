@@ -8,7 +8,6 @@ use Rattle.dcc_packet.specs.declared.accessory.Board.{Board}
 use Rattle.dcc_packet.specs.declared.address.Address.{Address}
 use Rattle.dcc_packet.specs.declared.address.Address.TheVariants.{Broadcast, Short, Long}
 use Rattle.dcc_packet.specs.declared.instruction.What.{What}
-use Rattle.dcc_packet.specs.declared.instruction.What.TheVariants.{CvWrite, CvBitWrite}
 use Rattle.dcc_packet.specs.declared.packet.Packet.{Packet}
 use Rattle.dcc_packet.specs.declared.packet.Packet.TheVariants.{Loco as ToLoco}
 use Rattle.dcc_packet.specs.SamePacket.{same}
@@ -18,7 +17,7 @@ use Rattle.dcc_regs.specs.declared.register.Who.TheVariants.{Loco as LocoWho, Bo
 use Rattle.dcc_regs.specs.declared.register.Register.TheVariants.{CvBit, Pending as PendingRegister}
 use Rattle.dcc_regs.specs.declared.register.Value.TheVariants.{Flag}
 use Rattle.dcc_regs.specs.Heard.{hears, is_for}
-use Rattle.dcc_regs.specs.Writes.{bit_set, cv_bit_set, writes_cv29, writes_mode}
+use Rattle.dcc_regs.specs.Writes.{CvChange, Byte, OneBit, change_of, bit_by, bit_set, is_of_cv29, writes_cv29}
 use Rattle.dcc_regs.specs.Result.{is_effective, mode_of}
 use Rattle.dcc_regs.specs.Laws.{ConflictIsMutual, IdleIsUnheard, ModeStays, NoConflictWithItself, OneAddress}
 use Rattle.dcc_regs.specs.Laws.{PacketsAreDecided, ValuesAreDecided, WritesSetNoPlain}
@@ -65,15 +64,14 @@ other_bit cv place t one e =
     let f : (29 == cv) ≡ false = grind (arith, nat_tests) in
     rw f refl
 
-mode_bit_stays : (what : What) → writes_mode what ≡ false → cv_bit_set what 29 1 ≡ None
-mode_bit_stays (CvWrite cv value) e = other_cv cv.number _ _ e
-mode_bit_stays (CvBitWrite cv place one) e = other_bit cv.number place.place _ _ e
-mode_bit_stays what e = refl
+bit_by-stays : (change : Option CvChange) → is_of_cv29 change ≡ false → bit_by change 29 1 ≡ None
+bit_by-stays None e = refl
+bit_by-stays (Some (Byte cv value)) e = other_cv cv.number _ _ e
+bit_by-stays (Some (OneBit cv place one)) e = other_bit cv.number place.place _ _ e
 
 -- a packet that does not write CV29 sets no bit of it
 pub bit_stays : (p : Packet) → writes_cv29 p ≡ false → bit_set p 29 1 ≡ None
-bit_stays (ToLoco to what) e = mode_bit_stays what e
-bit_stays p e = refl
+bit_stays p e = bit_by-stays (change_of p) e
 
 none_by : (t : Bool) (o : Option Bool) → o ≡ None → (if t then option_map Flag o else None) ≡ None
 none_by true o e = ap (option_map Flag) e

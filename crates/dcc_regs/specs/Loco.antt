@@ -3,10 +3,7 @@ use Rattle.std.specs.Prelude.{ℕ, Bool, true, false, ◌&&◌, nat_le, Option, 
 use Rattle.std.specs.Prelude.{if◌then◌else◌}
 use Rattle.dcc_packet.specs.declared.address.Address.{Address}
 use Rattle.dcc_packet.specs.declared.instruction.What.{What}
-use Rattle.dcc_packet.specs.declared.instruction.What.TheVariants.{Reset, Speed28, Speed128, Functions, BinaryState}
-use Rattle.dcc_packet.specs.declared.instruction.What.TheVariants.{CvWrite, CvVerify, CvBitWrite, CvBitVerify}
 use Rattle.dcc_packet.specs.declared.packet.Packet.{Packet}
-use Rattle.dcc_packet.specs.declared.packet.Packet.TheVariants.{Idle, Loco as ToLoco, Accessory, Signal, Other}
 use Rattle.dcc_regs.specs.declared.register.Who.{Who}
 use Rattle.dcc_regs.specs.declared.register.Who.TheVariants.{Loco as LocoWho}
 use Rattle.dcc_regs.specs.declared.register.Speed.{Speed}
@@ -21,7 +18,7 @@ use Rattle.dcc_packet.specs.Bits.{is_one, byte_of}
 use Rattle.dcc_regs.specs.Addresses.{active_address}
 use Rattle.dcc_regs.specs.Heard.{hears}
 use Rattle.dcc_regs.specs.States.{is_binary_state}
-use Rattle.dcc_regs.specs.Writes.{is_own_write}
+use Rattle.dcc_regs.specs.Writes.{CvChange, Byte, OneBit, cv_change, change_of, is_own_write}
 use Rattle.dcc_regs.specs.Result.{RegisterMap}
 
 -- what a locomotive decoder holds: its functions, its binary states and its CVs by number
@@ -73,25 +70,19 @@ is_speed (Step14 n) = nat_le 1 n && nat_le n 14
 is_speed (Step28 n) = nat_le 1 n && nat_le n 28
 is_speed (Step126 n) = nat_le 1 n && nat_le n 126
 
+-- a byte that is written is at most 255
+abbrev pub change_fits : Option CvChange → Bool
+change_fits None = true
+change_fits (Some (Byte cv value)) = nat_le value 255
+change_fits (Some (OneBit cv place one)) = true
+
 -- the value that an instruction writes to a CV is a byte
 abbrev pub writes_byte : What → Bool
-writes_byte Reset = true
-writes_byte (Speed28 forward bits) = true
-writes_byte (Speed128 forward bits) = true
-writes_byte (Functions bits) = true
-writes_byte (BinaryState state on) = true
-writes_byte (CvWrite cv value) = nat_le value 255
-writes_byte (CvVerify cv value) = true
-writes_byte (CvBitWrite cv place one) = true
-writes_byte (CvBitVerify cv place one) = true
+writes_byte what = change_fits (cv_change what)
 
 -- the same of a packet
 abbrev pub is_byte_write : Packet → Bool
-is_byte_write (ToLoco to what) = writes_byte what
-is_byte_write (Accessory board output on) = true
-is_byte_write (Signal address aspect) = true
-is_byte_write (Other frame) = true
-is_byte_write Idle = true
+is_byte_write p = change_fits (change_of p)
 
 -- only a CV write to the own address is ever pending
 abbrev pub is_pending_for : Option Address → Option Packet → Bool

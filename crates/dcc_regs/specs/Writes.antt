@@ -1,6 +1,8 @@
 -- Writes of configuration variables on the main track (RCN-214).
-use Rattle.std.specs.Prelude.{ℕ, Bool, true, false, not, ◌&&◌, ◌==◌, Option, None, Some, if◌then◌else◌}
-use Rattle.dcc_packet.specs.declared.address.Address.TheVariants.{Broadcast, Short, Long}
+use Rattle.std.specs.Prelude.{ℕ, Bool, false, not, ◌&&◌, ◌==◌, Option, None, Some, is_some, if◌then◌else◌}
+use Rattle.dcc_packet.specs.declared.address.Address.TheVariants.{Broadcast}
+use Rattle.dcc_packet.specs.declared.cv.BitPlace.{BitPlace}
+use Rattle.dcc_packet.specs.declared.cv.CvNumber.{CvNumber}
 use Rattle.dcc_packet.specs.declared.instruction.What.{What}
 use Rattle.dcc_packet.specs.declared.instruction.What.TheVariants.{Reset, Speed28, Speed128, Functions, BinaryState}
 use Rattle.dcc_packet.specs.declared.instruction.What.TheVariants.{CvWrite, CvVerify, CvBitWrite, CvBitVerify}
@@ -9,66 +11,63 @@ use Rattle.dcc_packet.specs.declared.packet.Packet.TheVariants.{Idle, Loco as To
 use Rattle.dcc_packet.specs.Bits.{is_one}
 use Rattle.dcc_packet.specs.Cvs.{is_read_only}
 
+-- what is written of a CV
+pub data CvChange : Type 0 where
+  -- this byte
+  Byte : CvNumber → ℕ → CvChange
+  -- this bit at this place
+  OneBit : CvNumber → BitPlace → Bool → CvChange
+
+-- what an instruction writes: a CV, or a bit of one
+abbrev pub cv_change : What → Option CvChange
+cv_change (CvWrite cv value) = Some (Byte cv value)
+cv_change (CvBitWrite cv place one) = Some (OneBit cv place one)
+cv_change Reset = None
+cv_change (Speed28 forward bits) = None
+cv_change (Speed128 forward bits) = None
+cv_change (Functions bits) = None
+cv_change (BinaryState state on) = None
+cv_change (CvVerify cv value) = None
+cv_change (CvBitVerify cv place one) = None
+
+-- the same of a packet
+abbrev pub change_of : Packet → Option CvChange
+change_of (ToLoco to what) = cv_change what
+change_of (Accessory board output on) = None
+change_of (Signal address aspect) = None
+change_of (Other frame) = None
+change_of Idle = None
+
 -- an instruction that writes a CV or a bit of one
 abbrev pub is_cv_write : What → Bool
-is_cv_write (CvWrite cv value) = true
-is_cv_write (CvBitWrite cv place one) = true
-is_cv_write Reset = false
-is_cv_write (Speed28 forward bits) = false
-is_cv_write (Speed128 forward bits) = false
-is_cv_write (Functions bits) = false
-is_cv_write (BinaryState state on) = false
-is_cv_write (CvVerify cv value) = false
-is_cv_write (CvBitVerify cv place one) = false
+is_cv_write what = is_some (cv_change what)
 
 -- a CV write that is not to the broadcast address. One that is heard is to the decoder's own address
 abbrev pub is_own_write : Packet → Bool
 is_own_write (ToLoco Broadcast what) = false
-is_own_write (ToLoco (Short to) what) = is_cv_write what
-is_own_write (ToLoco (Long to) what) = is_cv_write what
-is_own_write (Accessory board output on) = false
-is_own_write (Signal address aspect) = false
-is_own_write (Other frame) = false
-is_own_write Idle = false
+is_own_write p = is_some (change_of p)
 
--- the constant that an instruction sets bit k of CV n to, where it takes effect
-abbrev pub cv_bit_set : What → ℕ → ℕ → Option Bool
-cv_bit_set (CvWrite cv value) n k =
-    if n == cv.number && not (is_read_only cv.number) then Some (is_one value k) else None
-cv_bit_set (CvBitWrite cv place one) n k =
+-- the constant that such a change sets bit k of CV n to, where it takes effect
+abbrev pub bit_by : Option CvChange → ℕ → ℕ → Option Bool
+bit_by None n k = None
+bit_by (Some (Byte cv value)) n k = if n == cv.number && not (is_read_only cv.number) then Some (is_one value k) else None
+bit_by (Some (OneBit cv place one)) n k =
     if n == cv.number && k == place.place && not (is_read_only cv.number) then Some one else None
-cv_bit_set Reset n k = None
-cv_bit_set (Speed28 forward bits) n k = None
-cv_bit_set (Speed128 forward bits) n k = None
-cv_bit_set (Functions bits) n k = None
-cv_bit_set (BinaryState state on) n k = None
-cv_bit_set (CvVerify cv value) n k = None
-cv_bit_set (CvBitVerify cv place one) n k = None
 
--- the same of a packet
+-- the constant that a packet sets bit k of CV n to, where it takes effect
 abbrev pub bit_set : Packet → ℕ → ℕ → Option Bool
-bit_set (ToLoco to what) n k = cv_bit_set what n k
-bit_set (Accessory board output on) n k = None
-bit_set (Signal address aspect) n k = None
-bit_set (Other frame) n k = None
-bit_set Idle n k = None
+bit_set p n k = bit_by (change_of p) n k
+
+-- a change of CV29 or of a bit of it
+abbrev pub is_of_cv29 : Option CvChange → Bool
+is_of_cv29 None = false
+is_of_cv29 (Some (Byte cv value)) = cv.number == 29
+is_of_cv29 (Some (OneBit cv place one)) = cv.number == 29
 
 -- an instruction that writes CV29 or a bit of it
 abbrev pub writes_mode : What → Bool
-writes_mode (CvWrite cv value) = cv.number == 29
-writes_mode (CvBitWrite cv place one) = cv.number == 29
-writes_mode Reset = false
-writes_mode (Speed28 forward bits) = false
-writes_mode (Speed128 forward bits) = false
-writes_mode (Functions bits) = false
-writes_mode (BinaryState state on) = false
-writes_mode (CvVerify cv value) = false
-writes_mode (CvBitVerify cv place one) = false
+writes_mode what = is_of_cv29 (cv_change what)
 
 -- the same of a packet
 abbrev pub writes_cv29 : Packet → Bool
-writes_cv29 (ToLoco to what) = writes_mode what
-writes_cv29 (Accessory board output on) = false
-writes_cv29 (Signal address aspect) = false
-writes_cv29 (Other frame) = false
-writes_cv29 Idle = false
+writes_cv29 p = is_of_cv29 (change_of p)

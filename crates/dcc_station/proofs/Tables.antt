@@ -1,18 +1,16 @@
 -- What the tables say of the packets that a station refreshes and of writes to CV29.
-use Rattle.std.proofs.Common.{◌≡◌, ◌∙◌, refl, sym, ap, true, false, Some, None, ℕ, arith}
-use Rattle.std.specs.Prelude.{◌==◌, option_map}
-use Rattle.std.proofs.lemmas.Bool.Decides.{nat_tests}
+use Rattle.std.proofs.Common.{◌≡◌, ◌∙◌, refl, sym, ap, true, false, Some, None}
+use Rattle.std.specs.Prelude.{option_map}
 use Rattle.dcc_packet.specs.declared.address.Address.TheVariants.{Short, Long}
 use Rattle.dcc_packet.specs.declared.instruction.What.{What}
 use Rattle.dcc_packet.specs.declared.instruction.What.TheVariants.{Speed28}
-use Rattle.dcc_packet.specs.declared.instruction.What.TheVariants.{CvWrite, CvBitWrite}
 use Rattle.dcc_packet.specs.declared.packet.Packet.{Packet}
 use Rattle.dcc_packet.specs.declared.packet.Packet.TheVariants.{Loco}
 use Rattle.dcc_regs.specs.declared.register.Who.{Who}
 use Rattle.dcc_regs.specs.declared.register.Register.TheVariants.{CvBit}
 use Rattle.dcc_regs.specs.declared.register.Value.TheVariants.{Flag}
 use Rattle.dcc_regs.specs.Heard.{hears, address_of}
-use Rattle.dcc_regs.specs.Writes.{is_own_write, is_cv_write, cv_bit_set, writes_mode, writes_cv29}
+use Rattle.dcc_regs.specs.Writes.{is_own_write, is_cv_write, writes_cv29}
 use Rattle.dcc_regs.proofs.ResultByParts.{sets_bit}
 use Rattle.dcc_regs.proofs.LawLemmas.{one_address, bit_stays}
 use Rattle.dcc_station.specs.Commands.{is_refreshed, sets_speed_or_functions}
