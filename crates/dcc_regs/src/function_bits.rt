@@ -6,7 +6,7 @@ ghost use Rattle.dcc_regs.specs.FunctionBits as table;
 use crate::register::SpeedMode;
 use dcc_packet::{Address, Group, GroupBits, Packet, What};
 
-/// The lowest function of a group, F0 aside.
+/// The function of a group's lowest bit (NMRA S-9.2.1, RCN-212): F1 of the group of F0, whose bit is the highest.
 pub fn first_function(group: Group) -> u8
     ensures first { result ≡ table.first_function group }
     ensures small { result ≤ 61 }

@@ -33,6 +33,7 @@ pub use board::BoardDecoder;
 pub use board_state::BoardState;
 pub use conflicts::{conflict, sets_nothing};
 pub use decoder::Decoder;
+pub use function_bits::first_function;
 pub use heard::{address_of, hears};
 pub use last_note::LastNote;
 pub use loco::LocoDecoder;

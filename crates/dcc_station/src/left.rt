@@ -1,11 +1,11 @@
 //! Which entries a command leaves, told from the two instructions.
 
 ghost use Rattle.std.specs.Prelude.{◌≡◌};
-ghost use Rattle.dcc_regs.specs.FunctionBits.{first_function as first_function_of};
 ghost use Rattle.dcc_station.specs.Inner.Kept as kept;
 
 use crate::commands::is_refreshed_at;
-use dcc_packet::{Address, Group, GroupBits, Packet, What};
+use dcc_packet::{Address, GroupBits, Packet, What};
+use dcc_regs::first_function;
 
 /// Whether a command leaves an entry that is this instruction to this address, where the two instructions tell it: the entry
 /// sets the speed or functions of one locomotive, as all entries of a station do, and not both are speeds for that one.
@@ -129,23 +129,5 @@ fn is_left_by_group(one: bool, bits: &GroupBits, set: &What) -> bool
                 || !one && bits.bits() == own.bits()
         }
         _ => true,
-    }
-}
-
-/// The first function of a group, F0 aside.
-fn first_function(group: Group) -> u8
-    ensures { result ≡ first_function_of group }
-{
-    match group {
-        Group::F0 => 1,
-        Group::F5 => 5,
-        Group::F9 => 9,
-        Group::F13 => 13,
-        Group::F21 => 21,
-        Group::F29 => 29,
-        Group::F37 => 37,
-        Group::F45 => 45,
-        Group::F53 => 53,
-        Group::F61 => 61,
     }
 }
