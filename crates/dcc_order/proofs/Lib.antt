@@ -1,4 +1,5 @@
 pub mod HearingLemmas
+pub mod FleetLemmas
 pub mod SentAndHeard
 pub mod Contained
 pub mod AlikeBlocks

@@ -1,4 +1,5 @@
 pub mod Hearing
+pub mod Fleets
 pub mod HearingLaws
 pub mod SendingLaws
 pub mod AlikeLists

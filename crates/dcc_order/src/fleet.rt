@@ -1,16 +1,15 @@
 //! A fleet of decoders of any types.
 
-ghost use Rattle.std.specs.List.{AllZip};
 ghost use Rattle.std.specs.Prelude.{[], ◌∷◌};
 ghost use Rattle.dcc_regs.specs.Result.{HasHeard};
+ghost use Rattle.dcc_order.specs.Fleets.{EachHears};
 
 use dcc_packet::Packet;
 use dcc_regs::Decoder;
 
 /// Each member hears a packet.
 pub fn hear_packet<D: Decoder>(decoders: &mut [D], packet: &Packet)
-    ensures { AllZip (λ old now. HasHeard (packet.now ∷ []) (D.who old) (D.registers old) (D.who now) (D.registers now))
-        decoders.old decoders.new }
+    ensures { EachHears D.who D.registers (packet.now ∷ []) decoders.old decoders.new }
 {
     for decoder in decoders.iter_mut() {
         hear_one(decoder, packet);

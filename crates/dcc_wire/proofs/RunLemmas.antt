@@ -10,10 +10,9 @@ use Rattle.dcc_wire.specs.declared.seen.Seen.{Seen}
 use Rattle.dcc_wire.specs.declared.seen.Seen.TheVariants.{Nothing}
 use Rattle.dcc_wire.specs.Framing.{Rest, Hunting, InBody, rest, seen, report_at, StandsFor}
 use Rattle.dcc_wire.specs.Half.{class_of}
-use Rattle.dcc_wire.specs.Inner.RunSteps.{PushesRun}
 use Rattle.dcc_wire.specs.Inner.Steps.{rest_after, answer_to}
 use Rattle.dcc_wire.specs.Outcomes.{ones_left}
-use Rattle.dcc_wire.specs.Runs.{IsQuietFor, rest_after_run, ones_after, IsQuiet}
+use Rattle.dcc_wire.specs.Runs.{IsQuietFor, PushesRun, rest_after_run, ones_after, IsQuiet}
 use Rattle.dcc_wire.proofs.FramingLemmas.{rest-push, seen-push}
 use Rattle.dcc_wire.proofs.HistoryLemmas.{HasHistory, microseconds, class_of-microseconds}
 use Rattle.dcc_wire.proofs.OutcomeLemmas.{ones_left_le}

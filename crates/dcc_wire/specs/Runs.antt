@@ -1,8 +1,12 @@
--- Many halves of one class, between bodies.
-use Rattle.std.specs.Prelude.{ℕ, zero, suc, ◌+◌, ◌<◌, min}
+-- Many halves that are all alike.
+use Rattle.std.specs.Prelude.{◌≡◌, ◌≢◌, ◌≤◌, ℕ, zero, suc, ◌+◌, ◌-◌, ◌<◌, min, List, ◌++◌, length, replicate}
 use Rattle.dcc_wire.specs.declared.half.Half.{Half}
 use Rattle.dcc_wire.specs.declared.half.Half.TheVariants.{One, Zero, Bad}
-use Rattle.dcc_wire.specs.Framing.{Rest, Hunting, InBody}
+use Rattle.dcc_wire.specs.declared.run.RunSeen.{RunSeen}
+use Rattle.dcc_wire.specs.declared.seen.Seen.TheVariants.{Nothing}
+use Rattle.dcc_wire.specs.Framing.{Rest, Hunting, InBody, StandsFor, seen, report_at}
+use Rattle.dcc_wire.specs.Half.{class_of}
+use Rattle.dcc_wire.specs.Outcomes.{ones_left}
 
 -- behind so many ones no number of such halves begins a body
 abbrev pub IsQuiet : ℕ → Half → Type 0
@@ -25,3 +29,15 @@ ones_after ones Bad (suc n) = 0
 unfoldable pub rest_after_run : Rest → Half → ℕ → Rest
 rest_after_run (Hunting ones) half n = Hunting (ones_after ones half n)
 rest_after_run (InBody halves) half n = InBody halves
+
+-- what a framer does with n halves of one duration, and what they show: at most one outcome, at its number in the run
+pub record PushesRun (old : Rest) (us n : ℕ) (shown : RunSeen) (new : Rest) : Type 0 where
+  pub stands : (durations : List ℕ) → StandsFor old durations → StandsFor new (durations ++ replicate n us)
+  pub sees : (durations : List ℕ) → StandsFor old durations
+      → seen (durations ++ replicate n us) ≡ seen durations ++ report_at (length durations + shown.at - 1) shown.seen
+  pub before : (durations : List ℕ) → StandsFor old durations
+      → seen (durations ++ replicate (shown.at - 1) us) ≡ seen durations
+  pub nothing : shown.seen ≡ Nothing → shown.at ≡ n
+  pub something : shown.seen ≢ Nothing → (1 ≤ shown.at) × (shown.at ≤ n)
+  pub hunts : shown.seen ≢ Nothing
+      → new ≡ rest_after_run (Hunting (ones_left shown.seen)) (class_of us) (n - shown.at)

@@ -15,9 +15,8 @@ impl Framer {
     ghost use Rattle.std.specs.Prelude.{◌≡◌, ◌≢◌, ◌<◌, ◌≤◌, ◌+◌, ◌-◌, ℕ, List, ◌++◌, length, replicate};
     ghost use Rattle.dcc_wire.specs.Framing.{Hunting, StandsFor, seen, report_at};
     ghost use Rattle.dcc_wire.specs.Half.{class_of};
-    ghost use Rattle.dcc_wire.specs.Inner.RunSteps.{PushesRun};
     ghost use Rattle.dcc_wire.specs.Outcomes.{ones_left};
-    ghost use Rattle.dcc_wire.specs.Runs.{rest_after_run};
+    ghost use Rattle.dcc_wire.specs.Runs.{PushesRun, rest_after_run};
 
     /// Takes one half of this many microseconds or two, of n at most: both halves of a bit, where that is what comes next.
     #[inline(always)]

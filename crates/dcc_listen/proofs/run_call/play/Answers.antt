@@ -16,14 +16,14 @@ runs-preserved g c =
     let answer = rw (c.in-Some-2.is, c.in-None.ensures.none) at
     (read.ensures.reads (ap (λ (state : InputState). state.fault) c.in-None.ensures.none ∙ before.gave.fault)) in
     Hearing-more before (replicate run.n run.us) answer.0.items
-    (c.hear_half_run.ensures.stands before.halves before.stands)
+    (c.hear_half_run.ensures.pushes.stands before.halves before.stands)
     (c.hear_half_run.ensures.since before.halves before.stands _ before.heard)
 
 pub runs-preserved-in-Some : goal.runs-preserved-in-Some
 runs-preserved-in-Some g c =
     let before = c.runs.invariant in
     Hearing-more before (c.in-Some.us ∷ []) (half_taken c.in-Some.ensures.some).0.items
-    (c.hear_half.ensures.stands before.halves before.stands)
+    (c.hear_half.ensures.pushes.stands before.halves before.stands)
     (c.hear_half.ensures.since before.halves before.stands _ before.heard)
 
 pub returns-in_err-run-in-None : goal.returns-in_err-run-in-None

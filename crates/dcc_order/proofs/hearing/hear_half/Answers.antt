@@ -1,12 +1,6 @@
-use Rattle.std.proofs.Common.{◌++◌, ◌∷◌, [], length}
-use Rattle.dcc_order.proofs.HearingLemmas.{heard_half}
-use Rattle.dcc_order.proofs.TrackLemmas.{AllZip-then}
+use Rattle.std.proofs.Common.{length}
+use Rattle.dcc_order.proofs.FleetLemmas.{hear_more}
 use Rattle.dcc_order.proofs.hearing.hear_half.Goals as goal
 
 pub returns-clause-since : goal.returns-clause-since
-returns-clause-since g c = λ halves stands starts before.
-    let shown = c.hear_seen.ensures.spelled in
-    AllZip-then _ _ _
-    (λ x y z r s. heard_half halves (halves ++ c.args.us ∷ []) c.push-seen.result (length halves) shown.0
-    (c.push-seen.ensures.sees halves stands) shown.1 r s)
-    _ _ _ before (c.hear_seen.ensures.hears shown.0 shown.1)
+returns-clause-since g c = hear_more _ _ length c.push-seen.ensures.sees c.hear_seen.ensures

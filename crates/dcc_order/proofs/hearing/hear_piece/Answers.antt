@@ -8,7 +8,7 @@ loop-us-preserved g c =
     let n = c.loop-us.us-index in
     let more = take_more ds n 0 (omega arith) in record {
       stands = λ halves s. rw (more, ← append_assoc)
-          (c.hear_half.ensures.stands (halves ++ take n ds) (c.loop-us.invariant.stands halves s));
+          (c.hear_half.ensures.pushes.stands (halves ++ take n ds) (c.loop-us.invariant.stands halves s));
       since = λ halves s starts before. rw (more, ← append_assoc)
           (c.hear_half.ensures.since (halves ++ take n ds) (c.loop-us.invariant.stands halves s) starts
           (c.loop-us.invariant.since halves s starts before));
