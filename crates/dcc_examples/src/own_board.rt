@@ -1,8 +1,8 @@
 //! An accessory decoder written from nothing, over fields of its own. All that is proved of decoders holds of it.
 
-ghost use Rattle.std.specs.List.{AllZip};
 ghost use Rattle.std.specs.Prelude.{◌≡◌, ◌<◌, ℕ, nat_le, slice_index, true};
-ghost use Rattle.dcc_order.specs.Hearing.{HasHeardHalves, whole_track};
+ghost use Rattle.dcc_order.specs.Fleets.{EachHearsHalves};
+ghost use Rattle.dcc_order.specs.Hearing.{whole_track};
 
 use dcc_order::hear_track;
 use dcc_packet::{Address, Board, Packet, What};
@@ -85,10 +85,7 @@ impl Decoder for OwnBoard {
 
 /// A fleet of such boards hears a track, which may come in pieces: each holds what the packets in it give.
 pub fn hear(boards: &mut [OwnBoard], pieces: &[&[u16]])
-    ensures { AllZip
-        (λ old new. HasHeardHalves (whole_track pieces.now) (⟦<OwnBoard as Decoder>⟧.who old)
-        (⟦<OwnBoard as Decoder>⟧.registers old) (⟦<OwnBoard as Decoder>⟧.who new)
-        (⟦<OwnBoard as Decoder>⟧.registers new))
+    ensures { EachHearsHalves ⟦<OwnBoard as Decoder>⟧.who ⟦<OwnBoard as Decoder>⟧.registers (whole_track pieces.now)
         boards.old boards.new }
 {
     hear_track(boards, pieces);

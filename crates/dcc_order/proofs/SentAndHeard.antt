@@ -13,7 +13,7 @@ use Rattle.dcc_packet.proofs.FrameSpellings as frames
 use Rattle.dcc_order.specs.Hearing.{frames_in, ArePackets}
 use Rattle.dcc_order.specs.SendingLaws.{SentPacket, spelled_out, SentPacketsAreHeard, NothingElseIsSeen}
 use Rattle.dcc_order.specs.SendingLaws.{SentPacketIsDone}
-use Rattle.dcc_order.specs.ToldTracks.{StandsForOneMore, ShowsAtOneMore}
+use Rattle.dcc_order.specs.OneMoreHalf.{StandsForOneMore, ShowsAtOneMore}
 use Rattle.dcc_order.specs.SentHalves.{last_seen, HasComeBehind, HasHeardAll, IsBeingSent, SendingBegins, NothingIsSeen}
 use Rattle.dcc_order.specs.SentHalves.{SomethingIsSeen, FrameIsSeen, FramesAreHeard}
 use Rattle.dcc_order.proofs.AlikeCuts.{holds}

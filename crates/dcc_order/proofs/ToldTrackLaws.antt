@@ -15,7 +15,8 @@ use Rattle.dcc_regs.specs.Result.{RegisterMap, HasHeard}
 use Rattle.dcc_regs.specs.declared.register.Who.{Who}
 use Rattle.dcc_regs.proofs.InParts.{heard_more, heard_nothing}
 use Rattle.dcc_order.specs.Hearing.{AreSpelled, frames_of}
-use Rattle.dcc_order.specs.ToldTracks.{IsTold, HaveCome, WereHeardAndTold, StandsForOneMore, ShowsAtOneMore}
+use Rattle.dcc_order.specs.OneMoreHalf.{StandsForOneMore, ShowsAtOneMore}
+use Rattle.dcc_order.specs.ToldTracks.{IsTold, HaveCome, WereHeardAndTold}
 use Rattle.dcc_order.specs.ToldTracks.{NoHalfHasCome, NoPacketHasCome, PacketIsTold, PacketIsPassedOver}
 use Rattle.dcc_order.specs.ToldTracks.{PacketIsHeardAndTold, TrackIsHeard, TrackIsTold}
 use Rattle.dcc_order.proofs.HearingLemmas.{packets_more, no_packets, one_list_of_packets}

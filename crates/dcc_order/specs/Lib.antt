@@ -1,4 +1,5 @@
 pub mod Hearing
+pub mod OneMoreHalf
 pub mod Fleets
 pub mod HearingLaws
 pub mod SendingLaws

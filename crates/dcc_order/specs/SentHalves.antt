@@ -5,7 +5,7 @@ use Rattle.dcc_wire.specs.declared.seen.Seen.TheVariants.{Nothing, Packet as Pac
 use Rattle.dcc_wire.specs.Framing.{Rest, StandsFor, seen}
 use Rattle.dcc_wire.specs.Frames.{IsFrame}
 use Rattle.dcc_wire.specs.Sending.{Sent, sent, sent_all, AllFrames}
-use Rattle.dcc_order.specs.ToldTracks.{StandsForOneMore, ShowsAtOneMore}
+use Rattle.dcc_order.specs.OneMoreHalf.{StandsForOneMore, ShowsAtOneMore}
 
 -- a framer has heard the halves of frames that were sent one after the other, and no others
 unfoldable pub HasHeardAll : List Sent → Rest → Type 0

@@ -1,6 +1,6 @@
 -- A track that comes half by half: a decoder hears it, and a listener is told what the decoder hears.
-use Rattle.std.specs.Prelude.{ℕ, ◌+◌, ◌≡◌, ◌<◌, ◌≤◌, Bool, true, false, List, [], ◌∷◌, ◌++◌, length, take, slice_index_or}
-use Rattle.dcc_wire.specs.Framing.{Rest, StandsFor, seen, report_at}
+use Rattle.std.specs.Prelude.{ℕ, ◌+◌, ◌≡◌, ◌<◌, ◌≤◌, Bool, true, false, List, [], ◌∷◌, length, take, slice_index_or}
+use Rattle.dcc_wire.specs.Framing.{Rest, StandsFor}
 use Rattle.dcc_wire.specs.declared.seen.Seen.{Seen}
 use Rattle.dcc_wire.specs.declared.seen.Seen.TheVariants.{Packet as PacketSeen}
 use Rattle.dcc_wire.specs.declared.frame.Frame.{Frame}
@@ -11,6 +11,7 @@ use Rattle.dcc_regs.specs.Heard.{heard, hears}
 use Rattle.dcc_regs.specs.Notes.{Note, note_of, IsHeardAndTold}
 use Rattle.dcc_regs.specs.Result.{RegisterMap, HasHeard, step}
 use Rattle.dcc_order.specs.Hearing.{ArePackets, HasHeardHalves}
+use Rattle.dcc_order.specs.OneMoreHalf.{StandsForOneMore, ShowsAtOneMore}
 
 -- a listener was told these packets, one after the other, each by the call of its kind
 abbrev pub IsTold : {L : Type 0} → (L → Note → L → Type 0) → List Packet → L → L → Type 0
@@ -31,16 +32,6 @@ unfoldable pub HaveCome : {L : Type 0} → (L → Note → L → Type 0) → Lis
     → L → L → Type 0
 HaveCome told halves framer who start who' now listener listener' =
     WereHeardAndTold told halves framer who start who' now listener listener'
-
--- whatever halves a framer stood for, it stands for them with one more
-abbrev pub StandsForOneMore : Rest → ℕ → Rest → Type 0
-StandsForOneMore framer us next = (halves : List ℕ) → StandsFor framer halves → StandsFor next (halves ++ us ∷ [])
-
--- and this is what the one more shows
-abbrev pub ShowsAtOneMore : Rest → ℕ → Seen → Type 0
-ShowsAtOneMore framer us answer =
-    (halves : List ℕ) → StandsFor framer halves
-    → seen (halves ++ us ∷ []) ≡ seen halves ++ report_at (length halves) answer
 
 -- before the first half
 abbrev pub NoHalfHasCome : {L : Type 0} → (L → Note → L → Type 0) → Type 0

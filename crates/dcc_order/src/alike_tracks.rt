@@ -3,7 +3,8 @@
 
 ghost use Rattle.std.specs.List.{AllZip};
 ghost use Rattle.std.specs.Prelude.{◌≡◌};
-ghost use Rattle.dcc_order.specs.Hearing.{HasHeardHalves, whole_track};
+ghost use Rattle.dcc_order.specs.Fleets.{EachHearsHalves};
+ghost use Rattle.dcc_order.specs.Hearing.{whole_track};
 ghost use Rattle.dcc_order.specs.HearingLaws.{AlikeHalves};
 
 use crate::hearing::hear_piece;
@@ -19,12 +20,8 @@ pub fn hear_two_tracks<L: Decoder, R: Decoder>(
     others: &[&[u16]],
 )
     // Each member has heard the track of its fleet.
-    ensures left { AllZip
-        (λ old new. HasHeardHalves (whole_track pieces.now) (L.who old) (L.registers old) (L.who new) (L.registers new))
-        left.old left.new }
-    ensures right { AllZip
-        (λ old new. HasHeardHalves (whole_track others.now) (R.who old) (R.registers old) (R.who new) (R.registers new))
-        right.old right.new }
+    ensures left { EachHearsHalves L.who L.registers (whole_track pieces.now) left.old left.new }
+    ensures right { EachHearsHalves R.who R.registers (whole_track others.now) right.old right.new }
 
     // So equal members, for whom the tracks are alike, are equal again.
     ensures alike { AllZip
@@ -39,9 +36,7 @@ pub fn hear_two_tracks<L: Decoder, R: Decoder>(
 
 /// A fleet hears a track through a new framer. The track may come in pieces of any length.
 pub fn hear_track<D: Decoder>(decoders: &mut [D], pieces: &[&[u16]])
-    ensures { AllZip
-        (λ old new. HasHeardHalves (whole_track pieces.now) (D.who old) (D.registers old) (D.who new) (D.registers new))
-        decoders.old decoders.new }
+    ensures { EachHearsHalves D.who D.registers (whole_track pieces.now) decoders.old decoders.new }
 {
     let mut framer = Framer::new();
     for piece in pieces {

@@ -3,7 +3,8 @@
 ghost use Rattle.std.specs.Prelude.{◌++◌, ◌∷◌, [], ℕ, List, replicate};
 ghost use Rattle.dcc_wire.specs.Framing.{StandsFor};
 ghost use Rattle.dcc_wire.specs.Runs.{PushesRun};
-ghost use Rattle.dcc_order.specs.Fleets.{EachHearsSeen, HearMore, PushesHalf};
+ghost use Rattle.dcc_order.specs.Fleets.{EachHearsSeen, HearMore};
+ghost use Rattle.dcc_order.specs.OneMoreHalf.{PushesHalf};
 
 use crate::fleet::hear_packet;
 use dcc_packet::Packet;
