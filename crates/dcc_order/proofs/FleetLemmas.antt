@@ -22,11 +22,12 @@ module _ {A : Type 0} {who : A → Who} {registers : A → RegisterMap} where
 
   -- members that hear what more halves show have heard these behind the others
   pub hear_more : {shown : Seen} {old new : List A} (framer : Rest) (more : List ℕ) (place : List ℕ → ℕ)
-      → ((halves : List ℕ) → StandsFor framer halves → seen (halves ++ more) ≡ seen halves ++ report_at (place halves) shown)
+      → ((halves : List ℕ) → StandsFor framer halves
+      → seen (halves ++ more) ≡ seen halves ++ report_at (place halves) shown)
       → EachHearsSeen who registers shown old new → HearMore who registers framer more old new
   hear_more {shown = shown} framer more place sees heard = λ halves stands starts before.
       let packets = heard.spelled in
       AllZip-then _ _ _
-      (λ start old new so_far now. heard_half halves (halves ++ more) shown (place halves) packets.0 (sees halves stands)
-      packets.1 so_far now)
+      (λ start old new so_far now.
+      heard_half halves (halves ++ more) shown (place halves) packets.0 (sees halves stands) packets.1 so_far now)
       _ _ _ before (heard.each packets.0 packets.1)

@@ -1,4 +1,4 @@
--- Fleets that hear halves. Two functions tell of a member who it is and what its registers hold, so that a fleet may have
+-- Fleets that hear halves. Two functions tell of a member who it is and what its registers hold, so a fleet may have
 -- members of any type, in boxes or not.
 use Rattle.std.specs.Prelude.{ℕ, List, ◌++◌}
 use Rattle.std.specs.List.{AllZip}

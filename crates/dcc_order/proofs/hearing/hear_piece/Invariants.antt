@@ -7,5 +7,6 @@ abbrev pub invariant-loop-us : goal.invariant-loop-us
 invariant-loop-us g l = record {
   stands : (halves : List ℕ) → StandsFor l.fn.framer halves
       → StandsFor l.framer (halves ++ take l.us-index l.durations);
-  since : HearMore g.D.Decoder.who g.D.Decoder.registers l.fn.framer (take l.us-index l.durations) l.fn.decoders l.decoders;
+  since : HearMore g.D.Decoder.who g.D.Decoder.registers l.fn.framer (take l.us-index l.durations)
+      l.fn.decoders l.decoders;
 }
