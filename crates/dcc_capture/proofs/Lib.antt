@@ -5,3 +5,4 @@ pub mod HalfLemmas
 pub mod ListingLaws
 pub mod NumbersTaken
 pub mod WorkedExamples
+pub mod ShowLemmas

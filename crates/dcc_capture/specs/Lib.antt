@@ -4,4 +4,5 @@ pub mod FirstRead
 pub mod FrameText
 pub mod Listing
 pub mod ListingLaws
+pub mod Shown
 pub mod Inner

@@ -25,7 +25,7 @@ use Rattle.dcc_capture.specs.BothCaptures.{Both, Said, fault_alone, in_front, on
 use Rattle.dcc_capture.specs.FirstRead.{LeadsIn, Leads, first_so_far, first_is, FirstLinesAt, StopsBoth, AnswersFirst}
 use Rattle.dcc_listen.specs.GatheredBoth.{both_in, both_before_failure, GatheredFirst, HoldBoth, GatheredBoth}
 use Rattle.dcc_listen.specs.GatheredBoth.{ReadsBothUpTo, BothLinesAt, StopsBothAt, BothFail}
-use Rattle.dcc_listen.proofs.ShowLemmas.{Answers}
+use Rattle.dcc_capture.proofs.ShowLemmas.{Answers}
 use Rattle.dcc_listen.proofs.GatherLemmas.{few_more}
 use Rattle.dcc_io.proofs.CallLemmas.{gives_up}
 use Rattle.dcc_io.proofs.TookLemmas.{told_behind, LinesAt-behind}

@@ -1,4 +1,3 @@
-pub mod ShowLemmas
 pub mod GatherLemmas
 pub mod RunLemmas
 pub mod GatherFirstLemmas

@@ -21,7 +21,7 @@ use Rattle.dcc_listen.specs.FleetRun.{HaveHeard, HearsAll, Runs}
 use Rattle.dcc_io.proofs.CallLemmas.{gives_up}
 use Rattle.dcc_io.proofs.ItemsLemmas.{Gave-none, Gave-append, reads_up_to, up_to_fault, uses_all_lines}
 use Rattle.dcc_capture.proofs.CaptureLemmas.{CaptureLinesAt-behind}
-use Rattle.dcc_listen.proofs.ShowLemmas.{stops_at_run_fault}
+use Rattle.dcc_capture.proofs.ShowLemmas.{stops_at_run_fault}
 
 -- these halves were taken, and the decoders, by who each is and what it holds, have heard them
 pub record Hearing {C : Type 0} (view : C → Who × RegisterMap) (old : InputState) (olds : List C) (now : InputState)

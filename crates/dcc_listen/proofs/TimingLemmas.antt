@@ -19,7 +19,7 @@ use Rattle.dcc_timing.specs.declared.timings.Timings.{Timings}
 use Rattle.dcc_timing.specs.Measures.{Measures}
 use Rattle.dcc_listen.specs.Timed.{MeasuresCapture, StopsTiming, Times}
 use Rattle.dcc_listen.specs.TimingText.{timing_text}
-use Rattle.dcc_listen.proofs.ShowLemmas.{GaveHalves-none, GaveHalves-append, stops_at_run_fault}
+use Rattle.dcc_capture.proofs.ShowLemmas.{GaveHalves-none, GaveHalves-append, stops_at_run_fault}
 
 -- so far these halves were read, and measured
 pub record Measuring (start now : InputState) (timings : Timings) : Type 0 where

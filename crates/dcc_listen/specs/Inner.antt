@@ -1,5 +1,4 @@
 -- What the contracts of private functions cite, and no public one.
-pub mod Held
 pub mod InStep
 pub mod Sides
 pub mod Pushing

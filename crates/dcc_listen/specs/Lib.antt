@@ -1,7 +1,6 @@
 pub mod Gathered
 pub mod VerdictLine
 pub mod Compared
-pub mod Shown
 pub mod FleetRun
 pub mod GatheredBoth
 pub mod ComparedBoth

@@ -18,7 +18,7 @@ use Rattle.dcc_capture.specs.Capture.{capture_in, halves_of}
 use Rattle.dcc_capture.specs.Listing.{IsListing}
 use Rattle.dcc_capture.proofs.CaptureLemmas.{enough}
 use Rattle.dcc_capture.proofs.NumbersTaken.{numbers_taken}
-use Rattle.dcc_listen.specs.Shown.{Lists}
+use Rattle.dcc_capture.specs.Shown.{Lists}
 use Rattle.dcc_send.specs.declared.encoding.Encode.{Encode}
 use Rattle.dcc_send.specs.Encoded.{spaced_numbers, timing_of, encoding}
 use Rattle.dcc_tool.specs.EncodedShown.{to_send, halves_to_send, closed_encoding, EncodingsAreCaptures}

@@ -16,7 +16,7 @@ use Rattle.dcc_io.specs.WriterState.{WriterState}
 use Rattle.dcc_capture.specs.Capture.{capture_in, captures}
 use Rattle.dcc_capture.specs.Listing.{IsListing}
 use Rattle.dcc_capture.proofs.WorkedExamples.{speed_is_listed}
-use Rattle.dcc_listen.specs.Shown.{Shows, Lists}
+use Rattle.dcc_capture.specs.Shown.{Shows, Lists}
 use Rattle.dcc_send.specs.declared.encoding.Encode.{Encode}
 use Rattle.dcc_send.specs.Encoded.{encoding}
 use Rattle.dcc_tool.specs.EncodedShown.{halves_to_send, closed_encoding}

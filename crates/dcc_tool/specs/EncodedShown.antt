@@ -8,7 +8,7 @@ use Rattle.dcc_io.specs.InputState.{InputState, closed_text}
 use Rattle.dcc_io.specs.WriterState.{WriterState}
 use Rattle.dcc_capture.specs.Capture.{capture_in}
 use Rattle.dcc_capture.specs.Listing.{IsListing}
-use Rattle.dcc_listen.specs.Shown.{Shows}
+use Rattle.dcc_capture.specs.Shown.{Shows}
 use Rattle.dcc_send.specs.declared.encoding.Encode.{Encode}
 use Rattle.dcc_send.specs.Encoded.{timing_of, encoding}
 

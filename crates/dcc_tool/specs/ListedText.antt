@@ -10,7 +10,7 @@ use Rattle.dcc_io.specs.InputState.{InputState, fresh}
 use Rattle.dcc_io.specs.Words.{is_gap, comments}
 use Rattle.dcc_io.specs.WriterState.{WriterState}
 use Rattle.dcc_capture.specs.Listing.{listing}
-use Rattle.dcc_listen.specs.Shown.{Shows}
+use Rattle.dcc_capture.specs.Shown.{Shows}
 use Rattle.dcc_tool.specs.Written.{halves_said}
 
 -- the listing of a text, of which so many halves and bytes may be taken. Where it unfolds, it computes on a given text

@@ -24,7 +24,7 @@ use Rattle.dcc_saved.specs.DecoderText.{decoder_text}
 use Rattle.dcc_saved.specs.PossibleLines.{is_possible}
 use Rattle.dcc_saved.specs.TextRead.{Answers, UsedWholeLines}
 use Rattle.dcc_saved.specs.TextReadOrNoMemory.{ReadFails}
-use Rattle.dcc_listen.specs.Shown.{Shows}
+use Rattle.dcc_capture.specs.Shown.{Shows}
 use Rattle.dcc_listen.specs.Timed.{Times}
 use Rattle.dcc_listen.specs.FleetRun.{Fleet, Runs}
 use Rattle.dcc_listen.specs.ComparedBoth.{ComparesBoth}

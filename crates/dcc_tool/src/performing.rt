@@ -5,8 +5,9 @@ ghost use Rattle.dcc_regs.specs.BoardState.{board_map, board_who};
 ghost use Rattle.dcc_tool.specs.Performs.{Performs, ReadsTrack, RunsText};
 
 use crate::ending::Ending;
+use dcc_capture::show;
 use dcc_io::{Input, Sink, Source, ToolFault};
-use dcc_listen::{run, same_input, show, timing};
+use dcc_listen::{run, same_input, timing};
 use dcc_packet::CvNumber;
 use dcc_regs::{BoardState, Decoder, LocoState, PackedBoard, PackedLoco, Who};
 use dcc_saved::{Saved, read_decoders};

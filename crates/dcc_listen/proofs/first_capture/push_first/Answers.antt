@@ -1,7 +1,7 @@
 use Rattle.std.proofs.Common.{None, Ok, Some, ◌≡◌, sym, subst}
 use Rattle.dcc_capture.specs.FirstRead.{AnswersFirst}
 use Rattle.dcc_capture.proofs.HalfLemmas.{first_half_taken}
-use Rattle.dcc_listen.proofs.ShowLemmas.{answers_one}
+use Rattle.dcc_capture.proofs.ShowLemmas.{answers_one}
 use Rattle.dcc_listen.proofs.first_capture.push_first.Goals as goal
 
 pub returns-in-Some : goal.returns-in-Some

@@ -1,7 +1,7 @@
 use Rattle.std.proofs.Common.{None, Ok, Some, ◌≡◌, sym, subst}
 use Rattle.dcc_capture.specs.Capture.{AnswersRun}
 use Rattle.dcc_capture.proofs.HalfLemmas.{half_taken}
-use Rattle.dcc_listen.proofs.ShowLemmas.{answers_one}
+use Rattle.dcc_capture.proofs.ShowLemmas.{answers_one}
 use Rattle.dcc_listen.proofs.taking.push_next.Goals as goal
 
 pub returns-in-Some : goal.returns-in-Some

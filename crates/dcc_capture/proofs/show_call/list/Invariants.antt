@@ -1,5 +1,5 @@
-use Rattle.dcc_listen.proofs.ShowLemmas.{Showing}
-use Rattle.dcc_listen.proofs.show_call.list.Given as goal
+use Rattle.dcc_capture.proofs.ShowLemmas.{Showing}
+use Rattle.dcc_capture.proofs.show_call.list.Given as goal
 
 abbrev pub invariant-runs : goal.invariant-runs
 invariant-runs g l =

@@ -3,9 +3,9 @@ use Rattle.std.proofs.lemmas.Result.{err_from_is_err_and}
 use Rattle.dcc_wire.specs.declared.run.RunSeen.{RunSeen}
 use Rattle.dcc_io.specs.declared.word.Run.{Run}
 use Rattle.dcc_capture.proofs.HalfLemmas.{half_taken}
-use Rattle.dcc_listen.proofs.ShowLemmas.{Showing-start, Showing-wrote, Showing-run, at_some_half, counted, answers_one}
-use Rattle.dcc_listen.proofs.ShowLemmas.{stops_before_read, stops_at_run, stops_at_fault, stops_at_end}
-use Rattle.dcc_listen.proofs.show_call.list.Goals as goal
+use Rattle.dcc_capture.proofs.ShowLemmas.{Showing-start, Showing-wrote, Showing-run, at_some_half, counted, answers_one}
+use Rattle.dcc_capture.proofs.ShowLemmas.{stops_before_read, stops_at_run, stops_at_fault, stops_at_end}
+use Rattle.dcc_capture.proofs.show_call.list.Goals as goal
 
 pub runs-init : goal.runs-init
 runs-init g c = rw c.new-held.ensures (Showing-start c.requires c.new-framer.ensures)

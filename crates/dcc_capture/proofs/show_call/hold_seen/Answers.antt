@@ -1,5 +1,5 @@
 use Rattle.dcc_capture.proofs.ListingLaws.{IsListing-reported}
-use Rattle.dcc_listen.proofs.show_call.hold_seen.Goals as goal
+use Rattle.dcc_capture.proofs.show_call.hold_seen.Goals as goal
 
 pub returns-in-Packet : goal.returns-in-Packet
 returns-in-Packet g c place half =

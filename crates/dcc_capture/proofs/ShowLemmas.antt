@@ -24,9 +24,9 @@ use Rattle.dcc_capture.specs.Capture.{captures, capture_in, GaveHalves, AnswersR
 use Rattle.dcc_io.specs.Items.{Items, Gives, StopsAt}
 use Rattle.dcc_capture.specs.Listing.{IsListing}
 use Rattle.dcc_io.specs.WrittenBytes.{AppendsFront}
-use Rattle.dcc_listen.specs.Shown.{StopsWriting, Lists, ListsFront, Shows}
+use Rattle.dcc_capture.specs.Shown.{StopsWriting, Lists, ListsFront, Shows}
 use Rattle.dcc_io.specs.Held.{Holds}
-use Rattle.dcc_listen.specs.Inner.Held.{WritesRest}
+use Rattle.dcc_capture.specs.Inner.Held.{WritesRest}
 use Rattle.dcc_io.proofs.CallLemmas.{gives_up}
 use Rattle.dcc_capture.proofs.CaptureLemmas.{CaptureLinesAt-behind}
 use Rattle.dcc_io.proofs.ItemsLemmas.{Gave-none, Gave-append, in_whole, up_to_fault, reads_up_to, uses_all_lines}

@@ -1,6 +1,6 @@
 use Rattle.std.proofs.Common.{List, ℕ, subst, sym}
 use Rattle.dcc_capture.specs.Listing.{IsLine}
-use Rattle.dcc_listen.proofs.show_call.hold_outcome.Goals as goal
+use Rattle.dcc_capture.proofs.show_call.hold_outcome.Goals as goal
 
 pub returns : goal.returns
 returns g c =

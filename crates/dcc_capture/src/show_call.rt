@@ -2,14 +2,15 @@
 ghost use Rattle.std.specs.Prelude.{◌≡◌, ◌≢◌, ◌<◌, ◌+◌, ◌++◌, ◌⊎◌, ℕ, List, [], None, IfSome, OnOk};
 ghost use Rattle.dcc_wire.specs.Framing.{report_at};
 ghost use Rattle.dcc_io.specs.Held.{HoldsOrFails};
-ghost use Rattle.dcc_listen.specs.Inner.Held.{HoldsListing, TakesRun, WritesRest};
+ghost use Rattle.dcc_capture.specs.Inner.Held.{HoldsListing, TakesRun, WritesRest};
 ghost use Rattle.dcc_io.specs.Faults.{as_tool_fault};
 ghost use Rattle.dcc_io.specs.InputState.{HasCause};
 ghost use Rattle.dcc_io.specs.Words.{ended_words};
 ghost use Rattle.dcc_capture.specs.Listing.{IsLine};
-ghost use Rattle.dcc_listen.specs.Shown.{Shows};
+ghost use Rattle.dcc_capture.specs.Shown.{Shows};
 
-use dcc_capture::{outcome_line, read_run};
+use crate::listing::outcome_line;
+use crate::runs::read_run;
 use dcc_io::inputs::{half_at_hand, run_at_hand};
 use dcc_io::{Failed, HeldLines, Input, KeptFault, Run, Sink, Source, ToolFault};
 use dcc_wire::{Framer, Seen};

@@ -1,0 +1,63 @@
+//! One call of the program, over any words, streams and standard error.
+ghost use Rattle.std.specs.Prelude.{◌≡◌, None, Result, IfErr};
+ghost use Rattle.dcc_show.specs.Program.{ListsOrRefuses, status_of};
+
+use dcc_capture::show;
+use dcc_io::{Input, Sink, Source, ToolFault, Usage};
+use std::env::{Env, FillError};
+
+/// Lists the capture in the input, and answers the exit status. A fault is told on standard error.
+pub fn run<T: Env + Eprint, R: Source, W: Sink>(
+    rt: &T,
+    input: &mut Input<R>,
+    writer: &mut W,
+) -> u8
+    requires { input.old.fault ≡ None }
+    ensures { (outcome : Result (Unit {0}) ToolFault) × (result ≡ status_of outcome)
+        × ListsOrRefuses input.old (W.state writer.old) outcome input.new (W.state writer.new) }
+{
+    let outcome = list(rt, input, writer);
+    if let Err(fault) = &outcome {
+        let _ = eprintln!(rt; "{fault}");
+    }
+    exit_status(&outcome)
+}
+
+fn list<T: Env, R: Source, W: Sink>(
+    rt: &T,
+    input: &mut Input<R>,
+    writer: &mut W,
+) -> Result<(), ToolFault>
+    requires { input.old.fault ≡ None }
+    ensures { ListsOrRefuses input.old (W.state writer.old) result input.new (W.state writer.new) }
+{
+    let words = in_words(rt)?;
+    show(input, writer, words)
+}
+
+/// Whether packets are listed in words: the words behind the program's name are `--words` or none.
+fn in_words<T: Env>(rt: &T) -> Result<bool, ToolFault>
+    ensures { IfErr result (λ fault. fault ≡ ToolFault.Usage Usage.Words) }
+{
+    let mut word = [0; 8];
+    let len = match rt.arg(1, &mut word) {
+        Ok(len) => len,
+        Err(FillError::NotPresent) => return Ok(false),
+        Err(_) => return Err(ToolFault::Usage(Usage::Words)),
+    };
+    match rt.arg(2, &mut [0; 8]) {
+        Err(FillError::NotPresent) if word.get(..len) == Some(b"--words".as_slice()) => Ok(true),
+        _ => Err(ToolFault::Usage(Usage::Words)),
+    }
+}
+
+/// The exit status of `dcc`: 0 where all is written, 2 for words that are none of its own, 3 for any other fault.
+fn exit_status(outcome: &Result<(), ToolFault>) -> u8
+    ensures { result ≡ status_of outcome.now }
+{
+    match outcome {
+        Ok(()) => 0,
+        Err(ToolFault::Usage(_)) => 2,
+        Err(_) => 3,
+    }
+}
