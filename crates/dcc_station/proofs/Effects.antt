@@ -1,20 +1,18 @@
 -- What a command leaves, whatever was pending before it.
-use Rattle.std.proofs.Common.{◌≡◌, refl, ap, Bool, true, false, cond, Option, Some, None}
+use Rattle.std.proofs.Common.{◌≡◌, refl, Bool, true, false, cond, Option, arith}
 use Rattle.std.specs.Prelude.{◌&&◌, is_some}
 use Rattle.dcc_packet.specs.declared.packet.Packet.{Packet}
 use Rattle.dcc_regs.specs.declared.register.Register.{Register}
-use Rattle.dcc_regs.specs.declared.register.Register.TheVariants.{CvBit}
 use Rattle.dcc_regs.specs.declared.register.Value.{Value}
 use Rattle.dcc_regs.specs.Writes.{is_own_write, writes_cv29}
 use Rattle.dcc_regs.specs.Result.{RegisterMap}
 use Rattle.dcc_regs.specs.Sets.{sets}
 use Rattle.dcc_regs.specs.Setting.{value_over, mode_in}
-use Rattle.dcc_regs.specs.Result.{mode_of, is_pending, left_pending}
+use Rattle.dcc_regs.specs.Result.{is_pending}
 use Rattle.dcc_packet.proofs.SameFrames.{same-refl}
 use Rattle.dcc_regs.proofs.OwnWrites.{sets-own_write}
 use Rattle.dcc_regs.proofs.RegisterStep.{overwritten-none}
 use Rattle.dcc_regs.proofs.ResultByParts.{State, step, sets_bit, overwritten-twice}
-use Rattle.dcc_regs.specs.declared.register.Value.TheVariants.{Pending as PendingValue}
 use Rattle.dcc_station.specs.Commands.{is_refreshed}
 use Rattle.dcc_station.proofs.Tables.{mode_stays, refreshed_is_no_write}
 
@@ -53,21 +51,11 @@ Waits false s p = Unit {0}
 
 pub waits : (heard : Bool) (s : State) (p : Packet) → Waits heard (copied heard s p) p
 waits false s p = tt
-waits true s p = by_case s.pending
-  where
-    by_case : (held : Option Value) → is_own_write p ≡ true
-        → is_pending (value_over held (Some (PendingValue (left_pending p)))) p
-        ≡ is_some (value_over held (Some (PendingValue (left_pending p))))
-    by_case None own = refl
-    by_case (Some v) own = rw own (same-refl p)
+waits true s p = λ own. grind (arith, same-refl)
 
 -- a decoder that has a pending write has one from then on, and one that has none never gets it
 still_waits : (s : State) (p : Packet) → is_some (step s p).pending ≡ is_some s.pending
-still_waits s p = by_case s.pending
-  where
-    by_case : (held : Option Value) → is_some (value_over held (Some (PendingValue (left_pending p)))) ≡ is_some held
-    by_case None = refl
-    by_case (Some v) = refl
+still_waits s p = grind arith
 
 -- a packet that is no own write has its effect at once
 pub at_once : (heard : Bool) (s : State) (p : Packet) → is_own_write p ≡ false
@@ -79,35 +67,22 @@ at_once false s p other = refl
 pub at_last : (heard : Bool) (s : State) (p : Packet) → Waits heard s p
     → core (copied heard s p) ≡ then_effect heard (core s) p
 at_last false s p waits = refl
-at_last true s p waits = by_kind (is_own_write p) refl
-  where
-    by_kind : (w : Bool) → is_own_write p ≡ w → core (step s p) ≡ effect (core s) p
-    by_kind true own = same_core _ _ (still_waits s p) (λ r. rw (waits own) refl) (λ r. refl)
-    by_kind false other = at_once true s p other
+at_last true s p waits = same_core _ _ (still_waits s p) (λ r. grind arith) (λ r. refl)
 
 -- what is pending is there
 pending_is_some : (held : Option Value) (p : Packet) → is_pending held p ≡ true → is_some held ≡ true
-pending_is_some None p e = cc
-pending_is_some (Some v) p e = refl
+pending_is_some held p e = grind arith
 
 -- what a first write does, a second does alone
 twice_bits : (w b h : Bool) (v o : Option Value) → (b ≡ true → h ≡ true)
     → cond (w && h) (value_over (cond (w && b) (value_over v o) v) o) (cond (w && b) (value_over v o) v)
     ≡ cond (w && h) (value_over v o) v
-twice_bits false b h v o there = refl
-twice_bits true false h v o there = refl
-twice_bits true true true v o there = overwritten-twice v o
-twice_bits true true false v o there = absurd (let e : false ≡ true = there refl in cc)
+twice_bits w b h v o there = grind (arith, overwritten-twice)
 
 twice_plain : (m n : RegisterMap) (v : Option Value) (p : Packet) (r : Register)
     → (is_own_write p ≡ false → mode_in n ≡ mode_in m)
     → value_over (value_over v (sets (mode_in m) p r)) (sets (mode_in n) p r) ≡ value_over v (sets (mode_in m) p r)
-twice_plain m n v p r same = by_kind (is_own_write p) refl
-  where
-    by_kind : (w : Bool) → is_own_write p ≡ w
-        → value_over (value_over v (sets (mode_in m) p r)) (sets (mode_in n) p r) ≡ value_over v (sets (mode_in m) p r)
-    by_kind true own = rw (sets-own_write (mode_in n) p r own) (overwritten-none _)
-    by_kind false other = rw (same other) (overwritten-twice v _)
+twice_plain m n v p r same = grind (arith, sets-own_write, overwritten-none, overwritten-twice, same)
 
 pub mode_other : (c : Core) (p : Packet) → is_own_write p ≡ false → mode_in (effect c p).bits ≡ mode_in c.bits
 mode_other c p other = rw other refl
@@ -136,12 +111,7 @@ pub effect_plain_own : (c : Core) (p : Packet) → is_own_write p ≡ true → (
 effect_plain_own c p own r = rw (sets-own_write (mode_in c.bits) p r own) (overwritten-none (c.plain r))
 
 pub mode_kept : (c : Core) (p : Packet) → writes_cv29 p ≡ false → mode_in (effect c p).bits ≡ mode_in c.bits
-mode_kept c p none = rw (mode_stays p none) (by_case (is_own_write p && c.can_wait))
-  where
-    by_case : (t : Bool)
-        → mode_of (cond t (value_over (c.bits (CvBit 29 1)) None) (c.bits (CvBit 29 1))) ≡ mode_in c.bits
-    by_case true = ap mode_of (overwritten-none (c.bits (CvBit 29 1)))
-    by_case false = refl
+mode_kept c p none = rw (mode_stays p none) (grind (arith, overwritten-none))
 
 -- an entry whose registers are at its values has no effect
 pub no_effect : (c : Core) (e : Packet) → is_refreshed e ≡ true

@@ -1,7 +1,7 @@
 -- At which registers a command and an entry can differ.
-use Rattle.std.proofs.Common.{◌≡◌, ◌≢◌, refl, ap, Bool, true, false, Option, Some, None, ℕ}
+use Rattle.std.proofs.Common.{◌≡◌, ◌≢◌, Bool, true, false, Option, Some, None, ℕ, arith}
 use Rattle.std.specs.Prelude.{option_map, ◌==◌, ◌&&◌}
-use Rattle.std.proofs.lemmas.Bool.Decides.{Decides-eqb}
+use Rattle.std.proofs.lemmas.Bool.Decides.{nat_tests}
 use Rattle.dcc_packet.specs.declared.address.Address.TheVariants.{Short, Long}
 use Rattle.dcc_packet.specs.declared.packet.Packet.{Packet}
 use Rattle.dcc_packet.specs.declared.packet.Packet.TheVariants.{Loco}
@@ -15,20 +15,17 @@ use Rattle.dcc_station.specs.Commands.{is_refreshed}
 use Rattle.dcc_station.proofs.StatePackets.{entry_tells_none}
 
 pub none_differs : (a : Option Value) → Differ a None → ⊥
-none_differs (Some v) d = d
-none_differs None d = d
+none_differs a d = grind arith
 
 pub same_differs : {A : Type 0} (f : A → Value) (a b : Option A) → a ≡ b → Differ (option_map f a) (option_map f b) → ⊥
-same_differs f (Some v) (Some w) e d = d (let same : v ≡ w = cc in ap f same)
-same_differs f (Some v) None e d = d
-same_differs f None b e d = d
+same_differs f a b e d = grind arith
 
 pub some_differs : {A : Type 0} (f : A → Value) (v w : A) (a b : Option A) → a ≡ Some v → b ≡ Some w → f v ≢ f w
     → Differ (option_map f a) (option_map f b)
 some_differs f v w a b e h d = rw (e, h) d
 
 pub not_equal : (n m : ℕ) → (n == m) ≡ false → n ≢ m
-not_equal n m h e = let yes : (n == m) ≡ true = (Decides-eqb n m).1 e in cc
+not_equal n m h e = grind (arith, nat_tests)
 
 -- a command and an entry set no register to two values
 pub record SameAll (p e : Packet) : Type 0 where
@@ -47,10 +44,7 @@ Judged false p e = Ends p e
 pub judged_three : (p e : Packet) (a b c : Bool)
     → (a ≡ true → b ≡ true → c ≡ true → SameAll p e) → (a ≡ false → Ends p e)
     → (b ≡ false → Ends p e) → (c ≡ false → Ends p e) → Judged (a && (b && c)) p e
-judged_three p e true true true all x y z = all refl refl refl
-judged_three p e true true false all x y z = z refl
-judged_three p e true false c all x y z = y refl
-judged_three p e false b c all x y z = x refl
+judged_three p e a b c all x y z = grind arith
 
 abbrev pub SameFunctions : Packet → Packet → Type 0
 SameFunctions p e = (mode : SpeedMode) (n : ℕ) → Differ (sets mode p (Function n)) (sets mode e (Function n)) → ⊥
@@ -60,12 +54,10 @@ only_three : (mode : SpeedMode) (p e : Packet) (r : Register) → is_refreshed e
     → (Differ (sets mode p Direction) (sets mode e Direction) → ⊥) → SameFunctions p e
     → Differ (sets mode p r) (sets mode e r) → ⊥
 unfolding is_refreshed
-only_three mode p e SpeedRegister h s w f d = s d
-only_three mode p e Direction h s w f d = w d
-only_three mode p e (Function n) h s w f d = f mode n d
 only_three mode p e (State n) h s w f d = none_differs (sets mode p (State n)) (rw (entry_tells_none e h) at d)
-only_three mode p (Loco (Short own) what) r h s w f d = none_differs (sets mode p r) d
-only_three mode p (Loco (Long own) what) r h s w f d = none_differs (sets mode p r) d
+only_three mode p e (Function n) h s w f d = f mode n d
+only_three mode p (Loco (Short own) what) r h s w f d = grind arith
+only_three mode p (Loco (Long own) what) r h s w f d = grind arith
 only_three mode p e r h s w f d = absurd (cc)
 
 -- an entry sets no register but the speed, the direction and functions

@@ -1,5 +1,5 @@
 -- A command that sets functions, and an entry that does.
-use Rattle.std.proofs.Common.{◌≡◌, ◌≢◌, ◌∙◌, refl, sym, ap, true, false, Option, Some, None, inl, inr}
+use Rattle.std.proofs.Common.{◌≡◌, ◌≢◌, ◌∙◌, refl, sym, ap, Option, Some, None, inl, inr}
 use Rattle.std.proofs.Common.{ℕ, zero, suc, ◌⊎◌, ◌+◌, ◌-◌, ◌^◌, ◌<◌, ◌≤◌, arith}
 use Rattle.std.specs.Prelude.{option_map, ◌==◌, ◌&&◌, nat_lt, nat_le, if◌then◌else◌}
 use Rattle.std.specs.Int.{bit_at}
@@ -16,7 +16,7 @@ use Rattle.dcc_packet.specs.declared.packet.Packet.TheVariants.{Loco}
 use Rattle.dcc_packet.specs.Bits.{is_one}
 use Rattle.dcc_packet.specs.Group.{group_max}
 use Rattle.dcc_regs.specs.declared.register.SpeedMode.{SpeedMode}
-use Rattle.dcc_regs.specs.declared.register.SpeedMode.TheVariants.{Steps14, Steps28}
+use Rattle.dcc_regs.specs.declared.register.SpeedMode.TheVariants.{Steps28}
 use Rattle.dcc_regs.specs.declared.register.Register.TheVariants.{Function}
 use Rattle.dcc_regs.specs.declared.register.Value.{Value}
 use Rattle.dcc_regs.specs.declared.register.Value.TheVariants.{Flag}
@@ -26,12 +26,10 @@ use Rattle.dcc_regs.proofs.DifferLemmas.{differ-sym, InRun, in_run, either}
 use Rattle.dcc_station.proofs.EntryDifferences.{same_differs, some_differs, Ends, SameFunctions}
 
 first_is_some : (g : Group) → 1 ≤ first_function g
-first_is_some F0 = omega arith
-first_is_some g = omega arith
+first_is_some g = grind arith
 
 pub last_is_68 : (g : Group) → first_function g + count_of g ≤ 69
-last_is_68 F0 = omega arith
-last_is_68 g = omega arith
+last_is_68 g = grind arith
 
 -- the group that a function is in, F0 aside
 abbrev group_at : ℕ → Group
@@ -48,15 +46,16 @@ pub same_first : (g h : Group) → first_function g ≡ first_function h → g �
 same_first g h e = sym (of_first g) ∙ ap group_at e ∙ of_first h
 
 of_run : (g : Group) (n : ℕ) → InRun g n → group_at n ≡ g
-of_run F0 n r = let low = r.low in let high = r.high in grind (arith, nat_tests)
-of_run g n r = let low = r.low in let high = r.high in grind (arith, nat_tests)
+of_run g n r = grind (arith, nat_tests, r.low, r.high)
 
 -- F0 is in one group
 f0_group : (mode : SpeedMode) (b : ℕ) (g : Group) (o : Option Value)
     → Differ (option_map Flag (option_map (is_one b) (place_of_f0 mode g))) o → g ≡ F0
-f0_group mode b F0 o d = refl
-f0_group Steps28 b g o d = absurd d
-f0_group Steps14 b g o d = absurd d
+f0_group mode b g o d = grind arith
+
+in_its_group : (mode : SpeedMode) (g : Group) (bits n : ℕ) (o : Option Value)
+    → Differ (option_map Flag (option_map (is_one bits) (function_place mode g n))) o → group_at n ≡ g
+in_its_group mode g bits n o d = grind (arith, nat_tests)
 
 -- two commands for groups differ in one group alone
 pub one_group : (a b : GroupBits) (mode : SpeedMode) (n : ℕ)
@@ -108,18 +107,11 @@ place_is : (first count k : ℕ) (o : Option ℕ) → 1 ≤ first → k < count
     else if nat_le first (first + k) && nat_lt (first + k) (first + count)
     then Some (first + k - first) else None)
     ≡ Some k
-place_is first count k o some low =
-    let zero : (first + k == 0) ≡ false = grind (arith, nat_tests) in
-    let from : nat_le first (first + k) ≡ true = grind (arith, nat_tests) in
-    let to : nat_lt (first + k) (first + count) ≡ true = grind (arith, nat_tests) in
-    let back : first + k - first ≡ k = omega arith in
-    rw (zero, from, to, back) refl
+place_is first count k o some low = grind (arith, nat_tests)
 
 pub says : (bits : GroupBits) (k : ℕ) → k < count_of bits.group
     → group_bit Steps28 bits (first_function bits.group + k) ≡ Some (is_one bits.bits k)
-says bits k low = ap (option_map (is_one bits.bits))
-    (place_is (first_function bits.group) (count_of bits.group) k (place_of_f0 Steps28 bits.group)
-    (first_is_some bits.group) low)
+says bits k low = grind (arith, nat_tests, first_is_some)
 
 pub says_f0 : (bits : GroupBits) → bits.group ≡ F0 → group_bit Steps28 bits 0 ≡ Some (is_one bits.bits 4)
 says_f0 bits is = ap (λ g. option_map (is_one bits.bits) (function_place Steps28 g 0)) is
@@ -132,12 +124,10 @@ width F9 = 4
 width g = 8
 
 fits_width : (g : Group) (n : ℕ) → n ≤ group_max g → n < 2 ^ width g
-fits_width F0 n h = omega arith
-fits_width g n h = omega arith
+fits_width g n h = grind arith
 
 in_width : (g : Group) (k : ℕ) → k < width g → (k < count_of g) ⊎ ((g ≡ F0) × (k ≡ 4))
-in_width F0 k h = either k 4 (λ e. inr (refl, e)) (λ ne. inl (omega arith))
-in_width g k h = inl h
+in_width g k h = grind arith
 
 -- a command that sets the functions of an entry's group by other bits
 pub apart_in_group : (p : Packet) (a : ℕ) (own : Address) (b : GroupBits) → a ≤ group_max b.group → a ≢ b.bits
@@ -161,5 +151,4 @@ apart_in_group p a own b fits apart sets_it sets_f0 = (
     found = place (width b.group) a b.bits (fits_width b.group a fits) (fits_width b.group b.bits b.in_range) apart
 
     two : Flag (is_one a found.at) ≢ Flag (is_one b.bits found.at)
-    two e = found.apart (same_bit _ _ (bit_at-lt a found.at) (bit_at-lt b.bits found.at)
-        (let same : is_one a found.at ≡ is_one b.bits found.at = cc in same))
+    two e = found.apart (grind (arith, nat_tests, bit_at-lt))

@@ -4,7 +4,7 @@ use Rattle.std.proofs.Common.{◌<◌, arith}
 use Rattle.std.specs.Prelude.{option_map, ◌==◌, ◌||◌, ◌&&◌, not, nat_lt, if◌then◌else◌}
 use Rattle.std.proofs.lemmas.Bool.Decides.{nat_tests, Decides-eqb}
 use Rattle.dcc_packet.specs.declared.address.Address.{Address}
-use Rattle.dcc_packet.specs.declared.address.Address.TheVariants.{Broadcast, Short, Long}
+use Rattle.dcc_packet.specs.declared.address.Address.TheVariants.{Broadcast}
 use Rattle.dcc_packet.specs.declared.functions.Group.{Group}
 use Rattle.dcc_packet.specs.declared.functions.GroupBits.{GroupBits}
 use Rattle.dcc_packet.specs.declared.instruction.What.{What}
@@ -20,7 +20,6 @@ use Rattle.dcc_regs.specs.FunctionBits.{group_bit, place_of_f0, first_function, 
 use Rattle.dcc_regs.specs.Inner.ConflictParts.{Differ}
 use Rattle.dcc_station.specs.Commands.{is_refreshed}
 use Rattle.dcc_station.specs.Inner.Kept.{speed_kept, group_kept, kept_by_all}
-use Rattle.dcc_station.proofs.SpeedsAlike.{stop_to_all, no_stop}
 use Rattle.dcc_station.proofs.EntryDifferences.{none_differs, not_equal, SameAll, Ends, Judged, SameFunctions, same_all}
 use Rattle.dcc_station.proofs.SpeedLeft.{refreshed_sets, kept_functions, judged_speed}
 use Rattle.dcc_station.proofs.FunctionsLeft.{same_first, one_group, same_group, says, says_f0, apart_in_group}
@@ -34,26 +33,20 @@ judged_stop own f bits entry h = by_test (nat_lt bits.bits 4) refl
         → Judged (not t || speed_kept (bits.bits / 2) (if bits.bits == 0 || bits.bits == 2 then Some f else None) entry)
         (Loco Broadcast (Speed28 f bits)) (Loco own entry)
     by_test true few = judged_speed (Loco Broadcast (Speed28 f bits)) (bits.bits / 2) _ own entry h
-        (record { speed = λ mode. stop_to_all bits.bits (grind (arith, nat_tests)); direction = refl }) (λ mode n d. d)
+        (record { speed = λ mode. grind (arith, nat_tests); direction = refl }) (λ mode n d. d)
     by_test false much =
-        let first : (bits.bits == 0) ≡ false = grind (arith, nat_tests) in
-        let second : (bits.bits == 2) ≡ false = grind (arith, nat_tests) in
-        same_all h (λ mode. rw (no_stop bits.bits much) (λ d. d)) (λ mode. rw (first, second) (λ d. d)) (λ mode n d. d)
+        same_all h (λ mode. grind (arith, nat_tests)) (λ mode. grind (arith, nat_tests)) (λ mode n d. d)
 
 -- a group for F0 says nothing of it where a speed does
 f0_apart : (t : Bool) (b : ℕ) (g : Group) (o : Option ℕ) (x : Option Bool)
     → Differ (option_map Flag (option_map (is_one b) (if t then place_of_f0 Steps14 g else o)))
     (option_map Flag (if t then x else None)) → ⊥
-f0_apart true b g o x d = d
-f0_apart false b g o x d = none_differs _ d
+f0_apart t b g o x d = grind arith
 
 -- which functions a command for a group leaves: none that a speed sets, in either mode
 pub group_to_speed28 : (to own : Address) (a : GroupBits) (f : Bool) (bits : SpeedBits28)
     → SameFunctions (Loco to (Functions a)) (Loco own (Speed28 f bits))
-group_to_speed28 to Broadcast a f bits mode n d = none_differs (option_map Flag (group_bit mode a n)) d
-group_to_speed28 to (Short own) a f bits Steps14 n d = f0_apart (n == 0) a.bits a.group _ _ d
-group_to_speed28 to (Long own) a f bits Steps14 n d = f0_apart (n == 0) a.bits a.group _ _ d
-group_to_speed28 to own a f bits Steps28 n d = none_differs (option_map Flag (group_bit Steps28 a n)) d
+group_to_speed28 to own a f bits mode n d = grind arith
 
 -- two commands for functions, of two groups
 pub other_group : (to own : Address) (a b : GroupBits) → is_refreshed (Loco own (Functions b)) ≡ true

@@ -1,10 +1,10 @@
 -- A command to the locomotive of an entry.
-use Rattle.std.proofs.Common.{◌≡◌, ◌∙◌, refl, sym, ap, Bool, true, false, Option, Some, None, inl, inr}
+use Rattle.std.proofs.Common.{◌≡◌, ◌∙◌, refl, sym, ap, Bool, true, false, Option, Some, None, inl, inr, arith}
 use Rattle.std.specs.Prelude.{◌==◌, ◌&&◌, ◌||◌, not}
-use Rattle.std.proofs.lemmas.Bool.Decides.{Decides-eqb}
+use Rattle.std.proofs.lemmas.Bool.Decides.{Decides-eqb, nat_tests}
 use Rattle.dcc_packet.specs.Address.{same_address}
 use Rattle.dcc_packet.specs.declared.address.Address.{Address}
-use Rattle.dcc_packet.specs.declared.address.Address.TheVariants.{Broadcast, Short, Long}
+use Rattle.dcc_packet.specs.declared.address.Address.TheVariants.{Broadcast}
 use Rattle.dcc_packet.specs.declared.functions.GroupBits.{GroupBits}
 use Rattle.dcc_packet.specs.declared.instruction.What.{What}
 use Rattle.dcc_packet.specs.declared.instruction.What.TheVariants.{Reset, Speed28, Speed128, Functions}
@@ -49,9 +49,7 @@ told_by true p e heard same other cv = told_same same other cv
 told_by false p e heard ends other cv = inr (inl (conflict_from p e heard ends))
 
 pub own_address : (own : Address) → (is_for (Some own) own ≡ true) × (same_address own own ≡ true)
-own_address Broadcast = (refl, refl)
-own_address (Short n) = let e = (Decides-eqb n.number n.number).1 refl in (e, e)
-own_address (Long n) = let e = (Decides-eqb n.number n.number).1 refl in (e, e)
+own_address own = (grind (arith, nat_tests), grind (arith, nat_tests))
 
 heard_by : (own to : Address) (what entry : What) → is_for (Some own) to ≡ true
     → HeardTogether (Loco to what) (Loco own entry)
@@ -60,9 +58,7 @@ heard_by own to what entry h = record { who = LocoWho (Some own); first = h; sec
 -- a command to all is no entry, and has no address of one
 pub not_all : (own : Address) (entry : What) → is_refreshed (Loco own entry) ≡ true → Some own ≡ Some Broadcast → ⊥
 unfolding is_refreshed
-not_all (Short own) entry h e = cc
-not_all (Long own) entry h e = cc
-not_all Broadcast entry h e = cc
+not_all own entry h e = grind arith
 
 pub told_all : (own : Address) (what entry : What) → is_refreshed (Loco own entry) ≡ true
     → Told (Some (kept_by_all what entry)) (Loco Broadcast what) (Loco own entry)
@@ -75,7 +71,7 @@ told_all own what entry h =
 not_entry : (own : Address) (what entry : What) → is_refreshed (Loco own entry) ≡ true
     → sets_speed_or_functions what ≡ false
     → Loco own entry ≡ Loco own what → ⊥
-not_entry own what entry h none is = let k = refreshed_sets own what (sym (ap is_refreshed is) ∙ h) in cc
+not_entry own what entry h none is = grind (arith, refreshed_sets)
 
 -- a command that sets no register of an entry ends it where it writes CV29
 told_write : (w : Bool) (own : Address) (what entry : What) → writes_mode what ≡ w

@@ -1,5 +1,5 @@
 -- What is told of a command and an entry is right.
-use Rattle.std.proofs.Common.{◌≡◌, ◌≢◌, ◌∙◌, refl, sym, ap, subst, Bool, true, false, Option, Some, None, inl, inr}
+use Rattle.std.proofs.Common.{◌≡◌, ◌≢◌, ◌∙◌, refl, sym, ap, subst, Bool, true, false, Option, Some, None, inl, inr, arith}
 use Rattle.std.specs.Prelude.{not, if◌then◌else◌}
 use Rattle.std.proofs.lemmas.Bool.Decides.{Decides-eqb}
 use Rattle.dcc_packet.specs.declared.address.Address.{Address}
@@ -43,13 +43,11 @@ told_named to own what entry one h false e = told_apart to own what entry one h
 told_of : (to own : Address) (what entry : What) → is_refreshed (Loco own entry) ≡ true
     → Told (kept_of to what own entry) (Loco to what) (Loco own entry)
 told_of Broadcast own what entry h = told_all own what entry h
-told_of (Short n) own what entry h = told_named (Short n) own what entry (λ e. cc) h (same_address own (Short n)) refl
-told_of (Long n) own what entry h = told_named (Long n) own what entry (λ e. cc) h (same_address own (Long n)) refl
+told_of to own what entry h = told_named to own what entry (λ e. cc) h (same_address own to) refl
 
 where_fresh : (t : Bool) (o : Option Bool) (p e : Packet) → is_refreshed e ≡ t → (is_refreshed e ≡ true → Told o p e)
     → Told (if t then o else None) p e
-where_fresh true o p e h f = f h
-where_fresh false o p e h f = tt
+where_fresh t o p e h f = grind arith
 
 -- what is told is right: a command that is to no locomotive sets nothing that an entry sets
 told : (p : Packet) (own : Address) (entry : What) → Told (kept_in p own entry) p (Loco own entry)

@@ -1,9 +1,8 @@
 -- A command that sets a speed, and an entry that does.
-use Rattle.std.proofs.Common.{◌≡◌, ◌≢◌, ◌∙◌, refl, sym, ap, Bool, true, false, Option, Some, None, ℕ, ◌/◌, arith}
+use Rattle.std.proofs.Common.{◌≡◌, ◌≢◌, ◌∙◌, refl, sym, ap, Bool, true, false, Option, Some, ℕ, ◌/◌, arith}
 use Rattle.std.specs.Prelude.{option_map, ◌==◌, nat_lt}
-use Rattle.std.proofs.lemmas.Bool.Decides.{nat_tests, Decides-eqb}
+use Rattle.std.proofs.lemmas.Bool.Decides.{nat_tests}
 use Rattle.dcc_packet.specs.declared.address.Address.{Address}
-use Rattle.dcc_packet.specs.declared.address.Address.TheVariants.{Broadcast, Short, Long}
 use Rattle.dcc_packet.specs.declared.instruction.What.{What}
 use Rattle.dcc_packet.specs.declared.instruction.What.TheVariants.{Speed28, Speed128, Functions}
 use Rattle.dcc_packet.specs.declared.packet.Packet.{Packet}
@@ -11,7 +10,7 @@ use Rattle.dcc_packet.specs.declared.packet.Packet.TheVariants.{Loco}
 use Rattle.dcc_packet.specs.declared.functions.GroupBits.{GroupBits}
 use Rattle.dcc_packet.specs.declared.speed.SpeedBits28.{SpeedBits28}
 use Rattle.dcc_regs.specs.declared.register.SpeedMode.{SpeedMode}
-use Rattle.dcc_regs.specs.declared.register.SpeedMode.TheVariants.{Steps14, Steps28}
+use Rattle.dcc_regs.specs.declared.register.SpeedMode.TheVariants.{Steps28}
 use Rattle.dcc_regs.specs.declared.register.Speed.{Speed}
 use Rattle.dcc_regs.specs.declared.register.Register.TheVariants.{Speed as SpeedRegister, Direction}
 use Rattle.dcc_regs.specs.declared.register.Value.TheVariants.{Speed as SpeedValue, Forward}
@@ -20,17 +19,15 @@ use Rattle.dcc_regs.specs.Sets.{sets}
 use Rattle.dcc_regs.specs.Speeds.{speed_set, direction_set, speed_of_126}
 use Rattle.dcc_station.specs.Commands.{is_refreshed, sets_speed_or_functions}
 use Rattle.dcc_station.specs.Inner.Kept.{way_kept, speed_kept}
-use Rattle.dcc_station.proofs.SpeedsAlike.{speed_in, stops, apart28, apart126}
-use Rattle.dcc_station.proofs.EntryDifferences.{none_differs, same_differs, some_differs, not_equal, SameAll, Ends}
+use Rattle.dcc_station.proofs.SpeedsAlike.{speed_in}
+use Rattle.dcc_station.proofs.EntryDifferences.{none_differs, same_differs, SameAll, Ends}
 use Rattle.dcc_station.proofs.EntryDifferences.{Judged}
 use Rattle.dcc_station.proofs.EntryDifferences.{judged_three, SameFunctions, same_all}
 
 pub refreshed_sets : (own : Address) (entry : What) → is_refreshed (Loco own entry) ≡ true
     → sets_speed_or_functions entry ≡ true
 unfolding is_refreshed
-refreshed_sets Broadcast entry h = absurd (cc)
-refreshed_sets (Short own) entry h = h
-refreshed_sets (Long own) entry h = h
+refreshed_sets own entry h = grind arith
 
 -- a packet sets this speed in either mode, and perhaps a direction
 pub record AsksSpeed (p : Packet) (k : ℕ) (way : Option Bool) : Type 0 where
@@ -48,11 +45,7 @@ shows_by : (mode : SpeedMode) (own : Address) (f : Bool) (bits : SpeedBits28)
     → (speed_set mode (Loco own (Speed28 f bits)) ≡ Some (speed_in bits.bits mode))
     × (direction_set (Loco own (Speed28 f bits)) ≡ Some f)
 unfolding is_refreshed
-shows_by Steps14 (Short own) f bits h = (refl, refl)
-shows_by Steps14 (Long own) f bits h = (refl, refl)
-shows_by Steps28 (Short own) f bits h = (refl, refl)
-shows_by Steps28 (Long own) f bits h = (refl, refl)
-shows_by mode Broadcast f bits h = absurd (cc)
+shows_by mode own f bits h = (grind arith, grind arith)
 
 pub shows28 : {own : Address} {f : Bool} {bits : SpeedBits28} → is_refreshed (Loco own (Speed28 f bits)) ≡ true
     → Shows (Loco own (Speed28 f bits)) (speed_in bits.bits) f
@@ -64,16 +57,10 @@ shows28 {own = own} {f = f} {bits = bits} h = record {
 
 way_same : (way : Option Bool) (f : Bool) → way_kept way f ≡ true
     → Differ (option_map Forward way) (Some (Forward f)) → ⊥
-way_same None f h d = d
-way_same (Some true) true h d = d refl
-way_same (Some false) false h d = d refl
-way_same way f h d = absurd (cc)
+way_same way f h d = grind arith
 
 way_apart : (way : Option Bool) (f : Bool) → way_kept way f ≡ false → Differ (option_map Forward way) (Some (Forward f))
-way_apart None f h = absurd (cc)
-way_apart (Some true) false h = λ e. cc
-way_apart (Some false) true h = λ e. cc
-way_apart way f h = absurd (cc)
+way_apart way f h = grind arith
 
 module _ {p e : Packet} {k : ℕ} {way : Option Bool} {speeds : SpeedMode → Speed} {f : Bool} where
   pub kept_speed : AsksSpeed p k way → Shows e speeds f → SameFunctions p e
@@ -85,14 +72,8 @@ module _ {p e : Packet} {k : ℕ} {way : Option Bool} {speeds : SpeedMode → Sp
   pub ended_by_speed : AsksSpeed p k way → Shows e speeds f → speed_of_126 k ≢ speeds Steps28 → Ends p e
   ended_by_speed asks shows apart = (
     Steps28,
-    record {
-      register = SpeedRegister;
-      differ = some_differs SpeedValue _ _ _ _ (asks.speed Steps28) (shows.speed Steps28) (λ e. apart (inside _ _ e));
-    },
+    record { register = SpeedRegister; differ = rw (asks.speed Steps28, shows.speed Steps28) (λ e. apart (cc)) },
   )
-    where
-      inside : (a b : Speed) → SpeedValue a ≡ SpeedValue b → a ≡ b
-      inside a b e = cc
 
   pub ended_by_way : AsksSpeed p k way → Shows e speeds f → way_kept way f ≡ false → Ends p e
   ended_by_way asks shows apart =
@@ -108,19 +89,16 @@ pub judged_speed : (p : Packet) (k : ℕ) (way : Option Bool) (own : Address) (e
     → Judged (speed_kept k way entry) p (Loco own entry)
 judged_speed p k way own (Speed28 f bits) h asks same =
     judged_three p (Loco own (Speed28 f bits)) (nat_lt k 2) (bits.bits / 2 == k) (way_kept way f)
-    (λ few half. kept_speed asks (shows28 h) same
-    (λ mode. stops mode k bits.bits (grind (arith, nat_tests, few)) ((Decides-eqb (bits.bits / 2) k).0 half)))
-    (λ much. ended_by_speed asks (shows28 h)
-    (λ e. let few = (apart28 k bits.bits e).0 in grind (arith, nat_tests, much, few)))
-    (λ apart. ended_by_speed asks (shows28 h) (λ e. not_equal (bits.bits / 2) k apart (apart28 k bits.bits e).1))
-    (λ back. ended_by_way asks (shows28 h) back)
+    (λ few half. kept_speed asks (shows28 h) same (λ mode. grind (arith, nat_tests, few, half)))
+    (λ much. ended_by_speed asks (shows28 h) (λ e. grind (arith, nat_tests, much)))
+    (λ apart. ended_by_speed asks (shows28 h) (λ e. grind (arith, nat_tests, apart)))
+    (ended_by_way asks (shows28 h))
 judged_speed p k way own (Speed128 f bits) h asks same =
     let shows : Shows (Loco own (Speed128 f bits)) (λ mode. speed_of_126 bits.bits) f =
     record { fresh = h; speed = λ mode. refl; direction = refl } in
     judged_three p (Loco own (Speed128 f bits)) true (bits.bits == k) (way_kept way f)
-    (λ t is. kept_speed asks shows same (λ mode. ap speed_of_126 (sym ((Decides-eqb bits.bits k).0 is))))
-    (λ none. absurd (cc))
-    (λ apart. ended_by_speed asks shows (λ e. not_equal bits.bits k apart (apart126 k bits.bits e)))
-    (λ back. ended_by_way asks shows back)
+    (λ t is. kept_speed asks shows same (λ mode. grind (arith, nat_tests, is)))
+    (λ none. absurd (cc)) (λ apart. ended_by_speed asks shows (λ e. grind (arith, nat_tests, apart)))
+    (ended_by_way asks shows)
 judged_speed p k way own (Functions bits) h asks same = kept_functions h same
 judged_speed p k way own entry h asks same = absurd (let k = refreshed_sets own entry h in cc)

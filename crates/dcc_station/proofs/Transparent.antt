@@ -1,10 +1,10 @@
 -- Refreshing changes no register but what is pending.
 use Rattle.std.proofs.Common.{◌≡◌, ◌∙◌, refl, sym, ap, Bool, true, false, cond, List, [], ◌∷◌, ◌++◌}
 use Rattle.std.proofs.Common.{append_assoc, append-nil, add-one, Option, Some, None, inl, inr, ℕ, zero, suc, ◌+◌, ◌<◌}
-use Rattle.std.proofs.Common.{◌≤◌, ◌-◌, arith, length, drop}
+use Rattle.std.proofs.Common.{◌-◌, arith, length, drop}
 use Rattle.std.specs.Prelude.{◌≢◌, nat_le}
 use Rattle.std.specs.List.{AllByRecursion}
-use Rattle.std.proofs.lemmas.Bool.{leb-true}
+use Rattle.std.proofs.lemmas.Bool.Decides.{nat_tests}
 use Rattle.std.proofs.lemmas.List.{append_cancel_right}
 use Rattle.dcc_packet.specs.declared.packet.Packet.{Packet}
 use Rattle.dcc_packet.specs.declared.packet.Packet.TheVariants.{Idle}
@@ -33,7 +33,7 @@ use Rattle.dcc_station.proofs.Effects.{mode_other}
 use Rattle.dcc_station.proofs.Effects.{after_first, effect_twice, effect_plain_own, mode_kept, no_effect}
 
 pub not_both : {b : Bool} → b ≡ true → b ≡ false → ⊥
-not_both e h = (let k : true ≡ false = sym e ∙ h in cc)
+not_both e h = cc
 
 all_append : (P : Packet → Type 0) (a b : List Packet) → AllByRecursion P a → AllByRecursion P b
     → AllByRecursion P (a ++ b)
@@ -48,13 +48,11 @@ all_dropped P (suc n) (x ∷ l) all = all_dropped P n l all.1
 -- what does not differ from a value that stands stands after it
 no_difference : (v a b : Option Value) → (Differ a b → ⊥) → value_over v b ≡ v
     → value_over (value_over v a) b ≡ value_over v a
-no_difference None a b same k = refl
-no_difference (Some v) None b same k = k
-no_difference (Some v) (Some u) None same k = refl
 no_difference (Some v) (Some u) (Some w) same k = elim (values_are_decided u w) [
   | inl is ↦ ap Some (sym is)
   | inr apart ↦ absurd (same apart)
 ]
+no_difference v a b same k = grind arith
 
 module _ (who : Who) where
   -- an entry is a packet that is refreshed, and whose registers are at its values in a decoder that hears it
@@ -167,11 +165,7 @@ module _ (who : Who) where
 
     only_one : (repeats : ℕ) (p : Packet) → 0 < repeats → (nat_le (copies repeats p) (0 + 1)) ≡ true
         → is_own_write p ≡ false
-    only_one repeats p some e = by_kind (is_own_write p) refl
-      where
-        by_kind : (w : Bool) → is_own_write p ≡ w → w ≡ false
-        by_kind false own = refl
-        by_kind true own = let k : repeats + 1 ≤ 1 = leb-true (repeats + 1) 1 (rw own at e) in absurd (omega arith)
+    only_one repeats p some e = grind (arith, nat_tests)
 
     -- what one more copy of a command leaves
     record Copied (sent repeats : ℕ) (p : Packet) (done entries : List Packet) (s : State) : Type 0 where
@@ -266,9 +260,7 @@ module _ (who : Who) where
 
     more_waits : (sent : ℕ) (waiting done : List Packet) (c : Core) (s : State) (p : Packet)
         → Progress sent waiting done c s → Progress sent (waiting ++ p ∷ []) done c s
-    more_waits zero waiting done c s p progress = progress
-    more_waits (suc sent) [] done c s p progress = absurd progress
-    more_waits (suc sent) (q ∷ rest) done c s p progress = progress
+    more_waits sent waiting done c s p progress = grind arith
 
     stands : (s : Sending) (commands packets : List Packet) → StandsFor s commands packets
         → Invariant s commands packets
@@ -288,14 +280,11 @@ module _ (who : Who) where
 
     when_whole : (sent : ℕ) (waiting done : List Packet) (c : Core) (s : State) → sent ≡ 0
         → Progress sent waiting done c s → core s ≡ asked done
-    when_whole zero waiting done c s e progress = progress.0 ∙ sym progress.1
-    when_whole (suc sent) waiting done c s e progress = absurd (omega arith)
+    when_whole sent waiting done c s e progress = grind arith
 
 -- cores that are the same show the same registers, but for what is pending
 read_core : (s t : State) (r : Register) → r ≢ Register'.Pending → core s ≡ core t → read s r ≡ read t r
-read_core s t (Register'.CvBit cv place) other e = ap (λ (c : Core). c.bits (Register'.CvBit cv place)) e
-read_core s t Register'.Pending other e = absurd (other refl)
-read_core s t r other e = ap (λ (c : Core). c.plain r) e
+read_core s t r other e = grind arith
 
 pub refresh : RefreshIsTransparent
 refresh s done packets from whole who m r other =
@@ -318,9 +307,7 @@ refresh_all s commands packets from none who m r other =
   where
     none_sent : (sent : ℕ) (waiting done : List Packet) (c : Core) (now : State) → waiting ≡ []
         → Progress who m sent waiting done c now → sent ≡ 0
-    none_sent zero waiting done c now e progress = refl
-    none_sent (suc sent) [] done c now e progress = absurd progress
-    none_sent (suc sent) (p ∷ rest) done c now e progress = cc
+    none_sent sent waiting done c now e progress = grind arith
 
 pub waiting_is_the_end : WaitingIsTheEnd
 waiting_is_the_end s commands packets from =
