@@ -45,14 +45,7 @@ of_first g = refl
 pub same_first : (g h : Group) → first_function g ≡ first_function h → g ≡ h
 same_first g h e = sym (of_first g) ∙ ap group_at e ∙ of_first h
 
-of_run : (g : Group) (n : ℕ) → InRun g n → group_at n ≡ g
-of_run g n r = grind (arith, nat_tests, r.low, r.high)
-
--- F0 is in one group
-f0_group : (mode : SpeedMode) (b : ℕ) (g : Group) (o : Option Value)
-    → Differ (option_map Flag (option_map (is_one b) (place_of_f0 mode g))) o → g ≡ F0
-f0_group mode b g o d = grind arith
-
+-- a function that a command for a group sets is in that group
 in_its_group : (mode : SpeedMode) (g : Group) (bits n : ℕ) (o : Option Value)
     → Differ (option_map Flag (option_map (is_one bits) (function_place mode g n))) o → group_at n ≡ g
 in_its_group mode g bits n o d = grind (arith, nat_tests)
@@ -60,17 +53,8 @@ in_its_group mode g bits n o d = grind (arith, nat_tests)
 -- two commands for groups differ in one group alone
 pub one_group : (a b : GroupBits) (mode : SpeedMode) (n : ℕ)
     → Differ (option_map Flag (group_bit mode a n)) (option_map Flag (group_bit mode b n)) → a.group ≡ b.group
-one_group a b mode n d = either n 0 (λ is. at_f0 a b d is ∙ sym (at_f0 b a (differ-sym _ _ d) is))
-    (λ some. sym (in_group a b d some) ∙ in_group b a (differ-sym _ _ d) some)
-  where
-    at_f0 : (a b : GroupBits) → Differ (option_map Flag (group_bit mode a n)) (option_map Flag (group_bit mode b n))
-        → n ≡ 0 → a.group ≡ F0
-    at_f0 a b d is = f0_group mode a.bits a.group _ (rw is at d)
-
-    in_group : (a b : GroupBits) → Differ (option_map Flag (group_bit mode a n)) (option_map Flag (group_bit mode b n))
-        → n ≢ 0 → group_at n ≡ a.group
-    in_group a b d some = of_run a.group n
-        (in_run mode (Loco Broadcast (Functions a)) (Loco Broadcast (Functions b)) a.group n refl some d)
+one_group a b mode n d =
+    sym (in_its_group mode a.group a.bits n _ d) ∙ in_its_group mode b.group b.bits n _ (differ-sym _ _ d)
 
 -- the same bits of one group
 pub same_group : (to own : Address) (a b : GroupBits) → a ≡ b
@@ -98,17 +82,7 @@ place w a b low high apart = elim (search_place w a b) [
   | inr same ↦ absurd (apart (same_from_bits_below w a b low high same))
 ]
 
-same_bit : (n m : ℕ) → n < 2 → m < 2 → (n == 1) ≡ (m == 1) → n ≡ m
-same_bit n m h k e = grind (arith, nat_tests)
-
 -- the functions of a group that its bits say, and F0
-place_is : (first count k : ℕ) (o : Option ℕ) → 1 ≤ first → k < count
-    → (if first + k == 0 then o
-    else if nat_le first (first + k) && nat_lt (first + k) (first + count)
-    then Some (first + k - first) else None)
-    ≡ Some k
-place_is first count k o some low = grind (arith, nat_tests)
-
 pub says : (bits : GroupBits) (k : ℕ) → k < count_of bits.group
     → group_bit Steps28 bits (first_function bits.group + k) ≡ Some (is_one bits.bits k)
 says bits k low = grind (arith, nat_tests, first_is_some)

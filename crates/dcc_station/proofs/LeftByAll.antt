@@ -37,12 +37,6 @@ judged_stop own f bits entry h = by_test (nat_lt bits.bits 4) refl
     by_test false much =
         same_all h (λ mode. grind (arith, nat_tests)) (λ mode. grind (arith, nat_tests)) (λ mode n d. d)
 
--- a group for F0 says nothing of it where a speed does
-f0_apart : (t : Bool) (b : ℕ) (g : Group) (o : Option ℕ) (x : Option Bool)
-    → Differ (option_map Flag (option_map (is_one b) (if t then place_of_f0 Steps14 g else o)))
-    (option_map Flag (if t then x else None)) → ⊥
-f0_apart t b g o x d = grind arith
-
 -- which functions a command for a group leaves: none that a speed sets, in either mode
 pub group_to_speed28 : (to own : Address) (a : GroupBits) (f : Bool) (bits : SpeedBits28)
     → SameFunctions (Loco to (Functions a)) (Loco own (Speed28 f bits))

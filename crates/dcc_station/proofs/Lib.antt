@@ -6,7 +6,6 @@ pub mod EntriesLeft
 pub mod EntriesInTurn
 pub mod StatePackets
 pub mod RingItems
-pub mod SpeedsAlike
 pub mod EntryDifferences
 pub mod SpeedLeft
 pub mod FunctionsLeft

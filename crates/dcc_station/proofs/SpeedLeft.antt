@@ -10,19 +10,23 @@ use Rattle.dcc_packet.specs.declared.packet.Packet.TheVariants.{Loco}
 use Rattle.dcc_packet.specs.declared.functions.GroupBits.{GroupBits}
 use Rattle.dcc_packet.specs.declared.speed.SpeedBits28.{SpeedBits28}
 use Rattle.dcc_regs.specs.declared.register.SpeedMode.{SpeedMode}
-use Rattle.dcc_regs.specs.declared.register.SpeedMode.TheVariants.{Steps28}
+use Rattle.dcc_regs.specs.declared.register.SpeedMode.TheVariants.{Steps14, Steps28}
 use Rattle.dcc_regs.specs.declared.register.Speed.{Speed}
 use Rattle.dcc_regs.specs.declared.register.Register.TheVariants.{Speed as SpeedRegister, Direction}
 use Rattle.dcc_regs.specs.declared.register.Value.TheVariants.{Speed as SpeedValue, Forward}
 use Rattle.dcc_regs.specs.Inner.ConflictParts.{Differ}
 use Rattle.dcc_regs.specs.Sets.{sets}
-use Rattle.dcc_regs.specs.Speeds.{speed_set, direction_set, speed_of_126}
+use Rattle.dcc_regs.specs.Speeds.{speed_set, direction_set, speed_of_28, speed_of_14, speed_of_126}
 use Rattle.dcc_station.specs.Commands.{is_refreshed, sets_speed_or_functions}
 use Rattle.dcc_station.specs.Inner.Kept.{way_kept, speed_kept}
-use Rattle.dcc_station.proofs.SpeedsAlike.{speed_in}
 use Rattle.dcc_station.proofs.EntryDifferences.{none_differs, same_differs, SameAll, Ends}
 use Rattle.dcc_station.proofs.EntryDifferences.{Judged}
 use Rattle.dcc_station.proofs.EntryDifferences.{judged_three, SameFunctions, same_all}
+
+-- the baseline instruction, read in a mode
+abbrev pub speed_in : ℕ → SpeedMode → Speed
+speed_in bits Steps28 = speed_of_28 bits
+speed_in bits Steps14 = speed_of_14 bits
 
 pub refreshed_sets : (own : Address) (entry : What) → is_refreshed (Loco own entry) ≡ true
     → sets_speed_or_functions entry ≡ true
