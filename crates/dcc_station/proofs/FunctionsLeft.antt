@@ -1,12 +1,11 @@
 -- A command that sets functions, and an entry that does.
-use Rattle.std.proofs.Common.{◌≡◌, ◌≢◌, ◌∙◌, refl, sym, ap, Option, Some, None, inl, inr}
-use Rattle.std.proofs.Common.{ℕ, zero, suc, ◌⊎◌, ◌+◌, ◌-◌, ◌^◌, ◌<◌, ◌≤◌, arith}
-use Rattle.std.specs.Prelude.{option_map, ◌==◌, ◌&&◌, nat_lt, nat_le, if◌then◌else◌}
+use Rattle.std.proofs.Common.{◌≡◌, ◌≢◌, ◌∙◌, refl, sym, ap, Option, Some, inl, inr}
+use Rattle.std.proofs.Common.{ℕ, zero, suc, ◌⊎◌, ◌+◌, ◌^◌, ◌<◌, ◌≤◌, arith}
+use Rattle.std.specs.Prelude.{option_map, nat_lt, if◌then◌else◌}
 use Rattle.std.specs.Int.{bit_at}
 use Rattle.std.proofs.lemmas.Bool.Decides.{nat_tests}
 use Rattle.std.proofs.lemmas.Nat.Bits.{same_from_bits_below, bit_at-lt}
 use Rattle.dcc_packet.specs.declared.address.Address.{Address}
-use Rattle.dcc_packet.specs.declared.address.Address.TheVariants.{Broadcast}
 use Rattle.dcc_packet.specs.declared.functions.Group.{Group}
 use Rattle.dcc_packet.specs.declared.functions.Group.TheVariants.{F0, F5, F9, F13, F21, F29, F37, F45, F53, F61}
 use Rattle.dcc_packet.specs.declared.functions.GroupBits.{GroupBits}
@@ -20,10 +19,10 @@ use Rattle.dcc_regs.specs.declared.register.SpeedMode.TheVariants.{Steps28}
 use Rattle.dcc_regs.specs.declared.register.Register.TheVariants.{Function}
 use Rattle.dcc_regs.specs.declared.register.Value.{Value}
 use Rattle.dcc_regs.specs.declared.register.Value.TheVariants.{Flag}
-use Rattle.dcc_regs.specs.FunctionBits.{function_set, group_bit, function_place, place_of_f0, first_function, count_of}
+use Rattle.dcc_regs.specs.FunctionBits.{function_set, group_bit, function_place, first_function, count_of}
 use Rattle.dcc_regs.specs.Inner.ConflictParts.{Differ}
-use Rattle.dcc_regs.proofs.DifferLemmas.{differ-sym, InRun, in_run, either}
-use Rattle.dcc_station.proofs.EntryDifferences.{same_differs, some_differs, Ends, SameFunctions}
+use Rattle.dcc_regs.proofs.DifferLemmas.{differ-sym, either}
+use Rattle.dcc_station.proofs.EntryDifferences.{some_differs, Ends}
 
 first_is_some : (g : Group) → 1 ≤ first_function g
 first_is_some g = grind arith
@@ -55,11 +54,6 @@ pub one_group : (a b : GroupBits) (mode : SpeedMode) (n : ℕ)
     → Differ (option_map Flag (group_bit mode a n)) (option_map Flag (group_bit mode b n)) → a.group ≡ b.group
 one_group a b mode n d =
     sym (in_its_group mode a.group a.bits n _ d) ∙ in_its_group mode b.group b.bits n _ (differ-sym _ _ d)
-
--- the same bits of one group
-pub same_group : (to own : Address) (a b : GroupBits) → a ≡ b
-    → SameFunctions (Loco to (Functions a)) (Loco own (Functions b))
-same_group to own a b e mode n = same_differs Flag _ _ (ap (λ g. group_bit mode g n) e)
 
 -- a place at which two numbers have two bits
 record Place (w a b : ℕ) : Type 0 where

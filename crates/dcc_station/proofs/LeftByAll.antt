@@ -1,11 +1,10 @@
 -- A command to all locomotives and an entry.
-use Rattle.std.proofs.Common.{◌≡◌, ◌∙◌, refl, sym, ap, subst, Bool, true, false, Option, Some, None, ℕ, ◌+◌, ◌/◌, ◌≤◌}
+use Rattle.std.proofs.Common.{◌≡◌, ◌∙◌, refl, sym, ap, subst, Bool, true, false, Some, None, ◌+◌, ◌/◌, ◌≤◌}
 use Rattle.std.proofs.Common.{◌<◌, arith}
-use Rattle.std.specs.Prelude.{option_map, ◌==◌, ◌||◌, ◌&&◌, not, nat_lt, if◌then◌else◌}
+use Rattle.std.specs.Prelude.{◌==◌, ◌||◌, ◌&&◌, not, nat_lt, if◌then◌else◌}
 use Rattle.std.proofs.lemmas.Bool.Decides.{nat_tests, Decides-eqb}
 use Rattle.dcc_packet.specs.declared.address.Address.{Address}
 use Rattle.dcc_packet.specs.declared.address.Address.TheVariants.{Broadcast}
-use Rattle.dcc_packet.specs.declared.functions.Group.{Group}
 use Rattle.dcc_packet.specs.declared.functions.GroupBits.{GroupBits}
 use Rattle.dcc_packet.specs.declared.instruction.What.{What}
 use Rattle.dcc_packet.specs.declared.instruction.What.TheVariants.{Reset, Speed28, Speed128, Functions}
@@ -14,15 +13,14 @@ use Rattle.dcc_packet.specs.declared.speed.SpeedBits28.{SpeedBits28}
 use Rattle.dcc_packet.specs.Bits.{is_one}
 use Rattle.dcc_packet.specs.Group.{group_max}
 use Rattle.dcc_packet.proofs.Same.{same_functions}
-use Rattle.dcc_regs.specs.declared.register.SpeedMode.TheVariants.{Steps14, Steps28}
+use Rattle.dcc_regs.specs.declared.register.SpeedMode.TheVariants.{Steps28}
 use Rattle.dcc_regs.specs.declared.register.Value.TheVariants.{Flag}
-use Rattle.dcc_regs.specs.FunctionBits.{group_bit, place_of_f0, first_function, count_of}
-use Rattle.dcc_regs.specs.Inner.ConflictParts.{Differ}
+use Rattle.dcc_regs.specs.FunctionBits.{group_bit, first_function, count_of}
 use Rattle.dcc_station.specs.Commands.{is_refreshed}
 use Rattle.dcc_station.specs.Inner.Kept.{speed_kept, group_kept, kept_by_all}
-use Rattle.dcc_station.proofs.EntryDifferences.{none_differs, not_equal, SameAll, Ends, Judged, SameFunctions, same_all}
+use Rattle.dcc_station.proofs.EntryDifferences.{same_differs, not_equal, Ends, Judged, same_all}
 use Rattle.dcc_station.proofs.SpeedLeft.{refreshed_sets, kept_functions, judged_speed}
-use Rattle.dcc_station.proofs.FunctionsLeft.{same_first, one_group, same_group, says, says_f0, apart_in_group}
+use Rattle.dcc_station.proofs.FunctionsLeft.{same_first, one_group, says, says_f0, apart_in_group}
 use Rattle.dcc_station.proofs.ResetLeft.{judged_reset}
 
 judged_stop : (own : Address) (f : Bool) (bits : SpeedBits28) (entry : What) → is_refreshed (Loco own entry) ≡ true
@@ -37,23 +35,15 @@ judged_stop own f bits entry h = by_test (nat_lt bits.bits 4) refl
     by_test false much =
         same_all h (λ mode. grind (arith, nat_tests)) (λ mode. grind (arith, nat_tests)) (λ mode n d. d)
 
--- which functions a command for a group leaves: none that a speed sets, in either mode
-pub group_to_speed28 : (to own : Address) (a : GroupBits) (f : Bool) (bits : SpeedBits28)
-    → SameFunctions (Loco to (Functions a)) (Loco own (Speed28 f bits))
-group_to_speed28 to own a f bits mode n d = grind arith
-
--- two commands for functions, of two groups
-pub other_group : (to own : Address) (a b : GroupBits) → is_refreshed (Loco own (Functions b)) ≡ true
-    → (first_function a.group == first_function b.group) ≡ false
-    → SameAll (Loco to (Functions a)) (Loco own (Functions b))
-other_group to own a b h e =
-    kept_functions h (λ mode n d. not_equal _ _ e (ap first_function (one_group a b mode n d)))
-
-pub first_same : (a b : GroupBits) → (first_function a.group == first_function b.group) ≡ true → a.group ≡ b.group
+first_same : (a b : GroupBits) → (first_function a.group == first_function b.group) ≡ true → a.group ≡ b.group
 first_same a b e = same_first a.group b.group ((Decides-eqb _ _).0 e)
 
+pub same_by : (a b : GroupBits) → (first_function a.group == first_function b.group) ≡ true
+    → (a.bits == b.bits) ≡ true → a ≡ b
+same_by a b e f = same_functions a b (first_same a b e) ((Decides-eqb a.bits b.bits).0 f)
+
 -- of one group, with other bits
-pub other_bits : (to own : Address) (a b : GroupBits) → a.group ≡ b.group → (a.bits == b.bits) ≡ false
+other_bits : (to own : Address) (a b : GroupBits) → a.group ≡ b.group → (a.bits == b.bits) ≡ false
     → Ends (Loco to (Functions a)) (Loco own (Functions b))
 other_bits to own a b g e =
     apart_in_group (Loco to (Functions a)) a.bits own b (subst (λ g. a.bits ≤ group_max g) g a.in_range)
@@ -64,20 +54,17 @@ other_bits to own a b g e =
 
 pub judged_group : (to own : Address) (a : GroupBits) (entry : What) → is_refreshed (Loco own entry) ≡ true
     → Judged (group_kept false a entry) (Loco to (Functions a)) (Loco own entry)
-judged_group to own a (Speed28 f bits) h =
-    same_all h (λ mode d. d) (λ mode d. d) (group_to_speed28 to own a f bits)
-judged_group to own a (Speed128 f bits) h =
-    same_all h (λ mode d. d) (λ mode d. d) (λ mode n. none_differs (option_map Flag (group_bit mode a n)))
 judged_group to own a (Functions b) h =
     by_tests (first_function a.group == first_function b.group) (a.bits == b.bits) refl refl
   where
     by_tests : (t u : Bool) → (first_function a.group == first_function b.group) ≡ t → (a.bits == b.bits) ≡ u
         → Judged (not t || (true && u)) (Loco to (Functions a)) (Loco own (Functions b))
-    by_tests false u e f = other_group to own a b h e
-    by_tests true true e f = kept_functions h
-        (same_group to own a b (same_functions a b (first_same a b e) ((Decides-eqb a.bits b.bits).0 f)))
+    by_tests false u e f = kept_functions h (λ mode n d. not_equal _ _ e (ap first_function (one_group a b mode n d)))
+    by_tests true true e f = let same = same_by a b e f in
+        kept_functions h (λ mode n. same_differs Flag _ _ (ap (λ g. group_bit mode g n) same))
     by_tests true false e f = other_bits to own a b (first_same a b e) f
-judged_group to own a entry h = absurd (let k = refreshed_sets own entry h in cc)
+judged_group to own a entry h =
+    let k = refreshed_sets own entry h in same_all h (λ mode. grind arith) (λ mode. grind arith) (λ mode n. grind arith)
 
 pub judged_all : (own : Address) (what entry : What) → is_refreshed (Loco own entry) ≡ true
     → Judged (kept_by_all what entry) (Loco Broadcast what) (Loco own entry)

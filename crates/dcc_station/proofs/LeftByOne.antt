@@ -1,7 +1,7 @@
 -- A command to the locomotive of an entry.
 use Rattle.std.proofs.Common.{◌≡◌, ◌∙◌, refl, sym, ap, Bool, true, false, Option, Some, None, inl, inr, arith}
 use Rattle.std.specs.Prelude.{◌==◌, ◌&&◌, ◌||◌, not}
-use Rattle.std.proofs.lemmas.Bool.Decides.{Decides-eqb, nat_tests}
+use Rattle.std.proofs.lemmas.Bool.Decides.{nat_tests}
 use Rattle.dcc_packet.specs.Address.{same_address}
 use Rattle.dcc_packet.specs.declared.address.Address.{Address}
 use Rattle.dcc_packet.specs.declared.address.Address.TheVariants.{Broadcast}
@@ -10,21 +10,19 @@ use Rattle.dcc_packet.specs.declared.instruction.What.{What}
 use Rattle.dcc_packet.specs.declared.instruction.What.TheVariants.{Reset, Speed28, Speed128, Functions}
 use Rattle.dcc_packet.specs.declared.packet.Packet.{Packet}
 use Rattle.dcc_packet.specs.declared.packet.Packet.TheVariants.{Loco}
-use Rattle.dcc_packet.proofs.Same.{same_functions}
 use Rattle.dcc_regs.specs.declared.register.Who.TheVariants.{Loco as LocoWho}
 use Rattle.dcc_regs.specs.FunctionBits.{first_function}
 use Rattle.dcc_regs.specs.Heard.{is_for, address_of}
 use Rattle.dcc_regs.specs.Inner.ConflictParts.{HeardTogether}
 use Rattle.dcc_regs.specs.Writes.{writes_mode, writes_cv29}
 use Rattle.dcc_regs.proofs.ConflictLemmas.{conflict_from, differ_of}
-use Rattle.dcc_regs.proofs.DifferLemmas.{differ-sym}
 use Rattle.dcc_station.specs.Commands.{is_refreshed, sets_speed_or_functions}
 use Rattle.dcc_station.specs.Inner.Kept.{reset_kept, group_kept, kept_by_all, kept_by_one}
 use Rattle.dcc_station.specs.Sending.{Displaces}
 use Rattle.dcc_station.proofs.EntryDifferences.{not_equal, SameAll, Judged, same_all}
 use Rattle.dcc_station.proofs.SpeedLeft.{refreshed_sets, kept_functions}
 use Rattle.dcc_station.proofs.ResetLeft.{judged_reset}
-use Rattle.dcc_station.proofs.LeftByAll.{group_to_speed28, other_group, first_same, other_bits, judged_group}
+use Rattle.dcc_station.proofs.LeftByAll.{same_by, judged_group}
 use Rattle.dcc_station.proofs.LeftByAll.{judged_all}
 
 -- what is told of a command and an entry, where it is, is right
@@ -34,8 +32,7 @@ Told (Some true) p e = Displaces p e → ⊥
 Told (Some false) p e = Displaces p e
 
 pub told_same : {p e : Packet} → SameAll p e → (e ≡ p → ⊥)
-    → ((writes_cv29 p ≡ true) × (address_of e ≡ address_of p) → ⊥)
-    → Displaces p e → ⊥
+    → ((writes_cv29 p ≡ true) × (address_of e ≡ address_of p) → ⊥) → Displaces p e → ⊥
 told_same {p = p} {e = e} same other cv gone = elim gone [
   | inl is ↦ other is
   | inr (inl clash) ↦ (let d = differ_of p e clash in same.at d.0 d.1.register d.1.differ)
@@ -83,18 +80,19 @@ told_write false own what entry e same other =
 
 told_groups : (own : Address) (a b : GroupBits) → is_refreshed (Loco own (Functions b)) ≡ true
     → Told (Some (group_kept true a (Functions b))) (Loco own (Functions a)) (Loco own (Functions b))
-told_groups own a b h = by_tests (first_function a.group == first_function b.group) (a.bits == b.bits) refl refl
+told_groups own a b h =
+    by_tests (first_function a.group == first_function b.group) (a.bits == b.bits) refl refl
+    (judged_group own own a (Functions b) h)
   where
     by_tests : (t u : Bool) → (first_function a.group == first_function b.group) ≡ t → (a.bits == b.bits) ≡ u
+        → Judged (not t || (true && u)) (Loco own (Functions a)) (Loco own (Functions b))
         → Told (Some (not t || (false && u))) (Loco own (Functions a)) (Loco own (Functions b))
-    by_tests false u e f = told_same (other_group own own a b h e)
+    by_tests false u e f same = told_same same
         (λ is. not_equal _ _ e (let same : a ≡ b = cc in ap (λ (g : GroupBits). first_function g.group) same))
         (λ both. cc)
-    by_tests true true e f = inl (ap (λ g. Loco own (Functions g))
-        (sym (same_functions a b (first_same a b e) ((Decides-eqb a.bits b.bits).0 f))))
-    by_tests true false e f = inr (inl (conflict_from (Loco own (Functions a)) (Loco own (Functions b))
-        (heard_by own own (Functions a) (Functions b) (own_address own).0)
-        (other_bits own own a b (first_same a b e) f)))
+    by_tests true true e f same = inl (ap (λ g. Loco own (Functions g)) (sym (same_by a b e f)))
+    by_tests true false e f ends = inr (inl (conflict_from (Loco own (Functions a)) (Loco own (Functions b))
+        (heard_by own own (Functions a) (Functions b) (own_address own).0) ends))
 
 pub told_one : (own : Address) (what entry : What) → is_refreshed (Loco own entry) ≡ true
     → Told (kept_by_one what entry) (Loco own what) (Loco own entry)
@@ -102,13 +100,9 @@ told_one own Reset entry h =
     told_by (reset_kept entry) (Loco own Reset) (Loco own entry) (heard_by own own Reset entry (own_address own).0)
     (judged_reset own own entry h) (not_entry own Reset entry h refl) (λ both. cc)
 told_one own (Functions a) (Functions b) h = told_groups own a b h
-told_one own (Functions a) (Speed28 f bits) h =
-    told_same (judged_group own own a (Speed28 f bits) h) (λ e. cc) (λ both. cc)
-told_one own (Functions a) (Speed128 f bits) h =
-    told_same (judged_group own own a (Speed128 f bits) h) (λ e. cc) (λ both. cc)
-told_one own (Functions a) entry h = absurd (let k = refreshed_sets own entry h in cc)
-told_one own (Speed28 f bits) (Functions b) h = told_same
-    (kept_functions h (λ mode n d. group_to_speed28 own own b f bits mode n (differ-sym _ _ d))) (λ e. cc) (λ both. cc)
+told_one own (Functions a) entry h = told_same (judged_group own own a entry h) (λ e. cc) (λ both. cc)
+told_one own (Speed28 f bits) (Functions b) h =
+    told_same (kept_functions h (λ mode n d. grind arith)) (λ e. cc) (λ both. cc)
 told_one own (Speed128 f bits) (Functions b) h = told_same (kept_functions h (λ mode n d. d)) (λ e. cc) (λ both. cc)
 told_one own (Speed28 f bits) entry h = tt
 told_one own (Speed128 f bits) entry h = tt

@@ -1,6 +1,6 @@
 -- A command that sets a speed, and an entry that does.
-use Rattle.std.proofs.Common.{◌≡◌, ◌≢◌, ◌∙◌, refl, sym, ap, Bool, true, false, Option, Some, ℕ, ◌/◌, arith}
-use Rattle.std.specs.Prelude.{option_map, ◌==◌, nat_lt}
+use Rattle.std.proofs.Common.{◌≡◌, ◌≢◌, refl, Bool, true, false, Option, Some, ℕ, ◌/◌, arith}
+use Rattle.std.specs.Prelude.{◌==◌, nat_lt}
 use Rattle.std.proofs.lemmas.Bool.Decides.{nat_tests}
 use Rattle.dcc_packet.specs.declared.address.Address.{Address}
 use Rattle.dcc_packet.specs.declared.instruction.What.{What}
@@ -13,13 +13,10 @@ use Rattle.dcc_regs.specs.declared.register.SpeedMode.{SpeedMode}
 use Rattle.dcc_regs.specs.declared.register.SpeedMode.TheVariants.{Steps14, Steps28}
 use Rattle.dcc_regs.specs.declared.register.Speed.{Speed}
 use Rattle.dcc_regs.specs.declared.register.Register.TheVariants.{Speed as SpeedRegister, Direction}
-use Rattle.dcc_regs.specs.declared.register.Value.TheVariants.{Speed as SpeedValue, Forward}
-use Rattle.dcc_regs.specs.Inner.ConflictParts.{Differ}
-use Rattle.dcc_regs.specs.Sets.{sets}
 use Rattle.dcc_regs.specs.Speeds.{speed_set, direction_set, speed_of_28, speed_of_14, speed_of_126}
 use Rattle.dcc_station.specs.Commands.{is_refreshed, sets_speed_or_functions}
 use Rattle.dcc_station.specs.Inner.Kept.{way_kept, speed_kept}
-use Rattle.dcc_station.proofs.EntryDifferences.{none_differs, same_differs, SameAll, Ends}
+use Rattle.dcc_station.proofs.EntryDifferences.{SameAll, Ends}
 use Rattle.dcc_station.proofs.EntryDifferences.{Judged}
 use Rattle.dcc_station.proofs.EntryDifferences.{judged_three, SameFunctions, same_all}
 
@@ -44,34 +41,17 @@ pub record Shows (e : Packet) (speeds : SpeedMode → Speed) (f : Bool) : Type 0
   pub speed : (mode : SpeedMode) → speed_set mode e ≡ Some (speeds mode)
   pub direction : direction_set e ≡ Some f
 
-shows_by : (mode : SpeedMode) (own : Address) (f : Bool) (bits : SpeedBits28)
-    → is_refreshed (Loco own (Speed28 f bits)) ≡ true
-    → (speed_set mode (Loco own (Speed28 f bits)) ≡ Some (speed_in bits.bits mode))
-    × (direction_set (Loco own (Speed28 f bits)) ≡ Some f)
-unfolding is_refreshed
-shows_by mode own f bits h = (grind arith, grind arith)
-
 pub shows28 : {own : Address} {f : Bool} {bits : SpeedBits28} → is_refreshed (Loco own (Speed28 f bits)) ≡ true
     → Shows (Loco own (Speed28 f bits)) (speed_in bits.bits) f
-shows28 {own = own} {f = f} {bits = bits} h = record {
-  fresh = h;
-  speed = λ mode. (shows_by mode own f bits h).0;
-  direction = (shows_by Steps28 own f bits h).1;
-}
-
-way_same : (way : Option Bool) (f : Bool) → way_kept way f ≡ true
-    → Differ (option_map Forward way) (Some (Forward f)) → ⊥
-way_same way f h d = grind arith
-
-way_apart : (way : Option Bool) (f : Bool) → way_kept way f ≡ false → Differ (option_map Forward way) (Some (Forward f))
-way_apart way f h = grind arith
+unfolding is_refreshed
+shows28 h = record { fresh = h; speed = λ mode. grind arith; direction = grind arith }
 
 module _ {p e : Packet} {k : ℕ} {way : Option Bool} {speeds : SpeedMode → Speed} {f : Bool} where
   pub kept_speed : AsksSpeed p k way → Shows e speeds f → SameFunctions p e
       → ((mode : SpeedMode) → speed_of_126 k ≡ speeds mode) → way_kept way f ≡ true → SameAll p e
   kept_speed asks shows same speed kept = same_all shows.fresh
-      (λ mode. same_differs SpeedValue _ _ (asks.speed mode ∙ ap Some (speed mode) ∙ sym (shows.speed mode)))
-      (λ mode. rw (asks.direction, shows.direction) (way_same way f kept)) same
+      (λ mode. rw (asks.speed mode, shows.speed mode, speed mode) (λ d. d refl))
+      (λ mode. rw (asks.direction, shows.direction) (grind arith)) same
 
   pub ended_by_speed : AsksSpeed p k way → Shows e speeds f → speed_of_126 k ≢ speeds Steps28 → Ends p e
   ended_by_speed asks shows apart = (
@@ -81,12 +61,12 @@ module _ {p e : Packet} {k : ℕ} {way : Option Bool} {speeds : SpeedMode → Sp
 
   pub ended_by_way : AsksSpeed p k way → Shows e speeds f → way_kept way f ≡ false → Ends p e
   ended_by_way asks shows apart =
-      (Steps28, record { register = Direction; differ = rw (asks.direction, shows.direction) (way_apart way f apart) })
+      (Steps28, record { register = Direction; differ = rw (asks.direction, shows.direction) (grind arith) })
 
 pub kept_functions : {p : Packet} {own : Address} {bits : GroupBits} → is_refreshed (Loco own (Functions bits)) ≡ true
     → SameFunctions p (Loco own (Functions bits)) → SameAll p (Loco own (Functions bits))
 kept_functions {p = p} h same =
-    same_all h (λ mode. none_differs (sets mode p SpeedRegister)) (λ mode. none_differs (sets mode p Direction)) same
+    same_all h (λ mode. grind arith) (λ mode. grind arith) same
 
 pub judged_speed : (p : Packet) (k : ℕ) (way : Option Bool) (own : Address) (entry : What)
     → is_refreshed (Loco own entry) ≡ true → AsksSpeed p k way → SameFunctions p (Loco own entry)

@@ -61,7 +61,7 @@ module _ (who : Who) where
 
   -- an entry that does not conflict with a packet holds after it
   entry_after : (c : Core) (p e : Packet) → Entry c e → ¬ Displaces p e → Entry (then_effect (hears who p) c p) e
-  entry_after c p e entry stays = (entry.0, by_case (hears who p) (hears who e) refl refl entry.1)
+  entry_after c p e entry stays = (entry.0, grind (arith, both, entry.1))
     where
       by_kind : (w cv29 : Bool) → is_own_write p ≡ w → writes_cv29 p ≡ cv29 → hears who p ≡ true → hears who e ≡ true
           → ((r : Register) → value_over (c.plain r) (sets (mode_in c.bits) e r) ≡ c.plain r) → (r : Register)
@@ -74,11 +74,8 @@ module _ (who : Who) where
           (λ d. stays (inr (inl (conflict_from p e (record { who = who; first = h; second = g })
           (mode_in c.bits, record { register = r; differ = d }))))) (holds r))
 
-      by_case : (t u : Bool) → hears who p ≡ t → hears who e ≡ u → then_effect u c e ≡ c
-          → then_effect u (then_effect t c p) e ≡ then_effect t c p
-      by_case false u h g is = is
-      by_case true false h g is = refl
-      by_case true true h g is = no_effect (effect c p) e entry.0
+      both : hears who p ≡ true → hears who e ≡ true → effect c e ≡ c → effect (effect c p) e ≡ effect c p
+      both h g is = no_effect (effect c p) e entry.0
           (by_kind (is_own_write p) (writes_cv29 p) refl refl h g (λ r. ap (λ (d : Core). d.plain r) is))
 
   entries_left : (c : Core) (p : Packet) (l kept : List Packet) → AllByRecursion (Entry c) l → Leaves p l kept
@@ -90,7 +87,7 @@ module _ (who : Who) where
 
   refreshed_entries : (c : Core) (slots : ℕ) (p : Packet) (l new : List Packet) → AllByRecursion (Entry c) l
       → Refreshes slots p l new → AllByRecursion (Entry (then_effect (hears who p) c p)) new
-  refreshed_entries c slots p l new all (kept, left, is) = rw is (by_kind (is_refreshed p) refl)
+  refreshed_entries c slots p l new all (kept, left, is) = rw is (grind (arith, pushed, stay))
     where
       P : Packet → Type 0
       P = Entry (then_effect (hears who p) c p)
@@ -98,10 +95,9 @@ module _ (who : Who) where
       stay : AllByRecursion P kept
       stay = entries_left c p l kept all left
 
-      by_kind : (t : Bool) → is_refreshed p ≡ t → AllByRecursion P (cond t (with_entry slots kept p) kept)
-      by_kind true e = all_dropped P (length (kept ++ p ∷ []) - slots) (kept ++ p ∷ [])
+      pushed : is_refreshed p ≡ true → AllByRecursion P (with_entry slots kept p)
+      pushed e = all_dropped P (length (kept ++ p ∷ []) - slots) (kept ++ p ∷ [])
           (all_append P kept (p ∷ []) stay ((e, effect_twice (hears who p) c p), tt))
-      by_kind false e = stay
 
   -- packets one after the other, each of which the decoder hears or not
   abbrev run : {S : Type 0} → (Bool → S → Packet → S) → S → List Packet → S
@@ -115,27 +111,19 @@ module _ (who : Who) where
 
   state_after-heard : (s : State) (l : List Packet) → state_after s (heard who l) ≡ run copied s l
   state_after-heard s [] = refl
-  state_after-heard s (p ∷ l) = by_case (hears who p) (λ u. state_after-heard u l)
-    where
-      by_case : (t : Bool) → ((u : State) → state_after u (heard who l) ≡ run copied u l)
-          → state_after s (cond t (p ∷ heard who l) (heard who l)) ≡ run copied (copied t s p) l
-      by_case true more = more (step s p)
-      by_case false more = more s
+  state_after-heard s (p ∷ l) =
+      let here = state_after-heard s l in let there = state_after-heard (step s p) l in grind (arith, here, there)
 
   -- two copies of each own write have its effect, whatever was pending
   run-intended : (s : State) (l : List Packet) → core (run copied s (intended l)) ≡ run then_effect (core s) l
   run-intended s [] = refl
-  run-intended s (p ∷ l) = by_kind (hears who p) (is_own_write p) refl (λ u. run-intended u l)
-    where
-      by_kind : (t w : Bool) → is_own_write p ≡ w
-          → ((u : State) → core (run copied u (intended l)) ≡ run then_effect (core u) l)
-          → core (run copied s (cond w (p ∷ p ∷ intended l) (p ∷ intended l))) ≡ run then_effect (core s) (p ∷ l)
-      by_kind t true own more =
-          let heard = hears who p in
-          more (copied heard (copied heard s p) p) ∙ ap (λ c. run then_effect c l)
-          (at_last heard (copied heard s p) p (waits heard s p) ∙ after_first heard s p)
-      by_kind t false other more =
-          more (copied (hears who p) s p) ∙ ap (λ c. run then_effect c l) (at_once (hears who p) s p other)
+  run-intended s (p ∷ l) =
+      let heard = hears who p in
+      let once = run-intended (copied heard s p) l in
+      let twice = run-intended (copied heard (copied heard s p) p) l in
+      let last = at_last heard (copied heard s p) p (waits heard s p) ∙ after_first heard s p in
+      let first : is_own_write p ≡ false → core (copied heard s p) ≡ then_effect heard (core s) p = at_once heard s p in
+      grind (arith, once, twice, first, last)
 
   -- at least one copy of a packet was sent: one more leaves c, the effect of the packet
   abbrev Sent : Packet → Core → State → Type 0
@@ -195,41 +183,35 @@ module _ (who : Who) where
       entries_hold = rw same all;
     }
 
-    one_more : (packets : List Packet) (p : Packet) (c : Core)
-        → core (copied (hears who p) (after_packets packets) p) ≡ c → core (after_packets (packets ++ p ∷ [])) ≡ c
-    one_more packets p c is = ap core (run-more copied (start m) packets p) ∙ is
+    -- a packet that changes nothing leaves all but the order of the entries
+    unchanged : (s : Sending) (entries after commands packets : List Packet) (out : Packet)
+        (inv : Invariant (record s { waiting = []; sent = 0; entries = entries }) commands packets)
+        → core (copied (hears who out) (after_packets packets) out) ≡ inv.target
+        → AllByRecursion (Entry inv.target) after
+        → Invariant (record s { waiting = []; sent = 0; entries = after }) commands (packets ++ out ∷ [])
+    unchanged s entries after commands packets out inv same hold = record {
+      done = inv.done;
+      target = inv.target;
+      split = inv.split;
+      progress = (ap core (run-more copied (start m) packets out) ∙ same, inv.progress.1);
+      entries = hold;
+      some = inv.some;
+    }
 
     next_keeps : (waiting entries : List Packet) (sent : ℕ) (s : Sending) (commands packets : List Packet)
-        (out : Packet)
-        (new : Sending) → Invariant (record s { waiting = waiting; sent = sent; entries = entries }) commands packets
+        (out : Packet) (new : Sending)
+        → Invariant (record s { waiting = waiting; sent = sent; entries = entries }) commands packets
         → HandsOut waiting entries (record s { waiting = waiting; sent = sent; entries = entries }) out new
         → Invariant new commands (packets ++ out ∷ [])
     next_keeps [] entries (suc sent) s commands packets out new inv next = absurd inv.progress
-    next_keeps [] [] zero s commands packets out new inv (is, as_said) = rw (is, as_said) (record {
-      done = inv.done;
-      target = inv.target;
-      split = inv.split;
-      progress = (
-        one_more packets Idle inv.target
-            (ap (λ t. core (copied t (after_packets packets) Idle)) (idle_is_unheard who) ∙ inv.progress.0),
-        inv.progress.1,
-      );
-      entries = tt;
-      some = inv.some;
-    })
-    next_keeps [] (e ∷ later) zero s commands packets out new inv (is, as_said) = rw (is, as_said) (record {
-      done = inv.done;
-      target = inv.target;
-      split = inv.split;
-      progress = (
-        one_more packets e inv.target
-            (at_once (hears who e) (after_packets packets) e (refreshed_is_no_write e inv.entries.0.0)
-            ∙ ap (λ d. then_effect (hears who e) d e) inv.progress.0 ∙ inv.entries.0.1),
-        inv.progress.1,
-      );
-      entries = all_append (Entry inv.target) later (e ∷ []) inv.entries.1 (inv.entries.0, tt);
-      some = inv.some;
-    })
+    next_keeps [] [] zero s commands packets out new inv (is, as_said) =
+        rw (is, as_said) (unchanged s [] [] commands packets Idle inv
+        (ap (λ t. core (copied t (after_packets packets) Idle)) (idle_is_unheard who) ∙ inv.progress.0) tt)
+    next_keeps [] (e ∷ later) zero s commands packets out new inv (is, as_said) =
+        rw (is, as_said) (unchanged s (e ∷ later) (later ++ e ∷ []) commands packets e inv
+        (at_once (hears who e) (after_packets packets) e (refreshed_is_no_write e inv.entries.0.0)
+        ∙ ap (λ d. then_effect (hears who e) d e) inv.progress.0 ∙ inv.entries.0.1)
+        (all_append (Entry inv.target) later (e ∷ []) inv.entries.1 (inv.entries.0, tt)))
     next_keeps (p ∷ rest) entries sent s commands packets out new inv (is, (after, changed, as_said)) =
         rw (is, as_said) (by_case (nat_le (copies s.repeats p) (sent + 1)) refl)
       where
