@@ -69,16 +69,7 @@ pub at_last : (heard : Bool) (s : State) (p : Packet) → Waits heard s p
 at_last false s p waits = refl
 at_last true s p waits = same_core _ _ (still_waits s p) (λ r. grind arith) (λ r. refl)
 
--- what is pending is there
-pending_is_some : (held : Option Value) (p : Packet) → is_pending held p ≡ true → is_some held ≡ true
-pending_is_some held p e = grind arith
-
 -- what a first write does, a second does alone
-twice_bits : (w b h : Bool) (v o : Option Value) → (b ≡ true → h ≡ true)
-    → cond (w && h) (value_over (cond (w && b) (value_over v o) v) o) (cond (w && b) (value_over v o) v)
-    ≡ cond (w && h) (value_over v o) v
-twice_bits w b h v o there = grind (arith, overwritten-twice)
-
 twice_plain : (m n : RegisterMap) (v : Option Value) (p : Packet) (r : Register)
     → (is_own_write p ≡ false → mode_in n ≡ mode_in m)
     → value_over (value_over v (sets (mode_in m) p r)) (sets (mode_in n) p r) ≡ value_over v (sets (mode_in m) p r)
@@ -92,18 +83,14 @@ pub after_first : (heard : Bool) (s : State) (p : Packet)
     → then_effect heard (core (copied heard s p)) p ≡ then_effect heard (core s) p
 after_first false s p = refl
 after_first true s p = same_core _ _ (still_waits s p)
-    (λ r. rw (still_waits s p)
-    (twice_bits (is_own_write p) (is_pending s.pending p) (is_some s.pending) (s.bits r) (sets_bit p r)
-    (pending_is_some s.pending p)))
-    (λ r. twice_plain s.bits (step s p).bits (s.plain r) p r (λ other. rw other refl))
+    (λ r. grind (arith, overwritten-twice)) (λ r. twice_plain s.bits (step s p).bits (s.plain r) p r (λ other. rw other refl))
 
 -- a packet that has had its effect has none more
 pub effect_twice : (heard : Bool) (c : Core) (p : Packet)
     → then_effect heard (then_effect heard c p) p ≡ then_effect heard c p
 effect_twice false c p = refl
 effect_twice true c p = same_core _ _ refl
-    (λ r. twice_bits (is_own_write p) c.can_wait c.can_wait (c.bits r) (sets_bit p r) (λ e. e))
-    (λ r. twice_plain c.bits (effect c p).bits (c.plain r) p r (mode_other c p))
+    (λ r. grind (arith, overwritten-twice)) (λ r. twice_plain c.bits (effect c p).bits (c.plain r) p r (mode_other c p))
 
 -- an own write sets no plain register, and where it does not write CV29 leaves the mode
 pub effect_plain_own : (c : Core) (p : Packet) → is_own_write p ≡ true → (r : Register)

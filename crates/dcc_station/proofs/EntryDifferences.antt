@@ -1,13 +1,11 @@
 -- At which registers a command and an entry can differ.
-use Rattle.std.proofs.Common.{◌≡◌, ◌≢◌, Bool, true, false, Option, Some, None, ℕ, arith}
+use Rattle.std.proofs.Common.{◌≡◌, ◌≢◌, Bool, true, false, Option, None, ℕ, arith}
 use Rattle.std.specs.Prelude.{option_map, ◌==◌, ◌&&◌}
 use Rattle.std.proofs.lemmas.Bool.Decides.{nat_tests}
-use Rattle.dcc_packet.specs.declared.address.Address.TheVariants.{Short, Long}
 use Rattle.dcc_packet.specs.declared.packet.Packet.{Packet}
-use Rattle.dcc_packet.specs.declared.packet.Packet.TheVariants.{Loco}
 use Rattle.dcc_regs.specs.declared.register.SpeedMode.{SpeedMode}
 use Rattle.dcc_regs.specs.declared.register.Register.{Register}
-use Rattle.dcc_regs.specs.declared.register.Register.TheVariants.{Speed as SpeedRegister, Direction, Function, State}
+use Rattle.dcc_regs.specs.declared.register.Register.TheVariants.{Speed as SpeedRegister, Direction, Function}
 use Rattle.dcc_regs.specs.declared.register.Value.{Value}
 use Rattle.dcc_regs.specs.Inner.ConflictParts.{Differ, DifferIn}
 use Rattle.dcc_regs.specs.Sets.{sets}
@@ -19,10 +17,6 @@ none_differs a d = grind arith
 
 pub same_differs : {A : Type 0} (f : A → Value) (a b : Option A) → a ≡ b → Differ (option_map f a) (option_map f b) → ⊥
 same_differs f a b e d = grind arith
-
-pub some_differs : {A : Type 0} (f : A → Value) (v w : A) (a b : Option A) → a ≡ Some v → b ≡ Some w → f v ≢ f w
-    → Differ (option_map f a) (option_map f b)
-some_differs f v w a b e h d = rw (e, h) d
 
 pub not_equal : (n m : ℕ) → (n == m) ≡ false → n ≢ m
 not_equal n m h e = grind (arith, nat_tests)
@@ -54,11 +48,8 @@ only_three : (mode : SpeedMode) (p e : Packet) (r : Register) → is_refreshed e
     → (Differ (sets mode p Direction) (sets mode e Direction) → ⊥) → SameFunctions p e
     → Differ (sets mode p r) (sets mode e r) → ⊥
 unfolding is_refreshed
-only_three mode p e (State n) h s w f d = none_differs (sets mode p (State n)) (rw (entry_tells_none e h) at d)
 only_three mode p e (Function n) h s w f d = f mode n d
-only_three mode p (Loco (Short own) what) r h s w f d = grind arith
-only_three mode p (Loco (Long own) what) r h s w f d = grind arith
-only_three mode p e r h s w f d = absurd (cc)
+only_three mode p e r h s w f d = let none = entry_tells_none e h in grind arith
 
 -- an entry sets no register but the speed, the direction and functions
 pub same_all : {p e : Packet} → is_refreshed e ≡ true

@@ -22,7 +22,7 @@ use Rattle.dcc_regs.specs.declared.register.Value.TheVariants.{Flag}
 use Rattle.dcc_regs.specs.FunctionBits.{function_set, group_bit, function_place, first_function, count_of}
 use Rattle.dcc_regs.specs.Inner.ConflictParts.{Differ}
 use Rattle.dcc_regs.proofs.DifferLemmas.{differ-sym, either}
-use Rattle.dcc_station.proofs.EntryDifferences.{some_differs, Ends}
+use Rattle.dcc_station.proofs.EntryDifferences.{Ends}
 
 first_is_some : (g : Group) → 1 ≤ first_function g
 first_is_some g = grind arith
@@ -106,12 +106,9 @@ apart_in_group p a own b fits apart sets_it sets_f0 = (
   elim (in_width b.group found.at found.inside) [
     | inl low ↦ record {
       register = Function (first_function b.group + found.at);
-      differ = some_differs Flag _ _ _ _ (sets_it found.at low) (says b found.at low) two;
+      differ = rw (sets_it found.at low, says b found.at low) two;
     }
-    | inr (is, last) ↦ record {
-      register = Function 0;
-      differ = some_differs Flag _ _ _ _ (rw last (sets_f0 is)) (rw last (says_f0 b is)) two;
-    }
+    | inr (is, last) ↦ record { register = Function 0; differ = rw (sets_f0 is, says_f0 b is) (rw last at two) }
   ],
 )
   where

@@ -1,7 +1,6 @@
 pub mod Tables
 pub mod Effects
 pub mod Transparent
-pub mod NextPackets
 pub mod EntriesLeft
 pub mod EntriesInTurn
 pub mod StatePackets
@@ -13,4 +12,3 @@ pub mod ResetLeft
 pub mod LeftByAll
 pub mod LeftByOne
 pub mod LeftToldRight
-pub mod HeardStations

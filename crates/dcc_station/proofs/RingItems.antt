@@ -1,9 +1,9 @@
 -- What is in a ring after a step.
-use Rattle.std.proofs.Common.{◌≡◌, ℕ, zero, suc, ◌+◌, ◌-◌, ◌<◌, ◌≤◌, List, [], ◌∷◌, ◌++◌, length, take, drop, set, get_or}
-use Rattle.std.proofs.Common.{refl, sym, ap, ap₂, ◌∙◌, inl, inr, arith, add-one, append-nil, append_assoc}
+use Rattle.std.proofs.Common.{◌≡◌, ℕ, ◌+◌, ◌-◌, ◌<◌, ◌≤◌, List, [], ◌∷◌, ◌++◌, length, take, drop, set, get_or}
+use Rattle.std.proofs.Common.{refl, sym, ap, ap₂, ◌∙◌, inl, inr, arith, append-nil, append_assoc}
 use Rattle.std.proofs.Common.{length-append, length-drop, length-take-le}
 use Rattle.std.proofs.Math.Seq.{take-set-lt, take-set-le, drop-set-lt, drop-set-add, set-append_left}
-use Rattle.std.proofs.Math.Seq.{take-append-le, drop-append-le, drop-drop, take_all}
+use Rattle.std.proofs.Math.Seq.{take-append-le, drop-append-le, drop-drop, take-add, take_all}
 use Rattle.std.proofs.lemmas.List.{set-append_right, take_more_set, drop-take, drop_all}
 use Rattle.std.proofs.lemmas.Option.{slice_get-get_or}
 use Rattle.std.specs.Prelude.{slice_get, Some}
@@ -13,11 +13,6 @@ use Rattle.circular_buffer.proofs.Places.{slice_get-append_left, slice_get-appen
 use Rattle.dcc_station.specs.Rings.{ring_items}
 
 module _ {X : Type 0} where
-  take_one_more : (n : ℕ) (l : List X) → take (suc n) l ≡ take n l ++ take 1 (drop n l)
-  take_one_more zero l = refl
-  take_one_more (suc n) [] = refl
-  take_one_more (suc n) (x ∷ l) = ap (λ r. x ∷ r) (take_one_more n l)
-
   -- all places, from the start on
   abbrev turned : ℕ → List X → List X
   turned start places = drop start places ++ take start places
@@ -69,7 +64,7 @@ module _ {X : Type 0} where
     turned_next : turned (start + 1) places ≡ drop 1 (turned start places) ++ take 1 (drop start places)
     turned_next =
         let some : 1 ≤ length (drop start places) = simp length-drop (omega arith) in
-        rw (drop-append-le 1 (drop start places) (take start places) some, drop-drop, add-one, take_one_more, append_assoc) refl
+        rw (drop-append-le 1 (drop start places) (take start places) some, drop-drop, take-add, append_assoc) refl
 
     turned_at : (next : ℕ) → Wraps start 1 cap next → turned next places ≡ turned (start + 1) places
     turned_at next wraps = elim wraps.1 [

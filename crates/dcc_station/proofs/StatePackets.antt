@@ -11,11 +11,7 @@ use Rattle.dcc_regs.specs.declared.register.Value.{Value}
 use Rattle.dcc_regs.specs.States.{turned_states}
 use Rattle.dcc_regs.specs.Sets.{sets}
 use Rattle.dcc_station.specs.Commands.{is_refreshed}
-use Rattle.dcc_station.specs.States.{StatesAreNoEntries, StatesConflictWithNoEntry}
-
-pub no_entries : StatesAreNoEntries
-unfolding is_refreshed
-no_entries to number on = grind arith
+use Rattle.dcc_station.specs.States.{StatesConflictWithNoEntry}
 
 -- an entry turns no state on or off
 pub entry_tells_none : (e : Packet) → is_refreshed e ≡ true → turned_states e ≡ None

@@ -32,9 +32,6 @@ use Rattle.dcc_station.proofs.Effects.{Core, core, effect, copied, then_effect, 
 use Rattle.dcc_station.proofs.Effects.{mode_other}
 use Rattle.dcc_station.proofs.Effects.{after_first, effect_twice, effect_plain_own, mode_kept, no_effect}
 
-pub not_both : {b : Bool} → b ≡ true → b ≡ false → ⊥
-not_both e h = cc
-
 all_append : (P : Packet → Type 0) (a b : List Packet) → AllByRecursion P a → AllByRecursion P b
     → AllByRecursion P (a ++ b)
 all_append P [] b left right = right

@@ -3,7 +3,6 @@ use Rattle.std.specs.Prelude.{slice_get}
 use Rattle.std.proofs.lemmas.Option.{slice_get-get_or}
 use Rattle.dcc_packet.specs.declared.packet.Packet.TheVariants.{Idle}
 use Rattle.dcc_station.proofs.EntriesLeft.{passed_all, passed_displaced, passed_kept}
-use Rattle.dcc_station.proofs.Transparent.{not_both}
 use Rattle.dcc_station.proofs.entries.remove_displaced.Goals as goal
 use Rattle.dcc_station.proofs.entries.remove_displaced.Goals.{then-not-is_displaced, else-not-is_displaced}
 
@@ -27,7 +26,7 @@ loop-at-preserved g c =
       | then-not-is_displaced w ↦ (
           let is = ap g.R.PacketRing.buffer w.entries-is ∙ w.move_forward.ensures.items e found in
           rw (is, w.kept-is) (
-            passed_kept passed inside found (λ gone. not_both (judged.1 gone) w.if-not-is_displaced.true),
+            passed_kept passed inside found (λ gone. let yes = judged.1 gone in let no = w.if-not-is_displaced.true in cc),
             c.loop-at.invariant.1,
           ))
       | else-not-is_displaced w ↦ (

@@ -1,5 +1,7 @@
-use Rattle.dcc_station.proofs.StatePackets.{no_entries}
+use Rattle.std.proofs.Common.{arith}
+use Rattle.dcc_station.specs.Commands.{is_refreshed}
 use Rattle.dcc_station.proofs.laws.states_are_no_entries.Goals as goal
 
 pub returns : goal.returns
-returns c = no_entries
+unfolding is_refreshed
+returns c = λ to number on. grind arith

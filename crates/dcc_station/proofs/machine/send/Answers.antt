@@ -1,8 +1,17 @@
-use Rattle.std.proofs.Common.{◌∙◌, ap, drop}
+use Rattle.std.proofs.Common.{◌≡◌, ◌∙◌, ap, List, [], ◌∷◌, Some, drop}
+use Rattle.std.specs.Prelude.{slice_get}
+use Rattle.dcc_packet.specs.declared.packet.Packet.{Packet}
 use Rattle.dcc_station.specs.Rings.{sending_over}
-use Rattle.dcc_station.specs.Sending.{sent_once_more}
-use Rattle.dcc_station.proofs.NextPackets.{hands_out_command}
+use Rattle.dcc_station.specs.Sending.{Sending, HandsOut, EntriesAfter, sent_once_more}
 use Rattle.dcc_station.proofs.machine.send.Goals as goal
+
+-- a packet is handed out as the code does it
+hands_out_command : (waiting entries : List Packet) (s : Sending) (p : Packet) (new : Sending)
+    → slice_get waiting 0 ≡ Some p → (after : List Packet) → EntriesAfter s.sent s.slots p entries after
+    → new ≡ sent_once_more s p (drop 1 waiting) after → HandsOut waiting entries s p new
+hands_out_command [] entries s p new front after changed is = cc
+hands_out_command (q ∷ rest) entries s p new front after changed is =
+    let e : p ≡ q = cc in (e, (after, rw (← e) changed, rw (← e) is))
 
 pub returns-clause-next : goal.returns-clause-next
 returns-clause-next g c =
