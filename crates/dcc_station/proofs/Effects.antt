@@ -13,8 +13,9 @@ use Rattle.dcc_packet.proofs.SameFrames.{same-refl}
 use Rattle.dcc_regs.proofs.OwnWrites.{sets-own_write}
 use Rattle.dcc_regs.proofs.RegisterStep.{overwritten-none}
 use Rattle.dcc_regs.proofs.ResultByParts.{State, step, sets_bit, overwritten-twice}
+use Rattle.dcc_regs.proofs.LawLemmas.{bit_stays}
 use Rattle.dcc_station.specs.Commands.{is_refreshed}
-use Rattle.dcc_station.proofs.Tables.{mode_stays, refreshed_is_no_write}
+use Rattle.dcc_station.proofs.Tables.{refreshed_is_no_write}
 
 -- the registers but for what is pending. Where no write can be pending, none ever has an effect
 pub record Core : Type 0 where
@@ -98,7 +99,8 @@ pub effect_plain_own : (c : Core) (p : Packet) → is_own_write p ≡ true → (
 effect_plain_own c p own r = rw (sets-own_write (mode_in c.bits) p r own) (overwritten-none (c.plain r))
 
 pub mode_kept : (c : Core) (p : Packet) → writes_cv29 p ≡ false → mode_in (effect c p).bits ≡ mode_in c.bits
-mode_kept c p none = rw (mode_stays p none) (grind (arith, overwritten-none))
+unfolding sets_bit
+mode_kept c p none = rw (bit_stays p none) (grind (arith, overwritten-none))
 
 -- an entry whose registers are at its values has no effect
 pub no_effect : (c : Core) (e : Packet) → is_refreshed e ≡ true

@@ -1,7 +1,7 @@
 -- What is told of a command and an entry is right.
 use Rattle.std.proofs.Common.{◌≡◌, ◌≢◌, ◌∙◌, refl, sym, ap, subst, Bool, true, false, Option, Some, None, inl, inr, arith}
 use Rattle.std.specs.Prelude.{not, if◌then◌else◌}
-use Rattle.std.proofs.lemmas.Bool.Decides.{Decides-eqb}
+use Rattle.std.proofs.lemmas.Bool.Decides.{nat_tests}
 use Rattle.dcc_packet.specs.declared.address.Address.{Address}
 use Rattle.dcc_packet.specs.declared.address.Address.TheVariants.{Broadcast, Short, Long}
 use Rattle.dcc_packet.specs.declared.instruction.What.{What}
@@ -17,10 +17,9 @@ use Rattle.dcc_station.proofs.EntryDifferences.{same_all}
 use Rattle.dcc_station.proofs.LeftByOne.{Told, told_same, own_address, not_all, told_all, told_one}
 
 same_one : (own to : Address) → same_address own to ≡ true → own ≡ to
-same_one Broadcast Broadcast h = refl
-same_one (Short a) (Short b) h = ap Short (same_short a b ((Decides-eqb a.number b.number).0 h))
-same_one (Long a) (Long b) h = ap Long (same_long a b ((Decides-eqb a.number b.number).0 h))
-same_one own to h = absurd (cc)
+same_one (Short a) (Short b) h = ap Short (same_short a b (grind (arith, nat_tests)))
+same_one (Long a) (Long b) h = ap Long (same_long a b (grind (arith, nat_tests)))
+same_one own to h = grind arith
 
 -- a command to another locomotive
 told_apart : (to own : Address) (what entry : What) → to ≢ Broadcast → is_refreshed (Loco own entry) ≡ true → own ≢ to
@@ -62,5 +61,4 @@ ended_or_left p own entry t is = by_case t (subst (λ o. Told o p (Loco own entr
   where
     by_case : (t : Bool) → Told (Some t) p (Loco own entry)
         → (not t ≡ true → Displaces p (Loco own entry)) × (Displaces p (Loco own entry) → not t ≡ true)
-    by_case true stays = (λ h. absurd (cc), λ d. absurd (stays d))
-    by_case false ends = (λ h. ends, λ d. refl)
+    by_case t told = grind arith

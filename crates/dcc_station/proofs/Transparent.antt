@@ -148,10 +148,6 @@ module _ (who : Who) where
       entries : AllByRecursion (Entry target) s.entries
       some : 0 < s.repeats
 
-    only_one : (repeats : ℕ) (p : Packet) → 0 < repeats → (nat_le (copies repeats p) (0 + 1)) ≡ true
-        → is_own_write p ≡ false
-    only_one repeats p some e = grind (arith, nat_tests)
-
     -- what one more copy of a command leaves
     record Copied (sent repeats : ℕ) (p : Packet) (done entries : List Packet) (s : State) : Type 0 where
       target : Core
@@ -168,7 +164,7 @@ module _ (who : Who) where
         λ d is. ap (λ d. then_effect (hears who p) d p) is in record {
           target = then_effect (hears who p) c p;
           once = (after_first (hears who p) s p ∙ has (core s) progress.0, waits (hears who p) s p);
-          whole = λ last. at_once (hears who p) s p (only_one repeats p some last) ∙ has (core s) progress.0;
+          whole = λ last. at_once (hears who p) s p (grind (arith, nat_tests, last)) ∙ has (core s) progress.0;
           asks = run-more then_effect (core (start m)) done p ∙ has (asked done) progress.1;
           entries_hold = refreshed_entries c slots p entries after all refreshed;
         }
