@@ -1,5 +1,5 @@
 -- A command to the locomotive of an entry.
-use Rattle.std.proofs.Common.{◌≡◌, ◌∙◌, refl, sym, ap, Bool, true, false, Option, Some, None, inl, inr, arith}
+use Rattle.std.proofs.Common.{◌≡◌, refl, sym, ap, Bool, true, false, Option, Some, None, inl, inr, arith}
 use Rattle.std.specs.Prelude.{◌==◌, ◌&&◌, ◌||◌, not}
 use Rattle.std.proofs.lemmas.Bool.Decides.{nat_tests}
 use Rattle.dcc_packet.specs.Address.{same_address}
@@ -66,17 +66,14 @@ told_all own what entry h =
 
 -- an instruction that sets no speed or functions is no entry
 not_entry : (own : Address) (what entry : What) → is_refreshed (Loco own entry) ≡ true
-    → sets_speed_or_functions what ≡ false
-    → Loco own entry ≡ Loco own what → ⊥
+    → sets_speed_or_functions what ≡ false → Loco own entry ≡ Loco own what → ⊥
 not_entry own what entry h none is = grind (arith, refreshed_sets)
 
 -- a command that sets no register of an entry ends it where it writes CV29
 told_write : (w : Bool) (own : Address) (what entry : What) → writes_mode what ≡ w
-    → SameAll (Loco own what) (Loco own entry)
-    → (Loco own entry ≡ Loco own what → ⊥) → Told (Some (not w)) (Loco own what) (Loco own entry)
+    → SameAll (Loco own what) (Loco own entry) → (Loco own entry ≡ Loco own what → ⊥) → Told (Some (not w)) (Loco own what) (Loco own entry)
 told_write true own what entry e same other = inr (inr (e, refl))
-told_write false own what entry e same other =
-    told_same same other (λ both. let k : true ≡ false = sym both.0 ∙ e in cc)
+told_write false own what entry e same other = told_same same other (λ both. cc)
 
 told_groups : (own : Address) (a b : GroupBits) → is_refreshed (Loco own (Functions b)) ≡ true
     → Told (Some (group_kept true a (Functions b))) (Loco own (Functions a)) (Loco own (Functions b))
@@ -88,8 +85,7 @@ told_groups own a b h =
         → Judged (not t || (true && u)) (Loco own (Functions a)) (Loco own (Functions b))
         → Told (Some (not t || (false && u))) (Loco own (Functions a)) (Loco own (Functions b))
     by_tests false u e f same = told_same same
-        (λ is. not_equal _ _ e (let same : a ≡ b = cc in ap (λ (g : GroupBits). first_function g.group) same))
-        (λ both. cc)
+        (λ is. not_equal _ _ e (let same : a ≡ b = cc in rw same refl)) (λ both. cc)
     by_tests true true e f same = inl (ap (λ g. Loco own (Functions g)) (sym (same_by a b e f)))
     by_tests true false e f ends = inr (inl (conflict_from (Loco own (Functions a)) (Loco own (Functions b))
         (heard_by own own (Functions a) (Functions b) (own_address own).0) ends))

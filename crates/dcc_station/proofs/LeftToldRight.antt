@@ -1,5 +1,5 @@
 -- What is told of a command and an entry is right.
-use Rattle.std.proofs.Common.{◌≡◌, ◌≢◌, ◌∙◌, refl, sym, ap, subst, Bool, true, false, Option, Some, None, inl, inr, arith}
+use Rattle.std.proofs.Common.{◌≡◌, ◌≢◌, refl, ap, subst, Bool, true, false, Option, Some, None, inl, inr, arith}
 use Rattle.std.specs.Prelude.{not, if◌then◌else◌}
 use Rattle.std.proofs.lemmas.Bool.Decides.{nat_tests}
 use Rattle.dcc_packet.specs.declared.address.Address.{Address}
@@ -25,10 +25,10 @@ same_one own to h = grind arith
 told_apart : (to own : Address) (what entry : What) → to ≢ Broadcast → is_refreshed (Loco own entry) ≡ true → own ≢ to
     → Displaces (Loco to what) (Loco own entry) → ⊥
 told_apart to own what entry one h apart gone = elim gone [
-  | inl same ↦ apart (let is : own ≡ to = cc in is)
+  | inl same ↦ apart (cc)
   | inr (inl clash) ↦ apart (one_address clash.who own to entry what (λ all. not_all own entry h (ap Some all)) one
       clash.second_heard clash.first_heard)
-  | inr (inr both) ↦ apart (let e : Some own ≡ Some to = both.1 in let is : own ≡ to = cc in is)
+  | inr (inr both) ↦ apart (let e : Some own ≡ Some to = both.1 in cc)
 ]
 
 told_named : (to own : Address) (what entry : What) → to ≢ Broadcast → is_refreshed (Loco own entry) ≡ true → (t : Bool)
@@ -37,7 +37,7 @@ told_named to own what entry one h true e =
     subst (λ a. Told (kept_by_one what entry) (Loco a what) (Loco own entry)) (same_one own to e)
     (told_one own what entry h)
 told_named to own what entry one h false e = told_apart to own what entry one h
-    (λ is. let k : true ≡ false = sym (own_address own).1 ∙ ap (same_address own) is ∙ e in cc)
+    (λ is. let own = (own_address own).1 in grind arith)
 
 told_of : (to own : Address) (what entry : What) → is_refreshed (Loco own entry) ≡ true
     → Told (kept_of to what own entry) (Loco to what) (Loco own entry)
