@@ -8,9 +8,14 @@ use Rattle.dcc_regs.specs.declared.register.Register.{Register}
 use Rattle.dcc_regs.specs.declared.register.Register.TheVariants.{Speed as SpeedRegister, Direction, Function}
 use Rattle.dcc_regs.specs.declared.register.Value.{Value}
 use Rattle.dcc_regs.specs.Inner.ConflictParts.{Differ, DifferIn}
+use Rattle.dcc_regs.specs.States.{turned_states}
 use Rattle.dcc_regs.specs.Sets.{sets}
 use Rattle.dcc_station.specs.Commands.{is_refreshed}
-use Rattle.dcc_station.proofs.StatePackets.{entry_tells_none}
+
+-- an entry turns no state on or off
+pub entry_tells_none : (e : Packet) → is_refreshed e ≡ true → turned_states e ≡ None
+unfolding is_refreshed
+entry_tells_none e h = grind arith
 
 pub none_differs : (a : Option Value) → Differ a None → ⊥
 none_differs a d = grind arith

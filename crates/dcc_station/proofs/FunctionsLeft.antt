@@ -24,12 +24,6 @@ use Rattle.dcc_regs.specs.Inner.ConflictParts.{Differ}
 use Rattle.dcc_regs.proofs.DifferLemmas.{differ-sym, either}
 use Rattle.dcc_station.proofs.EntryDifferences.{Ends}
 
-first_is_some : (g : Group) → 1 ≤ first_function g
-first_is_some g = grind arith
-
-pub last_is_68 : (g : Group) → first_function g + count_of g ≤ 69
-last_is_68 g = grind arith
-
 -- the group that a function is in, F0 aside
 abbrev group_at : ℕ → Group
 group_at n =
@@ -79,7 +73,7 @@ place w a b low high apart = elim (search_place w a b) [
 -- the functions of a group that its bits say, and F0
 pub says : (bits : GroupBits) (k : ℕ) → k < count_of bits.group
     → group_bit Steps28 bits (first_function bits.group + k) ≡ Some (is_one bits.bits k)
-says bits k low = grind (arith, nat_tests, first_is_some)
+says bits k low = grind (arith, nat_tests)
 
 pub says_f0 : (bits : GroupBits) → bits.group ≡ F0 → group_bit Steps28 bits 0 ≡ Some (is_one bits.bits 4)
 says_f0 bits is = ap (λ g. option_map (is_one bits.bits) (function_place Steps28 g 0)) is
@@ -90,9 +84,6 @@ width F0 = 5
 width F5 = 4
 width F9 = 4
 width g = 8
-
-fits_width : (g : Group) (n : ℕ) → n ≤ group_max g → n < 2 ^ width g
-fits_width g n h = grind arith
 
 in_width : (g : Group) (k : ℕ) → k < width g → (k < count_of g) ⊎ ((g ≡ F0) × (k ≡ 4))
 in_width g k h = grind arith
@@ -113,7 +104,7 @@ apart_in_group p a own b fits apart sets_it sets_f0 = (
 )
   where
     found : Place (width b.group) a b.bits
-    found = place (width b.group) a b.bits (fits_width b.group a fits) (fits_width b.group b.bits b.in_range) apart
+    found = place (width b.group) a b.bits (grind (arith, fits)) (grind (arith, b.in_range)) apart
 
     two : Flag (is_one a found.at) ≢ Flag (is_one b.bits found.at)
     two e = found.apart (grind (arith, nat_tests, bit_at-lt))

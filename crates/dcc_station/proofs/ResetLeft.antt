@@ -19,7 +19,7 @@ use Rattle.dcc_station.proofs.EntryDifferences.{not_equal, Ends, Judged, judged_
 use Rattle.dcc_station.proofs.SpeedLeft.{refreshed_sets, AsksSpeed, Shows, shows28, kept_speed, ended_by_speed}
 use Rattle.dcc_station.proofs.SpeedLeft.{ended_by_way}
 use Rattle.dcc_station.proofs.SpeedLeft.{kept_functions}
-use Rattle.dcc_station.proofs.FunctionsLeft.{last_is_68, apart_in_group}
+use Rattle.dcc_station.proofs.FunctionsLeft.{apart_in_group}
 
 asks_reset : (to : Address) → AsksSpeed (Loco to Reset) 0 (Some true)
 asks_reset to = record { speed = λ mode. refl; direction = refl }
@@ -54,6 +54,6 @@ judged_reset to own (Functions bits) h =
     grind (arith, nat_tests, bit_at-zero, none)))
     (λ none. absurd (cc)) (λ none. absurd (cc))
     (λ some. apart_in_group (Loco to Reset) 0 own bits (omega arith) (λ none. not_equal bits.bits 0 some (cc))
-    (λ k low. grind (arith, nat_tests, bit_at-zero, last_is_68))
+    (λ k low. grind (arith, nat_tests, bit_at-zero))
     (λ zero. refl))
 judged_reset to own entry h = absurd (let k = refreshed_sets own entry h in cc)

@@ -8,9 +8,7 @@ use Rattle.dcc_station.proofs.entries.remove_displaced.Goals.{then-not-is_displa
 
 pub returns-clause-entries : goal.returns-clause-entries
 returns-clause-entries g c =
-    let now = g.R.PacketRing.buffer c.loop-at.entries in
-    let left = passed_all c.loop-at.invariant.0 (omega arith) in
-    rw c.truncate.ensures left
+    rw c.truncate.ensures (passed_all c.loop-at.invariant.0 (omega arith))
 
 pub loop-at-preserved : goal.loop-at-preserved
 loop-at-preserved g c =
