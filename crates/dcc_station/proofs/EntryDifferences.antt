@@ -17,9 +17,6 @@ pub entry_tells_none : (e : Packet) → is_refreshed e ≡ true → turned_state
 unfolding is_refreshed
 entry_tells_none e h = grind arith
 
-pub none_differs : (a : Option Value) → Differ a None → ⊥
-none_differs a d = grind arith
-
 pub same_differs : {A : Type 0} (f : A → Value) (a b : Option A) → a ≡ b → Differ (option_map f a) (option_map f b) → ⊥
 same_differs f a b e d = grind arith
 
