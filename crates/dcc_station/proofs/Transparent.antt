@@ -114,13 +114,17 @@ module _ (who : Who) where
   -- two copies of each own write have its effect, whatever was pending
   run-intended : (s : State) (l : List Packet) → core (run copied s (intended l)) ≡ run then_effect (core s) l
   run-intended s [] = refl
-  run-intended s (p ∷ l) =
-      let heard = hears who p in
-      let once = run-intended (copied heard s p) l in
-      let twice = run-intended (copied heard (copied heard s p) p) l in
-      let last = at_last heard (copied heard s p) p (waits heard s p) ∙ after_first heard s p in
-      let first : is_own_write p ≡ false → core (copied heard s p) ≡ then_effect heard (core s) p = at_once heard s p in
-      grind (arith, once, twice, first, last)
+  run-intended s (p ∷ l) = by_kind (is_own_write p) refl (λ u. run-intended u l)
+    where
+      by_kind : (w : Bool) → is_own_write p ≡ w
+          → ((u : State) → core (run copied u (intended l)) ≡ run then_effect (core u) l)
+          → core (run copied s (cond w (p ∷ p ∷ intended l) (p ∷ intended l))) ≡ run then_effect (core s) (p ∷ l)
+      by_kind true own more =
+          let heard = hears who p in
+          more (copied heard (copied heard s p) p) ∙ ap (λ c. run then_effect c l)
+          (at_last heard (copied heard s p) p (waits heard s p) ∙ after_first heard s p)
+      by_kind false other more =
+          more (copied (hears who p) s p) ∙ ap (λ c. run then_effect c l) (at_once (hears who p) s p other)
 
   -- at least one copy of a packet was sent: one more leaves c, the effect of the packet
   abbrev Sent : Packet → Core → State → Type 0
