@@ -84,7 +84,8 @@ pub after_first : (heard : Bool) (s : State) (p : Packet)
     → then_effect heard (core (copied heard s p)) p ≡ then_effect heard (core s) p
 after_first false s p = refl
 after_first true s p = same_core _ _ (still_waits s p)
-    (λ r. grind (arith, overwritten-twice)) (λ r. twice_plain s.bits (step s p).bits (s.plain r) p r (λ other. rw other refl))
+    (λ r. grind (arith, overwritten-twice))
+    (λ r. twice_plain s.bits (step s p).bits (s.plain r) p r (λ other. rw other refl))
 
 -- a packet that has had its effect has none more
 pub effect_twice : (heard : Bool) (c : Core) (p : Packet)

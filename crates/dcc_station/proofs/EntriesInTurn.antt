@@ -16,7 +16,8 @@ turned [] [] behind s new same_length all = (refl, all ∙ ap (with_entries s) (
 turned [] (e ∷ rest) behind s new same_length all = absurd (omega arith)
 turned (p ∷ packets) [] behind s new same_length all = absurd (omega arith)
 turned (p ∷ packets) (e ∷ rest) behind s new same_length (between, (is, as_said), later) =
-    let others = turned packets rest (behind ++ e ∷ []) s new (omega arith) (rw (as_said, append_assoc rest behind (e ∷ [])) at later) in
+    let others = turned packets rest (behind ++ e ∷ []) s new (omega arith)
+    (rw (as_said, append_assoc rest behind (e ∷ [])) at later) in
     (ap₂ ◌∷◌ is others.0, others.1 ∙ ap (with_entries s) (append_assoc behind (e ∷ []) rest))
 
 pub in_turn : EntriesAreHandedOutInTurn

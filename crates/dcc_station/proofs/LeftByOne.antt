@@ -71,7 +71,8 @@ not_entry own what entry h none is = grind (arith, refreshed_sets)
 
 -- a command that sets no register of an entry ends it where it writes CV29
 told_write : (w : Bool) (own : Address) (what entry : What) → writes_mode what ≡ w
-    → SameAll (Loco own what) (Loco own entry) → (Loco own entry ≡ Loco own what → ⊥) → Told (Some (not w)) (Loco own what) (Loco own entry)
+    → SameAll (Loco own what) (Loco own entry)
+    → (Loco own entry ≡ Loco own what → ⊥) → Told (Some (not w)) (Loco own what) (Loco own entry)
 told_write true own what entry e same other = inr (inr (e, refl))
 told_write false own what entry e same other = told_same same other (λ both. cc)
 
