@@ -1,5 +1,5 @@
 -- At which registers a command and an entry can differ.
-use Rattle.std.proofs.Common.{◌≡◌, ◌≢◌, Bool, true, false, Option, None, ℕ, arith}
+use Rattle.std.proofs.Common.{◌≡◌, ◌≢◌, Bool, true, false, Option, ℕ, arith}
 use Rattle.std.specs.Prelude.{option_map, ◌==◌, ◌&&◌}
 use Rattle.std.proofs.lemmas.Bool.Decides.{nat_tests}
 use Rattle.dcc_packet.specs.declared.packet.Packet.{Packet}
@@ -8,14 +8,9 @@ use Rattle.dcc_regs.specs.declared.register.Register.{Register}
 use Rattle.dcc_regs.specs.declared.register.Register.TheVariants.{Speed as SpeedRegister, Direction, Function}
 use Rattle.dcc_regs.specs.declared.register.Value.{Value}
 use Rattle.dcc_regs.specs.Inner.ConflictParts.{Differ, DifferIn}
-use Rattle.dcc_regs.specs.States.{turned_states}
 use Rattle.dcc_regs.specs.Sets.{sets}
 use Rattle.dcc_station.specs.Commands.{is_refreshed}
-
--- an entry turns no state on or off
-pub entry_tells_none : (e : Packet) → is_refreshed e ≡ true → turned_states e ≡ None
-unfolding is_refreshed
-entry_tells_none e h = grind arith
+use Rattle.dcc_station.proofs.StatePackets.{entry_tells_none}
 
 pub same_differs : {A : Type 0} (f : A → Value) (a b : Option A) → a ≡ b → Differ (option_map f a) (option_map f b) → ⊥
 same_differs f a b e d = grind arith

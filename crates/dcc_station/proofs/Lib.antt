@@ -3,6 +3,7 @@ pub mod Effects
 pub mod Transparent
 pub mod EntriesLeft
 pub mod EntriesInTurn
+pub mod StatePackets
 pub mod RingItems
 pub mod EntryDifferences
 pub mod SpeedLeft
