@@ -7,11 +7,7 @@ use dcc_io::{Input, Sink, Source, ToolFault, Usage};
 use std::env::{Env, FillError};
 
 /// Lists the capture in the input, and answers the exit status. A fault is told on standard error.
-pub fn run<T: Env + Eprint, R: Source, W: Sink>(
-    rt: &T,
-    input: &mut Input<R>,
-    writer: &mut W,
-) -> u8
+pub fn run<T: Env + Eprint, R: Source, W: Sink>(rt: &T, input: &mut Input<R>, writer: &mut W) -> u8
     requires { input.old.fault ≡ None }
     ensures { (outcome : Result (Unit {0}) ToolFault) × (result ≡ status_of outcome)
         × ListsOrRefuses input.old (W.state writer.old) outcome input.new (W.state writer.new) }
