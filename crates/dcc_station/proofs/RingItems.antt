@@ -18,12 +18,12 @@ module _ {X : Type 0} where
   turned start places = drop start places ++ take start places
 
   module _ {start len capacity cap : ℕ} (places : List X) {b : Buffer X}
-      (inv : (start < cap) × (len ≤ capacity) × (capacity ≤ cap) × (0 < capacity) × (length places ≡ cap))
+      (inv : (start < cap) × (len ≤ capacity) × (capacity ≤ cap) × (length places ≡ cap))
       (view : buffer (ring_items start len places) capacity ≡ b) where
     length-turned : length (turned start places) ≡ cap
     length-turned = simp (length-append, length-drop) (omega (arith, length-take-le start places (omega arith)))
 
-    length-ring : length b.items ≡ len
+    pub length-ring : length b.items ≡ len
     length-ring = rw (← view) (length-take-le len (turned start places) (omega (arith, length-turned)))
 
     turned_set : (i at : ℕ) (x : X) → i < cap → Wraps start i cap at

@@ -3,5 +3,6 @@ use Rattle.dcc_station.proofs.fixed_ring.FixedRing.add.Goals as goal
 
 pub returns : goal.returns
 returns g c =
-    ring_pushed c.self.inside.packets c.self.invariant c.self.view_is c.args.packet c.requires
+    let fits = c.self.invariant in
+    ring_pushed c.self.inside.packets (fits.0, fits.1, fits.2, fits.4) c.self.view_is c.args.packet c.requires
     c.place_behind-behind.ensures
