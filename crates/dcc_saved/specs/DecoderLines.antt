@@ -238,7 +238,7 @@ numbers_from kind least (word ∷ rest) = do
   others ← numbers_from kind (n + 1) rest
   Ok (2 ^ n + others)
 
--- of so many numbers from this one on those whose bits are one, the lowest bit first
+-- the words of the numbers whose bits are one, of so many from this one on: the lowest bit is that of the first
 unfoldable pub numbers_on : ℕ → ℕ → ℕ → List Word
 numbers_on n zero bits = []
 numbers_on n (suc more) bits =
