@@ -1,6 +1,6 @@
 //! One call of the program, over any words, streams and standard error.
-ghost use Rattle.std.specs.Prelude.{◌≡◌, None, Result, IfErr};
-ghost use Rattle.dcc_show.specs.Program.{ListsOrRefuses, status_of};
+ghost use Rattle.std.specs.Prelude.{◌≡◌, None, Bool, Result};
+ghost use Rattle.dcc_show.specs.Program.{DoesAsAsked, IsAsked, status_of};
 
 use dcc_capture::show;
 use dcc_io::{Input, Sink, Source, ToolFault, Usage};
@@ -9,31 +9,35 @@ use std::env::{Env, FillError};
 /// Lists the capture in the input, and answers the exit status. A fault is told on standard error.
 pub fn run<T: Env + Eprint, R: Source, W: Sink>(rt: &T, input: &mut Input<R>, writer: &mut W) -> u8
     requires { input.old.fault ≡ None }
-    ensures { (outcome : Result (Unit {0}) ToolFault) × (result ≡ status_of outcome)
-        × ListsOrRefuses input.old (W.state writer.old) outcome input.new (W.state writer.new) }
+    ensures { (asked : Result Bool ToolFault) × IsAsked asked × (outcome : Result (Unit {0}) ToolFault)
+        × DoesAsAsked asked input.old (W.state writer.old) outcome input.new (W.state writer.new)
+        × (result ≡ status_of outcome) }
 {
-    let outcome = list(rt, input, writer);
+    let outcome = list(in_words(rt), input, writer);
     if let Err(fault) = &outcome {
         let _ = eprintln!(rt; "{fault}");
     }
     exit_status(&outcome)
 }
 
-fn list<T: Env, R: Source, W: Sink>(
-    rt: &T,
+/// Does what was asked for: packets in words or in hex, or a refusal of the words.
+fn list<R: Source, W: Sink>(
+    asked: Result<bool, ToolFault>,
     input: &mut Input<R>,
     writer: &mut W,
 ) -> Result<(), ToolFault>
     requires { input.old.fault ≡ None }
-    ensures { ListsOrRefuses input.old (W.state writer.old) result input.new (W.state writer.new) }
+    ensures { DoesAsAsked asked input.old (W.state writer.old) result input.new (W.state writer.new) }
 {
-    let words = in_words(rt)?;
-    show(input, writer, words)
+    match asked {
+        Ok(words) => show(input, writer, words),
+        Err(fault) => Err(fault),
+    }
 }
 
 /// Whether packets are listed in words: the words behind the program's name are `--words` or none.
 fn in_words<T: Env>(rt: &T) -> Result<bool, ToolFault>
-    ensures { IfErr result (λ fault. fault ≡ ToolFault.Usage Usage.Words) }
+    ensures { IsAsked result }
 {
     let mut word = [0; 8];
     let len = match rt.arg(1, &mut word) {
