@@ -13,8 +13,8 @@ pub mod WordsBack
 pub mod Tokens
 pub mod FieldsBack
 pub mod FormsBack
-pub mod InstructionFormsBack
 pub mod LineFieldsBack
+pub mod InstructionFormsBack
 pub mod RoundTrip
 pub mod SameFrames
 pub mod SameAddresses

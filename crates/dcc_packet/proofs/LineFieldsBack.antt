@@ -5,6 +5,7 @@ use Rattle.dcc_packet.specs.Fields.{IsReadBack}
 use Rattle.dcc_packet.specs.LineFields.{address_field, board_field, output_field, signal_field, switch_field, switch_of}
 use Rattle.dcc_packet.specs.LineFields.{direction_field, direction_of, bit_field, bit_of, small_field, number_field}
 use Rattle.dcc_packet.specs.LineFields.{speed28_field, speed128_field, functions_field, state_field, cv_field, place_field}
+use Rattle.dcc_packet.specs.LineFields.{no_fields}
 use Rattle.dcc_packet.specs.LineWords.{address, address_word, board_number, output_number, signal_number, direction_word}
 use Rattle.dcc_packet.specs.LineWords.{state_word, switch_word, speed28_bits, speed128_bits, state_number, cv_number, bit_place}
 use Rattle.dcc_packet.proofs.FieldsBack.{one_word_back}
@@ -13,6 +14,9 @@ use Rattle.dcc_packet.proofs.WordsBack.{address_back, board_back, cv_back, direc
 use Rattle.dcc_packet.proofs.WordsBack.{number-decimal, output_back, place_back, signal_back, small_number-decimal, speed28_bits_back}
 use Rattle.dcc_packet.proofs.WordsBack.{speed128_bits_back, state_back, state_number_back, switch_back}
 use Rattle.dcc_packet.proofs.WrittenWords.{group_is_byte}
+
+pub nothing_is_back : IsReadBack no_fields
+nothing_is_back = record { back = λ x rest h. refl; tokens = λ x h. tt }
 
 pub address_is_back : IsReadBack address_field
 address_is_back = one_word_back address address_word address_back address_word_token

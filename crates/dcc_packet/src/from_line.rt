@@ -4,11 +4,9 @@ ghost use Rattle.dcc_packet.specs.Words.{words};
 ghost use Rattle.dcc_packet.specs.Spelling.{BytesFit};
 ghost use Rattle.dcc_packet.specs.Line.{frame, Says, spelling_or_fault};
 
-use crate::form::Forms;
 use crate::line_word::hex_frame;
-use crate::packet_forms::PacketForms;
 use crate::words::{Words, is_word};
-use crate::{Packet, PacketFault};
+use crate::{Packet, PacketFault, packet_forms};
 
 impl Packet {
     /// The packet of a line, which is one of these:
@@ -66,7 +64,7 @@ impl<'a> Words<'a> {
         if is_word(keyword, b"frame") {
             self.frame()
         } else {
-            let packet = <PacketForms as Forms<Packet>>::take(keyword, self)?;
+            let packet = packet_forms::packet(keyword, self)?;
             self.end()?;
             Ok(packet)
         }

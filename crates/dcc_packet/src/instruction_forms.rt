@@ -1,39 +1,17 @@
 //! The lines of instructions to locomotives, behind the address: a form each.
-ghost use Rattle.std.specs.Prelude.{refl};
-ghost use Rattle.dcc_packet.specs.declared.instruction.What.TheVariants.{Reset, Speed28, Speed128, Functions};
-ghost use Rattle.dcc_packet.specs.declared.instruction.What.TheVariants.{BinaryState, CvWrite, CvVerify};
-ghost use Rattle.dcc_packet.specs.declared.instruction.What.TheVariants.{CvBitWrite, CvBitVerify};
-ghost use Rattle.dcc_packet.specs.InstructionForms.{reset_form, speed28_form, speed128_form, functions_form};
-ghost use Rattle.dcc_packet.specs.InstructionForms.{state_form, cv_access_form, cv_access_field, instruction_field};
-ghost use Rattle.dcc_packet.specs.InstructionForms.{cv_write_form, cv_verify_form, cv_bit_write_form};
-ghost use Rattle.dcc_packet.specs.InstructionForms.{cv_bit_verify_form};
+ghost use Rattle.std.specs.Prelude.{◌≡◌, true, IfOk};
+ghost use Rattle.dcc_packet.specs.Fields.{Gives};
+ghost use Rattle.dcc_packet.specs.Forms.{is_said_by, read_by};
+ghost use Rattle.dcc_packet.specs.InstructionForms.{cv_access_field, cv_access_forms, instruction_field, instruction_forms};
 
 use crate::bytes_fit::has_value;
 use crate::field::{Field, Line};
 use crate::fields::{Bit, CvAccess, Direction, Switch};
-use crate::form::{Form, Forms};
-use crate::words::Words;
+use crate::form::put_form;
+use crate::words::{Words, is_word};
 use crate::{
     BitPlace, CvNumber, GroupBits, PacketFault, SpeedBits28, SpeedBits128, StateNumber, What,
 };
-
-/// The words after a locomotive's address.
-type Instructions = (
-    ResetForm,
-    (
-        Speed28Form,
-        (
-            Speed128Form,
-            (FunctionsForm, (StateForm, (CvAccessForm, ()))),
-        ),
-    ),
-);
-
-/// The words after `cv`.
-type CvAccesses = (
-    CvWriteForm,
-    (CvVerifyForm, (CvBitWriteForm, (CvBitVerifyForm, ()))),
-);
 
 impl Field for What {
     ghost field = { instruction_field };
@@ -42,18 +20,65 @@ impl Field for What {
 
     fn take(words: &mut Words) -> Result<What, PacketFault> {
         let keyword = words.word()?;
-        let what = <Instructions as Forms<What>>::take(keyword, words)?;
+        let what = instruction(keyword, words)?;
         has_value(&what);
         Ok(what)
     }
 
     fn put(&self, line: &mut Line) {
-        <Instructions as Forms<What>>::put(self, line);
+        match self {
+            What::Reset => put_form(line, "reset", &()),
+            What::Speed28 { forward, bits } => {
+                put_form(line, "speed28", &(Direction { forward: *forward }, *bits))
+            }
+            What::Speed128 { forward, bits } => {
+                put_form(line, "speed128", &(Direction { forward: *forward }, *bits))
+            }
+            What::Functions(functions) => put_form(line, "functions", functions),
+            What::BinaryState { number, on } => {
+                put_form(line, "state", &(*number, Switch { on: *on }))
+            }
+            What::CvWrite { .. }
+            | What::CvVerify { .. }
+            | What::CvBitWrite { .. }
+            | What::CvBitVerify { .. } => put_form(line, "cv", &CvAccess { what: *self }),
+        }
     }
 
-    #[tactic(auto, using(crate::proofs::InstructionFormsBack::instructions_back))]
-    fn is_read_back() {
-        <Instructions as Forms<What>>::are_read_back();
+    #[tactic(auto, using(crate::proofs::InstructionFormsBack::instruction_is_back))]
+    fn is_read_back() {}
+}
+
+/// What the words behind this keyword say.
+fn instruction(keyword: &[u8], words: &mut Words) -> Result<What, PacketFault>
+    ensures { Gives (read_by instruction_forms keyword.now words.old) result words.new }
+{
+    if is_word(keyword, b"reset") {
+        Ok(What::Reset)
+    } else if is_word(keyword, b"speed28") {
+        let (direction, bits) = <(Direction, SpeedBits28)>::take(words)?;
+        Ok(What::Speed28 {
+            forward: direction.forward,
+            bits,
+        })
+    } else if is_word(keyword, b"speed128") {
+        let (direction, bits) = <(Direction, SpeedBits128)>::take(words)?;
+        Ok(What::Speed128 {
+            forward: direction.forward,
+            bits,
+        })
+    } else if is_word(keyword, b"functions") {
+        Ok(What::Functions(GroupBits::take(words)?))
+    } else if is_word(keyword, b"state") {
+        let (number, switch) = <(StateNumber, Switch)>::take(words)?;
+        Ok(What::BinaryState {
+            number,
+            on: switch.on,
+        })
+    } else if is_word(keyword, b"cv") {
+        Ok(CvAccess::take(words)?.what)
+    } else {
+        Err(PacketFault::Word)
     }
 }
 
@@ -64,332 +89,55 @@ impl Field for CvAccess {
 
     fn take(words: &mut Words) -> Result<CvAccess, PacketFault> {
         let keyword = words.word()?;
-        let what = <CvAccesses as Forms<What>>::take(keyword, words)?;
+        let what = cv_access(keyword, words)?;
         has_value(&what);
         Ok(CvAccess { what })
     }
 
     fn put(&self, line: &mut Line) {
-        <CvAccesses as Forms<What>>::put(&self.what, line);
+        match &self.what {
+            What::CvWrite { cv, value } => put_form(line, "write", &(*cv, *value)),
+            What::CvVerify { cv, value } => put_form(line, "verify", &(*cv, *value)),
+            What::CvBitWrite { cv, place, one } => {
+                put_form(line, "bitwrite", &(*cv, (*place, Bit { one: *one })))
+            }
+            What::CvBitVerify { cv, place, one } => {
+                put_form(line, "bitverify", &(*cv, (*place, Bit { one: *one })))
+            }
+            _ => (),
+        }
     }
 
-    #[tactic(auto, using(crate::proofs::InstructionFormsBack::cv_accesses_back))]
-    fn is_read_back() {
-        <CvAccesses as Forms<What>>::are_read_back();
-    }
+    #[tactic(auto, using(crate::proofs::InstructionFormsBack::cv_access_is_back))]
+    fn is_read_back() {}
 }
 
-/// `reset`.
-struct ResetForm;
-
-impl Form<What> for ResetForm {
-    type Fields = ();
-
-    ghost form = { reset_form };
-
-    fn keyword() -> &'static str {
-        "reset"
-    }
-
-    fn says(_fields: ()) -> What {
-        What::Reset
-    }
-
-    fn said(what: &What) -> Option<()> {
-        match what {
-            What::Reset => Some(()),
-            _ => None,
-        }
-    }
-
-    ghost is_form = { record {
-      token = refl;
-      back = elim [ Reset ↦ λ x e. cc | what ↦ λ x e. absurd cc ];
-    } };
-}
-
-/// `speed28 f|r BITS`.
-struct Speed28Form;
-
-impl Form<What> for Speed28Form {
-    type Fields = (Direction, SpeedBits28);
-
-    ghost form = { speed28_form };
-
-    fn keyword() -> &'static str {
-        "speed28"
-    }
-
-    fn says((direction, bits): (Direction, SpeedBits28)) -> What {
-        What::Speed28 {
-            forward: direction.forward,
-            bits,
-        }
-    }
-
-    fn said(what: &What) -> Option<(Direction, SpeedBits28)> {
-        match what {
-            What::Speed28 { forward, bits } => Some((Direction { forward: *forward }, *bits)),
-            _ => None,
-        }
-    }
-
-    ghost is_form = { record {
-      token = refl;
-      back = elim [ Speed28 forward bits ↦ λ x e. cc | what ↦ λ x e. absurd cc ];
-    } };
-}
-
-/// `speed128 f|r BITS`.
-struct Speed128Form;
-
-impl Form<What> for Speed128Form {
-    type Fields = (Direction, SpeedBits128);
-
-    ghost form = { speed128_form };
-
-    fn keyword() -> &'static str {
-        "speed128"
-    }
-
-    fn says((direction, bits): (Direction, SpeedBits128)) -> What {
-        What::Speed128 {
-            forward: direction.forward,
-            bits,
-        }
-    }
-
-    fn said(what: &What) -> Option<(Direction, SpeedBits128)> {
-        match what {
-            What::Speed128 { forward, bits } => Some((Direction { forward: *forward }, *bits)),
-            _ => None,
-        }
-    }
-
-    ghost is_form = { record {
-      token = refl;
-      back = elim [ Speed128 forward bits ↦ λ x e. cc | what ↦ λ x e. absurd cc ];
-    } };
-}
-
-/// `functions GROUP BITS`.
-struct FunctionsForm;
-
-impl Form<What> for FunctionsForm {
-    type Fields = GroupBits;
-
-    ghost form = { functions_form };
-
-    fn keyword() -> &'static str {
-        "functions"
-    }
-
-    fn says(functions: GroupBits) -> What {
-        What::Functions(functions)
-    }
-
-    fn said(what: &What) -> Option<GroupBits> {
-        match what {
-            What::Functions(functions) => Some(*functions),
-            _ => None,
-        }
-    }
-
-    ghost is_form = { record {
-      token = refl;
-      back = elim [ Functions functions ↦ λ x e. cc | what ↦ λ x e. absurd cc ];
-    } };
-}
-
-/// `state NUMBER on|off`.
-struct StateForm;
-
-impl Form<What> for StateForm {
-    type Fields = (StateNumber, Switch);
-
-    ghost form = { state_form };
-
-    fn keyword() -> &'static str {
-        "state"
-    }
-
-    fn says((number, switch): (StateNumber, Switch)) -> What {
-        What::BinaryState {
-            number,
-            on: switch.on,
-        }
-    }
-
-    fn said(what: &What) -> Option<(StateNumber, Switch)> {
-        match what {
-            What::BinaryState { number, on } => Some((*number, Switch { on: *on })),
-            _ => None,
-        }
-    }
-
-    ghost is_form = { record {
-      token = refl;
-      back = elim [ BinaryState number on ↦ λ x e. cc | what ↦ λ x e. absurd cc ];
-    } };
-}
-
-/// `cv` and an access.
-struct CvAccessForm;
-
-impl Form<What> for CvAccessForm {
-    type Fields = CvAccess;
-
-    ghost form = { cv_access_form };
-
-    fn keyword() -> &'static str {
-        "cv"
-    }
-
-    #[tactic(auto, using(crate::proofs::InstructionFormsBack::access_said))]
-    fn says(access: CvAccess) -> What {
-        access.what
-    }
-
-    fn said(what: &What) -> Option<CvAccess> {
-        if what.is_cv_access() {
-            Some(CvAccess { what: *what })
-        } else {
-            None
-        }
-    }
-
-    ghost is_form = { record {
-      token = refl;
-      back = elim [
-        | CvWrite cv value ↦ λ x e. cc
-        | CvVerify cv value ↦ λ x e. cc
-        | CvBitWrite cv place one ↦ λ x e. cc
-        | CvBitVerify cv place one ↦ λ x e. cc
-        | what ↦ λ x e. absurd cc
-      ];
-    } };
-}
-
-/// `write CV VALUE`.
-struct CvWriteForm;
-
-impl Form<What> for CvWriteForm {
-    type Fields = (CvNumber, u8);
-
-    ghost form = { cv_write_form };
-
-    fn keyword() -> &'static str {
-        "write"
-    }
-
-    fn says((cv, value): (CvNumber, u8)) -> What {
-        What::CvWrite { cv, value }
-    }
-
-    fn said(what: &What) -> Option<(CvNumber, u8)> {
-        match what {
-            What::CvWrite { cv, value } => Some((*cv, *value)),
-            _ => None,
-        }
-    }
-
-    ghost is_form = { record {
-      token = refl;
-      back = elim [ CvWrite cv value ↦ λ x e. cc | what ↦ λ x e. absurd cc ];
-    } };
-}
-
-/// `verify CV VALUE`.
-struct CvVerifyForm;
-
-impl Form<What> for CvVerifyForm {
-    type Fields = (CvNumber, u8);
-
-    ghost form = { cv_verify_form };
-
-    fn keyword() -> &'static str {
-        "verify"
-    }
-
-    fn says((cv, value): (CvNumber, u8)) -> What {
-        What::CvVerify { cv, value }
-    }
-
-    fn said(what: &What) -> Option<(CvNumber, u8)> {
-        match what {
-            What::CvVerify { cv, value } => Some((*cv, *value)),
-            _ => None,
-        }
-    }
-
-    ghost is_form = { record {
-      token = refl;
-      back = elim [ CvVerify cv value ↦ λ x e. cc | what ↦ λ x e. absurd cc ];
-    } };
-}
-
-/// `bitwrite CV PLACE 0|1`.
-struct CvBitWriteForm;
-
-impl Form<What> for CvBitWriteForm {
-    type Fields = (CvNumber, (BitPlace, Bit));
-
-    ghost form = { cv_bit_write_form };
-
-    fn keyword() -> &'static str {
-        "bitwrite"
-    }
-
-    fn says((cv, (place, bit)): (CvNumber, (BitPlace, Bit))) -> What {
-        What::CvBitWrite {
+/// What the words behind `cv` and this keyword say.
+fn cv_access(keyword: &[u8], words: &mut Words) -> Result<What, PacketFault>
+    ensures is { Gives (read_by cv_access_forms keyword.now words.old) result words.new }
+    ensures said { IfOk result (λ what. is_said_by cv_access_forms what ≡ true) }
+{
+    if is_word(keyword, b"write") {
+        let (cv, value) = <(CvNumber, u8)>::take(words)?;
+        Ok(What::CvWrite { cv, value })
+    } else if is_word(keyword, b"verify") {
+        let (cv, value) = <(CvNumber, u8)>::take(words)?;
+        Ok(What::CvVerify { cv, value })
+    } else if is_word(keyword, b"bitwrite") {
+        let (cv, (place, bit)) = <(CvNumber, (BitPlace, Bit))>::take(words)?;
+        Ok(What::CvBitWrite {
             cv,
             place,
             one: bit.one,
-        }
-    }
-
-    fn said(what: &What) -> Option<(CvNumber, (BitPlace, Bit))> {
-        match what {
-            What::CvBitWrite { cv, place, one } => Some((*cv, (*place, Bit { one: *one }))),
-            _ => None,
-        }
-    }
-
-    ghost is_form = { record {
-      token = refl;
-      back = elim [ CvBitWrite cv place one ↦ λ x e. cc | what ↦ λ x e. absurd cc ];
-    } };
-}
-
-/// `bitverify CV PLACE 0|1`.
-struct CvBitVerifyForm;
-
-impl Form<What> for CvBitVerifyForm {
-    type Fields = (CvNumber, (BitPlace, Bit));
-
-    ghost form = { cv_bit_verify_form };
-
-    fn keyword() -> &'static str {
-        "bitverify"
-    }
-
-    fn says((cv, (place, asked)): (CvNumber, (BitPlace, Bit))) -> What {
-        What::CvBitVerify {
+        })
+    } else if is_word(keyword, b"bitverify") {
+        let (cv, (place, bit)) = <(CvNumber, (BitPlace, Bit))>::take(words)?;
+        Ok(What::CvBitVerify {
             cv,
             place,
-            one: asked.one,
-        }
+            one: bit.one,
+        })
+    } else {
+        Err(PacketFault::Word)
     }
-
-    fn said(what: &What) -> Option<(CvNumber, (BitPlace, Bit))> {
-        match what {
-            What::CvBitVerify { cv, place, one } => Some((*cv, (*place, Bit { one: *one }))),
-            _ => None,
-        }
-    }
-
-    ghost is_form = { record {
-      token = refl;
-      back = elim [ CvBitVerify cv place one ↦ λ x e. cc | what ↦ λ x e. absurd cc ];
-    } };
 }

@@ -9,8 +9,6 @@ ghost use Rattle.dcc_packet.specs.Words.{Word, words};
 ghost use Rattle.dcc_packet.specs.Line.{Says};
 ghost use Rattle.dcc_packet.specs.Written.{written_line};
 
-use crate::form::Forms;
-use crate::packet_forms::PacketForms;
 use crate::{Packet, PacketFault};
 use dcc_wire::Frame;
 
@@ -57,6 +55,4 @@ pub fn one_answer()
 #[tactic(auto, using(crate::proofs::RoundTrip::says_back))]
 pub fn written_line_says()
     ensures { (packet : Packet) → BytesFit packet → Says (words (written_line packet)) (Ok packet) }
-{
-    <PacketForms as Forms<Packet>>::are_read_back();
-}
+{}

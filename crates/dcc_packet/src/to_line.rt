@@ -9,8 +9,8 @@ ghost use Rattle.dcc_packet.specs.Written.{written_line};
 
 use crate::Packet;
 use crate::field::Line;
-use crate::form::Forms;
-use crate::packet_forms::PacketForms;
+use crate::fields::Switch;
+use crate::form::form_line;
 use crate::to_line_word::put_hex;
 use arrayvec::ArrayString;
 
@@ -26,7 +26,6 @@ impl Packet {
         ensures read_back { (answer : Result Packet PacketFault)
             → Says (words result.bytes) answer → answer ≡ Ok self.now }
     {
-        <PacketForms as Forms<Packet>>::are_read_back();
         self.written()
     }
 
@@ -37,13 +36,18 @@ impl Packet {
     {
         self.has_bytes();
         match self {
+            Packet::Idle => form_line("idle", &()),
+            Packet::Loco { to, what } => form_line("loco", &(*to, *what)),
+            Packet::Accessory { board, output, on } => {
+                form_line("accessory", &(*board, (*output, Switch { on: *on })))
+            }
+            Packet::Signal { address, aspect } => form_line("signal", &(*address, *aspect)),
             Packet::Other(other) => {
                 let mut line = Line::new();
                 line.push_str("frame ");
                 put_hex(&mut line, other.bytes());
                 line
             }
-            packet => <PacketForms as Forms<Packet>>::line(packet),
         }
     }
 }

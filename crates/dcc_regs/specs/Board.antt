@@ -1,9 +1,7 @@
 -- The registers of an accessory decoder and their start values.
 use Rattle.std.specs.Prelude.{◌≡◌, ◌≤◌, ℕ, Bool, false, nat_le, None, Some, unwrap_or, if◌then◌else◌}
 use Rattle.dcc_packet.specs.declared.packet.Packet.{Packet}
-use Rattle.dcc_regs.specs.declared.register.Register.TheVariants.{Speed as SpeedRegister, Direction, Function}
-use Rattle.dcc_regs.specs.declared.register.Register.TheVariants.{State as StateRegister, CvBit}
-use Rattle.dcc_regs.specs.declared.register.Register.TheVariants.{Pending as PendingRegister, Out, Position, Aspect}
+use Rattle.dcc_regs.specs.declared.register.Register.TheVariants.{Out, Position, Aspect}
 use Rattle.dcc_regs.specs.declared.register.Value.TheVariants.{Flag, Number}
 use Rattle.dcc_regs.specs.Outputs.{out_set, position_set, aspect_set}
 use Rattle.dcc_regs.specs.Sets.{side}
@@ -21,12 +19,7 @@ abbrev pub board_registers : BoardContent → RegisterMap
 board_registers d (Out n) = if nat_le n 7 then Some (Flag (d.outs n)) else None
 board_registers d (Position n) = if nat_le n 3 then Some (side (d.positions n)) else None
 board_registers d (Aspect n) = if nat_le n 3 then Some (Number (d.aspects n)) else None
-board_registers d SpeedRegister = None
-board_registers d Direction = None
-board_registers d (Function n) = None
-board_registers d (StateRegister n) = None
-board_registers d (CvBit cv place) = None
-board_registers d PendingRegister = None
+board_registers d x = None
 
 -- an accessory decoder takes a packet: what the packet sets is as it sets it, and all else is as before
 pub record TakesPacket (p : Packet) (d d' : BoardContent) : Type 0 where

@@ -5,10 +5,9 @@ use Rattle.dcc_packet.specs.declared.address.Address.TheVariants.{Broadcast}
 use Rattle.dcc_packet.specs.declared.functions.GroupBits.{GroupBits}
 use Rattle.dcc_packet.specs.declared.functions.Group.{Group}
 use Rattle.dcc_packet.specs.declared.functions.Group.TheVariants.{F0, F5, F9, F13, F21, F29, F37, F45, F53, F61}
-use Rattle.dcc_packet.specs.declared.instruction.What.TheVariants.{Reset, Speed28, Speed128, Functions, BinaryState}
-use Rattle.dcc_packet.specs.declared.instruction.What.TheVariants.{CvWrite, CvVerify, CvBitWrite, CvBitVerify}
+use Rattle.dcc_packet.specs.declared.instruction.What.TheVariants.{Reset, Speed28, Functions}
 use Rattle.dcc_packet.specs.declared.packet.Packet.{Packet}
-use Rattle.dcc_packet.specs.declared.packet.Packet.TheVariants.{Idle, Loco as ToLoco, Accessory, Signal, Other}
+use Rattle.dcc_packet.specs.declared.packet.Packet.TheVariants.{Loco as ToLoco}
 use Rattle.dcc_regs.specs.declared.register.SpeedMode.{SpeedMode}
 use Rattle.dcc_regs.specs.declared.register.SpeedMode.TheVariants.{Steps14, Steps28}
 use Rattle.dcc_packet.specs.Bits.{is_one}
@@ -62,15 +61,5 @@ abbrev pub function_set : SpeedMode → Packet → ℕ → Option Bool
 function_set mode (ToLoco to Reset) n = if nat_le n 68 then Some false else None
 function_set mode (ToLoco Broadcast (Speed28 forward bits)) n = None
 function_set Steps14 (ToLoco to (Speed28 forward bits)) n = if n == 0 then Some (bits.bits % 2 == 1) else None
-function_set Steps28 (ToLoco to (Speed28 forward bits)) n = None
-function_set mode (ToLoco to (Speed128 forward bits)) n = None
 function_set mode (ToLoco to (Functions bits)) n = group_bit mode bits n
-function_set mode (ToLoco to (BinaryState state on)) n = None
-function_set mode (ToLoco to (CvWrite cv value)) n = None
-function_set mode (ToLoco to (CvVerify cv value)) n = None
-function_set mode (ToLoco to (CvBitWrite cv place one)) n = None
-function_set mode (ToLoco to (CvBitVerify cv place one)) n = None
-function_set mode Idle n = None
-function_set mode (Accessory board output on) n = None
-function_set mode (Signal address aspect) n = None
-function_set mode (Other frame) n = None
+function_set mode x n = None

@@ -8,8 +8,7 @@ use Rattle.dcc_packet.specs.Values.{long_of, short_of}
 use Rattle.dcc_packet.specs.declared.address.Address.{Address}
 use Rattle.dcc_packet.specs.declared.address.Address.TheVariants.{Broadcast, Short, Long}
 use Rattle.dcc_packet.specs.declared.instruction.What.{What}
-use Rattle.dcc_packet.specs.declared.instruction.What.TheVariants.{Reset, Speed28, Speed128, Functions, BinaryState}
-use Rattle.dcc_packet.specs.declared.instruction.What.TheVariants.{CvWrite, CvVerify, CvBitWrite, CvBitVerify}
+use Rattle.dcc_packet.specs.declared.instruction.What.TheVariants.{Reset}
 use Rattle.dcc_packet.specs.declared.packet.Packet.{Packet}
 use Rattle.dcc_packet.specs.declared.packet.Packet.TheVariants.{Idle, Loco as ToLoco, Accessory, Signal, Other}
 use Rattle.dcc_regs.specs.declared.register.Who.{Who}
@@ -34,25 +33,14 @@ frame_address bytes =
 
 -- the address of locomotive decoders that a packet is sent to, if it is sent to one
 abbrev pub address_of : Packet → Option Address
-address_of Idle = None
 address_of (ToLoco to what) = Some to
-address_of (Accessory board output on) = None
-address_of (Signal address aspect) = None
 address_of (Other frame) = frame_address frame.frame
+address_of x = None
 
 -- the reset of all decoders, the one instruction to locomotives that boards hear: a reset to the broadcast address
 abbrev pub is_full_reset : Address → What → Bool
 is_full_reset Broadcast Reset = true
-is_full_reset Broadcast (Speed28 forward bits) = false
-is_full_reset Broadcast (Speed128 forward bits) = false
-is_full_reset Broadcast (Functions bits) = false
-is_full_reset Broadcast (BinaryState state on) = false
-is_full_reset Broadcast (CvWrite cv value) = false
-is_full_reset Broadcast (CvVerify cv value) = false
-is_full_reset Broadcast (CvBitWrite cv place one) = false
-is_full_reset Broadcast (CvBitVerify cv place one) = false
-is_full_reset (Short to) what = false
-is_full_reset (Long to) what = false
+is_full_reset x what = false
 
 -- which decoder hears which packet. A frame of no row is heard by the locomotives whose address it names; board 511 is
 -- every board, signal 2047 every signal, and signals 2044 to 2046 are nobody's

@@ -10,7 +10,7 @@ use Rattle.dcc_regs.specs.declared.register.Speed.{Speed}
 use Rattle.dcc_regs.specs.declared.register.Speed.TheVariants.{Stop, Emergency, Step14, Step28, Step126}
 use Rattle.dcc_regs.specs.declared.register.Register.TheVariants.{Speed as SpeedRegister, Direction, Function}
 use Rattle.dcc_regs.specs.declared.register.Register.TheVariants.{State as StateRegister, CvBit}
-use Rattle.dcc_regs.specs.declared.register.Register.TheVariants.{Pending as PendingRegister, Out, Position, Aspect}
+use Rattle.dcc_regs.specs.declared.register.Register.TheVariants.{Pending as PendingRegister}
 use Rattle.dcc_regs.specs.declared.register.Value.{Value}
 use Rattle.dcc_regs.specs.declared.register.Value.TheVariants.{Speed as SpeedValue, Forward, Flag}
 use Rattle.dcc_regs.specs.declared.register.Value.TheVariants.{Pending as PendingValue}
@@ -46,9 +46,7 @@ loco_registers d (Function n) = if is_function n then Some (Flag (d.functions n)
 loco_registers d (StateRegister n) = if is_binary_state n then Some (Flag (d.states n)) else None
 loco_registers d (CvBit cv place) = if is_cv_bit cv place then Some (Flag (is_one (d.cvs cv) place)) else None
 loco_registers d PendingRegister = Some (PendingValue d.pending)
-loco_registers d (Out n) = None
-loco_registers d (Position n) = None
-loco_registers d (Aspect n) = None
+loco_registers d x = None
 
 -- a locomotive decoder just made or powered up: stopped, forward, all functions and binary states off, nothing pending
 abbrev pub start_content : (ℕ → ℕ) → LocoContent

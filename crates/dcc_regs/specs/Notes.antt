@@ -51,15 +51,9 @@ note_of (Other frame) = OtherCall frame
 
 -- an instruction of speed and direction
 abbrev pub is_speed_instruction : What → Bool
-is_speed_instruction Reset = false
 is_speed_instruction (Speed28 forward bits) = true
 is_speed_instruction (Speed128 forward bits) = true
-is_speed_instruction (Functions bits) = false
-is_speed_instruction (BinaryState state on) = false
-is_speed_instruction (CvWrite cv value) = false
-is_speed_instruction (CvVerify cv value) = false
-is_speed_instruction (CvBitWrite cv place one) = false
-is_speed_instruction (CvBitVerify cv place one) = false
+is_speed_instruction x = false
 
 -- an instruction that is of the kind of its call
 abbrev pub told_if : Bool → Address → What → Option Packet

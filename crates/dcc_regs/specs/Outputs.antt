@@ -2,31 +2,22 @@
 use Rattle.std.specs.Prelude.{ℕ, Bool, true, false, ◌&&◌, ◌||◌, ◌==◌, nat_le, ◌/◌, ◌%◌, Option, None, Some}
 use Rattle.std.specs.Prelude.{if◌then◌else◌}
 use Rattle.dcc_packet.specs.declared.packet.Packet.{Packet}
-use Rattle.dcc_packet.specs.declared.packet.Packet.TheVariants.{Idle, Loco as ToLoco, Accessory, Signal, Other}
+use Rattle.dcc_packet.specs.declared.packet.Packet.TheVariants.{Loco as ToLoco, Accessory, Signal}
 use Rattle.dcc_regs.specs.Heard.{is_full_reset}
 
 -- whether a packet turns output n on or off
 abbrev pub out_set : Packet → ℕ → Option Bool
 out_set (ToLoco to what) n = if is_full_reset to what && nat_le n 7 then Some false else None
 out_set (Accessory board output on) n = if n == output.number then Some on else None
-out_set (Signal address aspect) n = None
-out_set (Other frame) n = None
-out_set Idle n = None
+out_set x n = None
 
 -- whether a packet puts pair n of the outputs to side 1: an output that is turned on is the side of its pair
 abbrev pub position_set : Packet → ℕ → Option Bool
 position_set (Accessory board output true) n = if n == output.number / 2 then Some (output.number % 2 == 1) else None
-position_set (Accessory board output false) n = None
-position_set (ToLoco to what) n = None
-position_set (Signal address aspect) n = None
-position_set (Other frame) n = None
-position_set Idle n = None
+position_set x n = None
 
 -- the aspect that a packet gives signal n of a board
 abbrev pub aspect_set : Packet → ℕ → Option ℕ
 aspect_set (Signal address aspect) n =
     if (address.number == 2047 && nat_le n 3) || n == address.number % 4 then Some aspect else None
-aspect_set (ToLoco to what) n = None
-aspect_set (Accessory board output on) n = None
-aspect_set (Other frame) n = None
-aspect_set Idle n = None
+aspect_set x n = None

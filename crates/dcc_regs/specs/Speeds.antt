@@ -1,10 +1,9 @@
 -- The speed and the direction that a packet sets (RCN-212, NMRA S-9.2.1).
 use Rattle.std.specs.Prelude.{ℕ, Bool, true, ◌||◌, ◌==◌, nat_lt, ◌-◌, ◌/◌, Option, None, Some, if◌then◌else◌}
 use Rattle.dcc_packet.specs.declared.address.Address.TheVariants.{Broadcast}
-use Rattle.dcc_packet.specs.declared.instruction.What.TheVariants.{Reset, Speed28, Speed128, Functions, BinaryState}
-use Rattle.dcc_packet.specs.declared.instruction.What.TheVariants.{CvWrite, CvVerify, CvBitWrite, CvBitVerify}
+use Rattle.dcc_packet.specs.declared.instruction.What.TheVariants.{Reset, Speed28, Speed128}
 use Rattle.dcc_packet.specs.declared.packet.Packet.{Packet}
-use Rattle.dcc_packet.specs.declared.packet.Packet.TheVariants.{Idle, Loco as ToLoco, Accessory, Signal, Other}
+use Rattle.dcc_packet.specs.declared.packet.Packet.TheVariants.{Loco as ToLoco}
 use Rattle.dcc_regs.specs.declared.register.SpeedMode.{SpeedMode}
 use Rattle.dcc_regs.specs.declared.register.SpeedMode.TheVariants.{Steps14, Steps28}
 use Rattle.dcc_regs.specs.declared.register.Speed.{Speed}
@@ -33,16 +32,7 @@ speed_set mode (ToLoco Broadcast (Speed28 forward bits)) = stop_of bits.bits
 speed_set Steps28 (ToLoco to (Speed28 forward bits)) = Some (speed_of_28 bits.bits)
 speed_set Steps14 (ToLoco to (Speed28 forward bits)) = Some (speed_of_14 bits.bits)
 speed_set mode (ToLoco to (Speed128 forward bits)) = Some (speed_of_126 bits.bits)
-speed_set mode (ToLoco to (Functions bits)) = None
-speed_set mode (ToLoco to (BinaryState state on)) = None
-speed_set mode (ToLoco to (CvWrite cv value)) = None
-speed_set mode (ToLoco to (CvVerify cv value)) = None
-speed_set mode (ToLoco to (CvBitWrite cv place one)) = None
-speed_set mode (ToLoco to (CvBitVerify cv place one)) = None
-speed_set mode Idle = None
-speed_set mode (Accessory board output on) = None
-speed_set mode (Signal address aspect) = None
-speed_set mode (Other frame) = None
+speed_set mode x = None
 
 -- the direction that a packet sets: a broadcast stop sets it only where bit C is zero, which are the bits 0 and 2
 abbrev pub direction_set : Packet → Option Bool
@@ -51,13 +41,4 @@ direction_set (ToLoco Broadcast (Speed28 forward bits)) =
     if bits.bits == 0 || bits.bits == 2 then Some forward else None
 direction_set (ToLoco to (Speed28 forward bits)) = Some forward
 direction_set (ToLoco to (Speed128 forward bits)) = Some forward
-direction_set (ToLoco to (Functions bits)) = None
-direction_set (ToLoco to (BinaryState state on)) = None
-direction_set (ToLoco to (CvWrite cv value)) = None
-direction_set (ToLoco to (CvVerify cv value)) = None
-direction_set (ToLoco to (CvBitWrite cv place one)) = None
-direction_set (ToLoco to (CvBitVerify cv place one)) = None
-direction_set Idle = None
-direction_set (Accessory board output on) = None
-direction_set (Signal address aspect) = None
-direction_set (Other frame) = None
+direction_set x = None

@@ -2,10 +2,9 @@
 use Rattle.std.specs.Prelude.{ℕ, Bool, false, ◌&&◌, ◌||◌, ◌==◌, nat_le, Option, None, Some, unwrap_or, if◌then◌else◌}
 use Rattle.std.specs.Option.{option_or}
 use Rattle.dcc_packet.specs.declared.instruction.What.{What}
-use Rattle.dcc_packet.specs.declared.instruction.What.TheVariants.{Reset, Speed28, Speed128, Functions, BinaryState}
-use Rattle.dcc_packet.specs.declared.instruction.What.TheVariants.{CvWrite, CvVerify, CvBitWrite, CvBitVerify}
+use Rattle.dcc_packet.specs.declared.instruction.What.TheVariants.{Reset, BinaryState}
 use Rattle.dcc_packet.specs.declared.packet.Packet.{Packet}
-use Rattle.dcc_packet.specs.declared.packet.Packet.TheVariants.{Idle, Loco as ToLoco, Accessory, Signal, Other}
+use Rattle.dcc_packet.specs.declared.packet.Packet.TheVariants.{Loco as ToLoco}
 
 -- the states 1 to 127
 abbrev pub is_binary_state : ℕ → Bool
@@ -16,21 +15,12 @@ is_binary_state n = nat_le 1 n && nat_le n 127
 abbrev pub states_in : What → Option (ℕ × Bool)
 states_in Reset = Some (0, false)
 states_in (BinaryState state on) = Some (state.number, on)
-states_in (Speed28 forward bits) = None
-states_in (Speed128 forward bits) = None
-states_in (Functions bits) = None
-states_in (CvWrite cv value) = None
-states_in (CvVerify cv value) = None
-states_in (CvBitWrite cv place one) = None
-states_in (CvBitVerify cv place one) = None
+states_in x = None
 
 -- the same of a packet
 abbrev pub turned_states : Packet → Option (ℕ × Bool)
 turned_states (ToLoco to what) = states_in what
-turned_states (Accessory board output on) = None
-turned_states (Signal address aspect) = None
-turned_states (Other frame) = None
-turned_states Idle = None
+turned_states x = None
 
 -- whether such a number turns state n on or off
 abbrev pub state_by : Option (ℕ × Bool) → ℕ → Option Bool

@@ -4,10 +4,9 @@ use Rattle.dcc_packet.specs.declared.address.Address.TheVariants.{Broadcast}
 use Rattle.dcc_packet.specs.declared.cv.BitPlace.{BitPlace}
 use Rattle.dcc_packet.specs.declared.cv.CvNumber.{CvNumber}
 use Rattle.dcc_packet.specs.declared.instruction.What.{What}
-use Rattle.dcc_packet.specs.declared.instruction.What.TheVariants.{Reset, Speed28, Speed128, Functions, BinaryState}
-use Rattle.dcc_packet.specs.declared.instruction.What.TheVariants.{CvWrite, CvVerify, CvBitWrite, CvBitVerify}
+use Rattle.dcc_packet.specs.declared.instruction.What.TheVariants.{CvWrite, CvBitWrite}
 use Rattle.dcc_packet.specs.declared.packet.Packet.{Packet}
-use Rattle.dcc_packet.specs.declared.packet.Packet.TheVariants.{Idle, Loco as ToLoco, Accessory, Signal, Other}
+use Rattle.dcc_packet.specs.declared.packet.Packet.TheVariants.{Loco as ToLoco}
 use Rattle.dcc_packet.specs.Bits.{is_one}
 use Rattle.dcc_packet.specs.Cvs.{is_read_only}
 
@@ -22,21 +21,12 @@ pub data CvChange : Type 0 where
 abbrev pub cv_change : What → Option CvChange
 cv_change (CvWrite cv value) = Some (Byte cv value)
 cv_change (CvBitWrite cv place one) = Some (OneBit cv place one)
-cv_change Reset = None
-cv_change (Speed28 forward bits) = None
-cv_change (Speed128 forward bits) = None
-cv_change (Functions bits) = None
-cv_change (BinaryState state on) = None
-cv_change (CvVerify cv value) = None
-cv_change (CvBitVerify cv place one) = None
+cv_change x = None
 
 -- the same of a packet
 abbrev pub change_of : Packet → Option CvChange
 change_of (ToLoco to what) = cv_change what
-change_of (Accessory board output on) = None
-change_of (Signal address aspect) = None
-change_of (Other frame) = None
-change_of Idle = None
+change_of x = None
 
 -- an instruction that writes a CV or a bit of one
 abbrev pub is_cv_write : What → Bool

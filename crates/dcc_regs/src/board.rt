@@ -3,11 +3,12 @@ ghost use Rattle.std.specs.Prelude.{◌≡◌, ℕ, ◌<◌, ◌≤◌, ◌↔�
 ghost use Rattle.std.specs.Prelude.{nat_le, IsOk, IfOk, IfErr, ◌≢◌};
 ghost use Rattle.dcc_regs.specs.Outputs as table;
 
-use crate::board_state::{BoardState, outs_of};
+use crate::board_state::{BoardState, outs_of, sides_of};
 use crate::decoder::Decoder;
 use crate::heard::hears;
 use crate::loco_state::packed;
-use crate::outputs::{aspect_set, out_set, position_set};
+use crate::outputs::aspect_set;
+use crate::packed_board::{outs_after, positions_after};
 use crate::register::{Register, Value, Who};
 use dcc_packet::{Board, Packet, PacketFault};
 
@@ -88,27 +89,6 @@ impl BoardDecoder {
     }
 }
 
-fn set_outs(outs: &mut [bool; 8], packet: &Packet)
-    ensures { (n : ℕ) → n ≤ 7
-        → slice_index_or outs.new n false ≡ unwrap_or (table.out_set packet.now n) (slice_index_or outs.old n false) }
-{
-    for n in 0..8u8 {
-        let at = n as usize;
-        outs[at] = out_set(packet, n).unwrap_or(outs[at]);
-    }
-}
-
-fn set_positions(positions: &mut [bool; 4], packet: &Packet)
-    ensures { (n : ℕ) → n ≤ 3
-        → slice_index_or positions.new n false ≡ unwrap_or (table.position_set packet.now n)
-        (slice_index_or positions.old n false) }
-{
-    for n in 0..4u8 {
-        let at = n as usize;
-        positions[at] = position_set(packet, n).unwrap_or(positions[at]);
-    }
-}
-
 /// Gives the signals the aspects that a packet gives them.
 pub fn set_aspects(aspects: &mut [u8; 4], packet: &Packet)
     ensures { (n : ℕ) → n ≤ 3
@@ -141,8 +121,8 @@ impl Decoder for BoardDecoder {
 
     fn apply(&mut self, packet: &Packet) {
         if hears(self.who(), packet) {
-            set_outs(&mut self.outs, packet);
-            set_positions(&mut self.positions, packet);
+            self.outs = outs_of(outs_after(packed(&self.outs) as u8, packet));
+            self.positions = sides_of(positions_after(packed(&self.positions) as u8, packet));
             set_aspects(&mut self.aspects, packet);
         }
     }

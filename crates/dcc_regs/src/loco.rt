@@ -2,20 +2,14 @@
 ghost use Rattle.std.specs.Prelude.{◌≡◌, ℕ, ◌<◌, ◌≤◌, IsTrue, Some, None, if◌then◌else◌, unwrap_or, slice_index_or};
 ghost use Rattle.std.specs.Prelude.{true, false, ◌↔◌, IsOk, IfOk, IfErr};
 ghost use Rattle.dcc_regs.specs.Addresses.{is_active};
-ghost use Rattle.dcc_regs.specs.FunctionBits.{function_set as function_set_of};
 ghost use Rattle.dcc_regs.specs.Loco.{is_speed, is_pending_for};
-ghost use Rattle.dcc_regs.specs.Speeds as table;
-ghost use Rattle.dcc_regs.specs.States.{is_binary_state, state_set as state_set_of};
+ghost use Rattle.dcc_regs.specs.States.{is_binary_state};
 
 use crate::cvs;
 use crate::decoder::Decoder;
-use crate::function_bits::function_set;
-use crate::heard::hears;
+use crate::loco_registers::LocoRegisters;
 use crate::loco_state::{LocoState, functions_of, packed, states_in, states_of};
-use crate::register::{Register, Speed, SpeedMode, Value, Who};
-use crate::speeds::{direction_set, speed_set};
-use crate::states::state_set;
-use crate::writes::leave_pending;
+use crate::register::{Register, Speed, Value, Who};
 use dcc_packet::{Address, CvNumber, Packet, PacketFault, are_cvs, cv_value};
 
 /// A locomotive decoder: its functions and binary states as truth values, its CVs as bytes.
@@ -36,6 +30,7 @@ pub struct LocoDecoder {
 impl LocoDecoder {
     ghost use Rattle.dcc_packet.specs.Cvs.{cv_in};
     ghost use Rattle.dcc_regs.specs.Loco.{cv_held, powered_up, start_map, start_who};
+    ghost use Rattle.dcc_regs.specs.LocoRegisters.{with_cvs};
     ghost use Rattle.dcc_regs.specs.LocoState.{is_state, loco_map, loco_who};
 
     /// A decoder powered up with these CVs.
@@ -84,15 +79,7 @@ impl LocoDecoder {
         ensures who { ⟦<LocoDecoder as Decoder>⟧.who self.now ≡ loco_who result }
         ensures registers { ⟦<LocoDecoder as Decoder>⟧.registers self.now ≡ loco_map result }
     {
-        LocoState {
-            address: self.address,
-            speed: self.speed,
-            forward: self.forward,
-            functions: packed(&self.functions),
-            states: states_in(packed(&self.states)),
-            pending: self.pending,
-            cvs: self.cvs,
-        }
+        self.registers().with_cvs(&self.cvs)
     }
 
     /// Powers the decoder up: it is as `new` makes one of its present CVs.
@@ -113,24 +100,34 @@ impl LocoDecoder {
         cv_value(&self.cvs, cv)
     }
 
-    /// Does what a heard packet says, but for CV writes.
-    fn obey(&mut self, mode: SpeedMode, packet: &Packet)
-        ensures speed { self.new.speed ≡ unwrap_or (table.speed_set mode packet.now) self.old.speed }
-        ensures forward { self.new.forward ≡ unwrap_or (table.direction_set packet.now) self.old.forward }
-        ensures functions { (n : ℕ) → n ≤ 68
-            → slice_index_or self.new.functions n false ≡ unwrap_or (function_set_of mode packet.now n)
-            (slice_index_or self.old.functions n false) }
-        ensures states { (n : ℕ) → n ≤ 127
-            → slice_index_or self.new.states n false ≡ unwrap_or (state_set_of packet.now n)
-            (slice_index_or self.old.states n false) }
-        ensures address { self.new.address ≡ self.old.address }
-        ensures cvs { self.new.cvs ≡ self.old.cvs }
-        ensures pending { self.new.pending ≡ self.old.pending }
+    /// What it holds besides its CVs, in bits.
+    fn registers(&self) -> LocoRegisters
+        ensures possible { is_state (with_cvs result self.now.cvs) ≡ true }
+        ensures who { ⟦<LocoDecoder as Decoder>⟧.who self.now ≡ loco_who (with_cvs result self.now.cvs) }
+        ensures registers { ⟦<LocoDecoder as Decoder>⟧.registers self.now ≡ loco_map (with_cvs result self.now.cvs) }
     {
-        self.speed = speed_set(mode, packet).unwrap_or(self.speed);
-        self.forward = direction_set(packet).unwrap_or(self.forward);
-        set_functions(&mut self.functions, mode, packet);
-        set_states(&mut self.states, packet);
+        LocoRegisters {
+            address: self.address,
+            speed: self.speed,
+            forward: self.forward,
+            functions: packed(&self.functions),
+            states: states_in(packed(&self.states)),
+            pending: self.pending,
+        }
+    }
+
+    /// Takes these up.
+    fn put(&mut self, registers: &LocoRegisters)
+        requires { is_state (with_cvs registers.now self.old.cvs) ≡ true }
+        ensures registers { ⟦<LocoDecoder as Decoder>⟧.registers self.new ≡ loco_map (with_cvs registers.now self.old.cvs) }
+        ensures who { ⟦<LocoDecoder as Decoder>⟧.who self.new ≡ loco_who (with_cvs registers.now self.old.cvs) }
+    {
+        self.address = registers.address;
+        self.speed = registers.speed;
+        self.forward = registers.forward;
+        self.functions = functions_of(registers.functions);
+        self.states = states_of(registers.states);
+        self.pending = registers.pending;
     }
 
     /// A binary state, where there is such a state.
@@ -142,28 +139,6 @@ impl LocoDecoder {
         } else {
             None
         }
-    }
-}
-
-fn set_functions(functions: &mut [bool; 69], mode: SpeedMode, packet: &Packet)
-    ensures { (n : ℕ) → n ≤ 68
-        → slice_index_or functions.new n false ≡ unwrap_or (function_set_of mode packet.now n)
-        (slice_index_or functions.old n false) }
-{
-    for n in 0..69u8 {
-        let at = n as usize;
-        functions[at] = function_set(mode, packet, n).unwrap_or(functions[at]);
-    }
-}
-
-fn set_states(states: &mut [bool; 128], packet: &Packet)
-    ensures { (n : ℕ) → n ≤ 127
-        → slice_index_or states.new n false ≡ unwrap_or (state_set_of packet.now n)
-        (slice_index_or states.old n false) }
-{
-    for n in 0..128u8 {
-        let at = n as usize;
-        states[at] = state_set(packet, n).unwrap_or(states[at]);
     }
 }
 
@@ -181,12 +156,9 @@ impl Decoder for LocoDecoder {
     }
 
     fn apply(&mut self, packet: &Packet) {
-        if hears(self.who(), packet) {
-            let mode = cvs::mode(&self.cvs);
-            cvs::hear(&mut self.cvs, &self.pending, packet);
-            self.obey(mode, packet);
-            leave_pending(&mut self.pending, packet);
-        }
+        let mut registers = self.registers();
+        let _heard = registers.apply(&mut self.cvs, packet);
+        self.put(&registers);
     }
 
     fn get(&self, register: Register) -> Option<Value> {

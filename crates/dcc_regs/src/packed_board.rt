@@ -8,6 +8,7 @@ use crate::board::{are_bytes, set_aspects};
 use crate::board_state::{BoardState, sides_of};
 use crate::decoder::Decoder;
 use crate::heard::hears;
+use crate::loco_state::packed;
 use crate::outputs::{out_set, position_set};
 use crate::register::{Register, Value, Who};
 use dcc_packet::{Board, Packet, PacketFault};
@@ -58,7 +59,7 @@ impl PackedBoard {
             Ok(PackedBoard {
                 board: state.board,
                 outs: state.outs,
-                positions: packed(&state.positions),
+                positions: packed(&state.positions) as u8,
                 aspects: state.aspects,
             })
         } else {
@@ -90,19 +91,8 @@ impl PackedBoard {
     }
 }
 
-/// The sides of the pairs as bits.
-fn packed(sides: &[bool; 4]) -> u8
-    ensures { (n : ℕ) → n ≤ 3 → is_one result n ≡ slice_index_or sides.now n false }
-{
-    let mut bits = 0;
-    for n in 0..4 {
-        bits |= (sides[n] as u8) << n;
-    }
-    bits
-}
-
 /// The outputs after a heard packet.
-fn outs_after(outs: u8, packet: &Packet) -> u8
+pub(crate) fn outs_after(outs: u8, packet: &Packet) -> u8
     ensures { (n : ℕ) → n ≤ 7 → is_one result n ≡ unwrap_or (table.out_set packet.now n) (is_one outs n) }
 {
     let mut after = 0;
@@ -114,7 +104,7 @@ fn outs_after(outs: u8, packet: &Packet) -> u8
 }
 
 /// The sides of the pairs after a heard packet.
-fn positions_after(positions: u8, packet: &Packet) -> u8
+pub(crate) fn positions_after(positions: u8, packet: &Packet) -> u8
     ensures { (n : ℕ) → n ≤ 3 → is_one result n ≡ unwrap_or (table.position_set packet.now n) (is_one positions n) }
 {
     let mut after = 0;

@@ -13,8 +13,7 @@ use Rattle.dcc_io.proofs.WrittenLemmas.{Appends-none, Appends-append, front_behi
 use Rattle.dcc_regs.specs.declared.register.Who.{Who}
 use Rattle.dcc_regs.specs.Result.{RegisterMap}
 use Rattle.dcc_saved.specs.declared.decoder_line.Head.TheVariants as heads
-use Rattle.dcc_saved.specs.declared.decoder_line.Version.TheVariants as versions
-use Rattle.dcc_saved.specs.DecoderLines.{version_line, head_line}
+use Rattle.dcc_saved.specs.DecoderLines.{head_line}
 use Rattle.dcc_saved.specs.FleetText.{cv_line, cvs_text, text_of, fleet_text}
 use Rattle.dcc_saved.specs.Lines.{line_text}
 

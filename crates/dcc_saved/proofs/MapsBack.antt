@@ -1,5 +1,5 @@
 -- A map that is possible is that of what its lines say.
-use Rattle.std.proofs.Common.{◌≡◌, ℕ, Bool, true, false, not, nat_le, List, Option, None, Some, if◌then◌else◌, refl}
+use Rattle.std.proofs.Common.{◌≡◌, ℕ, Bool, true, false, not, nat_le, Option, None, Some, if◌then◌else◌, refl}
 use Rattle.std.proofs.Common.{sym, ap, ◌∙◌, arith, zero, suc, ◌≤◌, ◌<◌, ◌&&◌, eqb, get_or}
 use Rattle.std.proofs.lemmas.Bool.{and_parts, leb-true}
 use Rattle.dcc_packet.specs.declared.address.Address.{Address}

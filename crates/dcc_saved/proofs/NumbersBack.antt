@@ -4,7 +4,6 @@ use Rattle.std.proofs.Common.{◌∷◌, ◌++◌, length, codes, Ok, if◌then�
 use Rattle.std.proofs.Common.{add-one, zero-add, length-append}
 use native.Mathlib.Nat.{pow-succ'}
 use Rattle.std.specs.Fmt.{decimal}
-use Rattle.std.specs.Int.{bit_at}
 use Rattle.std.specs.List.{AllByRecursion}
 use Rattle.std.proofs.lemmas.Bool.{le-ltb, cases_lt, eqb-true, eqb-false}
 use Rattle.std.proofs.lemmas.Fmt.{length-decimal-le}

@@ -1,5 +1,5 @@
 -- Numbers of a line, written one by one.
-use Rattle.std.proofs.Common.{zero, suc, ◌≡◌, ℕ, ◌+◌, ◌*◌, ◌^◌, Bool, true, false, List, [], ◌∷◌, ◌++◌, if◌then◌else◌}
+use Rattle.std.proofs.Common.{zero, suc, ◌≡◌, ℕ, ◌+◌, ◌^◌, Bool, true, false, List, [], ◌∷◌, ◌++◌, if◌then◌else◌}
 use Rattle.std.proofs.Common.{◌/◌, ◌<◌, add-one, add-zero, zero-add, append_assoc, arith, refl, ap, lt_of_lt_of_le}
 use native.Mathlib.Nat.{pow-succ'}
 use Rattle.std.specs.Fmt.{decimal}

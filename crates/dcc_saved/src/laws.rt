@@ -2,14 +2,8 @@
 
 ghost use Rattle.dcc_saved.specs.ReadBack.{FleetsAreReadBack};
 
-use crate::decoder_line::Head;
-use crate::head_forms::HeadForms;
-use dcc_packet::form::Forms;
-
 /// The text that is written for at most 64 decoders is read back as the same decoders.
 #[tactic(auto, using(crate::proofs::DecodersBack::fleets_read_back))]
 pub fn fleets_are_read_back()
     ensures { FleetsAreReadBack }
-{
-    <HeadForms as Forms<Head>>::are_read_back();
-}
+{}

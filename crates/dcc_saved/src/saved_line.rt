@@ -12,11 +12,11 @@ ghost use Rattle.dcc_saved.specs.Lines.{LineOf, line_text};
 use crate::decoder_fields::SavedSpeed;
 use crate::decoder_line::{Four, Head, LocoLine, Numbered, Version};
 use crate::decoder_words::{cv_words, numbers_from, pending_word, take_keyword};
-use crate::head_forms::HeadForms;
+use crate::head_forms::{line_of_head, read_head};
 use arrayvec::ArrayVec;
 use dcc_io::{append, append_decimal, append_hex};
-use dcc_packet::field::{Field, Line};
-use dcc_packet::form::Forms;
+use dcc_packet::field::Field;
+use dcc_packet::form::form_line;
 use dcc_packet::words::Words;
 use dcc_packet::{Address, Bit, Direction, Packet, PacketFault};
 use std::marker::PhantomData;
@@ -75,13 +75,13 @@ impl SavedLine for HeadLine {
     fn read(self, text: &[u8]) -> Result<Head, PacketFault> {
         let mut words = Words::new(text);
         let word = words.word()?;
-        let head = <HeadForms as Forms<Head>>::take(word, &mut words)?;
+        let head = read_head(word, &mut words)?;
         words.end()?;
         Ok(head)
     }
 
     fn put(self, head: Head, rows: &mut Rows) {
-        append(rows, <HeadForms as Forms<Head>>::line(&head).as_bytes());
+        append(rows, line_of_head(&head).as_bytes());
         append(rows, b"\n");
     }
 }
@@ -246,10 +246,7 @@ impl<F: Field + Copy> SavedLine for Keyed<F> {
     }
 
     fn put(self, fields: F, rows: &mut Rows) {
-        let mut line = Line::new();
-        line.push_str(self.keyword);
-        fields.put(&mut line);
-        append(rows, line.as_bytes());
+        append(rows, form_line(self.keyword, &fields).as_bytes());
         append(rows, b"\n");
     }
 }

@@ -2,3 +2,4 @@ pub mod LinesLemmas
 pub mod EncodeLemmas
 pub mod TrackLemmas
 pub mod StationLemmas
+pub mod BitLemmas

@@ -1,7 +1,8 @@
 //! The line of a packet that is sent.
-ghost use Rattle.std.specs.Prelude.{◌≡◌, ◌≤◌, ◌+◌, ◌++◌, ◌∷◌, [], length, decimal};
-ghost use Rattle.arrayvec.specs.ArrayVec.{array_vec_len};
-ghost use Rattle.dcc_wire.specs.Sending.{sent};
+ghost use Rattle.std.specs.Prelude.{◌≡◌, ◌≤◌, ◌+◌, ◌*◌, ◌++◌, ◌∷◌, [], length, take, true, false};
+ghost use Rattle.std.specs.List.{flat_map};
+ghost use Rattle.dcc_wire.specs.Bodies.{bits_of};
+ghost use Rattle.dcc_wire.specs.Sending.{durations_of, sent};
 ghost use Rattle.hex.specs.Hex.{encode_lower};
 ghost use Rattle.dcc_io.specs.Held.{HoldsOrFails};
 ghost use Rattle.dcc_io.specs.Spaced.{behind_space};
@@ -9,11 +10,14 @@ ghost use Rattle.dcc_send.specs.Encoded.{frame_line, timing_of, spaced_numbers};
 
 use crate::encoding::Encode;
 use arrayvec::ArrayVec;
-use dcc_io::{Failed, HeldLines, Sink, append, append_decimal};
+use dcc_io::{Failed, HeldLines, Sink, append_decimal};
 use dcc_wire::{Frame, Halves, Timing};
 
-/// Room for the 150 halves of six bytes in service mode, each of up to five digits and a space.
-pub(crate) type EncodedLine = ArrayVec<u8, 1024>;
+/// Room for the 150 halves of six bytes in service mode, each of up to five digits and a space, and for what is written behind the last.
+type EncodedLine = [u8; 1024];
+
+/// How many bytes are written for a bit, whose text is a front of them.
+const WRITTEN: usize = 16;
 
 /// Holds the line of a frame.
 pub(crate) fn hold_frame<W: Sink>(
@@ -64,10 +68,11 @@ fn hold_halves<W: Sink>(
         (held.old ++ (spaced_numbers (sent frame timing) ++ 10 ∷ [])) result held.new
         (W.state writer.new) }
 {
-    let mut line = EncodedLine::new();
-    append_halves(&mut line, frame, timing);
-    line.push(b'\n');
-    held.hold(line.as_slice(), writer)
+    let mut line = [0; 1024];
+    let texts = BitTexts::new(timing);
+    let len = put_halves(&mut line, frame.bytes(), &texts);
+    line[len] = b'\n';
+    held.hold(&line[1..len + 1], writer)
 }
 
 /// The timing that is sent with.
@@ -82,68 +87,107 @@ fn timing_of(how: Encode) -> Timing
     }
 }
 
-/// Adds the halves that are sent for a frame.
-#[tactic(auto, using(dcc_io::proofs::DecimalLemmas::decimal_is_short))]
-fn append_halves(line: &mut EncodedLine, frame: Frame, timing: Timing)
-    requires empty { line.old.items ≡ [] }
-    requires few { length frame ≤ 6 }
-    requires short { timing.preamble ≤ 20 }
-    ensures items { line.new.items ≡ spaced_numbers (sent frame timing) }
-    ensures len { array_vec_len line.new ≤ 900 }
-{
-    let mut halves = Halves::new(frame, timing);
-    let Some(first) = halves.next() else {
-        return;
-    };
-    append_half(line, first);
-    let one = HalfText::new(timing.one);
-    let zero = HalfText::new(timing.zero_first);
-    for us in halves {
-        append_next_half(line, us, &one, &zero);
-    }
-}
-
-/// Adds a half, of up to five digits.
-#[tactic(auto, using(dcc_io::proofs::DecimalLemmas::half_is_short))]
-fn append_half(line: &mut EncodedLine, us: u16)
-    requires { array_vec_len line.old ≤ 900 }
-    ensures items { line.new.items ≡ line.old.items ++ decimal us }
-    ensures len { array_vec_len line.new ≤ array_vec_len line.old + 5 }
-{
-    append_decimal(line, u32::from(us));
-}
-
-/// Adds a half behind a space. The digits of these two, which most halves are, were made before.
-fn append_next_half(line: &mut EncodedLine, us: u16, one: &HalfText, zero: &HalfText)
-    requires { array_vec_len line.old ≤ 1018 }
-    ensures items { line.new.items ≡ line.old.items ++ behind_space us }
-    ensures len { array_vec_len line.new ≤ array_vec_len line.old + 6 }
-{
-    if us == one.us {
-        append(line, one.text.as_slice());
-    } else if us == zero.us {
-        append(line, zero.text.as_slice());
-    } else {
-        append(line, HalfText::new(us).text.as_slice());
-    }
-}
-
-/// A half in decimal, of up to five digits, and the space before it.
+/// The halves that are sent for the ones and zeros of a packet, as text.
 #[derive(Drop)]
-struct HalfText {
-    us: u16,
-    text: ArrayVec<u8, 6>,
-    ghost spelled: { text.items ≡ behind_space us },
+struct BitTexts {
+    timing: Timing,
+    one: BitText,
+    zero: BitText,
+    ghost ones: { take one.len one.bytes ≡ flat_map behind_space (durations_of timing (true ∷ [])) },
+    ghost zeros: { take zero.len zero.bytes ≡ flat_map behind_space (durations_of timing (false ∷ [])) },
 }
 
-impl HalfText {
-    #[tactic(auto, using(dcc_io::proofs::DecimalLemmas::half_is_short))]
-    fn new(us: u16) -> HalfText
-        ensures { result.us ≡ us }
+impl BitTexts {
+    #[tactic(auto, using(crate::proofs::BitLemmas::one_text, crate::proofs::BitLemmas::zero_text))]
+    fn new(timing: Timing) -> BitTexts
+        ensures { result.timing ≡ timing }
     {
-        let mut text = ArrayVec::new();
-        text.push(b' ');
-        append_decimal(&mut text, u32::from(us));
-        HalfText { us, text }
+        BitTexts {
+            timing,
+            one: BitText::new(timing.one, timing.one),
+            zero: BitText::new(timing.zero_first, timing.zero_second),
+        }
     }
+}
+
+/// Two halves in decimal, each behind a space: the front of so many of these bytes.
+#[derive(Clone, Copy, Drop)]
+struct BitText {
+    bytes: [u8; WRITTEN],
+    len: usize,
+    ghost short: { len ≤ 12 },
+}
+
+impl BitText {
+    #[tactic(auto, using(dcc_io::proofs::DecimalLemmas::half_is_short))]
+    fn new(first: u16, second: u16) -> BitText
+        ensures { take result.len result.bytes ≡ behind_space first ++ behind_space second }
+    {
+        let mut text = ArrayVec::<u8, WRITTEN>::new();
+        text.push(b' ');
+        append_decimal(&mut text, u32::from(first));
+        text.push(b' ');
+        append_decimal(&mut text, u32::from(second));
+        let len = text.len();
+        let mut bytes = [0; WRITTEN];
+        bytes[..len].copy_from_slice(text.as_slice());
+        BitText { bytes, len }
+    }
+}
+
+/// Writes the halves that are sent for the frame of these bytes, a space before each, and answers how many bytes they take.
+fn put_halves(line: &mut EncodedLine, frame: &[u8], texts: &BitTexts) -> usize
+    requires few { length frame.now ≤ 6 }
+    requires short { texts.now.timing.preamble ≤ 20 }
+    ensures items { take result line.new ≡ flat_map behind_space (sent frame.now texts.now.timing) }
+    ensures few { result ≤ 900 }
+{
+    let mut at = 0;
+    for _ in 0..texts.timing.preamble {
+        at = put_bit(line, at, texts, true);
+    }
+    for byte in frame {
+        at = put_bit(line, at, texts, false);
+        at = put_byte(line, at, texts, *byte);
+    }
+    put_bit(line, at, texts, true)
+}
+
+/// Writes the halves of eight bits at a place, and answers the place behind them.
+#[inline(always)]
+fn put_byte(line: &mut EncodedLine, at: usize, texts: &BitTexts, byte: u8) -> usize
+    requires { at ≤ 900 }
+    ensures items { take result line.new
+        ≡ take at line.old ++ flat_map behind_space (durations_of texts.now.timing (bits_of 8 byte)) }
+    ensures few { result ≤ at + 96 }
+{
+    let mut end = at;
+    for place in 0..8u8 {
+        end = put_bit(line, end, texts, (byte >> (7 - place)) & 1 == 1);
+    }
+    end
+}
+
+/// Writes the halves of a bit at a place, and answers the place behind them.
+#[inline(always)]
+fn put_bit(line: &mut EncodedLine, at: usize, texts: &BitTexts, bit: bool) -> usize
+    requires { at ≤ 1000 }
+    ensures items { take result line.new
+        ≡ take at line.old ++ flat_map behind_space (durations_of texts.now.timing (bit ∷ [])) }
+    ensures few { result ≤ at + 12 }
+{
+    let text = if bit { &texts.one } else { &texts.zero };
+    put(line, at, text)
+}
+
+/// Writes a text at a place, and answers the place behind it. What else is written behind that is written over.
+#[inline(always)]
+#[tactic(auto, using(crate::proofs::BitLemmas::front_written))]
+fn put(line: &mut EncodedLine, at: usize, text: &BitText) -> usize
+    requires { at ≤ 1000 }
+    ensures items { take result line.new ≡ take at line.old ++ take text.now.len text.now.bytes }
+    ensures few { result ≤ at + 12 }
+{
+    line[at..at + WRITTEN].copy_from_slice(&text.bytes);
+    at + text.len
 }

@@ -15,3 +15,4 @@ pub mod RunLemmas
 pub mod ErrorByte
 pub mod SeenLemmas
 pub mod WorkedExamples
+pub mod PaddedLemmas

@@ -171,11 +171,10 @@ pub(crate) fn counted(ones: u8, half: Half) -> u8
     requires { IsQuiet ones half }
     ensures { Hunting result ≡ rest_after (Hunting ones) half }
 {
-    if half == Half::One {
-        ones.saturating_add(1).min(20)
-    } else {
-        0
+    if half != Half::One {
+        return 0;
     }
+    if ones < 20 { ones + 1 } else { 20 }
 }
 
 /// Counts n halves between bodies.

@@ -4,8 +4,7 @@ use Rattle.std.specs.Prelude.{if◌then◌else◌}
 use Rattle.dcc_packet.specs.declared.address.Address.{Address}
 use Rattle.dcc_packet.specs.declared.functions.Group.{Group}
 use Rattle.dcc_packet.specs.declared.instruction.What.{What}
-use Rattle.dcc_packet.specs.declared.instruction.What.TheVariants.{Reset, Speed28, Speed128, Functions, BinaryState}
-use Rattle.dcc_packet.specs.declared.instruction.What.TheVariants.{CvWrite, CvVerify, CvBitWrite, CvBitVerify}
+use Rattle.dcc_packet.specs.declared.instruction.What.TheVariants.{Functions}
 use Rattle.dcc_packet.specs.declared.packet.Packet.{Packet}
 use Rattle.dcc_packet.specs.declared.packet.Packet.TheVariants.{Idle, Loco as ToLoco, Accessory, Signal, Other}
 use Rattle.dcc_regs.specs.declared.register.Who.{Who}
@@ -67,38 +66,22 @@ some_board p q = both_meet boards_meet (board_number p) (board_number q)
 -- the group of functions that an instruction is for
 abbrev pub group_in : What → Option Group
 group_in (Functions bits) = Some bits.group
-group_in Reset = None
-group_in (Speed28 forward bits) = None
-group_in (Speed128 forward bits) = None
-group_in (BinaryState state on) = None
-group_in (CvWrite cv value) = None
-group_in (CvVerify cv value) = None
-group_in (CvBitWrite cv place one) = None
-group_in (CvBitVerify cv place one) = None
+group_in x = None
 
 -- the group of functions that a packet is for
 abbrev pub group_of : Packet → Option Group
 group_of (ToLoco to what) = group_in what
-group_of (Accessory board output on) = None
-group_of (Signal address aspect) = None
-group_of (Other frame) = None
-group_of Idle = None
+group_of x = None
 
 -- the output that a packet is for
 abbrev pub output_of : Packet → Option ℕ
 output_of (Accessory board output on) = Some output.number
-output_of (ToLoco to what) = None
-output_of (Signal address aspect) = None
-output_of (Other frame) = None
-output_of Idle = None
+output_of x = None
 
 -- the signal that a packet is for
 abbrev pub signal_of : Packet → Option ℕ
 signal_of (Signal address aspect) = Some address.number
-signal_of (ToLoco to what) = None
-signal_of (Accessory board output on) = None
-signal_of (Other frame) = None
-signal_of Idle = None
+signal_of x = None
 
 -- they set a register of a locomotive decoder to two values
 abbrev pub DifferInLoco : SpeedMode → Packet → Packet → Type 0

@@ -1,4 +1,4 @@
-use Rattle.std.proofs.Common.{◌≡◌, ◌<◌, ◌^◌}
+use Rattle.std.proofs.Common.{◌≡◌}
 use Rattle.dcc_regs.specs.Loco.{holds_one}
 use Rattle.dcc_saved.specs.FleetText.{bits_on}
 use Rattle.dcc_saved.specs.Numbered.{register_of}

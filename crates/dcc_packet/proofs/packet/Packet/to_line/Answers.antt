@@ -6,5 +6,5 @@ use Rattle.dcc_packet.proofs.packet.Packet.to_line.Goals as goal
 
 pub returns-clause-read_back : goal.returns-clause-read_back
 returns-clause-read_back c = λ answer says.
-    only_answer c.are_read_back.ensures c.args.self.now c.written.ensures.fits answer
+    only_answer c.args.self.now c.written.ensures.fits answer
     (subst (λ (line : List ℕ). Says (words line) answer) c.written.ensures.bytes says)

@@ -1,36 +1,25 @@
-use Rattle.std.proofs.Common.{◌≡◌, true, sym, ◌∙◌}
+use Rattle.std.proofs.Common.{ap₂, sym, ◌∙◌}
 use Rattle.dcc_regs.specs.declared.register.Who.TheVariants.{Loco as LocoWho}
-use Rattle.dcc_regs.specs.Heard.{hears}
-use Rattle.dcc_regs.proofs.RegisterStep.{kept-after}
+use Rattle.dcc_regs.specs.declared.register.Who.{Who}
 use Rattle.dcc_regs.specs.Loco.{loco_registers}
 use Rattle.dcc_regs.specs.LocoDecoder.{content}
-use Rattle.dcc_regs.proofs.LocoStep.{step-heard, pending-heard}
+use Rattle.dcc_regs.specs.Result.{RegisterMap, step}
+use Rattle.dcc_regs.proofs.LocoStep.{step-unheard}
+use Rattle.dcc_regs.proofs.RegisterStep.{kept-after}
 use Rattle.dcc_regs.proofs.loco.LocoDecoderDecoder.apply.Goals as goal
 
-pub returns-then-hears-clause-step : goal.returns-then-hears-clause-step
-returns-then-hears-clause-step c =
-    let heard : hears (LocoWho c.args.self.now.address) c.args.packet.now ≡ true =
-    rw c.who.ensures.who at (sym c.hears.ensures ∙ c.if-hears.true) in
-    step-heard (LocoWho c.args.self.now.address) c.args.packet.now c.mode-mode.result (content c.args.self.now) _ heard
-    (record {
-      reads = c.mode-mode.ensures;
-      speed = c.obey.ensures.speed;
-      forward = c.obey.ensures.forward;
-      functions = c.obey.ensures.functions;
-      states = c.obey.ensures.states;
-      cvs = rw c.obey.ensures.cvs c.hear.ensures;
-      pending = c.leave_pending.ensures.pending;
-    })
+pub returns-clause-step : goal.returns-clause-step
+returns-clause-step c =
+    let before = c.registers-registers.ensures in
+    c.put.ensures.registers ∙ c.apply-heard.ensures.step
+    ∙ sym (ap₂ (λ (who : Who) (map : RegisterMap). step who map c.args.packet.now) before.who before.registers)
 
-pub invariant_of-self-then-hears-clause-is_pending : goal.invariant_of-self-then-hears-clause-is_pending
-invariant_of-self-then-hears-clause-is_pending c =
-    let heard : hears (LocoWho c.args.self.now.address) c.args.packet.now ≡ true =
-    rw c.who.ensures.who at (sym c.hears.ensures ∙ c.if-hears.true) in
-    rw c.obey.ensures.address
-    (pending-heard c.args.self.now.address c.args.packet.now c.leave_pending.new.pending heard
-    c.leave_pending.ensures.byte c.leave_pending.ensures.pending)
+pub returns-clause-unheard : goal.returns-clause-unheard
+returns-clause-unheard c unheard =
+    returns-clause-step c
+    ∙ sym (step-unheard (LocoWho c.args.self.now.address) c.args.packet.now (loco_registers (content c.args.self.now)) unheard)
 
-pub returns-then-hears-clause-kept : goal.returns-then-hears-clause-kept
-returns-then-hears-clause-kept c =
+pub returns-clause-kept : goal.returns-clause-kept
+returns-clause-kept c =
     kept-after (LocoWho c.args.self.now.address) (loco_registers (content c.args.self.now)) _ c.args.packet.now
-    (returns-then-hears-clause-step c)
+    (returns-clause-step c)

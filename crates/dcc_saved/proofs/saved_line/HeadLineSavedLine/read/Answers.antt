@@ -17,4 +17,4 @@ is_possible word ws rest head is = elim (cases_Bool (is_word word (codes "loco")
 ]
 
 pub returns-clause-fits : goal.returns-clause-fits
-returns-clause-fits c = is_possible c.in_ok-word.word.now c.word.new.self _ _ c.in_ok-head.ensures.is
+returns-clause-fits c = is_possible c.in_ok-word.word.now c.word.new.self _ _ c.in_ok-head.ensures
