@@ -17,3 +17,4 @@ pub mod DecimalLemmas
 pub mod CallLemmas
 pub mod NumberWords
 pub mod SendBack
+pub mod FramesSaid

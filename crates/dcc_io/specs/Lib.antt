@@ -19,6 +19,7 @@ pub mod PacketLines
 pub mod PacketRead
 pub mod LineCount
 pub mod StationLines
+pub mod FramesSaid
 pub mod KeptAnswers
 pub mod NextLine
 pub mod Calls

@@ -16,5 +16,6 @@ pub mod FormsBack
 pub mod LineFieldsBack
 pub mod InstructionFormsBack
 pub mod RoundTrip
+pub mod LinesSayFrames
 pub mod SameFrames
 pub mod SameAddresses

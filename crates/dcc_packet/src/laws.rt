@@ -7,6 +7,7 @@ ghost use Rattle.dcc_packet.specs.Spelling.{spelling, BytesFit};
 ghost use Rattle.dcc_packet.specs.SpellingLaws.{SpellingsAreFrames};
 ghost use Rattle.dcc_packet.specs.Words.{Word, words};
 ghost use Rattle.dcc_packet.specs.Line.{Says};
+ghost use Rattle.dcc_packet.specs.LineLaws.{LinesSayFrames};
 ghost use Rattle.dcc_packet.specs.Written.{written_line};
 
 use crate::{Packet, PacketFault};
@@ -49,6 +50,11 @@ pub fn spellings_are_frames()
 pub fn one_answer()
     ensures { (line : List Word) (one other : Result Packet PacketFault)
         → Says line one → Says line other → one ≡ other }
+{}
+
+/// If the words of a line say some bytes, these bytes are a frame: 3 to 6 bytes whose exclusive or is zero.
+pub fn lines_say_frames()
+    ensures { LinesSayFrames }
 {}
 
 /// The written line of a packet says the packet.

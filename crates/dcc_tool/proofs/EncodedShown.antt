@@ -1,17 +1,21 @@
 -- What `encode` writes, `show` lists.
-use Rattle.std.proofs.Common.{◌≡◌, ℕ, ◌+◌, ◌-◌, ◌<◌, ◌≤◌, List, [], ◌∷◌, ◌++◌, length, Bool, true, false, Option, None}
-use Rattle.std.proofs.Common.{IfSome, cond, refl, ap, ◌∙◌, subst, arith, length-append, append_assoc}
+use Rattle.std.proofs.Common.{◌≡◌, ℕ, ◌+◌, ◌-◌, ◌<◌, ◌≤◌, List, [], ◌∷◌, ◌++◌, length, Bool, true, false, Option, None, Some}
+use Rattle.std.proofs.Common.{IfSome, cond, refl, sym, ap, ◌∙◌, subst, arith, length-append, append_assoc}
 use Rattle.std.specs.Fmt.{decimal}
 use Rattle.std.specs.List.{flat_map, AllByRecursion}
 use Rattle.dcc_wire.specs.declared.seen.Seen.{Seen}
 use Rattle.dcc_wire.specs.declared.timing.Timing.{Timing}
 use Rattle.dcc_wire.specs.NominalTimings.{main_timing, service_timing}
 use Rattle.dcc_wire.specs.Framing.{seen}
-use Rattle.dcc_wire.specs.Sending.{durations_of, sent_bits, sent, sent_all}
+use Rattle.dcc_wire.specs.Frames.{IsFrame}
+use Rattle.dcc_wire.specs.Sending.{AllFrames, durations_of, sent_bits, sent, sent_all}
 use Rattle.dcc_wire.proofs.SendingLemmas.{seen-sent_all}
 use Rattle.dcc_io.specs.Spaced.{behind_space}
-use Rattle.dcc_io.specs.Items.{Items, items_behind, EndsWith}
+use Rattle.dcc_io.specs.InputState.{closed_text}
+use Rattle.dcc_io.specs.Items.{Items, items_behind, EndsWith, in_text}
+use Rattle.dcc_io.specs.PacketLines.{packet_lines}
 use Rattle.dcc_io.specs.Words.{Word, ended_words}
+use Rattle.dcc_io.proofs.FramesSaid.{packet_lines_say_frames}
 use Rattle.dcc_io.proofs.HandLemmas.{outside}
 use Rattle.dcc_io.proofs.NumberWords.{IsSmall, number_words, numbers_back, empty_line_back}
 use Rattle.dcc_capture.specs.Capture.{capture_in, halves_of}
@@ -22,7 +26,8 @@ use Rattle.dcc_capture.specs.Shown.{Lists}
 use Rattle.dcc_send.specs.declared.encoding.Encode.{Encode}
 use Rattle.dcc_send.specs.Encoded.{spaced_numbers, timing_of, encoding}
 use Rattle.dcc_tool.specs.EncodedShown.{to_send, halves_to_send, closed_encoding, EncodingsAreCaptures}
-use Rattle.dcc_tool.specs.EncodedShown.{EncodedFramesAreSeen, EncodingsAreShown}
+use Rattle.dcc_tool.specs.EncodedShown.{EncodedFramesAreSeen, EncodingsAreShown, PacketLinesAreShown}
+use Rattle.dcc_tool.proofs.Written.{encode_writes_the_encoding}
 
 -- the durations of a timing are of 16 bits
 record IsShort (timing : Timing) : Type 0 where
@@ -45,13 +50,13 @@ short_timing how = go how.service
     go true = record { one = omega arith; zero_first = omega arith; zero_second = omega arith }
     go false = record { one = omega arith; zero_first = omega arith; zero_second = omega arith }
 
-sent_small : (how : Encode) (frame : List ℕ) → AllByRecursion IsSmall (sent frame (timing_of how))
+pub sent_small : (how : Encode) (frame : List ℕ) → AllByRecursion IsSmall (sent frame (timing_of how))
 unfolding sent
 sent_small how frame =
     durations_small (timing_of how) (sent_bits frame (timing_of how).preamble) (short_timing how)
 
 -- a line of numbers is read as its words
-line_back : (line : ℕ) (ns more : List ℕ) → AllByRecursion IsSmall ns
+pub line_back : (line : ℕ) (ns more : List ℕ) → AllByRecursion IsSmall ns
     → ended_words (outside line) ((spaced_numbers ns ++ 10 ∷ []) ++ more) ≡ number_words line ns
     ++ ended_words (outside (line + 1)) more
 line_back line [] more small = empty_line_back line more
@@ -62,7 +67,7 @@ line_back line (n ∷ ns) more small =
     ∙ numbers_back line n ns more small
 
 -- line by line
-lines_back : (how : Encode) (most line : ℕ) (frames : List (List ℕ)) → how.hex ≡ false
+pub lines_back : (how : Encode) (most line : ℕ) (frames : List (List ℕ)) → how.hex ≡ false
     → length (halves_to_send how frames) ≤ most
     → halves_of most (ended_words (outside line) (closed_encoding how frames)) None ≡ record {
       said = halves_to_send how frames;
@@ -117,3 +122,17 @@ encodings_are_shown how frames words old new before after takes are whole shows 
           (encoded_frames_are_seen how frames old takes are) lists.1,
       lists.2,
     )
+
+pub all_frames : (how : Encode) (frames : List (List ℕ)) → AllByRecursion IsFrame frames → AllFrames (to_send how frames)
+unfolding AllFrames
+all_frames how [] are = tt
+all_frames how (frame ∷ frames) are = (are.0, all_frames how frames are.1)
+
+pub packet_lines_are_shown : PacketLinesAreShown
+packet_lines_are_shown how words lines lines' capture capture' from to before after text encoded encodes known empty gained takes whole shows =
+    encodings_are_shown how (in_text packet_lines lines text).said words capture capture' before after takes
+    (all_frames how (in_text packet_lines lines text).said (packet_lines_say_frames lines text))
+    (whole ∙ ap (λ (text : Option (List ℕ)). closed_text false text) is) shows
+  where
+    is : Some encoded ≡ Some (encoding how (in_text packet_lines lines text).said)
+    is = sym gained ∙ encode_writes_the_encoding how lines lines' from to text encodes known [] empty

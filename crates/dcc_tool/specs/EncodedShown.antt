@@ -1,16 +1,18 @@
 -- What `encode` writes, `show` lists.
-use Rattle.std.specs.Prelude.{◌≡◌, ℕ, ◌<◌, ◌≤◌, ◌++◌, Bool, false, List, None, Some, Ok, length, map}
+use Rattle.std.specs.Prelude.{◌≡◌, ℕ, ◌<◌, ◌≤◌, ◌++◌, Bool, false, List, [], None, Some, Ok, length, map}
 use Rattle.std.specs.Prelude.{codes}
 use Rattle.std.specs.Io.KnownBytes.{Appends}
 use Rattle.dcc_wire.specs.Framing.{seen}
 use Rattle.dcc_wire.specs.Sending.{Sent, sent_all, at_last_halves, AllFrames}
 use Rattle.dcc_io.specs.InputState.{InputState, closed_text}
+use Rattle.dcc_io.specs.Items.{in_text}
+use Rattle.dcc_io.specs.PacketLines.{packet_lines}
 use Rattle.dcc_io.specs.WriterState.{WriterState}
 use Rattle.dcc_capture.specs.Capture.{capture_in}
 use Rattle.dcc_capture.specs.Listing.{IsListing}
 use Rattle.dcc_capture.specs.Shown.{Shows}
 use Rattle.dcc_send.specs.declared.encoding.Encode.{Encode}
-use Rattle.dcc_send.specs.Encoded.{timing_of, encoding}
+use Rattle.dcc_send.specs.Encoded.{EncodesText, timing_of, encoding}
 
 -- these frames, each to be sent with the timing of this encoding
 abbrev pub to_send : Encode → List (List ℕ) → List Sent
@@ -53,3 +55,13 @@ EncodingsAreShown = (how : Encode) (frames : List (List ℕ)) (words : Bool) (ol
     (before after : WriterState) → TakesEncoding how frames old → AllFrames (to_send how frames)
     → old.text ≡ closed_text false (Some (encoding how frames)) → Shows words old before (Ok tt) new after
     → ListsSent words before after (to_send how frames)
+
+-- `encode` writes the text of packet lines into memory, and `show` that reads this text lists just the packets of the lines
+abbrev pub PacketLinesAreShown : Type 0
+PacketLinesAreShown = (how : Encode) (words : Bool) (lines lines' capture capture' : InputState)
+    (from to before after : WriterState) (text encoded : List ℕ)
+    → EncodesText how lines from (Ok tt) lines' to → lines.text ≡ Some text
+    → from.contents ≡ Some [] → to.contents ≡ Some encoded
+    → TakesEncoding how (in_text packet_lines lines text).said capture
+    → capture.text ≡ closed_text false (Some encoded) → Shows words capture before (Ok tt) capture' after
+    → ListsSent words before after (to_send how (in_text packet_lines lines text).said)
