@@ -24,6 +24,7 @@ impl<R: Source> Model for Buffered<R> {
       ahead = slice_range b.buffer b.start b.end;
       text = prepend_known (slice_range b.buffer b.start b.end) (R.remaining b.reader);
       failures = R.failures b.reader;
+      reads = R.reads b.reader;
     } };
 
     ghost invariant = { λ b. (b.start ≤ b.end) × (b.end ≤ 4096) };
@@ -31,7 +32,8 @@ impl<R: Source> Model for Buffered<R> {
 
 impl<R: Source> Buffered<R> {
     pub fn new(reader: R) -> Buffered<R>
-        ensures { result ≡ record { ahead = []; text = R.remaining reader; failures = R.failures reader } }
+        ensures { result ≡ record {
+            ahead = []; text = R.remaining reader; failures = R.failures reader; reads = R.reads reader } }
     {
         Buffered {
             reader,
@@ -57,11 +59,12 @@ impl<R: Source> Buffered<R> {
         ensures ahead { self.new.ahead ≡ drop count self.old.ahead }
         ensures text { Consumes self.old.text self.new.text (take count self.old.ahead) }
         ensures failures { self.new.failures ≡ self.old.failures }
+        ensures reads { self.new.reads ≡ self.old.reads }
     {
         self.start += count;
     }
 
-    /// The next byte, or none at the end.
+    /// Returns the next byte, or none at the end. The reader is read at most once, and only if no byte is ahead.
     #[inline(always)]
     pub fn next(&mut self) -> Result<Option<u8>, Failed>
         ensures { AnswersNext self.old result self.new }

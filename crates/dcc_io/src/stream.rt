@@ -1,5 +1,5 @@
 //! Readers and writers whose failures are counted.
-ghost use Rattle.std.specs.Prelude.{◌≡◌, ◌≤◌, ℕ, List, Option, IfOk, length};
+ghost use Rattle.std.specs.Prelude.{◌≡◌, ◌≤◌, ◌+◌, ℕ, List, Option, IfOk, length};
 ghost use Rattle.std.specs.Io.KnownBytes.{ReadConsumes, WriteAppends};
 ghost use Rattle.dcc_io.specs.Failures.{one_more, after_read, after_write};
 ghost use Rattle.dcc_io.specs.WriterState.{WriterState};
@@ -18,11 +18,15 @@ pub trait Source {
     // How many reads have failed.
     ghost failures: { Self → ℕ };
 
+    // How many reads were made, if the source counts them. A source that does not count its reads leaves this member out.
+    ghost reads: { Self → ℕ } = { λ _. 0 };
+
     /// Puts bytes at the front of the buffer, and answers how many; 0 at the end.
     fn read(&mut self, buffer: &mut [u8]) -> Result<usize, Failed>
         ensures bound { IfOk result (λ n. n ≤ length buffer.new) }
         ensures bytes { ReadConsumes (remaining self.old) (remaining self.new) result buffer.new }
-        ensures failures { failures self.new ≡ after_read (failures self.old) result };
+        ensures failures { failures self.new ≡ after_read (failures self.old) result }
+        ensures reads { reads self.new ≤ reads self.old + 1 };
 }
 
 /// What a call of the program writes its bytes to.

@@ -35,11 +35,11 @@ measuring_none start timings fault measures =
 -- there is room for one more run
 pub measuring_room : (start now new : InputState) (timings : Timings) (run : Run) (most : ℕ) → most ≡ start.halves
     → most < 2 ^ 32 → Measuring start now timings → GaveHalves now (replicate run.n run.us) new
-    → (halves : List ℕ) × Measures timings halves × (length halves + run.n < 2 ^ 32)
+    → timings.halves + run.n < 2 ^ 32
 measuring_room start now new timings run most is small so_far gave =
     let taken = so_far.gave.left in
     let more = rw (length-replicate run.n run.us) at gave.left in
-    (so_far.halves, so_far.measures, omega (arith, is, small, taken, more))
+    omega (arith, is, small, taken, more, so_far.measures.count)
 
 pub measuring_more : (start now new : InputState) (timings next : Timings) (run : Run)
     → GaveHalves now (replicate run.n run.us) new

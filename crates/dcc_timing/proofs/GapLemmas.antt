@@ -5,7 +5,7 @@ use Rattle.std.proofs.lemmas.List.Sums.{fold_push}
 use Rattle.dcc_timing.specs.declared.gaps.Gaps.{Gaps}
 use Rattle.dcc_timing.specs.Numbers.{most, steps}
 use Rattle.dcc_timing.specs.Inner.Steps.{greater}
-use Rattle.dcc_timing.specs.Inner.Gaps.{last, AreGaps}
+use Rattle.dcc_timing.specs.KeptGaps.{last, AreGaps}
 use Rattle.dcc_timing.proofs.TallyLemmas.{most_more}
 
 -- the step from the last number, if there is one

@@ -10,19 +10,21 @@ use Rattle.std.proofs.lemmas.List.Folds.{sum_by-replicate}
 use Rattle.dcc_wire.specs.declared.seen.Seen.{Seen}
 use Rattle.dcc_wire.specs.declared.seen.Seen.TheVariants.{Nothing, Packet, Refused}
 use Rattle.dcc_wire.specs.Half.{class_of}
-use Rattle.dcc_wire.specs.Framing.{seen, rest, report_at, StandsFor}
+use Rattle.dcc_wire.specs.Framing.{Rest, seen, rest, report_at, StandsFor}
 use Rattle.dcc_wire.specs.Inner.Steps.{answer_to}
 use Rattle.dcc_wire.proofs.FramingLemmas.{seen-push}
 use Rattle.dcc_wire.proofs.SeenLemmas.{seen-none}
-use Rattle.dcc_timing.specs.declared.timings.Timings.{Timings}
+use Rattle.dcc_timing.specs.declared.classes.Classes.{Classes}
+use Rattle.dcc_timing.specs.declared.outcomes.Outcomes.{Outcomes}
+use Rattle.dcc_timing.specs.declared.packets.Packets.{Packets}
 use Rattle.dcc_timing.specs.Numbers.{keep_last}
 use Rattle.dcc_timing.specs.Classes.{AreClasses}
 use Rattle.dcc_timing.specs.Outcomes.{AreOutcomes}
 use Rattle.dcc_timing.specs.PacketBits.{AreBits, bits_in, bits_of, packet_length, packet_of, packets_in, pairs}
 use Rattle.dcc_timing.specs.Inner.Steps.{bits_among, bits_shown, end_among}
 use Rattle.dcc_timing.specs.Gaps.{ends_in}
-use Rattle.dcc_timing.specs.Inner.Gaps.{AreGaps}
-use Rattle.dcc_timing.specs.Measures.{Measures}
+use Rattle.dcc_timing.specs.KeptGaps.{AreGaps}
+use Rattle.dcc_timing.specs.Measured.{AreMeasured}
 use Rattle.dcc_timing.proofs.RecentLemmas.{keep_last_keep}
 
 -- each outcome stands at a place below
@@ -149,19 +151,19 @@ ends_here halves front later place (Packet bytes) whole last =
 
 -- no halves
 
-pub measures_none : (timings : Timings) → timings.halves ≡ 0 → timings.time ≡ 0 → AreClasses timings.classes []
-    → AreOutcomes timings.outcomes [] → AreBits timings.packets.bits [] → AreGaps timings.packets.gaps [] → StandsFor timings.framer []
-    → timings.recent ≡ [] → Measures timings []
+pub measures_none : (classes : Classes) (outcomes : Outcomes) (packets : Packets) (framer : Rest) (recent : List ℕ)
+    → AreClasses classes [] → AreOutcomes outcomes [] → AreBits packets.bits [] → AreGaps packets.gaps []
+    → StandsFor framer [] → recent ≡ [] → AreMeasured 0 0 classes outcomes packets framer recent []
 unfolding bits_in packets_in ends_in
-measures_none timings count time classes outcomes bits gaps framer recent = record {
-  count = count;
-  time = time;
-  classes = classes;
-  outcomes = rw seen-none outcomes;
+measures_none classes outcomes packets framer recent by_class by_outcome bits gaps stands none = record {
+  count = refl;
+  time = refl;
+  classes = by_class;
+  outcomes = rw seen-none by_outcome;
   bits = rw seen-none bits;
   gaps = rw seen-none gaps;
-  framer = framer;
-  recent = recent;
+  framer = stands;
+  recent = none;
 }
 
 -- a run of halves

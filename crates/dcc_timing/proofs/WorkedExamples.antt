@@ -1,7 +1,7 @@
 -- Figures of given lists, computed on the definitions.
 use Rattle.std.proofs.Common.{◌≡◌, refl, List, ℕ, [], ◌∷◌, Some, None, Bool, true, false, map}
 use Rattle.dcc_timing.specs.Numbers.{keep_last, least, most, steps}
-use Rattle.dcc_timing.specs.Inner.Gaps.{last}
+use Rattle.dcc_timing.specs.KeptGaps.{last}
 use Rattle.dcc_timing.specs.Tallies.{mean}
 use Rattle.dcc_timing.specs.Classes.{is_above, is_below, is_between, is_one, is_zero}
 use Rattle.dcc_timing.specs.PacketBits.{bits_in, difference, packet_length, packets_in, pairs, whole}

@@ -1,4 +1,3 @@
 -- What the contracts of private functions cite, and no public one.
 pub mod Counts
 pub mod Steps
-pub mod Gaps

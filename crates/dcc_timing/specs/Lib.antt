@@ -4,5 +4,7 @@ pub mod Classes
 pub mod Outcomes
 pub mod PacketBits
 pub mod Gaps
+pub mod KeptGaps
+pub mod Measured
 pub mod Measures
 pub mod Inner

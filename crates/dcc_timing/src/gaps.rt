@@ -12,7 +12,7 @@ pub(crate) struct Gaps {
 
 impl Gaps {
     ghost use Rattle.std.specs.Prelude.{ℕ, List, [], ◌∷◌, ◌++◌};
-    ghost use Rattle.dcc_timing.specs.Inner.Gaps.{AreGaps};
+    ghost use Rattle.dcc_timing.specs.KeptGaps.{AreGaps};
 
     /// Of no packets.
     pub(crate) fn new() -> Gaps

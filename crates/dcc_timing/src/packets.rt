@@ -20,7 +20,7 @@ impl Packets {
     ghost use Rattle.dcc_timing.specs.PacketBits.{AreBits};
     ghost use Rattle.dcc_timing.specs.Inner.Counts.{bits_count};
     ghost use Rattle.dcc_timing.specs.Inner.Steps.{bits_shown, bits_among, end_among};
-    ghost use Rattle.dcc_timing.specs.Inner.Gaps.{AreGaps};
+    ghost use Rattle.dcc_timing.specs.KeptGaps.{AreGaps};
 
     /// Of no halves.
     pub(crate) fn new() -> Packets

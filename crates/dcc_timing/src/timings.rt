@@ -1,7 +1,8 @@
 //! The figures of half-bits that come one at a time, or many.
 
-ghost use Rattle.std.specs.Prelude.{◌≤◌, ◌*◌};
+ghost use Rattle.std.specs.Prelude.{◌≤◌, ◌*◌, ℕ, List};
 ghost use Rattle.dcc_timing.specs.Inner.Counts.{classes_count, outcomes_count, bits_count};
+ghost use Rattle.dcc_timing.specs.Measured.{AreMeasured};
 
 use crate::bits::Bits;
 use crate::classes::Classes;
@@ -12,7 +13,7 @@ use dcc_wire::Framer;
 
 /// The figures of a list of half-bits: how near a track is to the limits of NMRA S-9.1.
 ///
-/// The list comes half by half, or run by run, and each figure is that of the whole list so far.
+/// The list comes half by half, or run by run, and each figure is that of the whole list so far. Invariant: there is such a list.
 #[derive(Drop)]
 pub struct Timings {
     halves: u32,
@@ -26,6 +27,7 @@ pub struct Timings {
     ghost classes_fit: { classes_count classes ≤ halves },
     ghost outcomes_fit: { outcomes_count outcomes ≤ halves },
     ghost bits_fit: { bits_count packets.bits ≤ 130 * halves },
+    ghost history: { ∥ ((list : List ℕ) × AreMeasured halves time classes outcomes packets framer recent list) ∥₁ },
 }
 
 impl Timings {
@@ -57,8 +59,11 @@ impl Timings {
     /// However many there are, no more of them are looked at one by one than the longest packet has.
     #[inline(always)]
     pub fn take(&mut self, us: u16, n: u32)
-        requires { (halves : List ℕ) × Measures self.old halves × (length halves + n < 2 ^ 32) }
-        ensures { (halves : List ℕ) → Measures self.old halves → Measures self.new (halves ++ replicate n us) }
+        requires { self.old.halves + n < 2 ^ 32 }
+        // For every list that was measured, of which there is at least one,
+        ensures history { ∥ ((halves : List ℕ) × Measures self.old halves) ∥₁ }
+        // the list with these half-bits behind it is measured.
+        ensures measures { (halves : List ℕ) → Measures self.old halves → Measures self.new (halves ++ replicate n us) }
     {
         if n == 0 {
             return;

@@ -15,7 +15,7 @@ pub runs-preserved : goal.runs-preserved
 runs-preserved g c =
     let answer = rw c.in-Some.is at (c.in_ok-run.ensures.reads c.runs.invariant.gave.items.fault) in
     measuring_more c.args.input.now c.runs.input c.next_run.new.input c.runs.timings c.take.new.self c.in-Some.run'
-    answer.0 c.take.ensures c.runs.invariant
+    answer.0 c.take.ensures.measures c.runs.invariant
 
 pub returns-in-None : goal.returns-in-None
 returns-in-None g c =

@@ -1,16 +1,52 @@
 use Rattle.std.proofs.Common.{◌+◌, ◌-◌, ◌*◌, ◌++◌, List, ℕ, ap, arith, length, replicate, subst, sum, sym, ◌∙◌}
+use Rattle.std.proofs.Math.Logic.{∥∥₁_map}
 use Rattle.dcc_wire.specs.declared.seen.Seen.{Seen}
 use Rattle.dcc_wire.specs.Framing.{seen}
 use Rattle.dcc_timing.specs.Numbers.{keep_last}
 use Rattle.dcc_timing.specs.Outcomes.{AreOutcomes}
 use Rattle.dcc_timing.specs.PacketBits.{AreBits, bits_in}
 use Rattle.dcc_timing.specs.Gaps.{ends_in}
-use Rattle.dcc_timing.specs.Inner.Gaps.{AreGaps}
+use Rattle.dcc_timing.specs.KeptGaps.{AreGaps}
 use Rattle.dcc_timing.proofs.MeasureLemmas.{bits_run, ends_run, length_run, run_on, some_half, time_run}
 use Rattle.dcc_timing.proofs.timings.Timings.take.Goals as goal
 
-pub returns : goal.returns
-returns c = λ halves are.
+pub invariant_of-self-clause-history : goal.invariant_of-self-clause-history
+invariant_of-self-clause-history c = ∥∥₁_map c.args.self.now.history (λ list.
+    let halves = list.0 in
+    let are = list.1 in
+    let us = c.args.us in
+    let n = c.args.n in
+    let at = c.push_run-shown.result.at in
+    let shown = c.push_run-shown.result.seen in
+    let here = some_half n at shown (omega (arith, c.if-n-eq0.false)) c.push_run-shown.ensures.nothing
+    c.push_run-shown.ensures.something in
+    let shows = c.push_run-shown.ensures.sees halves are.framer in
+    let recent = c.take.ensures halves are.recent in
+    (halves ++ replicate n us, record {
+      count = ap (λ k. k + n) are.count ∙ sym (length_run halves n us);
+      time = time_run halves n us _ _ _ are.time c.from-3.ensures c.from-4.ensures;
+      classes = c.add.ensures.classes halves are.classes;
+      outcomes = subst (λ (l : List (ℕ × Seen)). AreOutcomes c.add-2.new.self l) (sym shows)
+          (c.add-2.ensures.outcomes (seen halves) (length halves + at - 1) are.outcomes);
+      bits = subst (λ (l : List (ℕ × ℕ)). AreBits c.add-3.new.self.bits l)
+          (sym (bits_run halves us n at shown here.0 here.1 shows c.take.new.self recent c.add-3.ensures.few))
+          (c.add-3.ensures.bits (bits_in halves) are.bits);
+      gaps = subst (λ (l : List ℕ). AreGaps c.add-3.new.self.gaps l)
+          (sym (ends_run halves us n at shown here.0 here.1 shows _
+          (ap (λ k. k + c.from.result * c.from-2.result) are.time
+          ∙ ap (λ k. sum halves + k * c.from-2.result) c.from.ensures
+          ∙ ap (λ k. sum halves + at * k) c.from-2.ensures)))
+          (c.add-3.ensures.gaps (ends_in halves) are.gaps);
+      framer = c.push_run-shown.ensures.stands halves are.framer;
+      recent = c.take-2.ensures (halves ++ replicate at us) recent
+          ∙ ap (λ (l : List ℕ). keep_last 130 l) (run_on halves us at n here.1);
+    }))
+
+pub returns-clause-history : goal.returns-clause-history
+returns-clause-history c = c.args.self.now.history
+
+pub returns-clause-measures : goal.returns-clause-measures
+returns-clause-measures c = λ halves are.
     let us = c.args.us in
     let n = c.args.n in
     let at = c.push_run-shown.result.at in
