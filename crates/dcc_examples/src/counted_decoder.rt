@@ -1,4 +1,7 @@
-//! A decoder of one's own, round any other: it counts the packets that it was given. All that is proved of decoders holds of it.
+//! A user's own decoder around any other decoder: it counts the packets that it is given. Each theorem on decoders holds of it.
+
+ghost use Rattle.std.specs.Prelude.{◌≡◌, ◌∷◌, [], IfOk};
+ghost use Rattle.dcc_wire.specs.Framing.{report_at, seen};
 
 use dcc_order::hear;
 use dcc_packet::Packet;
@@ -32,8 +35,11 @@ impl<D: Decoder> Decoder for CountedDecoder<D> {
     }
 }
 
-/// It and a decoder of another type, in boxes, hear a half of this many microseconds.
-pub fn hear_in_boxes(alloc: Global, cvs: &[u8; 1024], us: u16) -> Result<Seen, AllocError> {
+/// A counted decoder and a decoder of another type, each in a box, hear one half-bit of this many microseconds. Returns what the
+/// framer shows at it, which is what a list of this one half-bit shows.
+pub fn hear_in_boxes(alloc: Global, cvs: &[u8; 1024], us: u16) -> Result<Seen, AllocError>
+    ensures { IfOk result (λ shown. seen (us ∷ []) ≡ report_at 0 shown) }
+{
     let counted = CountedDecoder {
         inner: LocoDecoder::new(cvs),
         packets: 0,

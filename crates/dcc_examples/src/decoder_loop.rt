@@ -1,6 +1,8 @@
 //! A decoder's loop: durations come in, a framer finds the packets, a locomotive decoder applies them, a listener is told.
 
 ghost use Rattle.std.specs.Prelude.{List};
+ghost use Rattle.dcc_regs.specs.Cvs.{cv_in};
+ghost use Rattle.dcc_regs.specs.Loco.{start_map, start_who};
 ghost use Rattle.dcc_packet.specs.declared.packet.Packet.{Packet};
 ghost use Rattle.dcc_regs.specs.Heard.{heard};
 ghost use Rattle.dcc_order.specs.Hearing.{ArePackets, HasHeardHalves};
@@ -31,7 +33,10 @@ pub fn hear_track<D: Decoder, N: Notify>(durations: &[u16], loco: &mut D, listen
 }
 
 /// A locomotive that is powered up with these configuration variables hears a track, and its cab prints what it is told.
-pub fn run<R: Print>(rt: &R, cvs: &[u8; 1024], durations: &[u16]) -> PackedLoco {
+pub fn run<R: Print>(rt: &R, cvs: &[u8; 1024], durations: &[u16]) -> PackedLoco
+    ensures { HasHeardHalves durations.now (start_who (cv_in cvs.now)) (start_map (cv_in cvs.now))
+        (⟦<PackedLoco as Decoder>⟧.who result) (⟦<PackedLoco as Decoder>⟧.registers result) }
+{
     let mut loco = PackedLoco::new(cvs);
     hear_track(durations, &mut loco, &mut Cab(rt));
     loco

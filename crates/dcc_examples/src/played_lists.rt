@@ -1,6 +1,7 @@
-//! Two lists of packets are compared first and then played to two equal decoders: where they are alike, the decoders are equal again.
+//! Two lists of packets are compared and then played to two equal decoders. If the lists are alike, the decoders are equal again.
 
-ghost use Rattle.std.specs.Prelude.{◌≡◌, ◌<◌, ◌^◌, length, true, Ok, OnOk};
+ghost use Rattle.std.specs.Prelude.{◌≡◌, ◌↔◌, ◌<◌, ◌^◌, length, true, Ok, OnOk, IfOk};
+ghost use Rattle.dcc_order.specs.AlikeLists.{AlikeFor};
 ghost use Rattle.dcc_regs.specs.Result.{HasHeard};
 ghost use Rattle.dcc_regs.specs.declared.register.Register.{Register};
 
@@ -9,7 +10,7 @@ use dcc_packet::Packet;
 use dcc_regs::{Decoder, apply_all};
 use std::alloc::Global;
 
-/// Plays two lists to two decoders. Answers whether the lists are alike for them.
+/// Plays two lists of packets to two decoders. Returns true if the lists are alike for these decoders.
 pub fn play_both<L: Decoder, R: Decoder>(
     alloc: Global,
     left: &mut L,
@@ -24,8 +25,10 @@ pub fn play_both<L: Decoder, R: Decoder>(
     // Each has heard its list,
     ensures left { OnOk result (HasHeard packets.now (L.who left.old) (L.registers left.old) (L.who left.new) (L.registers left.new)) }
     ensures right { OnOk result (HasHeard others.now (R.who right.old) (R.registers right.old) (R.who right.new) (R.registers right.new)) }
-    // and where the lists are alike, they are equal again.
-    ensures alike { result ≡ Ok true → (r : Register) → L.registers left.new r ≡ R.registers right.new r }
+    // the answer tells whether the lists are alike,
+    ensures alike { IfOk result (λ alike. (alike ≡ true) ↔ AlikeFor (L.who left.old) packets.now others.now) }
+    // and if they are, the decoders are equal again.
+    ensures equal { result ≡ Ok true → (r : Register) → L.registers left.new r ≡ R.registers right.new r }
 {
     let verdict = compare(alloc, left.who(), packets, others)?;
     apply_all(left, packets);

@@ -1,9 +1,10 @@
-//! A station sends a command so often as it likes, and refreshes it: a decoder holds what the command asks for.
+//! A station sends a command as often as it has to, and a decoder hears each copy: it holds what the command asks for.
 
-ghost use Rattle.std.specs.Prelude.{◌≡◌, ◌≢◌, ◌∷◌, [], Ok, true};
+ghost use Rattle.std.specs.Prelude.{◌≡◌, ◌≢◌, ◌∷◌, [], Ok, true, IfOk};
 ghost use Rattle.dcc_regs.specs.Result.{result as after};
 ghost use Rattle.dcc_regs.specs.declared.register.Register.{Register};
 ghost use Rattle.dcc_regs.specs.declared.register.Register.TheVariants as registers;
+ghost use Rattle.dcc_station.specs.Commands.{is_sendable};
 ghost use Rattle.dcc_station.specs.Refresh.{intended};
 
 use dcc_packet::Packet;
@@ -11,28 +12,24 @@ use dcc_regs::Decoder;
 use dcc_station::{Station, StationFault, laws};
 use std::alloc::Global;
 
-/// One command goes to a new station, and a decoder hears what it sends until nothing waits. Answers whether that came within so
-/// many packets.
+/// Gives one command to a new station, and lets a decoder hear what the station sends until nothing waits. Returns false if the
+/// station refuses the command, which it does if the command is not sendable.
 pub fn send_one<D: Decoder>(
     alloc: Global,
     decoder: &mut D,
     command: Packet,
-    most: u32,
 ) -> Result<bool, StationFault>
-    ensures { result ≡ Ok true → (r : Register) → r ≢ registers.Pending
+    ensures sent { IfOk result (λ sent. sent ≡ is_sendable command) }
+    ensures holds { result ≡ Ok true → (r : Register) → r ≢ registers.Pending
         → D.registers decoder.new r ≡ after (D.who decoder.old) (D.registers decoder.old) (intended (command ∷ [])) r }
 {
     laws::stations_are_heard();
-    laws::refresh_is_transparent_where_nothing_waits();
     let mut station = Station::new(alloc, 16, 32, 2)?;
     if station.command(command).is_err() {
         return Ok(false);
     }
-    for _ in 0..most {
-        if station.waiting() == 0 {
-            break;
-        }
+    'copies: while station.waiting() > 0 {
         decoder.apply(&station.next());
     }
-    Ok(station.waiting() == 0)
+    Ok(true)
 }

@@ -1,6 +1,6 @@
 //! A station that sends: commands wait in it, what it sends next becomes half-bits, and a framer hears the same packets.
 
-ghost use Rattle.std.specs.Prelude.{◌≡◌, ◌++◌, ◌∷◌, [], List};
+ghost use Rattle.std.specs.Prelude.{◌≡◌, ◌++◌, ◌∷◌, [], List, IfOk, length};
 ghost use Rattle.dcc_wire.specs.Frames.{IsFrame};
 ghost use Rattle.dcc_wire.specs.HalvesLeft.{halves_left};
 ghost use Rattle.dcc_wire.specs.NominalTimings.{main_timing};
@@ -50,7 +50,9 @@ fn halves_of(packet: &Packet) -> Halves
 }
 
 /// A station with two commands. Four may wait in it, eight are refreshed, and each is sent twice before.
-pub fn with_two_commands(alloc: Global) -> Result<Station, Fault> {
+pub fn with_two_commands(alloc: Global) -> Result<Station, Fault>
+    ensures { IfOk result (λ station. length station.waiting ≡ 2) }
+{
     let (queue, slots, repeats) = (4, 8, 2);
     let mut station = Station::new(alloc, queue, slots, repeats)?;
     for line in ["loco s3 speed28 f 4", "loco s3 functions 0 16"] {
