@@ -1,5 +1,6 @@
-//! The toolkit for programs in C: packets found in half-bits, read and sent, and decoders that hear them, as numbers in the
-//! caller's memory. Nothing here takes memory or keeps any. `include/dcc.h` declares these calls, and says what a caller owes.
+//! The toolkit for programs in C: it finds packets in half-bits, reads and sends packets, and has decoders, command stations, the
+//! programming track and the reading of CVs. All values are numbers in the caller's memory, and no call allocates.
+//! `include/dcc.h` declares these calls and says what a caller owes.
 #![tactic(auto)]
 
 mod board;

@@ -1,3 +1,4 @@
 pub mod Counting
+pub mod Listed
 pub mod OwnBoard
 pub mod Rails

@@ -8,6 +8,7 @@ mod copied_cv;
 mod counted_decoder;
 mod counting_listener;
 mod decoder_loop;
+mod encoded_and_listed;
 mod equal_again;
 mod first_call;
 mod own_board;

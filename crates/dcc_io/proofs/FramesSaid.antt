@@ -42,8 +42,8 @@ module _ {A B : Type 0} (saying : Saying A B) (P : A → Type 0)
     where
       go : (good skipped : Bool)
           → AllByRecursion P (if not good then only_fault (Some (kept.Line line.number faults.Word))
-              else if skipped then rest
-              else behind_words saying line.number (saying.said (words line.bytes)) rest).said
+          else if skipped then rest
+          else behind_words saying line.number (saying.said (words line.bytes)) rest).said
       go false skipped = tt
       go true true = more
       go true false = words_are (words line.bytes) line.number rest more

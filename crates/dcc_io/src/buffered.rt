@@ -33,7 +33,11 @@ impl<R: Source> Model for Buffered<R> {
 impl<R: Source> Buffered<R> {
     pub fn new(reader: R) -> Buffered<R>
         ensures { result ≡ record {
-            ahead = []; text = R.remaining reader; failures = R.failures reader; reads = R.reads reader } }
+          ahead = [];
+          text = R.remaining reader;
+          failures = R.failures reader;
+          reads = R.reads reader;
+        } }
     {
         Buffered {
             reader,

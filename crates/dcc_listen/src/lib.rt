@@ -1,4 +1,5 @@
-//! What is made of captures: their listings, their timings, fleets that hear them, and whether two are alike for a decoder.
+//! The calls of the program on captures other than `show`: figures of half-bits (`timing`), a fleet that hears a capture (`run`), and
+//! whether two captures are alike for a decoder (`same`, `same_input`).
 #![tactic(auto)]
 
 mod first_capture;

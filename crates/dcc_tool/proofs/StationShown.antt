@@ -72,6 +72,7 @@ what_is_refreshed slots p entries after is all refreshes =
   where
     kept : AllByRecursion IsSpelled refreshes.0
     kept = what_is_left p entries refreshes.0 refreshes.1 all
+
     go : (refreshed : Bool)
         → AllByRecursion IsSpelled (if refreshed then sending.with_entry slots refreshes.0 p else refreshes.0)
     go true =
@@ -237,6 +238,7 @@ shown how frames text words old new before after says are takes whole shows =
   where
     fits : length text < old.bytes → length (text ++ 10 ∷ []) ≤ old.bytes
     fits fewer = omega (arith, fewer, length-append text (10 ∷ []))
+
     captured : capture_in old (text ++ 10 ∷ []) ≡ record { said = halves_to_send how frames; fault = None }
     captured =
         rw (enough (length (text ++ 10 ∷ [])) old.bytes (fits takes.bytes))

@@ -14,6 +14,10 @@ use Rattle.dcc_capture.specs.Shown.{Shows}
 use Rattle.dcc_send.specs.declared.encoding.Encode.{Encode}
 use Rattle.dcc_send.specs.Encoded.{EncodesText, timing_of, encoding}
 
+-- half-bits for the main track, without a station
+abbrev pub in_half_bits : Encode
+in_half_bits = record { hex = false; service = false; station = None }
+
 -- these frames, each to be sent with the timing of this encoding
 abbrev pub to_send : Encode → List (List ℕ) → List Sent
 to_send how frames = map (λ frame. record { bytes = frame; timing = timing_of how }) frames

@@ -43,8 +43,8 @@ impl Framer {
     /// Takes n halves of this many microseconds, as n calls of [`Framer::push`] would. At most one of
     /// these answers an outcome: behind it halves that are all alike bring no preamble with a start bit.
     ///
-    /// However many halves there are, only those of one body are taken one by one, 110 at most: where
-    /// no such half begins a body, the rest changes but the number of ones.
+    /// The call takes at most 110 half-bits one by one, those of one body. If no half-bit of the rest begins a body, the
+    /// rest changes only the number of ones.
     #[inline(always)]
     pub fn push_run(&mut self, us: u16, n: u32) -> RunSeen
         // For every list of halves that the framer stands for, of which there is at least one,

@@ -10,5 +10,8 @@ returns c =
 
 pub invariant_of-result-clause-history : goal.invariant_of-result-clause-history
 invariant_of-result-clause-history c =
-    ∣ ([], measures_none _ _ _ _ _ c.new.ensures.classes c.new-2.ensures.outcomes c.new-3.ensures.bits c.new-3.ensures.gaps
-    c.new-4.ensures c.new-5.ensures) ∣₁
+    ∣ (
+      [],
+      measures_none _ _ _ _ _ c.new.ensures.classes c.new-2.ensures.outcomes c.new-3.ensures.bits c.new-3.ensures.gaps
+          c.new-4.ensures c.new-5.ensures,
+    ) ∣₁

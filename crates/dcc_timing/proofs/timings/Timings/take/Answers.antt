@@ -21,26 +21,28 @@ invariant_of-self-clause-history c = ∥∥₁_map c.args.self.now.history (λ l
     let here = some_half n at shown (omega (arith, c.if-n-eq0.false)) c.push_run-shown.ensures.nothing
     c.push_run-shown.ensures.something in
     let shows = c.push_run-shown.ensures.sees halves are.framer in
-    let recent = c.take.ensures halves are.recent in
-    (halves ++ replicate n us, record {
-      count = ap (λ k. k + n) are.count ∙ sym (length_run halves n us);
-      time = time_run halves n us _ _ _ are.time c.from-3.ensures c.from-4.ensures;
-      classes = c.add.ensures.classes halves are.classes;
-      outcomes = subst (λ (l : List (ℕ × Seen)). AreOutcomes c.add-2.new.self l) (sym shows)
-          (c.add-2.ensures.outcomes (seen halves) (length halves + at - 1) are.outcomes);
-      bits = subst (λ (l : List (ℕ × ℕ)). AreBits c.add-3.new.self.bits l)
-          (sym (bits_run halves us n at shown here.0 here.1 shows c.take.new.self recent c.add-3.ensures.few))
-          (c.add-3.ensures.bits (bits_in halves) are.bits);
-      gaps = subst (λ (l : List ℕ). AreGaps c.add-3.new.self.gaps l)
-          (sym (ends_run halves us n at shown here.0 here.1 shows _
-          (ap (λ k. k + c.from.result * c.from-2.result) are.time
-          ∙ ap (λ k. sum halves + k * c.from-2.result) c.from.ensures
-          ∙ ap (λ k. sum halves + at * k) c.from-2.ensures)))
-          (c.add-3.ensures.gaps (ends_in halves) are.gaps);
-      framer = c.push_run-shown.ensures.stands halves are.framer;
-      recent = c.take-2.ensures (halves ++ replicate at us) recent
-          ∙ ap (λ (l : List ℕ). keep_last 130 l) (run_on halves us at n here.1);
-    }))
+    let recent = c.take.ensures halves are.recent in (
+      halves ++ replicate n us,
+      record {
+        count = ap (λ k. k + n) are.count ∙ sym (length_run halves n us);
+        time = time_run halves n us _ _ _ are.time c.from-3.ensures c.from-4.ensures;
+        classes = c.add.ensures.classes halves are.classes;
+        outcomes = subst (λ (l : List (ℕ × Seen)). AreOutcomes c.add-2.new.self l) (sym shows)
+            (c.add-2.ensures.outcomes (seen halves) (length halves + at - 1) are.outcomes);
+        bits = subst (λ (l : List (ℕ × ℕ)). AreBits c.add-3.new.self.bits l)
+            (sym (bits_run halves us n at shown here.0 here.1 shows c.take.new.self recent c.add-3.ensures.few))
+            (c.add-3.ensures.bits (bits_in halves) are.bits);
+        gaps = subst (λ (l : List ℕ). AreGaps c.add-3.new.self.gaps l)
+            (sym (ends_run halves us n at shown here.0 here.1 shows _
+            (ap (λ k. k + c.from.result * c.from-2.result) are.time
+            ∙ ap (λ k. sum halves + k * c.from-2.result) c.from.ensures
+            ∙ ap (λ k. sum halves + at * k) c.from-2.ensures)))
+            (c.add-3.ensures.gaps (ends_in halves) are.gaps);
+        framer = c.push_run-shown.ensures.stands halves are.framer;
+        recent = c.take-2.ensures (halves ++ replicate at us) recent
+            ∙ ap (λ (l : List ℕ). keep_last 130 l) (run_on halves us at n here.1);
+      },
+    ))
 
 pub returns-clause-history : goal.returns-clause-history
 returns-clause-history c = c.args.self.now.history

@@ -1,0 +1,19 @@
+-- The listing of what packet lines say.
+use Rattle.std.specs.Prelude.{ℕ, ◌≤◌, ◌++◌, ◌∷◌, List, [], false, Some, length}
+use Rattle.dcc_wire.specs.Sending.{at_last_halves}
+use Rattle.dcc_tool.specs.EncodedShown.{halves_to_send, in_half_bits, to_send}
+use Rattle.dcc_tool.specs.Encoded.{encoding}
+use Rattle.dcc_tool.specs.InputState.{fresh}
+use Rattle.dcc_tool.specs.Items.{in_text}
+use Rattle.dcc_tool.specs.Listing.{IsListing}
+use Rattle.dcc_tool.specs.PacketLines.{packet_lines}
+
+-- the frames that packet lines in memory say
+abbrev pub frames_said : List ℕ → List (List ℕ)
+frames_said lines = (in_text packet_lines (fresh (Some lines) 0 16777216 67108864) (lines ++ 10 ∷ [])).said
+
+-- within the limits of `show`, the listing has one line for each packet of these packet lines, at its last half-bit
+abbrev pub IsListingOf : List ℕ → List ℕ → Type 0
+IsListingOf lines listing = length (halves_to_send in_half_bits (frames_said lines)) ≤ 16777216
+    → length (encoding in_half_bits (frames_said lines)) ≤ 67108864
+    → IsListing false (at_last_halves 0 (to_send in_half_bits (frames_said lines))) listing
