@@ -7,9 +7,9 @@ use Rattle.dcc_saved.specs.TextReadOrNoMemory.{ReadFails}
 use Rattle.dcc_saved.specs.declared.saved.Saved.{Saved}
 use Rattle.dcc_saved.specs.declared.decoder_line.Head.TheVariants as heads
 use Rattle.dcc_io.specs.InputState.{InputState}
-use Rattle.dcc_saved.specs.TextReader.{Reader, ◌>>=◌, done, stop_at}
-use Rattle.dcc_saved.specs.TextReader.Stop.{cut, too_many}
-use Rattle.dcc_saved.specs.TextRead.{at, GoesOn, Leads, Answers, UsedWholeLines}
+use Rattle.dcc_saved.specs.TextReader.{Reader, ◌>>=◌, done, stop_at_decoder}
+use Rattle.dcc_saved.specs.TextReader.Stop.{cut}
+use Rattle.dcc_saved.specs.TextRead.{at, GoesOn, Leads, Answers, StopsAtDecoder, UsedWholeLines}
 use Rattle.dcc_regs.specs.declared.register.Who.{Who}
 use Rattle.dcc_saved.specs.declared.decoder_line.Version.{Version}
 use Rattle.dcc_saved.specs.DecoderText.{decoder_lines, decoders_from, decoder_text}
@@ -29,20 +29,23 @@ pub no_more : (version : Version) (room : ℕ) (before : List Saved)
 no_more version zero before = refl
 no_more version (suc room) before = refl
 
+-- some bytes were used where the reader does not go on as from no bytes
+whole_line : {rest : Reader (List Saved)} {old new : InputState} (bytes : List ℕ) → GoesOn decoder_text old rest new bytes
+    → (rest (at new []) ≡ Err (cut old.place.line) → ⊥) → new.lines + 1 ≡ new.place.line
+unfolding decoder_text
+whole_line [] goes more = absurd (more (sym (goes.goes_on [])))
+whole_line (byte ∷ bytes) goes more = goes.last (omega arith)
+
 -- whole lines were read where the reader does not go on as from no bytes
 pub whole_lines : {rest : Reader (List Saved)} {old new : InputState} → Leads decoder_text old rest new
     → (rest (at new []) ≡ Err (cut old.place.line) → ⊥) → UsedWholeLines old new
 unfolding decoder_text
 whole_lines {rest = rest} {old = old} {new = new} leads more =
     map_text _ (λ text. new.lines + 1 ≡ new.place.line) old.text new.text
-    (λ text behind uses. used uses.used uses.is) leads.text
-  where
-    used : (bytes : List ℕ) → GoesOn decoder_text old rest new bytes → new.lines + 1 ≡ new.place.line
-    used [] goes = absurd (more (sym (goes.goes_on [])))
-    used (byte ∷ bytes) goes = goes.last (omega arith)
+    (λ text behind uses. whole_line uses.used uses.is more) leads.text
 
 -- a decoder too many
-pub too_many_decoders : (old now : InputState) → Leads decoder_text old (stop_at too_many) now
+pub too_many_decoders : (old now : InputState) → Leads decoder_text old stop_at_decoder now
     → Answers decoder_text old (Err TooMuch) (record now { fault = Some TooMuch })
 too_many_decoders old now leads = (
   (
@@ -51,7 +54,8 @@ too_many_decoders old now leads = (
         (λ used more last goes. rw goes.goes_on refl),
   ),
   refl,
-  inr (whole_lines leads (λ same. cc)),
+  inr (map_text _ (λ text. StopsAtDecoder (decoder_text (at old text)) (now.lines + 1)) old.text now.text
+      (λ text behind uses. rw (uses.whole, uses.is.goes_on behind) (whole_line uses.used uses.is (λ same. cc))) leads.text),
 )
 
 -- the fault of a text, as it is told

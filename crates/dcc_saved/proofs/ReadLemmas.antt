@@ -1,5 +1,5 @@
 -- How readers of a text follow one another.
-use Rattle.std.proofs.Common.{◌≡◌, ℕ, ◌-◌, ◌<◌, List, [], ◌∷◌, ◌++◌, length, take, Bool, true, false, eqb}
+use Rattle.std.proofs.Common.{◌≡◌, ℕ, ◌+◌, ◌-◌, ◌<◌, List, [], ◌∷◌, ◌++◌, length, take, Bool, true, false, eqb}
 use Rattle.std.proofs.Common.{nat_le, Option, None, Some, Result, Ok, Err, refl, ap, ◌∙◌, arith}
 use Rattle.std.proofs.Common.{append_assoc, length-append, ◌⊎◌, inl, inr, cond, IfSome, IsSomeAnd}
 use Rattle.std.proofs.lemmas.List.{append-nil}
@@ -18,9 +18,9 @@ use Rattle.dcc_saved.specs.Inner.RequiredLine.{TakesLine}
 use Rattle.dcc_saved.specs.Lines.{LineOf}
 use Rattle.dcc_saved.specs.TextReader.{Text, Stop, Reader, read_on, ◌>>=◌, first_line, behind_line}
 use Rattle.dcc_saved.specs.TextReader.{line_verdict, ended_line, line_by}
-use Rattle.dcc_saved.specs.TextReader.Stop.{cut}
+use Rattle.dcc_saved.specs.TextReader.Stop.{cut, refused, too_many}
 use Rattle.dcc_saved.specs.TextRead.{at, answer_of, answer_at, answer_in, StopsAt, Leads, Refuses, Answers}
-use Rattle.dcc_saved.specs.TextRead.{TextLinesAt}
+use Rattle.dcc_saved.specs.TextRead.{GoesOn, StopsAtDecoder, TextLinesAt, UsesThroughLine}
 use Rattle.dcc_io.proofs.TookLemmas.{if_some_map, map_text, Took-start, Took-map, Took-join, Stops-map}
 use Rattle.dcc_io.proofs.TookLemmas.{same_cond, Stops-behind, within_limit-used, within_limit-front, overflows}
 use Rattle.dcc_io.proofs.TookLemmas.{zero_fits, told_behind, LinesAt-behind}
@@ -64,15 +64,11 @@ told_by read old new x took each =
     (λ more last. each uses.used more last uses.is)
     ∙ same_cond (nat_le (length rest) new.bytes) x) took.text
 
--- the lines that were used where a text is refused, told from further back
-TextLinesAt-behind : {P : List ℕ → Type 0} (old mid new : InputState) (fault : KeptFault) → Took P old mid
-    → TextLinesAt mid fault new → TextLinesAt old fault new
-TextLinesAt-behind old mid new (Line line why) took (inl lines) = inl (LinesAt-behind took new (Line line why) lines)
-TextLinesAt-behind old mid new (Line line why) took (inr (at_end, all)) =
-    inr (at_end, told_behind took _ _ (λ text rest uses same. same ∙ uses.lines) all)
-TextLinesAt-behind old mid new TooMuch took (inl lines) = inl (LinesAt-behind took new TooMuch lines)
-TextLinesAt-behind old mid new TooMuch took (inr whole) = inr (told_behind took _ _ (λ text rest uses same. same) whole)
-TextLinesAt-behind old mid new fault took lines = LinesAt-behind took new fault lines
+-- an input that stood at the start of a line stands at one where the reader goes on
+at_line_start : {A : Type 0} {read rest_read : Reader A} {old new : InputState} (used : List ℕ)
+    → GoesOn read old rest_read new used → old.lines + 1 ≡ old.place.line → new.lines + 1 ≡ new.place.line
+at_line_start [] goes start = let same = goes.still refl in omega (arith, same.0, same.1, start)
+at_line_start (byte ∷ used) goes start = goes.last (omega arith)
 
 module _ {A B : Type 0} (first : Reader A) (next : A → Reader B) {whole : Reader B} {old now : InputState}
     (leads : Leads whole old (first >>= next) now) where
@@ -95,6 +91,29 @@ module _ {A B : Type 0} (first : Reader A) (next : A → Reader B) {whole : Read
   stops last fault (Ok read) says = cc
   stops last fault (Err stop) says = cc
 
+  stops_at_decoder : (read : Result (A × Text) Stop) (line : ℕ) → StopsAtDecoder read line
+      → StopsAtDecoder (read_on read next) line
+  stops_at_decoder (Ok read) line stops = absurd stops
+  stops_at_decoder (Err (refused n why)) line stops = absurd stops
+  stops_at_decoder (Err (cut n)) line stops = absurd stops
+  stops_at_decoder (Err (too_many n)) line stops = stops
+
+  -- the lines that were used where the first of two readers stops, told of both
+  lines_behind : (new : InputState) (fault : KeptFault) → TextLinesAt first now fault new → TextLinesAt whole old fault new
+  lines_behind new (Line line why) (inl lines) = inl (LinesAt-behind leads.took new (Line line why) lines)
+  lines_behind new (Line line why) (inr (at_end, all, last)) =
+      inr (
+        at_end,
+        told_behind leads.took _ _ (λ text rest uses same. same ∙ uses.lines) all,
+        told_behind leads.took _ _ (λ text rest uses last start. last (at_line_start uses.used uses.is start)) last,
+      )
+  lines_behind new TooMuch (inl lines) = inl (LinesAt-behind leads.took new TooMuch lines)
+  lines_behind new TooMuch (inr stops) =
+      inr (told_behind leads.took _ _
+      (λ text rest uses stops. rw (uses.whole, uses.is.goes_on rest)
+      (stops_at_decoder (first (at now rest)) (new.lines + 1) stops)) stops)
+  lines_behind new fault lines = LinesAt-behind leads.took new fault lines
+
   pub Answers-fault : (new : InputState) (fault : KeptFault) → Answers first now (Err fault) new
       → Answers whole old (Err fault) new
   Answers-fault new fault stop = (
@@ -108,7 +127,7 @@ module _ {A B : Type 0} (first : Reader A) (next : A → Reader B) {whole : Read
         (stops (Some TooMuch) fault (first (at now (take (now.bytes - 1) rest)))) says))
         stop.0,
     stop.1,
-    TextLinesAt-behind old now new fault leads.took stop.2,
+    lines_behind new fault stop.2,
   )
 
 -- bytes without a line feed begin the first line
@@ -184,17 +203,19 @@ module _ {A : Type 0} (line_is : LineOf A) where
         some_bytes (byte ∷ front) is = omega arith
 
     -- the line is the last that was used, or the text has ended
-    on_line : (x y : Option (List ℕ))
+    on_line : (line : List ℕ) (x y : Option (List ℕ))
         → IfSome x
         (λ text. IsSomeAnd y
         (λ rest. mid.lines ≡ lines_with (lines_within old.lines old.place.line line) old.place.line rest))
         → IfSome x (λ text. IsSomeAnd y (λ rest. Uses (IsThrough old mid line) old mid text rest))
         → IfSome x (λ text. mid.lines ≡ old.place.line)
-        ⊎ (IsAtEnd y × IfSome x (λ text. mid.lines ≡ all_lines old text))
-    on_line None y lines uses = inl tt
-    on_line (Some text) None lines uses = absurd lines
-    on_line (Some text) (Some []) lines uses = inr (refl, uses.lines)
-    on_line (Some text) (Some (next ∷ rest)) lines uses = inl lines
+        ⊎ (IsAtEnd y × IfSome x (λ text. mid.lines ≡ all_lines old text)
+        × IfSome x (λ text. old.lines + 1 ≡ old.place.line → old.place.line ≡ mid.lines + 1))
+    on_line line None y lines uses = inl tt
+    on_line line (Some text) None lines uses = absurd lines
+    on_line [] (Some text) (Some []) lines uses = inr (refl, uses.lines, λ start. omega (arith, lines, start))
+    on_line (byte ∷ line) (Some text) (Some []) lines uses = inl lines
+    on_line line (Some text) (Some (next ∷ rest)) lines uses = inl lines
 
     -- a line that is refused
     pub line-refused : (why : PacketFault) (new : InputState) (fault : KeptFault) → Err why ≡ line_is.read (words line)
@@ -208,5 +229,5 @@ module _ {A : Type 0} (line_is : LineOf A) where
                 (λ used more last through. ap (answer_of last) (given used more through) ∙ rw (← is) refl),
           ),
           refl,
-          on_line old.text mid.text ends.lines took.text,
+          on_line line old.text mid.text ends.lines took.text,
         )

@@ -17,8 +17,7 @@ use Rattle.dcc_saved.specs.declared.decoder_line.Numbered.TheVariants as kinds
 use Rattle.dcc_saved.specs.declared.decoder_line.LocoLine.TheVariants as behind
 use Rattle.dcc_saved.specs.DecoderLines.{version_line, head_line, speed_line, numbers_line, pending_line}
 use Rattle.dcc_saved.specs.DecoderLines.{loco_line, Four, listed, positions_line, aspects_line}
-use Rattle.dcc_saved.specs.TextReader.{Reader, ◌>>=◌, done, stop_at, line_by}
-use Rattle.dcc_saved.specs.TextReader.Stop.{too_many}
+use Rattle.dcc_saved.specs.TextReader.{Reader, ◌>>=◌, done, stop_at_decoder, line_by}
 
 -- a line of a CV, which is given its value, or the line behind the CVs
 abbrev pub behind_loco_line : (ℕ → List ℕ → Reader (List ℕ × Head)) → List ℕ → LocoLine → Reader (List ℕ × Head)
@@ -28,7 +27,7 @@ behind_loco_line again cvs (behind.Head head) = done (cvs, head)
 -- the CVs of the lines from here on, ascending from this one on, and the line behind them; at most so
 -- many lines, since no more can ascend
 abbrev pub cvs_from : ℕ → ℕ → List ℕ → Reader (List ℕ × Head)
-cvs_from zero least cvs = stop_at too_many
+cvs_from zero least cvs = stop_at_decoder
 cvs_from (suc most) least cvs = line_by (loco_line least) >>= behind_loco_line (cvs_from most) cvs
 
 -- CV1 to CV1024, of which those that are not listed are 0, and the line behind them
@@ -89,7 +88,7 @@ decoder_lines version (who.Board board) = board_lines board
 -- these decoders, and at most so many more from this line on
 abbrev pub decoders_from : Version → ℕ → List Saved → Head → Reader (List Saved)
 decoders_from version room before heads.End = done before
-decoders_from version zero before (heads.Decoder next) = stop_at too_many
+decoders_from version zero before (heads.Decoder next) = stop_at_decoder
 decoders_from version (suc room) before (heads.Decoder next) = do
   decoder ← decoder_lines version next
   decoders_from version room (before ++ decoder.0 ∷ []) decoder.1

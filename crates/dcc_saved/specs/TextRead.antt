@@ -16,7 +16,7 @@ at input bytes = record { line = input.place.line; bytes = bytes }
 abbrev pub stop_fault : Option KeptFault → Stop → KeptFault
 stop_fault last (refused line fault) = Line line fault
 stop_fault last (cut line) = fault_at_end line last
-stop_fault last too_many = TooMuch
+stop_fault last (too_many line) = TooMuch
 
 -- a value, or why there is none, of such bytes
 abbrev pub answer_of : {A : Type 0} → Option KeptFault → Result (A × Text) Stop → Result A KeptFault
@@ -66,14 +66,27 @@ abbrev pub Refuses : {A : Type 0} → Reader A → InputState → KeptFault → 
 Refuses read old (Number line) new = ⊥
 Refuses read old fault new = StopsAt read old fault new
 
--- How many lines were used where a text is refused: those up to the line that the fault names, or all where the text has
--- ended, since that may be the line behind its last. Where a decoder is one too many, those through its first line.
-abbrev pub TextLinesAt : InputState → KeptFault → InputState → Type 0
-TextLinesAt old (Line line fault) new = LinesAt old (Line line fault) new ⊎ (IsAtEnd new.text × UsesAllLines old new)
-TextLinesAt old TooMuch new = LinesAt old TooMuch new ⊎ UsedWholeLines old new
-TextLinesAt old fault new = LinesAt old fault new
+-- the lines up to this one were used, or all lines if the text has ended: an input that stood at the start of a line then names
+-- the line after its last
+abbrev pub UsesThroughLine : InputState → ℕ → InputState → Type 0
+UsesThroughLine old line new = IfSome old.text (λ text. new.lines ≡ line)
+    ⊎ (IsAtEnd new.text × UsesAllLines old new
+    × IfSome old.text (λ text. old.lines + 1 ≡ old.place.line → line ≡ new.lines + 1))
+
+-- reading stops at a decoder too many, whose first line is the one before this line
+abbrev pub StopsAtDecoder : {A : Type 0} → Result (A × Text) Stop → ℕ → Type 0
+StopsAtDecoder (Err (too_many behind)) line = line ≡ behind
+StopsAtDecoder read line = ⊥
+
+-- How many lines were used when a reader of texts stops at a fault: those through the line that the fault names; at U7 those of
+-- the bytes that may be taken, or those through the first line of the decoder that is one too many.
+abbrev pub TextLinesAt : {A : Type 0} → Reader A → InputState → KeptFault → InputState → Type 0
+TextLinesAt read old (Line line fault) new = UsesThroughLine old line new
+TextLinesAt read old TooMuch new =
+    LinesAt old TooMuch new ⊎ IfSome old.text (λ text. StopsAtDecoder (read (at old text)) (new.lines + 1))
+TextLinesAt read old fault new = LinesAt old fault new
 
 -- this value was read, or this is why there is none, which is kept
 abbrev pub Answers : {A : Type 0} → Reader A → InputState → Result A KeptFault → InputState → Type 0
 Answers read old (Ok x) new = Leads read old (done x) new
-Answers read old (Err fault) new = Refuses read old fault new × (new.fault ≡ Some fault) × TextLinesAt old fault new
+Answers read old (Err fault) new = Refuses read old fault new × (new.fault ≡ Some fault) × TextLinesAt read old fault new

@@ -17,8 +17,8 @@ pub data Stop : Type 0 where
   refused : ℕ → PacketFault → Stop
   -- the text is cut off before this line has ended
   cut : ℕ → Stop
-  -- a decoder too many
-  too_many : Stop
+  -- there is a decoder too many, whose first line is the one before this
+  too_many : ℕ → Stop
 
 -- a value and the text after it, or why there is none
 abbrev pub Reader : Type 0 → Type 0
@@ -36,8 +36,9 @@ abbrev pub ◌>>=◌ : {A B : Type 0} → Reader A → (A → Reader B) → Read
 abbrev pub done : {A : Type 0} → A → Reader A
 done x text = Ok (x, text)
 
-abbrev pub stop_at : {A : Type 0} → Stop → Reader A
-stop_at stop text = Err stop
+-- a decoder too many was found on the line before this text
+abbrev pub stop_at_decoder : {A : Type 0} → Reader A
+stop_at_decoder text = Err (too_many text.line)
 
 -- the bytes up to the first line feed, or all where there is none
 abbrev pub first_line : List ℕ → List ℕ

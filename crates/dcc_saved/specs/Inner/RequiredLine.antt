@@ -6,12 +6,12 @@ use Rattle.dcc_io.specs.declared.fault.KeptFault.{KeptFault}
 use Rattle.dcc_io.specs.declared.fault.KeptFault.TheVariants.{Number, Line, Read, TooMuch}
 use Rattle.dcc_io.specs.InputState.{InputState}
 use Rattle.dcc_io.specs.NextLine.{EndsLine, IsBadAt, FailsInLine, OverflowsInLine}
-use Rattle.dcc_saved.specs.TextRead.{TextLinesAt}
+use Rattle.dcc_saved.specs.TextRead.{UsesThroughLine}
 
 -- the next line is bad, or there is none
 pub record MissesLine (old new : InputState) : Type 0 where
   pub text : IfSome old.text (λ text. IsBadAt old text ⊎ (text ≡ []))
-  pub lines : TextLinesAt old (Line old.place.line faults.Word) new
+  pub lines : UsesThroughLine old old.place.line new
   pub fault : new.fault ≡ Some (Line old.place.line faults.Word)
   pub failures : new.failures ≡ old.failures
 

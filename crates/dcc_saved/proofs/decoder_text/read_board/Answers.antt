@@ -1,4 +1,5 @@
 use Rattle.std.proofs.Common.{rules}
+use Rattle.std.proofs.lemmas.Result.{err_from_is_err_and}
 use Rattle.dcc_saved.specs.DecoderLines.{numbers_line, positions_line, aspects_line, head_line}
 use Rattle.dcc_saved.specs.DecoderText.{board_lines}
 use Rattle.dcc_saved.specs.TextReader.{line_by}
@@ -16,14 +17,16 @@ pub returns-in_err-positions-clause-reads : goal.returns-in_err-positions-clause
 unfolding board_lines
 returns-in_err-positions-clause-reads g c =
     let outs = Leads-then _ _ (Leads-start (board_lines c.args.board) _ c.requires.fault) c.in_ok-outs.ensures.reads in
-    search (rules, Answers-fault (line_by positions_line) _ outs)
+    let p = err_from_is_err_and c.from_residual-in_err-positions.result c.from_residual-in_err-positions.ensures.1 in
+    rw (p.1, p.2) (Answers-fault (line_by positions_line) _ outs _ _ c.in_err-positions.ensures.reads)
 
 pub returns-in_err-aspects-clause-reads : goal.returns-in_err-aspects-clause-reads
 unfolding board_lines
 returns-in_err-aspects-clause-reads g c =
     let outs = Leads-then _ _ (Leads-start (board_lines c.args.board) _ c.requires.fault) c.in_ok-outs.ensures.reads in
     let positions = Leads-then _ _ outs c.in_ok-positions.ensures.reads in
-    search (rules, Answers-fault (line_by aspects_line) _ positions)
+    let p = err_from_is_err_and c.from_residual-in_err-aspects.result c.from_residual-in_err-aspects.ensures.1 in
+    rw (p.1, p.2) (Answers-fault (line_by aspects_line) _ positions _ _ c.in_err-aspects.ensures.reads)
 
 pub returns-in_err-head-clause-reads : goal.returns-in_err-head-clause-reads
 unfolding board_lines

@@ -1,4 +1,5 @@
 use Rattle.std.proofs.Common.{rules}
+use Rattle.std.proofs.lemmas.Result.{err_from_is_err_and}
 use Rattle.dcc_saved.specs.DecoderLines.{speed_line, numbers_line, pending_line}
 use Rattle.dcc_saved.specs.DecoderText.{cvs_lines, loco_lines, states_by}
 use Rattle.dcc_saved.specs.TextReader.{line_by}
@@ -17,7 +18,8 @@ unfolding loco_lines
 returns-in_err-functions-clause-reads g c =
     let start = Leads-start (loco_lines c.args.version c.args.address) c.args.input.now c.requires.fault in
     let speed = Leads-then _ _ start c.in_ok-saved.ensures.reads in
-    search (rules, Answers-fault (line_by (numbers_line kinds.Function)) _ speed)
+    let p = err_from_is_err_and c.from_residual-in_err-functions.result c.from_residual-in_err-functions.ensures.1 in
+    rw (p.1, p.2) (Answers-fault (line_by (numbers_line kinds.Function)) _ speed _ _ c.in_err-functions.ensures.reads)
 
 pub returns-in_err-states-clause-reads : goal.returns-in_err-states-clause-reads
 unfolding loco_lines
@@ -32,7 +34,8 @@ returns-in_err-pending-clause-reads g c =
     let start = Leads-start (loco_lines c.args.version c.args.address) c.args.input.now c.requires.fault in
     let functions = Leads-then _ _ (Leads-then _ _ start c.in_ok-saved.ensures.reads) c.in_ok-functions.ensures.reads in
     let states = Leads-then _ _ functions c.in_ok-states.ensures.reads in
-    search (rules, Answers-fault (line_by (pending_line c.args.address)) _ states)
+    let p = err_from_is_err_and c.from_residual-in_err-pending.result c.from_residual-in_err-pending.ensures.1 in
+    rw (p.1, p.2) (Answers-fault (line_by (pending_line c.args.address)) _ states _ _ c.in_err-pending.ensures.reads)
 
 pub returns-in_err-cvs-clause-reads : goal.returns-in_err-cvs-clause-reads
 unfolding loco_lines
