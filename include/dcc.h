@@ -5,7 +5,8 @@
  *
  * - Objects are whole and made here: by a call named _new or _start, or copied whole from such a one. A dcc_framer is not written to
  *   by hand. The numbers of the other objects may be read and changed; where no decoder and no reading has such numbers, a call
- *   answers 13, and a sender of no packet gives 0. A dcc_timing may be any numbers. A bool holds 0 or 1.
+ *   answers 13. A dcc_timing may be any numbers. A bool holds 0 or 1.
+ * - A dcc_sender is of zeros before it is started, and is not written to by hand. It can be copied.
  * - A dcc_station is of zeros before it is made, and is not written to by hand either.
  * - Pointers are not null, are aligned, and point to so many items as the call says, also where a length is 0.
  * - What one call is given does not overlap.
@@ -132,19 +133,18 @@ typedef struct {
 #define DCC_MAIN_TIMING {58, 100, 100, DCC_MAIN_TRACK}
 #define DCC_PROGRAMMING_TIMING {58, 100, 100, DCC_PROGRAMMING_TRACK}
 
-/* A packet that is sent half by half, as a timer asks for them: 16 bytes where dcc_halves wants 380. */
+/* The half-bits of a packet that are still to be sent: 16 bytes, where dcc_halves writes 380. A dcc_sender of zeros has no half-bit left, as
+ * `static dcc_sender sender;` is. Its contents are private to the library. */
 typedef struct {
-    dcc_timing timing;
-    dcc_frame frame;
-    uint8_t place; /* how many of its half-bits were sent */
+    uint64_t kept[2];
 } dcc_sender;
 
 /* Begins to send a frame in a timing. Answers 0, or what refuses it, and writes nothing then: 6, 7 or 8 for the timing (H6, H7, H8),
  * which is looked at first, 1 or 2 for the frame (L1, L2). */
 uint8_t dcc_sender_start(dcc_sender *sender, const uint8_t *frame, uint64_t len, const dcc_timing *timing);
 
-/* The next half-bit of the packet in microseconds, which counts as sent then. 0 where none is left, and where no packet is sent with
- * such numbers; then nothing is written. */
+/* Returns the next half-bit of the packet in microseconds, and counts it as sent. Returns 0 and writes nothing if no half-bit is left.
+ * The call divides nothing and copies nothing, so a timer interrupt may make it. */
 uint16_t dcc_sender_half(dcc_sender *sender);
 
 /* ---- decoders ---- */

@@ -39,7 +39,7 @@ class _Timing(ctypes.Structure):
 
 
 class _Sender(ctypes.Structure):
-    _fields_ = [("timing", _Timing), ("frame", _Frame), ("place", _u8)]
+    _fields_ = [("kept", _u64 * 2)]
 
 
 class _Loco(ctypes.Structure):

@@ -29,7 +29,8 @@ static void send(const dcc_frame *frame) {
     static const dcc_timing main_track = DCC_MAIN_TIMING;
     dcc_sender sender;
     if (dcc_sender_start(&sender, frame->bytes, frame->len, &main_track)) exit(1);
-    for (uint16_t us = dcc_sender_half(&sender); us; us = dcc_sender_half(&sender)) printf(sender.place > 1 ? " %u" : "%u", us);
+    const char *form = "%u";
+    for (uint16_t us = dcc_sender_half(&sender); us; us = dcc_sender_half(&sender), form = " %u") printf(form, us);
     printf("\n");
 }
 

@@ -135,15 +135,16 @@ static void a_sender_gives_the_halves_one_by_one(void) {
     static const dcc_timing tracks[] = {DCC_MAIN_TIMING, DCC_PROGRAMMING_TIMING};
     static const uint8_t six[6] = {1, 2, 4, 8, 16, 31};
     uint16_t halves[DCC_HALVES];
-    dcc_sender sender;
+    dcc_sender sender, at_end;
     for (int i = 0; i < 2; i++) {
         int count = dcc_halves(six, 6, tracks[i].preamble, halves);
         HOLDS(dcc_sender_start(&sender, six, 6, &tracks[i]) == 0);
-        HOLDS(sender.place == 0 && is_frame(&sender.frame, six, 6) && sender.timing.preamble == tracks[i].preamble);
         for (int k = 0; k < count; k++) HOLDS(dcc_sender_half(&sender) == halves[k]);
-        HOLDS(sender.place == count);
-        HOLDS(dcc_sender_half(&sender) == 0);
-        HOLDS(sender.place == count);
+        for (int k = 0; k < 3; k++) {
+            memcpy(&at_end, &sender, sizeof at_end);
+            HOLDS(dcc_sender_half(&sender) == 0);
+            HOLDS(!memcmp(&sender, &at_end, sizeof sender));
+        }
     }
 }
 
@@ -176,34 +177,37 @@ static void a_sender_that_is_refused_is_left(void) {
         {DCC_MAIN_TIMING, wrong_error_byte, 3, DCC_L2_ERROR_BYTE},
         {DCC_MAIN_TIMING, seven_bytes, 7, DCC_L1_LENGTH},
     };
+    static const dcc_timing main_track = DCC_MAIN_TIMING;
     for (size_t i = 0; i < sizeof rows / sizeof *rows; i++) {
         dcc_sender sender, before;
-        memset(&sender, 7, sizeof sender);
+        HOLDS(dcc_sender_start(&sender, speed, 3, &main_track) == 0);
+        for (size_t k = 0; k < 8 * i; k++) HOLDS(dcc_sender_half(&sender) > 0);
         memcpy(&before, &sender, sizeof before);
         HOLDS(dcc_sender_start(&sender, rows[i].frame, rows[i].len, &rows[i].timing) == rows[i].refusal);
         HOLDS(!memcmp(&sender, &before, sizeof sender));
     }
 }
 
-/* Numbers that were written into a sender by hand, with which no packet is sent: 0, and nothing changes. */
-static void a_sender_of_no_packet_gives_nothing(void) {
+/* A sender of zeros has no half-bit left. */
+static void a_sender_of_zeros_gives_nothing(void) {
+    static const dcc_sender zeros;
+    dcc_sender sender = zeros;
+    for (int k = 0; k < 3; k++) HOLDS(dcc_sender_half(&sender) == 0);
+    HOLDS(!memcmp(&sender, &zeros, sizeof sender));
+}
+
+/* A copy goes on where the sender was when it was copied. */
+static void a_copy_of_a_sender_goes_on_by_itself(void) {
     static const dcc_timing timing = DCC_MAIN_TIMING;
-    static dcc_sender zeros;
-    HOLDS(dcc_sender_half(&zeros) == 0);
-    for (int i = 0; i < 8; i++) {
-        dcc_sender sender, before;
-        HOLDS(dcc_sender_start(&sender, speed, 3, &timing) == 0);
-        if (i == 0) sender.timing.one = 0;
-        if (i == 1) sender.timing.zero_first = 65535;
-        if (i == 2) sender.timing.zero_second = 10;
-        if (i == 3) sender.timing.preamble = 255;
-        if (i == 4) sender.frame.len = 0;
-        if (i == 5) sender.frame.len = 255, sender.frame.bytes[5] = 1;
-        if (i == 6) sender.frame.bytes[1] ^= 1;
-        if (i == 7) sender.place = 255;
-        memcpy(&before, &sender, sizeof before);
-        HOLDS(dcc_sender_half(&sender) == 0);
-        HOLDS(!memcmp(&sender, &before, sizeof sender));
+    uint16_t halves[DCC_HALVES];
+    int count = dcc_halves(speed, 3, DCC_MAIN_TRACK, halves);
+    dcc_sender sender;
+    HOLDS(dcc_sender_start(&sender, speed, 3, &timing) == 0);
+    for (int k = 0; k < count; k++) {
+        dcc_sender copy = sender;
+        for (int left = k; left < count; left++) HOLDS(dcc_sender_half(&copy) == halves[left]);
+        HOLDS(dcc_sender_half(&copy) == 0);
+        HOLDS(dcc_sender_half(&sender) == halves[k]);
     }
 }
 
@@ -473,7 +477,8 @@ int main(void) {
     a_sender_gives_the_halves_one_by_one();
     a_sender_has_the_timing_of_its_caller();
     a_sender_that_is_refused_is_left();
-    a_sender_of_no_packet_gives_nothing();
+    a_sender_of_zeros_gives_nothing();
+    a_copy_of_a_sender_goes_on_by_itself();
     a_loco_runs();
     a_loco_writes_at_the_second_copy();
     a_loco_is_left_where_it_is_refused();

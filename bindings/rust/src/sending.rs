@@ -27,9 +27,7 @@ pub enum TimingFault {
 #[repr(C)]
 #[derive(Clone, Debug)]
 pub struct Halves {
-    timing: Timing,
-    frame: Frame,
-    place: u8,
+    kept: [u64; 2],
 }
 
 /// An idle packet.
@@ -77,17 +75,7 @@ impl Timing {
 impl Halves {
     /// None at all.
     fn none() -> Halves {
-        let timing = Timing {
-            one: 0,
-            zero_first: 0,
-            zero_second: 0,
-            preamble: 0,
-        };
-        Halves {
-            timing,
-            frame: Frame::NONE,
-            place: 0,
-        }
+        Halves { kept: [0; 2] }
     }
 
     /// Those of a frame.

@@ -66,3 +66,12 @@ pub(crate) fn frame_of(bytes: &[u8]) -> Result<Frame, u8>
 {
     Frame::of(bytes).map_err(|fault| fault.number())
 }
+
+/// Tells whether these bytes are a frame, as `frame_of` does, and copies none of them.
+pub(crate) fn check_frame(bytes: &[u8]) -> Result<(), u8>
+    ensures { MatchResult result
+        (λ _. IsFrame bytes.now × (frame_answer bytes.now ≡ 0))
+        (λ number. (number ≡ frame_answer bytes.now) × (1 ≤ number)) }
+{
+    Frame::check(bytes).map_err(|fault| fault.number())
+}

@@ -27,7 +27,6 @@ pub use loco_numbers::DccLoco;
 pub use outcome::DccOutcome;
 pub use packet::DccPacket;
 pub use reader::DccReader;
-pub use sender::DccSender;
 pub use service::DccService;
 pub use station_numbers::DccStation;
 pub use timing::DccTiming;

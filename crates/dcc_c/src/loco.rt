@@ -14,10 +14,11 @@ ghost use Rattle.dcc_c.specs.Frames.{frame_answer};
 ghost use Rattle.dcc_c.specs.Applied.{HasApplied};
 ghost use Rattle.dcc_c.specs.Locos.{HasAddress, loco_numbers};
 
-use crate::frame::{DccFrame, frame_of};
+use crate::frame::{DccFrame, check_frame, frame_of};
 use crate::loco_numbers::{DccLoco, own_address, pending_left, put, take_up};
+use dcc_packet::frame_laws::each_frame_is_a_packet;
 use dcc_packet::{Packet, PacketFault};
-use dcc_regs::{LocoRegisters, Speed, Who, hears};
+use dcc_regs::{LocoRegisters, Speed, loco_hears_frame};
 use dcc_wire::Frame;
 
 /// Makes a decoder that is powered up with these CVs, that of CV1 first: stopped, forward, all functions and binary states off.
@@ -66,10 +67,11 @@ pub extern "C" fn dcc_loco_hears(loco: &DccLoco, frame: &[u8], heard: &mut bool)
     ensures refused { result ≢ 0 → result ≢ frame_answer frame.now → result ≡ 13 }
     ensures untold { result ≢ 0 → heard.new ≡ heard.old }
 {
-    match frame_of(frame) {
-        Ok(frame) => match own_address(loco) {
+    match check_frame(frame) {
+        Ok(()) => match own_address(loco) {
             Ok(own) => {
-                *heard = hears(Who::Loco(own), &Packet::read(&frame));
+                each_frame_is_a_packet(frame);
+                *heard = loco_hears_frame(&own, frame);
                 0
             }
             Err(refusal) => refusal.number(),

@@ -39,7 +39,7 @@ impl Packet {
 }
 
 /// The packet of a row with these bytes before the error byte.
-fn row(bytes: &[u8]) -> Option<Packet>
+pub(crate) fn row(bytes: &[u8]) -> Option<Packet>
     ensures found { IfSome result (λ packet. spelling packet ≡ with_error_byte bytes.now) }
     ensures none { IfNone result (¬ (IsRow bytes.now)) }
 {

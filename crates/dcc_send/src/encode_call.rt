@@ -7,7 +7,7 @@ ghost use Rattle.dcc_send.specs.Encoded.{EncodesText};
 ghost use Rattle.dcc_send.specs.EncodeStation.{is_past_limits, has_begun};
 ghost use Rattle.dcc_send.specs.StationEncoded.{StationText};
 
-use crate::encoded_line::hold_frame;
+use crate::encoded_line::FrameLines;
 use crate::encoding::Encode;
 use crate::next_line::next_line;
 use crate::station_encoding::encode_by_station;
@@ -83,10 +83,11 @@ fn encode_packets<R: Source, W: Sink>(
     if let Some(fault) = input.fault() {
         return Err(ToolFault::from(fault));
     }
+    let lines = FrameLines::new(how);
     let mut held = HeldLines::new();
     'packets: loop {
         match next_line::<R, W, Packet>(input, &mut held, writer)?? {
-            Some(packet) => hold_frame(&mut held, &packet.frame(), how, writer)?,
+            Some(packet) => lines.hold(&mut held, &packet.frame(), writer)?,
             None => return Ok(()),
         }
     }

@@ -1,5 +1,5 @@
 //! The line of a packet that is sent.
-ghost use Rattle.std.specs.Prelude.{◌≡◌, ◌≤◌, ◌+◌, ◌*◌, ◌++◌, ◌∷◌, [], length, take, true, false};
+ghost use Rattle.std.specs.Prelude.{◌≡◌, ◌≤◌, ◌+◌, ◌*◌, ◌++◌, ◌∷◌, [], length, take, replicate, true, false};
 ghost use Rattle.std.specs.List.{flat_map};
 ghost use Rattle.dcc_wire.specs.Bodies.{bits_of};
 ghost use Rattle.dcc_wire.specs.Sending.{durations_of, sent};
@@ -11,7 +11,7 @@ ghost use Rattle.dcc_send.specs.Encoded.{frame_line, timing_of, spaced_numbers};
 use crate::encoding::Encode;
 use arrayvec::ArrayVec;
 use dcc_io::{Failed, HeldLines, Sink, append_decimal};
-use dcc_wire::{Frame, Halves, Timing};
+use dcc_wire::{Frame, Timing};
 
 /// Room for the 150 halves of six bytes in service mode, each of up to five digits and a space, and for what is written behind the last.
 type EncodedLine = [u8; 1024];
@@ -19,22 +19,42 @@ type EncodedLine = [u8; 1024];
 /// How many bytes are written for a bit, whose text is a front of them.
 const WRITTEN: usize = 16;
 
-/// Holds the line of a frame.
-pub(crate) fn hold_frame<W: Sink>(
-    held: &mut HeldLines,
-    frame: &Frame,
+/// How frames are written, with the texts of their bits, which are made once for all lines.
+#[derive(Drop)]
+pub(crate) struct FrameLines {
     how: Encode,
-    writer: &mut W,
-) -> Result<(), Failed>
-    ensures { HoldsOrFails (W.state writer.old) (held.old ++ frame_line how frame.now) result
-        held.new
-        (W.state writer.new) }
-{
-    let bytes = frame.bytes();
-    if how.hex {
-        hold_hex(held, bytes, writer)
-    } else {
-        hold_halves(held, *frame, timing_of(how), writer)
+    texts: BitTexts,
+    ghost timing: { texts.timing ≡ timing_of how },
+}
+
+impl FrameLines {
+    /// The lines that are written so.
+    pub(crate) fn new(how: Encode) -> FrameLines
+        ensures { result.how ≡ how }
+    {
+        FrameLines {
+            how,
+            texts: BitTexts::new(timing_of(how)),
+        }
+    }
+
+    /// Holds the line of a frame.
+    pub(crate) fn hold<W: Sink>(
+        &self,
+        held: &mut HeldLines,
+        frame: &Frame,
+        writer: &mut W,
+    ) -> Result<(), Failed>
+        ensures { HoldsOrFails (W.state writer.old) (held.old ++ frame_line self.now.how frame.now) result
+            held.new
+            (W.state writer.new) }
+    {
+        let bytes = frame.bytes();
+        if self.how.hex {
+            hold_hex(held, bytes, writer)
+        } else {
+            hold_halves(held, bytes, &self.texts, writer)
+        }
     }
 }
 
@@ -58,19 +78,17 @@ fn hold_hex<W: Sink>(held: &mut HeldLines, bytes: &[u8], writer: &mut W) -> Resu
 #[inline(never)]
 fn hold_halves<W: Sink>(
     held: &mut HeldLines,
-    frame: Frame,
-    timing: Timing,
+    frame: &[u8],
+    texts: &BitTexts,
     writer: &mut W,
 ) -> Result<(), Failed>
-    requires few { length frame ≤ 6 }
-    requires short { timing.preamble ≤ 20 }
+    requires few { length frame.now ≤ 6 }
     ensures { HoldsOrFails (W.state writer.old)
-        (held.old ++ (spaced_numbers (sent frame timing) ++ 10 ∷ [])) result held.new
+        (held.old ++ (spaced_numbers (sent frame.now texts.now.timing) ++ 10 ∷ [])) result held.new
         (W.state writer.new) }
 {
-    let mut line = [0; 1024];
-    let texts = BitTexts::new(timing);
-    let len = put_halves(&mut line, frame.bytes(), &texts);
+    let mut line = texts.preamble;
+    let len = put_halves(&mut line, frame, texts);
     line[len] = b'\n';
     held.hold(&line[1..len + 1], writer)
 }
@@ -87,25 +105,37 @@ fn timing_of(how: Encode) -> Timing
     }
 }
 
-/// The halves that are sent for the ones and zeros of a packet, as text.
+/// The halves that are sent for the ones and zeros of a packet, and for its preamble, as text.
 #[derive(Drop)]
 struct BitTexts {
     timing: Timing,
     one: BitText,
     zero: BitText,
+    /// A line that begins with the text of a preamble, and how many bytes this text has.
+    preamble: EncodedLine,
+    preamble_len: usize,
     ghost ones: { take one.len one.bytes ≡ flat_map behind_space (durations_of timing (true ∷ [])) },
     ghost zeros: { take zero.len zero.bytes ≡ flat_map behind_space (durations_of timing (false ∷ [])) },
+    ghost preamble_text: { take preamble_len preamble
+        ≡ flat_map behind_space (durations_of timing (replicate timing.preamble true)) },
+    ghost preamble_short: { preamble_len ≤ 240 },
 }
 
 impl BitTexts {
     #[tactic(auto, using(crate::proofs::BitLemmas::one_text, crate::proofs::BitLemmas::zero_text))]
     fn new(timing: Timing) -> BitTexts
+        requires { timing.preamble ≤ 20 }
         ensures { result.timing ≡ timing }
     {
+        let one = BitText::new(timing.one, timing.one);
+        let mut preamble = [0; 1024];
+        let preamble_len = put_ones(&mut preamble, &one, timing);
         BitTexts {
             timing,
-            one: BitText::new(timing.one, timing.one),
+            one,
             zero: BitText::new(timing.zero_first, timing.zero_second),
+            preamble,
+            preamble_len,
         }
     }
 }
@@ -135,17 +165,29 @@ impl BitText {
     }
 }
 
-/// Writes the halves that are sent for the frame of these bytes, a space before each, and answers how many bytes they take.
+/// Writes the halves of a preamble, by the text of a one, and answers how many bytes they take.
+fn put_ones(line: &mut EncodedLine, one: &BitText, timing: Timing) -> usize
+    requires text { take one.now.len one.now.bytes ≡ flat_map behind_space (durations_of timing (true ∷ [])) }
+    requires short { timing.preamble ≤ 20 }
+    ensures items { take result line.new ≡ flat_map behind_space (durations_of timing (replicate timing.preamble true)) }
+    ensures few { result ≤ 240 }
+{
+    let mut at = 0;
+    for _ in 0..timing.preamble {
+        at = put(line, at, one);
+    }
+    at
+}
+
+/// Writes the halves that are sent for the frame of these bytes, a space before each, behind the preamble that stands in the line, and
+/// answers how many bytes all of them take.
 fn put_halves(line: &mut EncodedLine, frame: &[u8], texts: &BitTexts) -> usize
     requires few { length frame.now ≤ 6 }
-    requires short { texts.now.timing.preamble ≤ 20 }
+    requires preamble { line.old ≡ texts.now.preamble }
     ensures items { take result line.new ≡ flat_map behind_space (sent frame.now texts.now.timing) }
     ensures few { result ≤ 900 }
 {
-    let mut at = 0;
-    for _ in 0..texts.timing.preamble {
-        at = put_bit(line, at, texts, true);
-    }
+    let mut at = texts.preamble_len;
     for byte in frame {
         at = put_bit(line, at, texts, false);
         at = put_byte(line, at, texts, *byte);

@@ -8,7 +8,7 @@ ghost use Rattle.dcc_io.specs.StationLines.{asked_by, Command, Next};
 ghost use Rattle.dcc_send.specs.StationEncoded.{StationText, refusal_line};
 ghost use Rattle.dcc_send.specs.Inner.Held.{HoldsAnswersOrFails};
 
-use crate::encoded_line::hold_frame;
+use crate::encoded_line::FrameLines;
 use crate::encoding::Encode;
 use crate::next_line::next_line;
 use dcc_io::{Failed, HeldLines, Input, Sink, Source, StationLine, ToolFault};
@@ -33,10 +33,11 @@ pub(crate) fn encode_by_station<R: Source, W: Sink>(
     if let Some(fault) = input.fault() {
         return Err(ToolFault::from(fault));
     }
+    let written = FrameLines::new(how);
     let mut held = HeldLines::new();
     'lines: loop {
         match next_line::<R, W, StationLine>(input, &mut held, writer)?? {
-            Some(line) => answer(station, &mut held, how, line, writer)?,
+            Some(line) => answer(station, &mut held, &written, line, writer)?,
             None => return Ok(()),
         }
     }
@@ -46,17 +47,17 @@ pub(crate) fn encode_by_station<R: Source, W: Sink>(
 fn answer<W: Sink>(
     station: &mut Station,
     held: &mut HeldLines,
-    how: Encode,
+    written: &FrameLines,
     line: StationLine,
     writer: &mut W,
 ) -> Result<(), Failed>
-    ensures { HoldsAnswersOrFails how station.old (asked_by line) (W.state writer.old)
+    ensures { HoldsAnswersOrFails written.now.how station.old (asked_by line) (W.state writer.old)
         held.old result
         station.new held.new (W.state writer.new) }
 {
     match line {
         StationLine::Command(packet) => take_command(station, held, packet, writer),
-        StationLine::Send(count) => send(station, held, how, count, writer),
+        StationLine::Send(count) => send(station, held, written, count, writer),
     }
 }
 
@@ -81,16 +82,16 @@ fn take_command<W: Sink>(
 fn send<W: Sink>(
     station: &mut Station,
     held: &mut HeldLines,
-    how: Encode,
+    written: &FrameLines,
     count: u16,
     writer: &mut W,
 ) -> Result<(), Failed>
-    ensures { HoldsAnswersOrFails how station.old (replicate count Next) (W.state writer.old)
+    ensures { HoldsAnswersOrFails written.now.how station.old (replicate count Next) (W.state writer.old)
         held.old result
         station.new held.new (W.state writer.new) }
 {
     for _ in 0..count {
-        send_next(station, held, how, writer)?;
+        send_next(station, held, written, writer)?;
     }
     Ok(())
 }
@@ -99,15 +100,15 @@ fn send<W: Sink>(
 fn send_next<W: Sink>(
     station: &mut Station,
     held: &mut HeldLines,
-    how: Encode,
+    written: &FrameLines,
     writer: &mut W,
 ) -> Result<(), Failed>
-    ensures { HoldsAnswersOrFails how station.old (Next ∷ []) (W.state writer.old) held.old
+    ensures { HoldsAnswersOrFails written.now.how station.old (Next ∷ []) (W.state writer.old) held.old
         result
         station.new held.new (W.state writer.new) }
 {
     let packet = station.next();
-    hold_frame(held, &packet.frame(), how, writer)
+    written.hold(held, &packet.frame(), writer)
 }
 
 /// The line of a refused command.

@@ -1,21 +1,22 @@
 -- One half more of a body that is kept as plain numbers.
 use Rattle.std.proofs.Common.{◌≡◌, ℕ, ◌+◌, ◌*◌, ◌<◌, ◌≤◌, inl, inr, Bool, true, false, cond, List, [], ◌∷◌, ◌++◌}
-use Rattle.std.proofs.Common.{length, Some, None, refl, sym, ◌∙◌, arith, bit_xor, append-nil, subst, ◌≢◌, ◌⊎◌}
+use Rattle.std.proofs.Common.{length, Some, None, refl, sym, ap, ◌∙◌, arith, bit_xor, append-nil, subst, ◌≢◌, ◌⊎◌}
 use Rattle.std.proofs.Common.{if◌then◌else◌}
 use Rattle.std.proofs.lemmas.Bool.{cases_lt, true_from_ne_false}
 use Rattle.dcc_wire.specs.declared.half.Half.{Half}
 use Rattle.dcc_wire.specs.declared.half.Half.TheVariants.{Zero}
-use Rattle.dcc_wire.specs.declared.seen.Fault.TheVariants.{BadHalf}
+use Rattle.dcc_wire.specs.declared.seen.Fault.TheVariants.{BadHalf, SplitBit}
 use Rattle.dcc_wire.specs.declared.seen.Seen.TheVariants.{Nothing, Refused}
 use Rattle.dcc_wire.specs.Bodies.{bits_of, halves_of, first_half}
-use Rattle.dcc_wire.specs.Framing.{Hunting, InBody}
+use Rattle.dcc_wire.specs.Framing.{Rest, Hunting, InBody}
 use Rattle.dcc_wire.specs.Half.{bit_of}
 use Rattle.dcc_wire.specs.Inner.KeptSteps.{HasRoomFor, FitsBehind, Grows}
 use Rattle.dcc_wire.specs.Inner.Steps.{rest_after, answer_to, answer_of, left_of}
 use Rattle.dcc_wire.specs.Kept.{Kept, IsKept, kept_rest}
-use Rattle.dcc_wire.specs.Outcomes.{outcome_of}
+use Rattle.dcc_wire.specs.Outcomes.{outcome_of, by_bits, ones_left}
 use Rattle.dcc_wire.specs.Packed.{IsPacked, byte_bits, packed_bits}
 use Rattle.dcc_wire.proofs.BitLemmas.{half_of}
+use Rattle.dcc_wire.proofs.ByteBits.{cases_Option}
 use Rattle.dcc_wire.proofs.HistoryLemmas.{HasHistory, history_more}
 use Rattle.dcc_wire.proofs.OpenBodies.{answer-bad, answer-bit, answer-first, answer-split, bit_more, first_more}
 use Rattle.dcc_wire.proofs.OpenBodies.{bad_half, half_of-bit}
@@ -139,17 +140,23 @@ module _ {k : Kept} (is : IsKept k) (out : k.in_body ≡ false) (half : Half) wh
 same_or_apart : (a b : Bool) → (a ≡ b) ⊎ (a ≢ b)
 same_or_apart a b = grind arith
 
+-- it does so in a body alone
+pub shows_in_body : (k : Kept) (half : Half) → answer_to (kept_rest k) half ≢ Nothing → k.in_body ≡ true
+unfolding answer_to
+shows_in_body k half shows = true_from_ne_false k.in_body (λ out. shows (rw out refl))
+
 module _ {k : Kept} (is : IsKept k) (in_body : k.in_body ≡ true) (half : Half) where
   abbrev bits : List Bool
   bits = packed_bits k.bytes k.count k.shift
 
   -- it is bad
-  pub bad_shows : bit_of half ≡ None → answer_to (kept_rest k) half ≢ Nothing
+  pub bad_answer : bit_of half ≡ None → answer_to (kept_rest k) half ≡ Refused BadHalf
   unfolding answer_to
-  bad_shows none =
-      let answer : answer_to (kept_rest k) half ≡ Refused BadHalf =
-      rw (in_body_rest k k.has_first in_body refl, bad_half half none) (answer-bad bits (is.unfinished in_body) _) in
-      λ nothing. cc
+  bad_answer none =
+      rw (in_body_rest k k.has_first in_body refl, bad_half half none) (answer-bad bits (is.unfinished in_body) _)
+
+  pub bad_shows : bit_of half ≡ None → answer_to (kept_rest k) half ≢ Nothing
+  bad_shows none = let answer = bad_answer none in λ nothing. cc
 
   -- it leaves no room
   module _ (bit : Bool) (of : bit_of half ≡ Some bit) (no_room : ¬ (HasRoomFor k bit)) where
@@ -161,25 +168,58 @@ module _ {k : Kept} (is : IsKept k) (in_body : k.in_body ≡ true) (half : Half)
     unfolding answer_to
     second first same = rw (in_body_rest k true in_body has, same, half_of-bit half bit of)
 
+    -- it differs from the first half of its bit
+    pub split_answer : k.first ≢ bit → answer_to (kept_rest k) half ≡ Refused SplitBit
+    split_answer apart = second k.first refl ∙ answer-split bits (is.unfinished in_body) k.first bit apart
+
     -- it is that of an end bit, or a seventh byte begins with it
-    whole_shows : k.first ≡ bit → k.count ≡ 0 → answer_to (kept_rest k) half ≢ Nothing
-    whole_shows same none nothing =
+    pub whole_answer : k.first ≡ bit → answer_to (kept_rest k) half ≡ (by_bits (k.bytes, bit)).1
+    whole_answer same =
         let packed = is.packed in_body in
+        let none : k.count ≡ 0 = elim (cases_lt 0 k.count) [
+          | inl some ↦ absurd (no_room (inr (grind (arith, has, same, packed.room some))))
+          | inr none ↦ omega (arith, none)
+        ] in
         let full : bit ≡ false → length k.bytes ≡ 6 = λ zero. elim (cases_lt (length k.bytes) 6) [
           | inl less ↦ absurd
               (no_room (inr (record { has_first = has; same = same; zero_first = λ _. zero; room = less })))
           | inr most ↦ omega (arith, packed.few, most)
         ] in
-        let answer = second bit same ∙ answer-bit bits bit ∙ answer-closed packed none bit full in
-        closed_something bit k.bytes (sym answer ∙ nothing)
+        second bit same ∙ answer-bit bits bit ∙ answer-closed packed none bit full
 
     pub no_room_shows : answer_to (kept_rest k) half ≢ Nothing
     no_room_shows = elim (same_or_apart k.first bit) [
-      | inl same ↦ elim (cases_lt 0 k.count) [
-        | inl some ↦ absurd (no_room (inr (grind (arith, has, same, (is.packed in_body).room some))))
-        | inr none ↦ whole_shows same (omega (arith, none))
-      ]
-      | inr apart ↦
-          let answer = second k.first refl ∙ answer-split bits (is.unfinished in_body) k.first bit apart in
-          λ nothing. cc
+      | inl same ↦ λ nothing. closed_something bit k.bytes (sym (whole_answer same) ∙ nothing)
+      | inr apart ↦ let answer = split_answer apart in λ nothing. cc
     ]
+
+  -- where it shows something there is no room for it
+  pub shows_no_room : (bit : Bool) → bit_of half ≡ Some bit → answer_to (kept_rest k) half ≢ Nothing → ¬ (HasRoomFor k bit)
+  shows_no_room bit of shows (inl not_yet) = shows (first_comes is in_body half bit of not_yet).answer
+  shows_no_room bit of shows (inr behind) = elim (cases_lt k.count 8) [
+    | inl less ↦ shows (second_added is in_body half bit of behind.has_first (inr behind) {number = cond bit 1 0} refl less).answer
+    | inr most ↦ shows (byte_added is in_body half bit of behind.has_first (inr behind) {number = cond bit 1 0} refl most refl).answer
+  ]
+
+-- what an outcome leaves
+left_by : (rest : Rest) (half : Half) → answer_to rest half ≢ Nothing
+    → rest_after rest half ≡ Hunting (ones_left (answer_to rest half))
+unfolding answer_to rest_after left_of answer_of
+left_by (Hunting ones) half shows = absurd (shows refl)
+left_by (InBody halves) half shows = elim (cases_Option (outcome_of (halves ++ half ∷ []))) [
+  | inl none ↦ absurd (shows (rw none refl))
+  | inr (p, is) ↦ rw is refl
+]
+
+pub outcome_leaves : (k : Kept) (half : Half) → answer_to (kept_rest k) half ≢ Nothing
+    → rest_after (kept_rest k) half ≡ Hunting (ones_left (answer_to (kept_rest k) half))
+outcome_leaves k half shows = left_by (kept_rest k) half shows
+
+-- a framer that hunts again
+pub hunts_again : {k : Kept} (is : IsKept k) (half : Half) → answer_to (kept_rest k) half ≢ Nothing → (ones : ℕ)
+    → ones ≡ ones_left (answer_to (kept_rest k) half) → IsKept (record k { in_body = false; ones = ones })
+hunts_again {k} is half shows ones e = record {
+  packed = λ in_it. cc;
+  unfinished = λ in_it. cc;
+  history = subst HasHistory (outcome_leaves k half shows ∙ ap Hunting (sym e)) (history_more (kept_rest k) half is.history);
+}

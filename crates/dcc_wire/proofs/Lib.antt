@@ -6,6 +6,8 @@ pub mod OpenBodies
 pub mod ByteLemmas
 pub mod SendingLemmas
 pub mod HalvesLemmas
+pub mod StepLemmas
+pub mod WordLemmas
 pub mod ByteBits
 pub mod PackedLemmas
 pub mod OutcomeRows

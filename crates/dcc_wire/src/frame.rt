@@ -52,7 +52,7 @@ impl FrameFault {
 }
 
 impl Frame {
-    ghost use Rattle.std.specs.Prelude.{◌≡◌, ◌↔◌, IsTrue, MatchResult};
+    ghost use Rattle.std.specs.Prelude.{◌≡◌, ◌↔◌, IsTrue, MatchResult, Ok, Err};
     ghost use Rattle.dcc_wire.specs.Frames.{IsFrame, frame_fault};
     ghost use Rattle.dcc_wire.specs.FrameOf.{frame_of, frame_with_error_byte};
 
@@ -63,13 +63,23 @@ impl Frame {
         ensures valid { MatchResult result (λ frame. (IsFrame bytes.now) × (frame ≡ bytes.now))
             (λ fault. frame_fault bytes.now fault) }
     {
+        Frame::check(bytes)?;
+        Ok(Frame::of_valid(bytes))
+    }
+
+    /// Tells whether these bytes are a frame, as [`Frame::of`] does, and copies none of them.
+    #[inline(always)]
+    pub fn check(bytes: &[u8]) -> Result<(), FrameFault>
+        ensures exact { MatchResult result (λ _. frame_of bytes.now ≡ Ok bytes.now) (λ fault. frame_of bytes.now ≡ Err fault) }
+        ensures valid { MatchResult result (λ _. IsFrame bytes.now) (λ fault. frame_fault bytes.now fault) }
+    {
         if bytes.len() < 3 || bytes.len() > 6 {
             return Err(FrameFault::Length);
         }
         if xor(bytes) != 0 {
             return Err(FrameFault::XorNotZero);
         }
-        Ok(Frame::of_valid(bytes))
+        Ok(())
     }
 
     /// The frame of these bytes with their error byte behind them (NMRA S-9.2). L1 unless there are 2 to 5.
@@ -92,6 +102,15 @@ impl Frame {
         Frame {
             bytes: PacketBytes::of(bytes),
         }
+    }
+
+    /// The frame of bytes that are known to be one and lie so already.
+    #[inline(always)]
+    pub(crate) fn of_bytes(bytes: PacketBytes) -> Frame
+        requires { IsFrame bytes }
+        ensures { result ≡ bytes }
+    {
+        Frame { bytes }
     }
 
     /// The bytes, in the order in which they are sent.

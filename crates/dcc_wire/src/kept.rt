@@ -1,13 +1,15 @@
 //! A framer as plain numbers.
 
 ghost use Rattle.std.specs.Prelude.{◌≡◌};
+ghost use Rattle.dcc_wire.specs.Frames.{xor_of};
 ghost use Rattle.dcc_wire.specs.Kept.{kept_rest};
+ghost use Rattle.dcc_wire.specs.Outcomes.{body_outcome};
 
 use crate::bytes::PacketBytes;
 use crate::framer::{State, begins_body, counted};
 use crate::open_body::OpenBody;
 use crate::packed_bits::PackedBits;
-use crate::{Framer, Half, Seen};
+use crate::{Body, Fault, Frame, Framer, Half, Seen};
 use arrayvec::ArrayVec;
 use std::marker::Model;
 
@@ -201,17 +203,36 @@ impl KeptFramer {
         }
     }
 
-    /// Takes a half as the framer that is kept does.
+    /// Takes a half with which the body comes to an outcome.
     fn take_apart(&mut self, half: Half) -> Seen
+        requires { answer_to (kept_rest self.old) half ≢ Seen.Nothing }
         ensures history { (durations : List ℕ) × StandsFor (kept_rest self.old) durations }
         ensures after { kept_rest self.new ≡ rest_after (kept_rest self.old) half }
         ensures answer { result ≡ answer_to (kept_rest self.old) half }
         ensures hunts { result ≢ Seen.Nothing → kept_rest self.new ≡ Hunting (ones_left result) }
     {
-        let mut framer = self.framer();
-        let seen = framer.take_half(half);
-        *self = framer.keep();
+        let seen = self.outcome(half);
+        self.in_body = false;
+        self.ones = seen.ones_left();
         seen
+    }
+
+    /// The outcome to which the body comes with a half: one that is bad, or the second of a bit for which there is no room.
+    fn outcome(&self, half: Half) -> Seen
+        requires { answer_to (kept_rest self.now) half ≢ Seen.Nothing }
+        ensures { result ≡ answer_to (kept_rest self.now) half }
+    {
+        let first = self.first;
+        let Some(bit) = half.bit() else {
+            return Seen::Refused(Fault::BadHalf);
+        };
+        if first != bit {
+            return Seen::Refused(Fault::SplitBit);
+        }
+        if !bit {
+            return Seen::Refused(Fault::TooLong);
+        }
+        close(&self.bytes, self.xor)
     }
 
     /// The framer, taken up again: it stands for the halves for which the one that was kept stood.
@@ -270,4 +291,21 @@ impl Framer {
             },
         }
     }
+}
+
+/// What bytes with an end bit are.
+#[tactic(auto, unfolding(crate::specs::Outcomes::body_outcome))]
+#[inline(always)]
+fn close(bytes: &PacketBytes, xor: u8) -> Seen
+    requires { xor ≡ xor_of bytes.now }
+    ensures { result ≡ body_outcome bytes.now }
+{
+    let all = bytes.as_slice();
+    if all.len() < 3 {
+        return Seen::Refused(Fault::TooShort);
+    }
+    if xor != 0 {
+        return Seen::Refused(Fault::ErrorByte(Body::of_bytes(*bytes)));
+    }
+    Seen::Packet(Frame::of_bytes(*bytes))
 }

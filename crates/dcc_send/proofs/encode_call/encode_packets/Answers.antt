@@ -10,15 +10,15 @@ packets-init g c = rw c.new-held.ensures (Encoding-start (sym c.fault.ensures.fa
 pub packets-preserved : goal.packets-preserved
 packets-preserved g c =
     let took = rw (rw c.in_ok-packet.is at c.branch-packet.ensures, c.in-Some-2.is) at c.in_ok-next_line.ensures in
-    let held = rw c.frame.ensures.spelled at c.in_ok-hold_frame-in-Some-2.ensures in
+    let held = rw (c.frame.ensures.spelled, c.new-lines.ensures) at c.in_ok-hold-in-Some-2.ensures in
     Encoding-packet (Encoding-wrote c.packets.invariant took.1 took.2) c.in-Some-2.packet took.0 held.0 held.1
 
-pub returns-in_err-hold_frame-in-Some-2-clause-encodes : goal.returns-in_err-hold_frame-in-Some-2-clause-encodes
-returns-in_err-hold_frame-in-Some-2-clause-encodes g c fault =
-    let p = err_from_is_err_and c.from_residual-in_err-hold_frame-in-Some-2.result
-    c.from_residual-in_err-hold_frame-in-Some-2.ensures.1 in
+pub returns-in_err-hold-in-Some-2-clause-encodes : goal.returns-in_err-hold-in-Some-2-clause-encodes
+returns-in_err-hold-in-Some-2-clause-encodes g c fault =
+    let p = err_from_is_err_and c.from_residual-in_err-hold-in-Some-2.result
+    c.from_residual-in_err-hold-in-Some-2.ensures.1 in
     let took = rw (rw c.in_ok-packet.is at c.branch-packet.ensures, c.in-Some-2.is) at c.in_ok-next_line.ensures in
-    let failed = rw c.frame.ensures.spelled at c.in_err-hold_frame-in-Some-2.ensures in
+    let failed = rw (c.frame.ensures.spelled, c.new-lines.ensures) at c.in_err-hold-in-Some-2.ensures in
     rw (p.1, p.2) (stops_at_write (Encoding-wrote c.packets.invariant took.1 took.2) _ c.in-Some-2.packet took.0 failed.0
     failed.1)
 

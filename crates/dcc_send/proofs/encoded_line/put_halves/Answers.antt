@@ -1,27 +1,15 @@
 use Rattle.std.proofs.Common.{◌≡◌, ◌+◌, ◌∷◌, ◌++◌, [], take, drop, get_or, true, refl, ap, ◌∙◌, arith}
 use Rattle.dcc_wire.specs.Bodies.{bits_of, body_bits}
-use Rattle.dcc_send.proofs.BitLemmas.{text_of, ones_none, ones_more, body_begins, byte_step, body_ends}
+use Rattle.dcc_send.proofs.BitLemmas.{text_of, body_begins, byte_step, body_ends}
 use Rattle.dcc_send.proofs.encoded_line.put_halves.Goals as goal
 
-pub loop-init : goal.loop-init
-loop-init c = record { written = ones_none c.args.texts.now.timing; few = omega arith }
-
-pub loop-preserved : goal.loop-preserved
-loop-preserved c =
-    let timing = c.args.texts.now.timing in
-    record {
-      written =
-          c.put_bit-at.ensures.items ∙ ap (λ s. s ++ text_of timing (true ∷ [])) c.loop.invariant.written
-          ∙ ones_more timing c.loop.counter;
-      few = omega (arith, c.put_bit-at.ensures.few, c.loop.invariant.few);
-    }
-
 pub loop-byte-init : goal.loop-byte-init
-loop-byte-init c = record {
-  written = body_begins c.args.texts.now.timing c.args.frame.now c.loop.counter _
-      (omega (arith, c.loop-test.false, c.loop.auto.counter-end)) c.loop.invariant.written;
-  few = omega (arith, c.loop.invariant.few, c.loop.auto.counter-end, c.requires.short);
-}
+loop-byte-init c =
+    let texts = c.args.texts.now in record {
+      written = body_begins texts.timing c.args.frame.now texts.timing.preamble _ refl
+          (ap (take texts.preamble_len) c.requires.preamble ∙ texts.preamble_text);
+      few = omega (arith, texts.preamble_short);
+    }
 
 pub loop-byte-preserved : goal.loop-byte-preserved
 loop-byte-preserved c =
@@ -31,10 +19,10 @@ loop-byte-preserved c =
     record {
       written =
           ap (λ s. s ++ rest)
-          (c.put_byte-at.ensures.items ∙ ap (λ s. s ++ text_of timing (bits_of 8 byte)) c.put_bit-at-in-loop-byte.ensures.items)
+          (c.put_byte-at.ensures.items ∙ ap (λ s. s ++ text_of timing (bits_of 8 byte)) c.put_bit-at.ensures.items)
           ∙ byte_step timing c.args.frame.now c.loop-byte.byte-index byte _ _ c.loop-byte-test.true refl
           c.loop-byte.invariant.written;
-      few = omega (arith, c.put_byte-at.ensures.few, c.put_bit-at-in-loop-byte.ensures.few, c.loop-byte.invariant.few);
+      few = omega (arith, c.put_byte-at.ensures.few, c.put_bit-at.ensures.few, c.loop-byte.invariant.few);
     }
 
 pub returns-clause-items : goal.returns-clause-items

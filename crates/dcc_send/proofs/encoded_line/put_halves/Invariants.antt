@@ -1,14 +1,8 @@
-use Rattle.std.proofs.Common.{◌≡◌, ◌+◌, ◌*◌, ◌≤◌, ◌++◌, drop, take, replicate, true}
+use Rattle.std.proofs.Common.{◌≡◌, ◌+◌, ◌*◌, ◌≤◌, ◌++◌, drop, take}
 use Rattle.dcc_wire.specs.Bodies.{body_bits}
 use Rattle.dcc_wire.specs.Sending.{sent_bits}
 use Rattle.dcc_send.proofs.BitLemmas.{text_of}
 use Rattle.dcc_send.proofs.encoded_line.put_halves.Given as goal
-
-abbrev pub invariant-loop : goal.invariant-loop
-invariant-loop l = record {
-  written : take l.at l.line ≡ text_of l.texts.timing (replicate l.counter true);
-  few : l.at ≤ 12 * l.counter;
-}
 
 abbrev pub invariant-loop-byte : goal.invariant-loop-byte
 invariant-loop-byte l = record {

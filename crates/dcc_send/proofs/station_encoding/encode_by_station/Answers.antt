@@ -10,7 +10,7 @@ lines-init g c = rw c.new-held.ensures (Answering-start (sym c.fault.ensures.fau
 pub lines-preserved : goal.lines-preserved
 lines-preserved g c =
     let took = rw (rw c.in_ok-line.is at c.branch-line.ensures, c.in-Some-2.is) at c.in_ok-next_line.ensures in
-    let held = c.in_ok-answer-in-Some-2.ensures in
+    let held = rw c.new-written.ensures at c.in_ok-answer-in-Some-2.ensures in
     Answering-line (Answering-wrote c.lines.invariant took.1 took.2) c.in-Some-2.line took.0 held.0 held.1
 
 pub returns-in_err-answer-in-Some-2-clause-answers : goal.returns-in_err-answer-in-Some-2-clause-answers
@@ -18,7 +18,7 @@ returns-in_err-answer-in-Some-2-clause-answers g c fault =
     let p = err_from_is_err_and c.from_residual-in_err-answer-in-Some-2.result
     c.from_residual-in_err-answer-in-Some-2.ensures.1 in
     let took = rw (rw c.in_ok-line.is at c.branch-line.ensures, c.in-Some-2.is) at c.in_ok-next_line.ensures in
-    let failed = c.in_err-answer-in-Some-2.ensures in
+    let failed = rw c.new-written.ensures at c.in_err-answer-in-Some-2.ensures in
     rw (p.1, p.2) (stops_at_write (Answering-wrote c.lines.invariant took.1 took.2) _ c.in-Some-2.line took.0 failed.0
     failed.1)
 

@@ -3,7 +3,7 @@ use Rattle.dcc_send.proofs.station_encoding.encode_by_station.Given as goal
 
 abbrev pub invariant-lines : goal.invariant-lines
 invariant-lines g l =
-    Answering l.how l.initial.station l.station l.initial.input l.input l.held (g.W.Sink.state l.initial.writer)
+    Answering l.fn.how l.initial.station l.station l.initial.input l.input l.held (g.W.Sink.state l.initial.writer)
     (g.W.Sink.state l.writer)
 
 abbrev pub decreases-lines : goal.decreases-lines

@@ -9,7 +9,7 @@ loop-init g c =
 
 pub loop-preserved : goal.loop-preserved
 loop-preserved g c = (
-  HoldsAnswers-next c.args.how c.args.station.now c.loop.station c.send_next.new.station c.loop.counter _ _ _
+  HoldsAnswers-next c.args.written.now.how c.args.station.now c.loop.station c.send_next.new.station c.loop.counter _ _ _
       c.args.held.now c.loop.held c.send_next.new.held c.loop.invariant.0 c.in_ok-send_next.ensures.0,
   c.in_ok-send_next.ensures.1 ∙ c.loop.invariant.1,
 )
@@ -18,6 +18,6 @@ pub returns-in_err-send_next : goal.returns-in_err-send_next
 returns-in_err-send_next g c =
     let p = err_from_is_err_and c.from_residual.result c.from_residual.ensures.1 in
     rw p.1
-    (stops_sending c.args.how c.args.station.now c.loop.station c.loop.counter c.args.count _ _ _ c.args.held.now
+    (stops_sending c.args.written.now.how c.args.station.now c.loop.station c.loop.counter c.args.count _ _ _ c.args.held.now
     c.loop.held c.loop-test.true c.loop.invariant.0 c.loop.invariant.1 c.in_err-send_next.ensures.0
     c.in_err-send_next.ensures.1)

@@ -5,6 +5,6 @@ use Rattle.dcc_send.proofs.station_encoding.send_next.Goals as goal
 
 pub returns : goal.returns
 returns g c =
-    let holds = rw c.frame.ensures.spelled at c.hold_frame.ensures in
-    holds_answer c.args.how c.args.station.now c.next-packet.new.self Next _ _ _ c.args.held.now
-    c.hold_frame.new.held c.hold_frame.result (c.next-packet.result, c.next-packet.ensures.next, refl) holds
+    let holds = rw c.frame.ensures.spelled at c.hold.ensures in
+    holds_answer c.args.written.now.how c.args.station.now c.next-packet.new.self Next _ _ _ c.args.held.now
+    c.hold.new.held c.hold.result (c.next-packet.result, c.next-packet.ensures.next, refl) holds

@@ -7,5 +7,4 @@ returns-then-place-preamble c = sym (sent_bits-preamble c.args.bytes.now c.args.
 
 pub returns : goal.returns
 returns c =
-    rw c.from-preamble.ensures at c.body_bit.ensures
-    ∙ sym (sent_bits-body c.args.bytes.now c.args.preamble c.args.place (omega arith))
+    c.body_bit.ensures ∙ sym (sent_bits-body c.args.bytes.now c.args.preamble c.args.place (omega arith))
