@@ -42,9 +42,10 @@ pub extern "C" fn dcc_push(framer: &mut KeptFramer, us: u16, outcome: &mut DccOu
     push_apart(framer, us, outcome)
 }
 
-/// The same for a half that may show something, out of the way of what each half costs.
+/// The same for a half that shows something, out of the way of what each half costs.
 #[inline(never)]
 fn push_apart(framer: &mut KeptFramer, us: u16, outcome: &mut DccOutcome) -> u8
+    requires { (halves : List ℕ) → StandsFor (kept_rest framer.old) halves → seen (halves ++ us ∷ []) ≢ seen halves }
     ensures history { (halves : List ℕ) × StandsFor (kept_rest framer.old) halves }
     ensures stands { (halves : List ℕ) → StandsFor (kept_rest framer.old) halves
         → StandsFor (kept_rest framer.new) (halves ++ us ∷ []) }
@@ -56,11 +57,7 @@ fn push_apart(framer: &mut KeptFramer, us: u16, outcome: &mut DccOutcome) -> u8
     ensures bit { result ≤ 1 }
     ensures kept { result ≡ 0 → outcome.new ≡ outcome.old }
 {
-    let answer = framer.push(us);
-    if answer.is_nothing() {
-        return 0;
-    }
-    *outcome = outcome_of(1, &answer);
+    *outcome = outcome_of(1, &framer.push_shown(us));
     1
 }
 

@@ -2,12 +2,13 @@
 
 ghost use Rattle.std.specs.Prelude.{◌≡◌, ◌≤◌, length, take, drop, true, false, IfSome, IfNone};
 ghost use Rattle.dcc_wire.specs.declared.timing.Timing.{Timing};
+ghost use Rattle.dcc_wire.specs.Frames.{IsFrame};
 ghost use Rattle.dcc_wire.specs.Sending.{sent};
 ghost use Rattle.dcc_wire.specs.Timings.{is_preamble};
 ghost use Rattle.dcc_c.specs.Halves.{IsNominal, is_sendable};
 
-use crate::frame::frame_of;
-use dcc_wire::{Frame, Halves, Timing};
+use crate::frame::check_frame;
+use dcc_wire::{Halves, Timing};
 
 /// Writes what is sent for the frame of these bytes, behind so many ones, 14 to 40: the halves in microseconds, 58 of a one and
 /// 100 of a zero. The answer is their number, 190 at most, or 0 where the bytes are no frame or the ones not so many; then
@@ -21,8 +22,8 @@ pub extern "C" fn dcc_halves(frame: &[u8], preamble: u8, halves: &mut [u16; 190]
     ensures refused { is_sendable frame.now preamble ≡ false → result ≡ 0 }
     ensures kept { is_sendable frame.now preamble ≡ false → halves.new ≡ halves.old }
 {
-    match (frame_of(frame), nominal(preamble)) {
-        (Ok(frame), Some(timing)) => put_halves(frame, timing, halves),
+    match (check_frame(frame), nominal(preamble)) {
+        (Ok(()), Some(timing)) => put_halves(frame, &timing, halves),
         _ => 0,
     }
 }
@@ -41,15 +42,22 @@ fn nominal(preamble: u8) -> Option<Timing>
     }
 }
 
-fn put_halves(frame: Frame, timing: Timing, halves: &mut [u16; 190]) -> u8
-    requires few { length frame ≤ 6 }
-    requires short { timing.preamble ≤ 40 }
-    ensures halves { take result halves.new ≡ sent frame timing }
+/// Writes the halves of a frame, both of a bit at once, and those that may be left.
+fn put_halves(frame: &[u8], timing: &Timing, halves: &mut [u16; 190]) -> u8
+    requires frame { IsFrame frame.now }
+    requires short { timing.now.preamble ≤ 40 }
+    ensures halves { take result halves.new ≡ sent frame.now timing.now }
     ensures few { result ≤ 190 }
     ensures behind { drop result halves.new ≡ drop result halves.old }
 {
     let mut count = 0;
-    for us in Halves::new(frame, timing) {
+    let mut left = Halves::of_bytes(frame, timing);
+    'bits: while let Some((first, second)) = left.take_bit() {
+        halves[count] = first;
+        halves[count + 1] = second;
+        count += 2;
+    }
+    for us in left {
         halves[count] = us;
         count += 1;
     }

@@ -1,7 +1,7 @@
 //! What a framer answers, as numbers.
 
-ghost use Rattle.std.specs.Prelude.{◌≡◌, ◌≢◌, ◌≤◌, length};
-ghost use Rattle.dcc_c.specs.Frames.{bytes_of, frame_numbers};
+ghost use Rattle.std.specs.Prelude.{◌≡◌, ◌≢◌, ◌≤◌, [], length};
+ghost use Rattle.dcc_c.specs.Frames.{bytes_of, frame_numbers, zeros_behind};
 ghost use Rattle.dcc_c.specs.Outcomes.{outcome_numbers, outcome_seen};
 
 use crate::frame::DccFrame;
@@ -26,18 +26,37 @@ pub(crate) fn outcome_of(at: u32, answer: &Seen) -> DccOutcome
     ensures numbers { result ≡ outcome_numbers at answer.now }
 {
     match answer {
-        Seen::Nothing => numbers(at, 0, &[]),
-        Seen::Packet(frame) => numbers(at, 0, frame.bytes()),
-        Seen::Refused(Fault::ErrorByte(body)) => numbers(at, 5, body.bytes()),
-        Seen::Refused(Fault::BadHalf) => numbers(at, 1, &[]),
-        Seen::Refused(Fault::SplitBit) => numbers(at, 2, &[]),
-        Seen::Refused(Fault::TooShort) => numbers(at, 3, &[]),
-        Seen::Refused(Fault::TooLong) => numbers(at, 4, &[]),
+        Seen::Nothing => refused(at, 0),
+        Seen::Packet(frame) => numbers(at, 0, frame.bytes(), frame.padded()),
+        Seen::Refused(Fault::ErrorByte(body)) => numbers(at, 5, body.bytes(), body.padded()),
+        Seen::Refused(Fault::BadHalf) => refused(at, 1),
+        Seen::Refused(Fault::SplitBit) => refused(at, 2),
+        Seen::Refused(Fault::TooShort) => refused(at, 3),
+        Seen::Refused(Fault::TooLong) => refused(at, 4),
     }
 }
 
-fn numbers(at: u32, refusal: u8, bytes: &[u8]) -> DccOutcome
-    requires { length bytes.now ≤ 6 }
+/// An outcome with no bytes.
+fn refused(at: u32, refusal: u8) -> DccOutcome
+    ensures at { result.at ≡ at }
+    ensures refusal { result.refusal ≡ refusal }
+    ensures bytes { bytes_of result.frame ≡ [] }
+    ensures frame { result.frame ≡ frame_numbers [] }
+{
+    DccOutcome {
+        at,
+        refusal,
+        frame: DccFrame {
+            len: 0,
+            bytes: [0; 6],
+        },
+    }
+}
+
+/// An outcome with these bytes, which are given once more with zeros behind them.
+fn numbers(at: u32, refusal: u8, bytes: &[u8], padded: [u8; 6]) -> DccOutcome
+    requires few { length bytes.now ≤ 6 }
+    requires padded { padded ≡ zeros_behind 6 bytes.now }
     ensures at { result.at ≡ at }
     ensures refusal { result.refusal ≡ refusal }
     ensures bytes { bytes_of result.frame ≡ bytes.now }
@@ -46,6 +65,9 @@ fn numbers(at: u32, refusal: u8, bytes: &[u8]) -> DccOutcome
     DccOutcome {
         at,
         refusal,
-        frame: DccFrame::of(bytes),
+        frame: DccFrame {
+            len: bytes.len() as u8,
+            bytes: padded,
+        },
     }
 }

@@ -7,7 +7,7 @@ ghost use Rattle.dcc_wire.specs.Sending.{sent};
 ghost use Rattle.dcc_c.specs.Senders.{HasLeft, sending_answer};
 ghost use Rattle.dcc_c.specs.Timings.{timing_numbers};
 
-use crate::frame::frame_of;
+use crate::frame::check_frame;
 use crate::timing::{DccTiming, timing_of};
 use dcc_wire::Halves;
 
@@ -37,8 +37,8 @@ fn started(frame: &[u8], timing: &DccTiming) -> Result<Halves, u8>
         (λ number. (number ≡ sending_answer frame.now timing.now) × (1 ≤ number)) }
 {
     let timing = timing_of(timing)?;
-    let frame = frame_of(frame)?;
-    Ok(Halves::new(frame, timing))
+    check_frame(frame)?;
+    Ok(Halves::of_bytes(frame, &timing))
 }
 
 /// The next half of the packet in microseconds, which then counts as sent; 0 where none is left, and then nothing changes. A

@@ -39,6 +39,8 @@ impl Packet {
 }
 
 /// The packet of a row with these bytes before the error byte.
+// (where a law looks for it and does nothing with it, the compiler leaves out what is inlined, and no more)
+#[inline(always)]
 pub(crate) fn row(bytes: &[u8]) -> Option<Packet>
     ensures found { IfSome result (λ packet. spelling packet ≡ with_error_byte bytes.now) }
     ensures none { IfNone result (¬ (IsRow bytes.now)) }

@@ -23,3 +23,5 @@ pub mod Laws
 pub mod Inner
 -- what the clauses of this crate cite from below
 pub use Rattle.dcc_packet.specs.Cvs
+pub use Rattle.dcc_packet.specs.Spelling
+pub use Rattle.dcc_wire.specs.Frames

@@ -65,6 +65,29 @@ module _ (s : ToSend) where
       let next : (s.body - 1 + 1) / 2 ≡ n = omega (arith, even, some) in
       rw (ones, even, odd, now, next, next_bits n, two_halves) refl
 
+-- both half-bits of a bit
+
+pub two_of_preamble : (s : ToSend) → 2 ≤ s.ones
+    → halves_left s ≡ s.one ∷ s.one ∷ halves_left (record s { ones = s.ones - 2 })
+unfolding halves_left body_left
+two_of_preamble s some =
+    let e : s.ones ≡ suc (suc (s.ones - 2)) = omega (arith, some) in ap (λ n. replicate n s.one ++ body_left s) e
+
+pub two_of_body : (s : ToSend) → s.ones ≡ 0 → 2 ≤ s.body → s.body % 2 ≡ 0
+    → halves_left s
+    ≡ cond (highest_bit s.bits) s.one s.zero_first ∷ cond (highest_bit s.bits) s.one s.zero_second
+    ∷ halves_left (record s { bits = s.bits * 2 % 2 ^ 64; body = s.body - 2 })
+two_of_body s ones some even =
+    let next : ToSend = record s { body = s.body - 1 } in
+    let odd : (s.body - 1) % 2 ≡ 1 = omega (arith, some, even) in
+    let left : 0 < s.body - 1 = omega (arith, some) in
+    let whole : (s.body - 1 - 1) % 2 ≡ 0 = omega (arith, some, even) in
+    let two : s.body - 1 - 1 ≡ s.body - 2 = omega arith in
+    of_first s ones (omega (arith, some)) odd
+    ∙ ap (λ l. cond (highest_bit s.bits) s.one s.zero_first ∷ l) (of_second next ones left whole)
+    ∙ ap (λ n. cond (highest_bit s.bits) s.one s.zero_first ∷ cond (highest_bit s.bits) s.one s.zero_second
+    ∷ halves_left (record s { bits = s.bits * 2 % 2 ^ 64; body = n })) two
+
 -- the half-bits of a packet, of which none was sent
 
 durations_same : (timing : Timing) (bits : List Bool)

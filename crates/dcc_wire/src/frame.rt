@@ -52,7 +52,7 @@ impl FrameFault {
 }
 
 impl Frame {
-    ghost use Rattle.std.specs.Prelude.{◌≡◌, ◌↔◌, IsTrue, MatchResult, Ok, Err};
+    ghost use Rattle.std.specs.Prelude.{◌≡◌, ◌↔◌, ◌-◌, ◌++◌, IsTrue, MatchResult, Ok, Err, length, replicate};
     ghost use Rattle.dcc_wire.specs.Frames.{IsFrame, frame_fault};
     ghost use Rattle.dcc_wire.specs.FrameOf.{frame_of, frame_with_error_byte};
 
@@ -63,7 +63,12 @@ impl Frame {
         ensures valid { MatchResult result (λ frame. (IsFrame bytes.now) × (frame ≡ bytes.now))
             (λ fault. frame_fault bytes.now fault) }
     {
-        Frame::check(bytes)?;
+        if bytes.len() < 3 || bytes.len() > 6 {
+            return Err(FrameFault::Length);
+        }
+        if xor(bytes) != 0 {
+            return Err(FrameFault::XorNotZero);
+        }
         Ok(Frame::of_valid(bytes))
     }
 
@@ -73,10 +78,11 @@ impl Frame {
         ensures exact { MatchResult result (λ _. frame_of bytes.now ≡ Ok bytes.now) (λ fault. frame_of bytes.now ≡ Err fault) }
         ensures valid { MatchResult result (λ _. IsFrame bytes.now) (λ fault. frame_fault bytes.now fault) }
     {
-        if bytes.len() < 3 || bytes.len() > 6 {
+        if bytes.len() > 6 || bytes.len() < 3 {
             return Err(FrameFault::Length);
         }
-        if xor(bytes) != 0 {
+        let sum = xor(bytes);
+        if sum != 0 {
             return Err(FrameFault::XorNotZero);
         }
         Ok(())
@@ -120,6 +126,14 @@ impl Frame {
     {
         let _ = &self.bytes;
         self.bytes.as_slice()
+    }
+
+    /// The bytes with zeros behind them, six in all.
+    #[inline(always)]
+    pub fn padded(&self) -> [u8; 6]
+        ensures { result ≡ self.now ++ replicate (6 - length self.now) 0 }
+    {
+        self.bytes.padded()
     }
 
     /// Whether this is the same frame as another: whether their bytes are the same.

@@ -112,6 +112,25 @@ impl KeptFramer {
         self.pass_half(Half::of(us))
     }
 
+    /// Takes a half of this many microseconds that shows something, with the promise of [`Framer::push`]: one that
+    /// [`pass`](KeptFramer::pass) did not take.
+    #[tactic(auto, unfolding(crate::specs::Framing::StandsFor), using(crate::proofs::FramerSteps::pushes))]
+    #[inline(always)]
+    pub fn push_shown(&mut self, us: u16) -> Seen
+        requires { (durations : List ℕ) → StandsFor (kept_rest self.old) durations
+            → seen (durations ++ us ∷ []) ≢ seen durations }
+        ensures history { (durations : List ℕ) × StandsFor (kept_rest self.old) durations }
+        ensures stands { (durations : List ℕ) → StandsFor (kept_rest self.old) durations
+            → StandsFor (kept_rest self.new) (durations ++ us ∷ []) }
+        ensures sees { (durations : List ℕ) → StandsFor (kept_rest self.old) durations →
+            seen (durations ++ us ∷ []) ≡ seen durations ++ report_at (length durations) result }
+        ensures hunts { kept_rest self.new ≡ Hunting (ones_left result) }
+        ensures something { result ≢ Seen.Nothing }
+    {
+        let _ = &self.in_body;
+        self.take_apart(Half::of(us))
+    }
+
     #[inline(always)]
     fn take_half(&mut self, half: Half) -> Seen
         ensures history { (durations : List ℕ) × StandsFor (kept_rest self.old) durations }
@@ -160,7 +179,7 @@ impl KeptFramer {
             self.xor = 0;
             self.shift = 0;
             self.count = 0;
-            self.bytes = PacketBytes::of(&[]);
+            self.bytes = PacketBytes::none();
         } else {
             self.ones = counted(self.ones, half);
         }
@@ -277,7 +296,7 @@ impl Framer {
                 xor: 0,
                 shift: 0,
                 count: 0,
-                bytes: PacketBytes::of(&[]),
+                bytes: PacketBytes::none(),
             },
             State::InBody(body) => KeptFramer {
                 in_body: true,

@@ -4,8 +4,8 @@ use Rattle.dcc_wire.proofs.kept.KeptFramer.hunt.Goals as goal
 pub returns-then-begins_body : goal.returns-then-begins_body
 returns-then-begins_body c =
     rw (← c.self.view_is)
-    (body_begins c.self.invariant (rw (← c.self.view_is) at c.requires) c.args.half c.of-self-inside.result
-    c.of-self-inside.ensures (c.begins_body.ensures.yes c.if-begins_body.true))
+    (body_begins c.self.invariant (rw (← c.self.view_is) at c.requires) c.args.half c.none-self-inside.result
+    c.none-self-inside.ensures (c.begins_body.ensures.yes c.if-begins_body.true))
 
 pub invariant_of-self : goal.invariant_of-self
 invariant_of-self c = (returns-then-begins_body c).is
