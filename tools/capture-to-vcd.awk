@@ -1,4 +1,5 @@
-# A capture, as `dcc encode` writes it, to a VCD file in whole microseconds: the level turns at each half.
+# Writes a capture, as `dcc encode` writes it, as a VCD file in whole microseconds: the level turns at each half-bit.
+# A word that is no duration ends the script with status 1 and a sentence.
 BEGIN {
     print "$timescale 1 us $end"
     print "$scope module dcc $end"
@@ -10,10 +11,31 @@ BEGIN {
     level = 1
     print "#" at " 1!"
 }
+
+# writes the last bytes. busybox awk does not notice a failed write, so there `cat` writes them, and its status counts. It is the one awk
+# that can close what was never opened
+function finish(text) {
+    if (close("never opened")) {
+        printf "%s", text
+        return
+    }
+    fflush()
+    printf "%s", text | "cat"
+    if (close("cat")) exit 1
+}
+
 {
     sub(/#.*/, "")
-    for (i = 1; i <= NF; i++) {
-        parts = split($i, run, "*")
+    words = split($0, word, /[ \t\r]+/)
+    for (i = 1; i <= words; i++) {
+        if (word[i] == "") continue
+        parts = split(word[i], run, "*")
+        if (word[i] !~ /^[0-9]+(\*[0-9]+)?$/ || length(run[1]) > 10 || parts > 1 && (length(run[2]) > 8 || run[2] < 1)) {
+            gsub(/[^ -~]/, "?", word[i])
+            print "capture-to-vcd: line " NR ": \"" substr(word[i], 1, 40) "\" is no duration" > "/dev/stderr"
+            refused = 1
+            exit 1
+        }
         for (n = parts > 1 ? run[2] : 1; n > 0; n--) {
             at += run[1]
             level = 1 - level
@@ -21,4 +43,8 @@ BEGIN {
         }
     }
 }
-END { printf "#%.0f\n", at + 10 }
+
+END {
+    if (refused) exit 1
+    finish(sprintf("#%.0f\n", at + 10))
+}

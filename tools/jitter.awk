@@ -22,9 +22,12 @@ BEGIN {
 {
     sub(/#.*/, "")
     for (i = 1; i <= NF; i++) {
-        at += $i
-        level = 1 - level
-        edge(at + jitter * noise(), level)
+        parts = split($i, run, "*")
+        for (n = parts > 1 ? run[2] : 1; n > 0; n--) {
+            at += run[1]
+            level = 1 - level
+            edge(at + jitter * noise(), level)
+        }
     }
 }
 END { if (!csv) printf "#%.0f\n", (int(at * rate) + 200 * rate) * unit / rate }

@@ -11,11 +11,13 @@ function refuse(text) {
     exit 1
 }
 
-# a piece of the file within such a sentence
-function quoted(text) {
+# text of the file within such a sentence: cut, and without bytes that a terminal would obey
+function plain(text) {
     gsub(/[^ -~]/, "?", text)
-    return "\"" (length(text) > 40 ? substr(text, 1, 40) ".." : text) "\""
+    return length(text) > 40 ? substr(text, 1, 40) ".." : text
 }
+
+function quoted(text) { return "\"" plain(text) "\"" }
 
 function refuse_line(text) { refuse("line " NR ": " text) }
 
@@ -30,7 +32,7 @@ function label(place) { return name_of[place] (id_of[place] == "" ? "" : " (" id
 # the channels, where there is a choice
 function choice(    place, text) {
     if (channels < 2) return ""
-    for (place = 1; place <= channels && place <= 20; place++) text = text (place > 1 ? ", " : "") label(place)
+    for (place = 1; place <= channels && place <= 20; place++) text = text (place > 1 ? ", " : "") plain(label(place))
     return "; the channels are " text (channels > 20 ? " and " channels - 20 " more" : "") ", and -c takes another"
 }
 
@@ -53,29 +55,43 @@ function pick(    how, place, fits) {
             }
     if (fits == 1) return
     refuse((fits ? "more than one channel is" : "no channel is") " called " quoted(channel) \
-        (channels == 1 ? "; the only one is " label(1) : choice()))
+        (channels == 1 ? "; the only one is " plain(label(1)) : choice()))
 }
 
-# a level at a time in microseconds. Only a change of it is an edge; the first level is that at the start
+# takes a level at a time in microseconds. Only a change of it is an edge; the first level is that at the start. A half-bit is written at
+# once, since the next may be long in coming
 function take(at, level) {
     if (levels && level == last_level) return
-    if (levels++ > 1) half(at - last_edge)
+    if (levels++ > 1) {
+        print half(at - last_edge)
+        fflush()
+    }
     last_level = level
     last_edge = at
 }
 
-# a half, to the nearest microsecond; a capture counts longer ones as 65535 too. It is written at once, since the next may be long in coming
+# counts a half-bit, and returns its microseconds: the nearest number, and at most 65535, as a capture counts longer ones too
 function half(us) {
-    us = int(us + .5)
-    if (us > 65535) us = 65535
-    print us
-    fflush()
+    us = us < 65535 ? int(us + .5) : 65535
     if (!halves++ || us < shortest) shortest = us
     if (us > longest) longest = us
     last_half = us
     # a packet begins behind twenty halves of ones, with a half of a zero
     if (us >= 90 && us <= 10000 && ones >= 20) begins++
     ones = us >= 52 && us <= 64 ? ones + 1 : 0
+    return us
+}
+
+# writes the last bytes. busybox awk does not notice a failed write, so there `cat` writes them, and its status counts. It is the one awk
+# that can close what was never opened
+function finish(text) {
+    if (close("never opened")) {
+        printf "%s", text
+        return
+    }
+    fflush()
+    printf "%s", text | "cat"
+    if (close("cat")) refuse("the capture cannot be written")
 }
 
 NR == 1 {
@@ -98,7 +114,8 @@ END {
     if (!picked) refuse("the input ends before its first level")
     # nothing tells when the last level ends: as long as the half before it, it is the other half of its bit, so that a packet which ends
     # there is kept
-    if (halves) half(last_half)
+    if (halves) finish(half(last_half) "\n")
+    if (refused) exit 1
     name = "the channel " quoted(label(picked))
     if (!halves) refuse(name " has no two edges" choice())
     if (!begins)
