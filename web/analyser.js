@@ -3,10 +3,13 @@
 /** Ends the reading of a file, with a sentence. */
 class Unreadable extends Error {}
 
-const quoted = (text) => {
-  const plain = text.replace(/[^ -~]/g, '?');
-  return `"${plain.length > 40 ? `${plain.slice(0, 40)}..` : plain}"`;
+/** Text of a file within a sentence. */
+const plain = (text) => {
+  const shown = text.slice(0, 41).replace(/[^ -~]/g, '?');
+  return text.length > 40 ? `${shown.slice(0, 40)}..` : shown;
 };
+
+const quoted = (text) => `"${plain(text)}"`;
 
 /** The channels of a file, and the levels of one of them as half-bits. */
 class Recording {
@@ -48,9 +51,9 @@ class Recording {
     this.edge = at;
   }
 
-  /** To the nearest microsecond, by the sums of the script. */
+  /** Adds a half-bit: its time to the nearest microsecond, by the sums of the script. */
   half(time) {
-    const us = Math.min(Math.trunc(time + 0.5), LONGEST);
+    const us = time < LONGEST ? Math.trunc(time + 0.5) : LONGEST;
     if (this.isFull || !this.halves.push(us, 1)) {
       this.isFull = true;
       return;
@@ -79,10 +82,12 @@ class Recording {
   choice() {
     const { length } = this.channels;
     if (length < 2) return '';
-    const labels = this.channels.slice(0, 20).map((it) => it.label);
+    const labels = this.channels.slice(0, 20).map((it) => plain(it.label));
     return `; the channels are ${labels.join(', ')}${length > 20 ? ` and ${length - 20} more` : ''}: choose another`;
   }
 }
+
+const isBlank = (code) => code === BLANK || code === TAB;
 
 const MICROSECONDS = { s: 1e6, ms: 1e3, us: 1, ns: 1e-3, ps: 1e-6, fs: 1e-9 };
 const COMMANDS = new Set(['$comment', '$date', '$enddefinitions', '$scope', '$timescale', '$upscope', '$var', '$version']);
@@ -100,7 +105,12 @@ class Vcd {
   }
 
   row(row) {
-    for (const word of row.split(/[ \t]+/)) if (word) this.word(word);
+    for (let at = 0; at < row.length; ) {
+      let end = at;
+      while (end < row.length && !isBlank(row.charCodeAt(end))) end += 1;
+      if (end > at) this.word(row.slice(at, end));
+      at = end + 1;
+    }
   }
 
   word(word) {
@@ -172,6 +182,30 @@ const unitOf = (title) => {
 /** Of a rate, as 24 MHz. */
 const hertz = (text) => parseFloat(text) * (text.includes('G') ? 1e9 : text.includes('M') ? 1e6 : text.includes('k') ? 1e3 : 1);
 
+/** A text without the blanks around it. (An expression for them would take quadratic time.) */
+const withoutBlanks = (text) => {
+  let [from, end] = [0, text.length];
+  while (from < end && text[from] === ' ') from += 1;
+  while (from < end && text[end - 1] === ' ') end -= 1;
+  return text.slice(from, end);
+};
+
+/** How often a character stands in a text. */
+const countOf = (text, character) => {
+  let count = 0;
+  for (let at = text.indexOf(character); at >= 0; at = text.indexOf(character, at + 1)) count += 1;
+  return count;
+};
+
+/** What stands between the columns, by a first line: what stands in quotes does not count. */
+const separatorOf = (row) => {
+  const bare = row.replace(/"[^"]*"/g, '');
+  return bare.includes(';') ? ';' : bare.includes('\t') ? '\t' : ',';
+};
+
+/** How many characters a time has at most. */
+const LONGEST_TIME = 100;
+
 /** A digital CSV: the time and a column for each channel, a row for each edge of any of them or for each sample. */
 class Csv {
   constructor(recording, key) {
@@ -181,25 +215,61 @@ class Csv {
     this.at = 0;
     this.rate = 0;
     this.toldNames = [];
+    this.toldChannels = 0;
   }
 
   row(row) {
-    if (/^[;#]/.test(row)) {
-      this.comment(row);
+    if (row[0] === ';' || row[0] === '#') {
+      // the shortest comment that is read is longer than that
+      if (row.length > 10) this.comment(row);
     } else if (/[^ \t]/.test(row)) {
-      const plain = row.replace(/"/g, '');
-      this.separator ??= plain.includes(';') ? ';' : plain.includes('\t') ? '\t' : ',';
-      const fields = plain.split(this.separator).map((it) => it.replace(/^ +| +$/g, ''));
-      if (this.recording.picked) this.values(fields);
-      else this.columns(plain, fields);
+      this.separator ??= separatorOf(row);
+      const fields = this.split(row);
+      if (!this.recording.picked) this.columns(row, fields);
+      else if (fields.length === this.headerColumns) this.values(fields);
+      else this.refuseColumns(row.includes('"') ? fields.length : countOf(row, this.separator) + 1);
     }
   }
 
+  /** sigrok gives the number of channels in a comment, and their names between commas and blanks, without quotes. */
   comment(row) {
-    const [, rate] = row.match(/sample ?rate: (.*)/i) ?? [];
+    const [, rate] = row.match(/[Ss]ample ?rate: (.*)/) ?? [];
     if (rate) this.rate = hertz(rate);
-    const [, names] = row.match(/Channels \(\d+\/\d+\): *(.*)/) ?? [];
-    if (names) this.toldNames = names.split(/ *, */);
+    const [, count, names] = row.match(/Channels \((\d+)\/\d+\): *(.*)/) ?? [];
+    if (count) [this.toldChannels, this.toldNames] = [Number(count), names ? names.split(', ') : []];
+  }
+
+  /** The fields of a row, without the blanks around them: of a row without quotes at most one more than the header has. */
+  split(row) {
+    const most = this.headerColumns === undefined ? undefined : this.headerColumns + 1;
+    const fields = row.includes('"') ? this.splitQuoted(row) : row.split(this.separator, most);
+    return fields.map(withoutBlanks);
+  }
+
+  /** A quote at the begin of a field opens it, and the next one closes it; of two within it one remains. */
+  splitQuoted(row) {
+    const [fields, pieces] = [[], row.split('"')];
+    let [text, isQuoted, isClosed] = ['', false, false];
+    for (let i = 0; i < pieces.length; i += 1) {
+      if (i > 0 && isQuoted && pieces[i] === '' && i < pieces.length - 1) {
+        text += '"';
+        i += 1;
+      } else if (i > 0 && isQuoted) {
+        [isQuoted, isClosed] = [false, true];
+      } else if (i > 0 && !isClosed && /^ *$/.test(text)) {
+        isQuoted = true;
+      } else if (i > 0) {
+        text += '"';
+      }
+      const parts = isQuoted ? [pieces[i]] : pieces[i].split(this.separator);
+      text += parts[0];
+      for (const part of parts.slice(1)) {
+        fields.push(text);
+        [text, isClosed] = [part, false];
+      }
+    }
+    if (isQuoted) this.recording.refuseLine('a quote is not closed');
+    return [...fields, text];
   }
 
   /** What the columns are, by the first line. One that is a row already has channels that are called by their places, from 0. */
@@ -213,16 +283,23 @@ class Csv {
       recording.refuseLine(`${quoted(row)} begins neither a VCD file nor a digital CSV with a time in its first column: export one of these`);
     }
     // sigrok tells the unit in the header, or not at all
-    if (rate && (fields[0].toLowerCase() === 'time' || (isRow && fields.length > this.toldNames.length))) {
+    if (rate && (fields[0].toLowerCase() === 'time' || (isRow && fields.length > this.toldChannels))) {
       recording.refuseLine(`${quoted(row)} tells no unit of time: let sigrok-cli write -O csv:time=true:dedup=true, without label`);
     }
-    fields.slice(Number(this.isTimed)).forEach((title, place) => {
-      const name = isRow ? String(place) : title;
-      recording.add(name === 'logic' && this.toldNames[place] ? this.toldNames[place] : name);
-    });
+    [this.header, this.headerColumns] = [recording.line, fields.length];
+    const titles = fields.slice(Number(this.isTimed));
+    // a name with a comma and a blank in it would be taken for two: then no name is known
+    const names = this.toldNames.length === titles.length ? this.toldNames : titles.map((_, place) => String(place));
+    titles.forEach((title, place) => recording.add(isRow ? String(place) : title === 'logic' ? names[place] : title));
     recording.pick(this.key);
-    this.column = recording.channels.indexOf(recording.picked) + Number(this.isTimed);
+    this.column = Number(recording.picked.key) + Number(this.isTimed);
     if (isRow) this.values(fields);
+  }
+
+  refuseColumns(count) {
+    const columns = `${count} column${count === 1 ? '' : 's'}`;
+    const why = `a name or value with ${quoted(this.separator)} in it needs quotes`;
+    this.recording.refuseLine(`it has ${columns}, and line ${this.header} has ${this.headerColumns}: ${why}`);
   }
 
   values(fields) {
@@ -233,34 +310,41 @@ class Csv {
     if (this.rows && time < this.at) recording.refuseLine('its time lies before that of the line above');
     this.rows += 1;
     this.at = time;
-    const level = fields[this.column] ?? '';
+    const level = fields[this.column];
     if (level !== '0' && level !== '1') recording.refuseLine(`${quoted(level)} is no level 0 or 1: export the digital channel, not its voltage`);
     recording.take(time, level);
   }
 
   /** A time in the unit of its column, null where it is none. */
   timeOf(text) {
-    const plain = this.separator === ',' ? text : text.replace(',', '.');
-    if (/^[-+]?[0-9]*\.?[0-9]+([eE][-+]?[0-9]+)?$/.test(plain)) return Number(plain);
+    if (text.length > LONGEST_TIME) return null;
+    const number = this.separator === ',' ? text : text.replace(',', '.');
+    if (/^[-+]?[0-9]*\.?[0-9]+([eE][-+]?0?[0-9][0-9]?)?$/.test(number)) return Number(number);
     // a date and a time of day are the seconds of a month
-    if (!/^[0-9]+-[0-9]+-[0-9]+[T ][0-9]+:[0-9]+:[0-9.]+/.test(plain)) return null;
-    const [, , day, hour, minute, second] = plain.split(/[-T:+Z ]/).map(Number);
+    if (!/^[0-9]+-[0-9]+-[0-9]+[T ][0-9]+:[0-9]+:[0-9]+(\.[0-9]+)?(Z| ?[-+][0-9:]+)?$/.test(number)) return null;
+    const [, , day, hour, minute, second] = number.split(/[-T:+Z ]/).map(Number);
     return ((day * 24 + hour) * 60 + minute) * 60 + second;
   }
 }
 
+/** How many channels the page offers. A browser needs minutes for a menu of 200,000. */
+const CHANNELS_OFFERED = 1000;
+
 /** The half-bits of a file, the channels that it has and the one that was read; where it cannot be read to its end, why. */
-const readRecording = (form, text, key) => {
+const readRecording = (form, text, key, tell) => {
   const recording = new Recording();
   const file = form === 'VCD' ? new Vcd(recording, key) : new Csv(recording, key);
-  let sentence = null;
+  let [sentence, hasBegun] = [null, false];
+  const takeRow = (row, line) => {
+    recording.line = line;
+    // sigrok-cli may write META before the file
+    if (!hasBegun && row.startsWith('META ')) return true;
+    hasBegun ||= /[^ \t\r]/.test(row);
+    file.row(row.endsWith('\r') ? row.slice(0, -1) : row);
+    return !recording.isFull;
+  };
   try {
-    for (const [line, row] of linesOf(text)) {
-      recording.line = line;
-      // sigrok-cli may write META before the file
-      if (!row.startsWith('META ')) file.row(row.endsWith('\r') ? row.slice(0, -1) : row);
-      if (recording.isFull) break;
-    }
+    takeLines(text, takeRow, tell);
     sentence = recording.fault();
   } catch (error) {
     if (!(error instanceof Unreadable)) throw error;
@@ -268,7 +352,8 @@ const readRecording = (form, text, key) => {
   }
   const { halves, channels, picked } = recording;
   const refused = recording.isFull ? tooLong() : sentence && refusal(null, `${form}: ${sentence}.`);
-  return { form, halves, channels, key: picked?.key, refused };
+  const offered = channels.filter((it, place) => place < CHANNELS_OFFERED || it === picked);
+  return { form, halves, channels: offered, allChannels: channels.length, key: picked?.key, refused };
 };
 
 /** Why a file is none of the forms, or null. */
@@ -288,25 +373,32 @@ const strangeFile = (text) => {
 
 /** VCD or CSV, null for a capture: what the first line is that is no comment. Words of a capture stand between blanks, not commas. */
 const formOf = (text) => {
-  for (const [, row] of linesOf(text)) {
-    if (/^\s*\$/.test(row)) return 'VCD';
-    if (row[0] === ';') return 'CSV';
-    if (/^#|^META /.test(row) || !/\S/.test(row)) continue;
-    const front = row.slice(0, 1000);
-    return /^"?[a-z].*[,;\t]/i.test(front) || /^[^,;]+[,;] *"?[01]"?\s*([,;]|$)/.test(front) ? 'CSV' : null;
-  }
-  return null;
+  let form = null;
+  takeLines(text, (row) => {
+    if (/^\s*\$/.test(row)) form = 'VCD';
+    else if (row[0] === ';') form = 'CSV';
+    else if (/^#|^META /.test(row) || !/\S/.test(row)) return true;
+    else if (isCsvRow(row.slice(0, 1000))) form = 'CSV';
+    return false;
+  });
+  return form;
 };
+
+const isCsvRow = (front) => /^"?[a-z].*[,;\t]/i.test(front) || /^[^,;]+[,;] *"?[01]"?\s*([,;]|$)/.test(front);
 
 /** Enough of a file to tell its form. */
 const FRONT = 1000000;
 
-/** The half-bits of a file in any form, up to its first fault. */
-const readBytes = (bytes, key) => {
+/** The bytes behind a byte order mark, as editors of Windows write it. */
+const withoutMark = (bytes) => (bytes[0] === 0xef && bytes[1] === 0xbb && bytes[2] === 0xbf ? bytes.subarray(3) : bytes);
+
+/** The half-bits of a file in any form, up to its first fault. `tell` is called with the part that is read, from 0 to 1. */
+const readBytes = (file, key, tell) => {
+  const bytes = withoutMark(file);
   const front = textOf(bytes.subarray(0, FRONT));
   const strange = strangeFile(front);
   if (strange) return { form: 'File', halves: new Halves(), refused: refusal(null, `File: ${strange}.`) };
-  const form = formOf(front.replace(/^\ufeff/, ''));
-  if (form) return readRecording(form, textOf(bytes).replace(/^\ufeff/, ''), key);
-  return { form: 'Capture', ...readCapture(bytes) };
+  const form = formOf(front);
+  if (form) return readRecording(form, textOf(bytes), key, tell);
+  return { form: 'Capture', ...readCapture(bytes, tell) };
 };

@@ -9,9 +9,9 @@ const growing = (most) => new ArrayBuffer(4096, { maxByteLength: most });
 
 /** Half-bits. Places count from 0. */
 class Halves {
-  constructor() {
-    this.count = 0;
-    this.us = new Uint16Array(growing(2 * MOST_HALVES));
+  constructor(count = 0, buffer = growing(2 * MOST_HALVES)) {
+    this.count = count;
+    this.us = new Uint16Array(buffer);
   }
 
   /** Adds n half-bits of so many microseconds. Answers false, and adds none, where there would be too many. */
@@ -105,11 +105,15 @@ const badWord = (bytes, line, from, to) => {
 };
 
 /** A capture. Of one that has too many bytes the first are read; the word that the limit cuts has not ended. */
-const readCapture = (all) => {
+const readCapture = (all, tell = () => {}) => {
   const [halves, isCut] = [new Halves(), all.length > MOST_BYTES];
   const bytes = isCut ? all.subarray(0, MOST_BYTES) : all;
   let line = 1;
-  for (let at = 0; at < bytes.length; ) {
+  for (let at = 0, next = TOLD_EACH; at < bytes.length; ) {
+    if (at >= next) {
+      tell(at / bytes.length);
+      next = at + TOLD_EACH;
+    }
     if (bytes[at] === HASH) {
       const feed = bytes.indexOf(FEED, at);
       at = feed < 0 ? bytes.length : feed;
@@ -130,12 +134,19 @@ const readCapture = (all) => {
 
 const textOf = (bytes) => new TextDecoder('utf-8', { ignoreBOM: true }).decode(bytes);
 
-/** The lines of a text, each with its number from 1. */
-function* linesOf(text) {
-  for (let line = 1, at = 0; at < text.length; line += 1) {
+/** How much is read before the page is told how much that is: characters of a text, or bytes. */
+const TOLD_EACH = 2000000;
+
+/** Takes the lines of a text, each with its number from 1, as long as `take` answers true. Empty lines are passed over. */
+const takeLines = (text, take, tell = () => {}) => {
+  for (let line = 1, at = 0, next = TOLD_EACH; at < text.length; line += 1) {
     const feed = text.indexOf('\n', at);
     const end = feed < 0 ? text.length : feed;
-    yield [line, text.slice(at, end)];
+    if (end > at && !take(text.slice(at, end), line)) return;
+    if (end >= next) {
+      tell(end / text.length);
+      next = end + TOLD_EACH;
+    }
     at = end + 1;
   }
-}
+};

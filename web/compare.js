@@ -34,19 +34,39 @@ const probesOf = (fresh) => {
   return [28, 14].map((mode) => LOCO_PROBES.map((it) => locoProbe(fresh, mode, it)));
 };
 
-/** The plain registers of a decoder, a value each. */
-const plainRegisters = ({ kind, numbers }) => {
-  const bits = (at, count) => [...Array(count).keys()].map((n) => (numbers[at + (n >> 3)] >> (n & 7)) & 1);
-  if (kind === 'board') return [...bits(BOARD.outs, 8), ...numbers.subarray(BOARD.positions, BOARD.aspects + 4)];
-  const speed = `${numbers[LOCO.speedMode]} ${numbers[LOCO.step]}`;
-  return [speed, numbers[LOCO.forward], ...bits(LOCO.functions, FUNCTIONS), ...bits(LOCO.states, STATES).slice(1)];
+/** The plain registers of a decoder that are numbers of their own: speed with its mode, direction; or the sides and aspects of a board. */
+const plainNumbers = ({ kind, numbers }) =>
+  kind === 'board'
+    ? [...numbers.subarray(BOARD.positions, BOARD.aspects + 4)]
+    : [256 * numbers[LOCO.speedMode] + numbers[LOCO.step], numbers[LOCO.forward]];
+
+/** The bytes whose bits are plain registers, and which bits of a byte are: there is no function above 68 and no state 0. */
+const plainBits = ({ kind }) => {
+  const bytes = (at, count) => [...Array(count).keys()].map((i) => ({ at: at + i, mask: 255 }));
+  if (kind === 'board') return bytes(BOARD.outs, 1);
+  const [functions, states] = [bytes(LOCO.functions, 9), bytes(LOCO.states, 16)];
+  functions[8].mask = 0x1f;
+  states[0].mask = 0xfe;
+  return [...functions, ...states];
 };
 
-/** What a packet sets each plain register to, undefined where it leaves it: both probes hold that afterwards. */
-const setBy = (dcc, probes, bytes) => {
-  const [one, other] = probes.map((it) => plainRegisters(dcc.after(it, [bytes])));
-  return one.map((value, i) => (value === other[i] ? value : undefined));
+/** What a packet sets plain registers to: pairs of a register's number, from a first one on, and its value. Both probes hold that
+ * afterwards. */
+const setBy = (dcc, probes, first, bytes) => {
+  const [one, other] = probes.map((it) => dcc.after(it, [bytes]));
+  const others = plainNumbers(other);
+  const sets = plainNumbers(one).flatMap((value, i) => (value === others[i] ? [[first + i, value]] : []));
+  plainBits(one).forEach(({ at, mask }, i) => {
+    const alike = ~(one.numbers[at] ^ other.numbers[at]) & mask;
+    for (let bit = 0; alike >> bit; bit += 1) {
+      if ((alike >> bit) & 1) sets.push([first + 8 * (i + 2) + bit, (one.numbers[at] >> bit) & 1]);
+    }
+  });
+  return sets;
 };
+
+/** More than there are plain registers. */
+const REGISTERS = 1000;
 
 /** What the definitions want to know of packets, for one decoder. */
 class Packets {
@@ -54,13 +74,8 @@ class Packets {
     const probes = probesOf(fresh);
     this.hears = once((bytes) => dcc.hears(fresh, bytes));
     this.isWrite = once((bytes) => fresh.kind === 'loco' && pendingOf(dcc.after(fresh, [bytes])).length > 0);
-    this.sets = once((bytes) => probes.map((it) => setBy(dcc, it, bytes)));
-  }
-
-  /** Two packets conflict where, in one speed mode, they set one register to two values. */
-  conflict(p, q) {
-    const [one, other] = [this.sets(p), this.sets(q)];
-    return one.some((set, mode) => set.some((value, i) => value !== undefined && other[mode][i] !== undefined && value !== other[mode][i]));
+    // registers of the second speed mode have numbers of their own
+    this.sets = once((bytes) => probes.flatMap((it, mode) => setBy(dcc, it, REGISTERS * mode, bytes)));
   }
 
   /** The places of the outcomes that the decoder hears, of more than two equal writes in a row the last two. */
@@ -92,34 +107,102 @@ const turnsOf = (block, outcomes, p, q) => {
   return both.filter((i, n) => n === 0 || outcomes[both[n - 1]].bytes !== outcomes[i].bytes);
 };
 
-/** How many turns each two packets of a block take that conflict, and which has the last: in two blocks of the same packets that tells
- * whether they take the same. */
-const countTurns = (packets, block, outcomes, members) => {
-  const number = new Map(members.map((it, i) => [it, i]));
-  const rivals = members.map((p) => members.flatMap((q, i) => (p !== q && packets.conflict(p, q) ? [i] : [])));
-  const [turns, last] = [new Map(), new Map()];
-  for (const place of block) {
-    const own = number.get(outcomes[place].bytes);
-    for (const other of rivals[own]) {
-      const pair = Math.min(own, other) * members.length + Math.max(own, other);
-      if (last.get(pair) === own) continue;
-      last.set(pair, own);
-      turns.set(pair, (turns.get(pair) ?? 0) + 1);
-    }
+/** Some numbers in the order in which they came last, the last one first. */
+class Recent {
+  constructor(size) {
+    this.size = size;
+    // a ring, in which the number behind all is the end
+    this.next = new Int32Array(size + 1);
+    this.before = new Int32Array(size + 1);
+    this.next[size] = this.before[size] = size;
   }
-  return { turns, last };
+
+  /** Puts a number first, and calls `pass` with each that has come since it came last. */
+  come(number, pass) {
+    const { next, before, size } = this;
+    let it = next[size];
+    for (; it !== size && it !== number; it = next[it]) pass(it);
+    if (it === number) [next[before[number]], before[next[number]]] = [next[number], before[number]];
+    [next[number], before[number]] = [next[size], size];
+    before[next[size]] = number;
+    next[size] = number;
+  }
+
+  /** The rank of each number, 0 for the one that came last. */
+  ranks() {
+    const ranks = new Int32Array(this.size);
+    for (let it = this.next[this.size], rank = 0; it !== this.size; it = this.next[it], rank += 1) ranks[it] = rank;
+    return ranks;
+  }
+}
+
+/** All packets of a block that set some registers, by their numbers, with what each sets them to. Two of them conflict where that differs. It
+ * counts how often two of them change turns: one way up for the first block, down for the second. */
+class Rivals {
+  constructor(numbers, values) {
+    const known = [...new Set(values)];
+    this.numbers = numbers;
+    this.values = values.map((it) => known.indexOf(it));
+    this.changes = new Int32Array(numbers.length ** 2);
+    this.recent = [0, 1].map(() => new Recent(numbers.length));
+  }
+
+  come(side, place) {
+    const { changes, values, numbers } = this;
+    this.recent[side].come(place, (other) => {
+      const pair = Math.min(place, other) * numbers.length + Math.max(place, other);
+      if (values[place] !== values[other]) changes[pair] += side === 0 ? 1 : -1;
+    });
+  }
+
+  /** The first two that conflict and take other turns, null for none. Their turns are the same if they change them as often, and the same
+   * one has the last. */
+  firstOther() {
+    const { changes, values, numbers } = this;
+    const [left, right] = this.recent.map((it) => it.ranks());
+    for (let p = 0; p < numbers.length; p += 1) {
+      for (let q = p + 1; q < numbers.length; q += 1) {
+        const isOther = changes[p * numbers.length + q] !== 0 || left[p] < left[q] !== right[p] < right[q];
+        if (isOther && values[p] !== values[q]) return [numbers[p], numbers[q]];
+      }
+    }
+    return null;
+  }
+}
+
+/** The rivals among packets: for each set of registers that the same packets set. */
+const rivalsAmong = (packets, members) => {
+  const setters = new Map();
+  members.forEach((bytes, number) => {
+    for (const [register, value] of packets.sets(bytes)) {
+      if (!setters.has(register)) setters.set(register, { numbers: [], values: [] });
+      setters.get(register).numbers.push(number);
+      setters.get(register).values.push(value);
+    }
+  });
+  const groups = new Map();
+  for (const { numbers, values } of setters.values()) {
+    const name = numbers.join(' ');
+    const before = groups.get(name)?.values;
+    groups.set(name, { numbers, values: before ? values.map((it, i) => `${before[i]} ${it}`) : values });
+  }
+  return [...groups.values()].map(({ numbers, values }) => new Rivals(numbers, values));
 };
 
 /** The first two packets that conflict and take other turns in two blocks of the same packets; null where there are none. */
-const otherOrder = (packets, [left, right], [outcomes, others]) => {
-  const members = [...new Set(left.map((i) => outcomes[i].bytes))];
-  const [one, two] = [countTurns(packets, left, outcomes, members), countTurns(packets, right, others, members)];
-  for (const [pair, n] of one.turns) {
-    if (n !== two.turns.get(pair) || one.last.get(pair) !== two.last.get(pair)) {
-      return [members[Math.floor(pair / members.length)], members[pair % members.length]];
-    }
-  }
-  return null;
+const otherOrder = (packets, blocks, sides) => {
+  const frames = blocks.map((block, side) => block.map((i) => sides[side][i].bytes));
+  const members = [...new Set(frames[0])];
+  const rivals = rivalsAmong(packets, members);
+  const places = new Map(members.map((it) => [it, []]));
+  for (const it of rivals) it.numbers.forEach((number, place) => places.get(members[number]).push([it, place]));
+  frames.forEach((list, side) => {
+    for (const bytes of list) for (const [it, place] of places.get(bytes)) it.come(side, place);
+  });
+  const pairs = rivals.map((it) => it.firstOther()).filter(Boolean);
+  if (!pairs.length) return null;
+  const [first] = pairs.sort(([p, q], [r, s]) => p - r || q - s);
+  return first.map((it) => members[it]);
 };
 
 /** The places of a block whose packets another block lacks. */
@@ -128,10 +211,12 @@ const missingIn = (block, outcomes, other, others) => {
   return block.filter((i) => !known.has(outcomes[i].bytes));
 };
 
-/** The first difference: the verdict of `dcc same`, and the places of each capture that show it. */
-const differenceOf = (packets, sides) => {
+/** The first difference: the verdict of `dcc same`, and the places of each capture that show it. `tell` is called with the part that is
+ * compared, from 0 to 1. */
+const differenceOf = (packets, sides, tell = () => {}) => {
   const [left, right] = sides.map((it) => packets.blocks(it));
   for (let k = 0; ; k += 1) {
+    tell(k / left.length);
     const blocks = [left[k].block, right[k].block];
     const writes = [left[k].write, right[k].write];
     const missing = [missingIn(blocks[0], sides[0], blocks[1], sides[1]), missingIn(blocks[1], sides[1], blocks[0], sides[0])];

@@ -206,6 +206,11 @@ class Browser:
             it.value = value;
             for (const kind of ['input', 'change']) it.dispatchEvent(new Event(kind, { bubbles: true }));
         })(%s)""" % json.dumps([name, value]))
+        self.rest_of_work()
+
+    def rest_of_work(self):
+        """Waits until no worker of the page has anything to do."""
+        self.wait("page.work.running.size === 0")
 
     def look(self, width=1280, scheme="light", height=1000):
         """Makes the window so wide, and chooses a colour scheme."""

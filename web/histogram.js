@@ -6,20 +6,22 @@ const WIDEST = 560;
 const SHORT = { from: 40, to: 130, ticks: [40, 50, 60, 70, 80, 90, 100, 110, 120, 130] };
 const LONG_BARS = { from: 130, to: 66000, bars: 48, ticks: [200, 500, 1000, 2000, 5000, 10000, 20000, 50000] };
 
-/** The bars of short half-bits: from, to and how many half-bits are of such a duration. The first and the last have all that lies beyond. */
+/** The bars of short half-bits: from, to, how many half-bits are of such a duration, and a name. The first has all shorter ones too. */
 const shortBars = (counts) => {
   const bars = [];
-  for (let us = SHORT.from; us < SHORT.to; us += 1) bars.push({ from: us, to: us + 1, count: counts[us] });
+  for (let us = SHORT.from; us < SHORT.to; us += 1) bars.push({ from: us, to: us + 1, count: counts[us], name: `${us} µs` });
   bars[0].count += counts.subarray(0, SHORT.from).reduce((a, b) => a + b, 0);
+  bars[0].name = `${SHORT.from} µs or less`;
   return bars;
 };
 
-/** The bars of long half-bits, each wider than the one before it. */
+/** The bars of long half-bits, each wider than the one before it. A half-bit above 65535 µs counts as 65535, so the last has them too. */
 const longBars = (counts) => {
   const ratio = (LONG_BARS.to / LONG_BARS.from) ** (1 / LONG_BARS.bars);
   return [...Array(LONG_BARS.bars).keys()].map((i) => {
     const [from, to] = [i, i + 1].map((n) => Math.round(LONG_BARS.from * ratio ** n));
-    return { from, to, count: counts.subarray(from, to).reduce((a, b) => a + b, 0) };
+    const name = to > LONGEST ? `${from} µs or more` : to > from + 1 ? `${from} to ${to - 1} µs` : `${from} µs`;
+    return { from, to, count: counts.subarray(from, to).reduce((a, b) => a + b, 0), name };
   });
 };
 
@@ -67,11 +69,11 @@ const drawTicks = (ticks, xOf) => {
   return group;
 };
 
-const drawBar = ({ from, to, count: n }, xOf, y, bottom) => {
+const drawBar = ({ from, to, count: n, name }, xOf, y, bottom) => {
   const x = xOf(from);
   const width = Math.max(1, xOf(to) - x - 0.5);
   const bar = node('rect', { class: `bar ${classOf(from)}`, x: round(x), y: round(y), width: round(width), height: round(bottom - y) });
-  bar.append(node('title', {}, `${from}${to > from + 1 ? ` to ${to - 1}` : ''} µs: ${plural(n, 'half-bit')}`));
+  bar.append(node('title', {}, `${name}: ${plural(n, 'half-bit')}`));
   return bar;
 };
 

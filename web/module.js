@@ -72,14 +72,18 @@ class Dcc {
 
   /** The bytes of a frame as a list: one and the same list for equal frames. */
   frameAt(at, n) {
-    const bytes = [...this.bytesAt(at, n)];
+    return this.frameOf([...this.bytesAt(at, n)]);
+  }
+
+  /** The list that stands for equal frames. */
+  frameOf(bytes) {
     const name = hex(bytes);
     if (!this.known.has(name)) this.known.set(name, bytes);
     return this.known.get(name);
   }
 
   /** The outcomes of half-bits: the number of the last half, from 1, when it ends in microseconds, the refusal, 0 for none, and the bytes. */
-  outcomes(halves) {
+  outcomes(halves, tell = () => {}) {
     const [framer, outcome] = [BigInt(this.framer), BigInt(this.outcome)];
     const view = new DataView(this.calls.memory.buffer, this.outcome, OUTCOME_BYTES);
     const list = [];
@@ -94,6 +98,7 @@ class Dcc {
         list.push({ at: from + place, time: time + place * us, refusal: view.getUint8(4), bytes });
       }
       time += (end - from) * us;
+      if (end - (end % TOLD_EACH) > from) tell(end / halves.count);
     }
     return list;
   }

@@ -126,6 +126,7 @@ def states(browser, program):
         for i in [last, 0, dice.randrange(last), dice.randrange(last), 4096, 4095]:
             at, text = browser.js(f"[page.outcomes[{i}].at, decoderText(page.table.decoder.hearing.after({i} + 1))]")
             same(f"what {who} holds after outcome {i} is what dcc run writes", text, run_text(program, fresh, halves[:at]))
+    kept_states(browser, program)
     browser.pick("who", "")
     packets = ["speed128 r 45", "functions 0 17", "state 7 on", "cv write 3 9", "cv write 3 9", "cv write 29 6"]
     browser.paste(encoded(program, [f"loco s3 {it}" for it in packets]))
@@ -148,6 +149,22 @@ def states(browser, program):
     browser.pick("who", "b12")
     same("where nothing is for it nothing is chosen", browser.sees("#rows .detail"), 0)
     browser.pick("who", "")
+
+
+def kept_states(browser, program):
+    """A state is kept each 4,096 outcomes. Here only the packets on either side of these set anything, and a refusal stands between."""
+    idle, *set_something = encoded(program, ["idle", *(f"loco s3 {it}" for it in
+        ("speed28 f 9", "functions 0 17", "functions 5 3", "state 7 on", "functions 9 2", "state 8 on"))]).splitlines()
+    lines = [idle] * 8300
+    for place, line in zip((4094, 4095, 4096, 8191, 8192, 8193), set_something):
+        lines[place] = line
+    browser.pick("who", "s3")
+    browser.paste("\n".join(lines))
+    halves = browser.halves().split()
+    fresh = browser.js("decoderText(decoderOf(page.dcc, 's3'))")
+    for n in (4095, 4096, 4097, 8191, 8192, 8193, 8194, 8300, 4096, 1):
+        at, text = browser.js(f"[page.outcomes[{n} - 1].at, decoderText(page.table.decoder.hearing.after({n}))]")
+        same(f"what it holds after {n} outcomes", text, run_text(program, fresh, halves[:at]))
 
 
 def rows_of_same():
@@ -233,6 +250,36 @@ def comparison(browser, program):
     large = [encoded(program, lines), encoded(program, [*lines[:3000], lines[3001], lines[3000], *lines[3002:], "loco s3 speed28 f 9"])]
     for who in WHO:
         same(f"two long tracks for {who}", verdicts(browser, [[who, *large]]), [same_says(program, who, *large)])
+    distinct_packets(browser, program)
+
+
+def distinct_packets(browser, program):
+    """Captures of many packets, none like another: compared as soon as others."""
+    verified = [f"loco s3 cv verify {cv} {value}" for value in range(4) for cv in range(1, 1001)]
+    groups = {"0": 32, "5": 16, "9": 16, **{str(it): 256 for it in range(13, 69, 8)}}
+    moving = [f"loco {who} {it}" for who in ("s3", "all") for it in (
+        *(f"speed128 {to} {step}" for to in "fr" for step in range(128)), *(f"functions {it} {n}" for it, most in groups.items() for n in range(most)))]
+    random.Random(5).shuffle(moving)
+    turned = [*moving[:500], *moving[501:510], moving[500], *moving[510:]]
+    cases = {"4,000 CVs verified": (verified, verified), "each speed and function": (moving, moving), "one of them later": (moving, turned),
+             "each twice": (moving + moving[:700], moving + moving[:699] + [moving[700]])}
+    browser.js("document.getElementById('comparison').open = true")
+    browser.pick("who", "s3")
+    for name, lines in cases.items():
+        first, second = (encoded(program, it) for it in lines)
+        browser.paste(first)
+        begin = time.monotonic()
+        browser.js("page.second.put(%s)" % json.dumps(second))
+        took = time.monotonic() - begin
+        same(f"{name}: the verdict", browser.text("#verdict code"), same_says(program, "s3", first, second))
+        print(f"{name}: {len(set(lines[0])):,} packets, none like another, read and compared in {took:.1f} s")
+        check(f"{name}: within seconds", took < 20, took)
+    begin = time.monotonic()
+    browser.pick("zoom", 110)
+    browser.pick("zoom", 100)
+    check("zoom does not compare anew", browser.js("page.work.running.size") == 0 and time.monotonic() - begin < 5)
+    browser.pick("who", "")
+    browser.js("page.second.put(''); document.getElementById('comparison').open = false")
 
 
 def sides_chosen(browser, program):
@@ -523,6 +570,11 @@ def timings(browser, program):
     browser.js("page.showTimings()")
     browser.paste("58*28 66 100*14 58*28 300 58*3 5")
     same("a half-bit beyond the limits stands in its bar", browser.js("document.querySelectorAll('.bar.bad').length"), 2)
+    browser.paste("1*2 39 40*2 41*3 129 58*28 131 65535 70000 9999999999")
+    bars = browser.texts(".bar")
+    same("bars of what lies beyond the drawing are named so", [bars[0], bars[1], bars[-1]],
+         ["40 µs or less: 5 half-bits", "41 µs: 3 half-bits", "57967 µs or more: 3 half-bits"])
+    check("others have their durations", {"58 µs: 28 half-bits", "129 µs: 1 half-bit", "130 to 147 µs: 1 half-bit"} <= set(bars), bars)
     cases = {"none": "58", "noise": some_noise(1500), **{it.name: it.read_text() for it in sorted((TOP / "examples").glob("*.txt"))}}
     if not knows_timing(program):
         print("left out: the figures against `dcc timing`, which this program does not know")

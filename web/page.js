@@ -6,12 +6,13 @@ const decode = (base64) => Uint8Array.from(atob(base64), (it) => it.charCodeAt(0
 const LINES_SHOWN = 2000;
 
 class Page {
-  constructor(dcc) {
+  constructor(dcc, work) {
     this.dcc = dcc;
+    this.work = work;
     this.table = new Table(dcc);
-    this.sides = new Sides(dcc);
-    this.source = new Source('', (read) => this.take(read));
-    this.second = new Source('second-', (read) => this.takeSecond(read));
+    this.sides = new Sides(dcc, work);
+    this.source = new Source('', work, (read) => this.take(read));
+    this.second = new Source('second-', work, (read) => this.takeSecond(read));
     $('kind').append(...Object.entries(KINDS).map(([key, { name }]) => new Option(name, key)));
     for (const id of ['kind', 'own', 'fold']) $(id).addEventListener('change', () => this.list());
     for (const id of ['who', 'second-who']) $(id).addEventListener('input', () => this.name($(id).value));
@@ -37,13 +38,14 @@ class Page {
     (isSecond ? this.second : this.source).open(file);
   }
 
-  /** A capture with its outcomes. */
-  heard(read) {
-    const outcomes = this.dcc.outcomes(read.halves);
-    return { ...read, outcomes, tail: tailOf(read.halves, outcomes[outcomes.length - 1]) };
+  /** A capture, of what a worker has read. */
+  heard({ count: n, buffer, outcomes: packed, ...read }) {
+    const halves = new Halves(n, buffer);
+    const outcomes = unpackOutcomes(this.dcc, packed);
+    return { ...read, halves, packed, outcomes, tail: tailOf(halves, outcomes[outcomes.length - 1]) };
   }
 
-  take(read) {
+  async take(read) {
     this.capture = this.heard(read);
     Object.assign(this, { halves: this.capture.halves, outcomes: this.capture.outcomes });
     $('cut').hidden = !read.isTwo;
@@ -51,20 +53,20 @@ class Page {
     this.list();
     this.writeListing();
     this.showTimings();
-    this.compare();
+    await this.compare();
     // (a test waits for this)
     document.body.dataset.read = Number(document.body.dataset.read ?? 0) + 1;
   }
 
-  takeSecond(read) {
+  async takeSecond(read) {
     this.other = this.heard(read);
-    this.compare();
+    await this.compare();
     document.body.dataset.read = Number(document.body.dataset.read ?? 0) + 1;
   }
 
   /** Two captures with a line of dashes between them become the first and the second. */
   async cut() {
-    const [first, second] = cutAtDashes(textOf(await this.source.bytes()));
+    const [first, second] = cutAtDashes(textOf(await bytesOf(this.source.input())));
     await this.source.open(new File([first], 'before the dashes'));
     await this.second.open(new File([second], 'behind the dashes'));
     $('comparison').open = true;
@@ -150,8 +152,8 @@ class Page {
     if ($('timing').open && this.halves.count) showTimings(timingsOf(this.halves, this.outcomes));
   }
 
-  compare() {
-    if ($('comparison').open) this.sides.show([this.capture, this.other], this.decoder(), this.table.zoom);
+  async compare() {
+    if ($('comparison').open) await this.sides.show([this.capture, this.other], this.decoder(), this.table.zoom);
   }
 }
 
@@ -168,10 +170,12 @@ const begin = async () => {
     return end(`${lack} ${others} Without a browser, “dcc show --words” writes the same list.`);
   }
   try {
-    page = new Page(await Dcc.load(decode($('module').textContent.trim())));
+    const module = decode($('module').textContent.trim());
+    page = new Page(await Dcc.load(module), new Work(module));
   } catch (error) {
     return end(`The module of this page cannot be started here: ${error.message}`);
   }
   return page.source.put($('example-capture').textContent.trimStart());
 };
-begin();
+if (SCRIPT === undefined) beginWorker();
+else begin();

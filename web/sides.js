@@ -89,34 +89,55 @@ class Side extends Grid {
 
 /** The first difference of two captures for a decoder, and both sides of it. */
 class Sides {
-  constructor(dcc) {
-    this.dcc = dcc;
-    this.drawn = [];
+  constructor(dcc, work) {
+    Object.assign(this, { dcc, work, drawn: [], compared: [], difference: null });
   }
 
-  /** Shows it, or what is lacking for it. */
-  show(captures, decoder, zoom) {
-    const before = this.drawn;
-    this.drawn = [];
-    if (!decoder || captures.some((it) => !it?.halves.count)) {
-      $('verdict').textContent = decoder ? 'Put a second capture into the field above.' : 'Name a decoder, as s3, l1000 or b12.';
-    } else {
-      this.compare(captures, decoder, zoom);
+  /** Shows the difference, or what is lacking for it. */
+  async show(captures, decoder, zoom) {
+    const lack = !decoder
+      ? 'Name a decoder, as s3, l1000 or b12.'
+      : captures.some((it) => !it?.halves.count) && 'Put a second capture into the field above.';
+    if (lack) {
+      this.work.drop('comparison');
+      return this.draw([lack], []);
     }
-    $('sides').replaceChildren(...this.drawn.map((it) => it.section));
-    showEnds($('sides'));
-    before.forEach((it, i) => this.drawn[i]?.chooseAs(it));
+    const difference = await this.differenceOf(captures, decoder.word);
+    if (difference === STOPPED) return this.draw(['The comparison was stopped.'], []);
+    // (null where another comparison has begun)
+    return difference && this.draw(this.verdict(difference, captures), this.sides(difference, captures, zoom));
   }
 
-  compare(captures, decoder, zoom) {
-    const outcomes = captures.map((it) => it.outcomes);
-    const packets = new Packets(this.dcc, decoder.fresh);
-    const difference = differenceOf(packets, outcomes);
+  /** The difference of two captures, which is kept. */
+  async differenceOf(captures, word) {
+    const compared = [...captures, word];
+    if (this.difference && compared.every((it, i) => it === this.compared[i])) return this.difference;
+    const job = { who: word, sides: captures.map((it) => it.packed) };
+    const difference = await this.work.run('comparison', `Comparing for ${word}`, 'compare', job);
+    if (!difference || difference === STOPPED) return difference;
+    this.compared = compared;
+    this.difference = { ...difference, pair: difference.pair?.map((it) => this.dcc.frameOf(it)) };
+    return this.difference;
+  }
+
+  verdict(difference, captures) {
     const isCut = captures.some((it) => it.refused) ? ' Compared is what stands before the fault.' : '';
-    $('verdict').replaceChildren(make('code', '', difference.verdict), ` ${tellDifference(this.dcc, difference, captures)}${isCut}`);
-    if (difference.verdict === 'alike') return;
-    const turn = firstOtherTurn(difference, outcomes);
+    return [make('code', '', difference.verdict), ` ${tellDifference(this.dcc, difference, captures)}${isCut}`];
+  }
+
+  sides(difference, captures, zoom) {
+    if (difference.verdict === 'alike') return [];
+    const turn = firstOtherTurn(difference, captures.map((it) => it.outcomes));
     const shown = (it, i) => shownOf(difference, i, it.outcomes, turn);
-    this.drawn = captures.map((it, i) => new Side(this.dcc, ['first', 'second'][i], it, shown(it, i), zoom));
+    return captures.map((it, i) => new Side(this.dcc, ['first', 'second'][i], it, shown(it, i), zoom));
+  }
+
+  draw(words, sides) {
+    const before = this.drawn;
+    this.drawn = sides;
+    $('verdict').replaceChildren(...words);
+    $('sides').replaceChildren(...sides.map((it) => it.section));
+    showEnds($('sides'));
+    before.forEach((it, i) => sides[i]?.chooseAs(it));
   }
 }

@@ -1,8 +1,5 @@
 // A place where a capture comes in: typed or pasted into a field, opened as a file, or dropped.
 
-const LARGEST_SHOWN = 400000;
-const PIECE = 4000000;
-
 const $ = (id) => document.getElementById(id);
 const make = (name, className, text) => {
   const it = document.createElement(name);
@@ -13,8 +10,10 @@ const make = (name, className, text) => {
 
 class Source {
   /** The ids of its elements begin with a prefix. `use` is called with what was read. */
-  constructor(prefix, use) {
+  constructor(prefix, work, use) {
     this.part = (name) => $(`${prefix}${name}`);
+    this.place = prefix;
+    this.work = work;
     this.use = use;
     this.file = null;
     this.part('text').addEventListener('input', () => this.wait());
@@ -43,32 +42,24 @@ class Source {
     this.part('file').value = '';
   }
 
-  /** The bytes of the field or of the file, which is read anew each time, so that a large one is not kept. */
-  async bytes() {
-    if (!this.file) return new TextEncoder().encode(this.part('text').value);
-    const bytes = new Uint8Array(this.file.size);
-    // piece by piece, since a browser has what it reads twice
-    for (let at = 0; at < bytes.length; at += PIECE) bytes.set(new Uint8Array(await this.file.slice(at, at + PIECE).arrayBuffer()), at);
-    return bytes;
+  /** The text of the field or the file, which is read anew each time, so that the bytes of a large one are not kept. */
+  input() {
+    return this.file ?? this.part('text').value;
   }
 
-  async read(channel, isNew) {
+  async read(key, isNew) {
     clearTimeout(this.timer);
     const { file } = this;
-    let bytes = null;
-    try {
-      bytes = await this.bytes();
-    } catch (error) {
-      return this.tell(null, `${file?.name ?? 'The text'} cannot be read: ${error.message}`);
-    }
-    // another one has come meanwhile
-    if (file !== this.file) return null;
-    if (isNew) this.part('text').value = bytes.length <= LARGEST_SHOWN ? textOf(bytes) : '';
-    const read = readBytes(bytes, channel);
-    // the bytes are given back at once, before the outcomes need room (where the browser can)
-    bytes.buffer.transfer?.(0);
+    const name = file?.name ?? 'The text';
+    const read = await this.work
+      .run(this.place, name, 'read', { input: this.input(), key, isShown: isNew })
+      .catch((error) => this.tell(null, `${name} cannot be read: ${error.message}`));
+    if (read === STOPPED) return this.tell(null, `Reading was stopped. What is shown below was read before.`);
+    // another one has come meanwhile, or it cannot be read
+    if (!read) return null;
+    if (isNew) this.part('text').value = read.text;
     this.tell(read.refused?.fault, read.refused?.text);
-    this.offerChannels(read.channels ?? [], read.key);
+    this.offerChannels(read);
     return this.use({ ...read, name: file ? `${file.name} (${read.form})` : read.form });
   }
 
@@ -78,8 +69,10 @@ class Source {
     this.part('fault-code').textContent = fault ?? '';
   }
 
-  offerChannels(channels, key) {
+  offerChannels({ channels = [], allChannels = channels.length, key }) {
     this.part('channels').hidden = channels.length < 2;
     this.part('channel').replaceChildren(...channels.map((it) => new Option(it.label, it.key, false, it.key === key)));
+    const more = `These are ${count(channels.length)} of ${count(allChannels)}: tools/to-capture -c takes any.`;
+    this.part('channels-more').textContent = channels.length < allChannels ? more : '';
   }
 }

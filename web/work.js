@@ -1,0 +1,143 @@
+// Work that may take long: reading a file, and the comparison of two captures. It is done in a worker, so that the page stays usable and
+// the reader can stop it. A worker runs this page's own script, so nothing is loaded. Nothing here is proved.
+
+/** The script of the page. A worker has no document. */
+const SCRIPT = globalThis.document?.currentScript.textContent;
+
+/** How many bytes of a file are read at once, since a browser has what it reads twice. */
+const PIECE = 4000000;
+
+/** The largest text that the field of a capture shows. */
+const LARGEST_SHOWN = 400000;
+
+/** The bytes of a text or of a file. */
+const bytesOf = async (input, tell = () => {}) => {
+  if (typeof input === 'string') return new TextEncoder().encode(input);
+  const bytes = new Uint8Array(input.size);
+  for (let at = 0; at < bytes.length; at += PIECE) {
+    bytes.set(new Uint8Array(await input.slice(at, at + PIECE).arrayBuffer()), at);
+    tell(at / bytes.length);
+  }
+  return bytes;
+};
+
+/** Outcomes as few arrays, in which they go from a worker to the page and back. Equal frames are one number. */
+const packOutcomes = (outcomes) => {
+  const n = outcomes.length;
+  const packed = { at: new Uint32Array(n), time: new Float64Array(n), refusal: new Uint8Array(n), frame: new Uint32Array(n), frames: [] };
+  const known = new Map();
+  outcomes.forEach(({ at, time, refusal, bytes }, i) => {
+    if (!known.has(bytes)) known.set(bytes, packed.frames.push(bytes) - 1);
+    [packed.at[i], packed.time[i], packed.refusal[i], packed.frame[i]] = [at, time, refusal, known.get(bytes)];
+  });
+  return packed;
+};
+
+const unpackOutcomes = (dcc, { at, time, refusal, frame, frames }) => {
+  const own = frames.map((it) => dcc.frameOf(it));
+  return Array.from(at, (place, i) => ({ at: place, time: time[i], refusal: refusal[i], bytes: own[frame[i]] }));
+};
+
+/** What a worker does, by name. `tell` is called with what it does and the part that is done, from 0 to 1. */
+const JOBS = {
+  /** Reads a text or a file: its half-bits and outcomes, and where a field shows it, its text. */
+  async read(dcc, { input, key, isShown }, tell) {
+    const bytes = await bytesOf(input, (part) => tell('read from the disk', part));
+    const text = isShown && bytes.length <= LARGEST_SHOWN ? textOf(bytes) : '';
+    const { halves, ...read } = readBytes(bytes, key, (part) => tell('read', part));
+    // the bytes are given back at once, before the outcomes need room (where the browser can)
+    bytes.buffer.transfer?.(0);
+    const outcomes = packOutcomes(dcc.outcomes(halves, (part) => tell('searched for packets', part)));
+    return { ...read, text, count: halves.count, buffer: halves.us.buffer, outcomes };
+  },
+
+  /** The first difference of two captures for a decoder. */
+  compare(dcc, { who, sides }, tell) {
+    const packets = new Packets(dcc, decoderOf(dcc, who));
+    return differenceOf(packets, sides.map((it) => unpackOutcomes(dcc, it)), (part) => tell('compared', part));
+  },
+};
+
+/** How long the parts of work last, in milliseconds, of which a reader is told. */
+const TELL_EACH = 100;
+
+/** Begins a worker: it does one job, and answers it. */
+const beginWorker = () => {
+  globalThis.onmessage = async ({ data: { module, name, job } }) => {
+    let last = 0;
+    const tell = (what, part) => {
+      if (performance.now() < last + TELL_EACH) return;
+      last = performance.now();
+      postMessage({ what, part });
+    };
+    try {
+      const answer = await JOBS[name](await Dcc.load(module), job, tell);
+      postMessage({ answer }, answer.buffer ? [answer.buffer] : []);
+    } catch (error) {
+      postMessage({ error: error.message });
+    }
+  };
+};
+
+/** The answer of a job that the reader has stopped. */
+const STOPPED = Symbol('stopped');
+
+/** Work within a page: each job in a worker of its own, with a line that tells what is done, and a button that stops it. */
+class Work {
+  constructor(module) {
+    this.module = module;
+    this.script = URL.createObjectURL(new Blob([SCRIPT], { type: 'text/javascript' }));
+    this.running = new Map();
+    $('stop').addEventListener('click', () => this.stop());
+  }
+
+  /** Does a job. Answers null where another one for the same place begins before it is done, and STOPPED where the reader stops it. */
+  run(place, title, name, job) {
+    this.drop(place);
+    return new Promise((done, fail) => {
+      const worker = new Worker(this.script);
+      this.running.set(place, { worker, title, done });
+      worker.addEventListener('message', ({ data: { answer, error, what, part } }) => {
+        if (what) return this.tell(place, `${title}: ${Math.floor(100 * part)} % ${what}`);
+        this.end(place);
+        return error ? fail(new Error(error)) : done(answer);
+      });
+      worker.addEventListener('error', (event) => {
+        event.preventDefault();
+        this.end(place);
+        fail(new Error(event.message ?? 'this browser does not let the page have a worker'));
+      });
+      worker.postMessage({ module: this.module, name, job });
+      setTimeout(() => this.tell(place, title), TELL_EACH);
+    });
+  }
+
+  /** Drops what is done for a place. */
+  drop(place) {
+    this.running.get(place)?.done(null);
+    this.end(place);
+  }
+
+  /** Stops all that is done. */
+  stop() {
+    for (const [place, { done }] of [...this.running]) {
+      done(STOPPED);
+      this.end(place);
+    }
+  }
+
+  end(place) {
+    this.running.get(place)?.worker.terminate();
+    this.running.delete(place);
+    $('work').hidden = this.running.size === 0;
+  }
+
+  /** Tells what is done for a place. */
+  tell(place, text) {
+    const job = this.running.get(place);
+    if (!job) return;
+    job.text = text;
+    $('work').hidden = false;
+    $('work-text').textContent = [...this.running.values()].map((it) => it.text ?? it.title).join('; ');
+  }
+}
