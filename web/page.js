@@ -42,7 +42,7 @@ class Page {
   heard({ count: n, buffer, outcomes: packed, ...read }) {
     const halves = new Halves(n, buffer);
     const outcomes = unpackOutcomes(this.dcc, packed);
-    return { ...read, halves, packed, outcomes, tail: tailOf(halves, outcomes[outcomes.length - 1]) };
+    return { ...read, halves, outcomes, tail: tailOf(halves, outcomes[outcomes.length - 1]) };
   }
 
   async take(read) {

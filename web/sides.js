@@ -112,7 +112,7 @@ class Sides {
   async differenceOf(captures, word) {
     const compared = [...captures, word];
     if (this.difference && compared.every((it, i) => it === this.compared[i])) return this.difference;
-    const job = { who: word, sides: captures.map((it) => it.packed) };
+    const job = { who: word, sides: captures.map((it) => packOutcomes(it.outcomes)) };
     const difference = await this.work.run('comparison', `Comparing for ${word}`, 'compare', job);
     if (!difference || difference === STOPPED) return difference;
     this.compared = compared;

@@ -129,7 +129,7 @@ class Work {
   end(place) {
     this.running.get(place)?.worker.terminate();
     this.running.delete(place);
-    $('work').hidden = this.running.size === 0;
+    this.show();
   }
 
   /** Tells what is done for a place. */
@@ -137,7 +137,13 @@ class Work {
     const job = this.running.get(place);
     if (!job) return;
     job.text = text;
-    $('work').hidden = false;
-    $('work-text').textContent = [...this.running.values()].map((it) => it.text ?? it.title).join('; ');
+    this.show();
+  }
+
+  /** Shows what is told of each job. */
+  show() {
+    const texts = [...this.running.values()].map((it) => it.text).filter(Boolean);
+    $('work-text').textContent = texts.join('; ');
+    $('work').hidden = !texts.length;
   }
 }
