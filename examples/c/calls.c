@@ -2,18 +2,14 @@
  * lines` writes the lines again, `calls readcv CV VALUE` puts nine questions to a decoder on the programming track. As `dcc encode`,
  * `dcc show --words` and `dcc readcv`. */
 #include "dcc.h"
-#include <stdio.h>
-#include <stdlib.h>
+#include "lines.h"
 #include <string.h>
 
-/* The frame of a line of text. A fault ends the program, as a frame of a line always is one. */
-static dcc_frame frame_of(const char *line) {
-    dcc_frame frame;
-    uint8_t fault = dcc_frame_of_line(line, strlen(line), &frame);
-    if (fault) {
-        fprintf(stderr, "P%u: %s\n", fault, line);
-        exit(3);
-    }
+/* The frame of a line of text. A fault ends the program. */
+static dcc_frame frame_of(const text_line *line) {
+    dcc_frame frame = {0};
+    uint8_t fault = dcc_frame_of_line(line->bytes, line->len, &frame);
+    if (fault) refuse_line(line, fault);
     return frame;
 }
 
@@ -29,8 +25,8 @@ static void send(const dcc_frame *frame) {
     static const dcc_timing main_track = DCC_MAIN_TIMING;
     dcc_sender sender;
     if (dcc_sender_start(&sender, frame->bytes, frame->len, &main_track)) exit(1);
-    const char *form = "%u";
-    for (uint16_t us = dcc_sender_half(&sender); us; us = dcc_sender_half(&sender), form = " %u") printf(form, us);
+    uint16_t us = dcc_sender_half(&sender);
+    for (bool is_first = true; us; is_first = false, us = dcc_sender_half(&sender)) printf(is_first ? "%u" : " %u", us);
     printf("\n");
 }
 
@@ -82,14 +78,13 @@ static void read_cv(uint16_t cv, uint8_t value) {
 }
 
 int main(int argc, char **argv) {
-    char line[512];
+    static text_line line;
     if (argc == 4 && !strcmp(argv[1], "readcv")) {
         read_cv((uint16_t)atoi(argv[2]), (uint8_t)atoi(argv[3]));
         return 0;
     }
-    while (argc == 2 && fgets(line, sizeof line, stdin)) {
-        line[strcspn(line, "\n")] = 0;
-        dcc_frame frame = frame_of(line);
+    while (argc == 2 && next_line(&line)) {
+        dcc_frame frame = frame_of(&line);
         if (!strcmp(argv[1], "encode")) {
             encode(&frame);
         } else if (!strcmp(argv[1], "send")) {

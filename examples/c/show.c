@@ -1,6 +1,7 @@
 /* Lists the packets and refusals of a capture on standard input, as `dcc show [--words]` does. */
 #include "capture.h"
 #include "dcc.h"
+#include <string.h>
 
 /* The bytes of a frame in hex. */
 static void print_hex(const dcc_frame *frame) {

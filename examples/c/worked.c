@@ -30,6 +30,27 @@ static dcc_frame frame_of(const char *line) {
     return frame;
 }
 
+/* The numbers are those of docs/FORMATS.md, and those that the calls return. */
+static void names_have_their_numbers(void) {
+    HOLDS(DCC_H1_BAD_HALF == 1 && DCC_H2_SPLIT_BIT == 2 && DCC_H3_TOO_SHORT == 3 && DCC_H4_TOO_LONG == 4 && DCC_H5_ERROR_BYTE == 5);
+    HOLDS(DCC_H6_ONE == 6 && DCC_H7_ZERO == 7 && DCC_H8_PREAMBLE == 8);
+    HOLDS(DCC_L1_LENGTH == 1 && DCC_L2_ERROR_BYTE == 2);
+    HOLDS(DCC_P1_SHORT_ADDRESS == 1 && DCC_P2_LONG_ADDRESS == 2 && DCC_P3_BOARD == 3 && DCC_P4_OUTPUT == 4 && DCC_P5_SIGNAL == 5);
+    HOLDS(DCC_P6_CV == 6 && DCC_P7_BIT_PLACE == 7 && DCC_P8_SPEED_BITS == 8 && DCC_P9_FUNCTION_BITS == 9 && DCC_P10_WORD == 10);
+    HOLDS(DCC_P11_NUMBER == 11 && DCC_P12_FRAME == 12 && DCC_P13_STATE == 13 && DCC_P14_BINARY_STATE == 14);
+    HOLDS(DCC_C1_SIZES == 1 && DCC_C2_MEMORY == 2 && DCC_C3_NO_COMMAND == 3 && DCC_C4_QUEUE_FULL == 4);
+    HOLDS(DCC_MAIN_TRACK == 14 && DCC_PROGRAMMING_TRACK == 20);
+    HOLDS(DCC_ALL == 0 && DCC_SHORT == 1 && DCC_LONG == 2);
+    HOLDS(DCC_MORE == 0 && DCC_VALUE == 1 && DCC_NO_ANSWER == 2);
+}
+
+/* So `static dcc_framer framer;` needs no call before its first half-bit. */
+static void a_framer_of_zeros_is_a_new_one(void) {
+    static dcc_framer zeros;
+    dcc_framer framer = dcc_framer_new();
+    HOLDS(!memcmp(&zeros, &framer, sizeof zeros));
+}
+
 static void a_packet_is_found_at_its_last_half(void) {
     uint16_t halves[DCC_HALVES];
     dcc_framer framer = dcc_framer_new();
@@ -117,6 +138,13 @@ static void lines_and_their_faults(void) {
     HOLDS(dcc_frame_of_line("\xFF", 1, &frame) == 10);
     HOLDS(dcc_frame_of_line("loco s3 state 128 on", 20, &frame) == 14);
     HOLDS(frame.len == 0);
+    /* the length counts neither a zero nor a line feed: either would be part of the last word */
+    HOLDS(dcc_frame_of_line("idle", 5, &frame) == 10);
+    HOLDS(dcc_frame_of_line("idle\n", 5, &frame) == 10);
+    HOLDS(dcc_frame_of_line("loco s3 speed28 f 4", 20, &frame) == 11);
+    HOLDS(dcc_frame_of_line("loco s3 speed28 f 4\n", 20, &frame) == 11);
+    HOLDS(frame.len == 0);
+    HOLDS(dcc_frame_of_line("loco s3 speed28 f 4\r", 20, &frame) == 0);
     HOLDS(dcc_frame_of_line("loco s3 speed28 f 4, and on", 19, &frame) == 0);
     HOLDS(is_frame(&frame, (const uint8_t[]){0x03, 0x62, 0x61, 0, 0, 0}, 3));
 }
@@ -262,6 +290,25 @@ static void a_loco_is_left_where_it_is_refused(void) {
     loco.step = 29;
     HOLDS(dcc_loco_apply(&loco, speed, 3) == 13);
     HOLDS(loco.step == 29);
+}
+
+/* A pending frame of another length than a frame has is one that no decoder has, whatever its bytes are. */
+static void a_pending_frame_has_3_to_6_bytes(void) {
+    static const uint8_t lens[] = {1, 2, 7, 8, 128, 255}, reset[3] = {0};
+    static dcc_loco loco;
+    static dcc_service service;
+    make(&loco);
+    dcc_service_new(&service, loco.cvs);
+    dcc_frame write = frame_of("loco s3 cv write 1024 200");
+    HOLDS(dcc_loco_apply(&loco, write.bytes, write.len) == 0);
+    for (size_t i = 0; i < sizeof lens; i++) {
+        loco.pending.len = service.pending.len = lens[i];
+        bool yes = true;
+        HOLDS(dcc_loco_apply(&loco, write.bytes, write.len) == DCC_P13_STATE);
+        HOLDS(loco.pending.len == lens[i] && loco.cvs[1023] == 0);
+        HOLDS(dcc_service_apply(&service, reset, 3, &yes) == DCC_P13_STATE);
+        HOLDS(service.pending.len == lens[i] && yes);
+    }
 }
 
 static void a_board_turns_its_outputs(void) {
@@ -468,6 +515,8 @@ static void a_station_sends_and_refreshes(void) {
 }
 
 int main(void) {
+    names_have_their_numbers();
+    a_framer_of_zeros_is_a_new_one();
     a_packet_is_found_at_its_last_half();
     runs_tell_the_half_and_refusals_their_numbers();
     what_a_packet_says();
@@ -482,6 +531,7 @@ int main(void) {
     a_loco_runs();
     a_loco_writes_at_the_second_copy();
     a_loco_is_left_where_it_is_refused();
+    a_pending_frame_has_3_to_6_bytes();
     a_board_turns_its_outputs();
     who_hears_what();
     nothing_is_told_where_hearing_is_refused();

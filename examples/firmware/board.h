@@ -15,7 +15,8 @@ uint16_t on_timer(void);
 /* Sleeps until an interrupt has come. false: nothing comes any more, which is so under emulation alone. */
 bool wait_for_interrupt(void);
 
-/* A line that somebody has typed, its end left out. false where none is there. */
+/* A line that somebody has typed, its end left out. Returns false if there is no line. len is the length of the
+ * line. A longer line than LINE has only its first LINE bytes here. */
 enum { LINE = 80 };
 bool next_line(char line[LINE], uint32_t *len);
 

@@ -12,8 +12,10 @@ static dcc_board turnouts;
 static dcc_frame found;
 static atomic_bool waits;
 
-/* A microsecond or two on most chips, so it may stand in the interrupt; to hear a packet takes a hundred times as long. A packet
- * that is found while another one waits is lost, as one is that the rails spoil: stations repeat theirs. */
+/* Called in the interrupt. docs/C.md has the mean and the worst case of dcc_push for each processor: on a slow one
+ * the worst case can last as long as a half-bit, so a timer has to keep the time of the edge that comes meanwhile.
+ * To hear a packet takes longer than that, so the main loop does it. A packet that completes while another one
+ * waits is lost, as a packet with a spoilt half-bit is: stations repeat packets. */
 void on_edge(uint32_t now) {
     static uint32_t last;
     uint32_t us = now - last;

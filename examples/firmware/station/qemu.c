@@ -20,10 +20,11 @@ bool next_line(char line[LINE], uint32_t *len) {
     if (left > 0 || is_over) return false;
     int c = read_byte();
     for (*len = 0; c >= 0 && c != '\n'; c = read_byte()) {
-        if (*len < LINE) line[(*len)++] = (char)c;
+        if (*len < LINE) line[*len] = (char)c;
+        ++*len;
     }
     is_over = c < 0;
-    left = waits(line, *len);
+    left = *len > LINE ? 0 : waits(line, *len);
     return left == 0 && !is_over;
 }
 

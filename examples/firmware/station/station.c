@@ -33,9 +33,10 @@ static void tell(const char *refusal, uint8_t number) {
     show("\n");
 }
 
+/* A longer line than LINE is refused whole, as `dcc` refuses a line that is too long. */
 static void command(const char *line, uint32_t len) {
     dcc_frame frame;
-    uint8_t fault = dcc_frame_of_line(line, len, &frame);
+    uint8_t fault = len > LINE ? DCC_P10_WORD : dcc_frame_of_line(line, len, &frame);
     if (fault) {
         tell("# refused P", fault);
         return;
