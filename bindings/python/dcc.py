@@ -6,17 +6,27 @@
     >>> [str(it) for it in dcc.seen(dcc.halves(dcc.frame("loco s3 speed28 f 4")))]
     ['84 loco s3 speed28 f 4']
 
-What is proved is the library that this module calls (docs/C.md): each of its calls is safe and does what its contract says. This module is
-tested against the program. It wants the library as a shared object, which `bindings/python/make` makes of the proved archive: beside
-this file, or where the variable DCC_SO says.
+The library that this module calls is proved (docs/C.md): each of its calls is safe and does what its contract says.
+This module is tested against the program. It needs the library as a shared object, which `bindings/python/make` makes
+of the proved archive. The object lies beside this file, or where the variable DCC_SO says.
+
+Arguments are checked before the library gets them: a wrong type is a TypeError, a number out of its range a
+ValueError.
 """
 import ctypes
+import operator
 import os
+import re
 from collections import namedtuple
+from itertools import repeat
 
 _HERE = os.path.dirname(os.path.abspath(__file__))
-_library = ctypes.CDLL(os.environ.get("DCC_SO", os.path.join(_HERE, "libdcc_c.so")))
+# (a PyDLL keeps the interpreter's lock during a call, so two threads are never in calls on one object)
+_library = ctypes.PyDLL(os.environ.get("DCC_SO", os.path.join(_HERE, "libdcc_c.so")))
 _u8, _u16, _u32, _u64 = ctypes.c_uint8, ctypes.c_uint16, ctypes.c_uint32, ctypes.c_uint64
+
+MOST_HALVES = 16_777_216  # in a capture, as the program reads it
+MOST_BYTES = 67_108_864
 
 
 class _Frame(ctypes.Structure):
@@ -88,7 +98,7 @@ _station_entries = _call("dcc_station_entries", _u8, _at(_Station))
 
 
 class Refused(ValueError):
-    """What the library refuses, by its name: H6, L1, P10, C4 .."""
+    """A refusal of the library or of a capture, by its name: H6, L1, P10, C4, U2 line 3: bad number .."""
 
 
 def _check(answer, letter):
@@ -96,10 +106,45 @@ def _check(answer, letter):
         raise Refused(f"{letter}{answer}")
 
 
-def _in_range(name, number, least, most):
-    if not least <= number <= most:
-        raise ValueError(f"{name} is {least} to {most}, not {number}")
+def _check_heard(answer):
+    _check(answer, "P" if answer == 13 else "L")
+
+
+def _number(name, number, least, most=None):
+    """Returns the number as an int. Errors: TypeError if it is no integer, ValueError if it is not least to most."""
+    try:
+        number = operator.index(number)
+    except TypeError:
+        raise TypeError(f"{name} is an integer, not {type(number).__name__}") from None
+    if number < least or (most is not None and number > most):
+        limits = f"{least} or more" if most is None else f"{least} to {most}"
+        raise ValueError(f"{name} is {limits}, not {number}")
     return number
+
+
+def _bytes(name, items):
+    """Returns the items as bytes. Of an array these are its items and not its memory.
+
+    Errors: TypeError if there are no items or an item is no integer, ValueError if an item is not 0 to 255."""
+    if isinstance(items, (bytes, bytearray)):
+        return bytes(items)
+    if isinstance(items, (str, dict, set, frozenset)):
+        raise TypeError(f"{name} is bytes, not {type(items).__name__}")
+    try:
+        numbers = list(items)
+    except (TypeError, NotImplementedError):
+        raise TypeError(f"{name} is bytes, not {type(items).__name__}") from None
+    return bytes(_number(f"a byte of {name}", it, 0, 255) for it in numbers)
+
+
+def _frame_bytes(frame):
+    return _bytes("a frame", frame)
+
+
+def _encoded(name, text):
+    if not isinstance(text, str):
+        raise TypeError(f"{name} is a text, not {type(text).__name__}")
+    return text.encode("utf-8", "surrogatepass")
 
 
 class Seen(namedtuple("Seen", "at refusal frame")):
@@ -115,52 +160,92 @@ class Framer:
     """Finds packets in half-bits (NMRA S-9.1, S-9.2)."""
 
     def __init__(self):
-        self._framer, self._outcome, self._taken = _framer_new(), _Outcome(), 0
+        self._framer, self._taken = _framer_new(), 0
 
     def push(self, us, count=1):
-        """Takes so many half-bits of so many microseconds. Returns what one of them ended, or None. What is above 65535 counts as that."""
-        us = min(_in_range("a half-bit", us, 0, 1 << 64), 65535)
-        before = self._taken
-        self._taken += _in_range("a count", count, 1, 0xFFFFFFFF)
-        if not _push_run(self._framer, us, count, self._outcome):
+        """Takes so many half-bits of so many microseconds. Returns the packet or refusal that one completes, else None.
+
+        A half-bit above 65535 counts as 65535. The count is 1 to 4294967295."""
+        us = min(_number("a half-bit", us, 0), 65535)
+        count = _number("a count", count, 1, 0xFFFFFFFF)
+        outcome, before = _Outcome(), self._taken
+        self._taken += count
+        if not _push_run(self._framer, us, count, outcome):
             return None
-        refusal = f"H{self._outcome.refusal}" if self._outcome.refusal else None
-        return Seen(before + self._outcome.at, refusal, bytes(self._outcome.frame))
+        refusal = f"H{outcome.refusal}" if outcome.refusal else None
+        return Seen(before + outcome.at, refusal, bytes(outcome.frame))
 
 
 def seen(halves):
-    """The packets and refusals in half-bits, numbers of microseconds, as they come."""
+    """The packets and refusals in half-bits, numbers of microseconds, in their order."""
     framer = Framer()
     return filter(None, map(framer.push, halves))
 
 
-def durations(text):
-    """The half-bits of a capture: words of microseconds, runs as 58*28, comments from # on (docs/FORMATS.md)."""
-    for words in text.splitlines():
-        for word in words.partition("#")[0].split():
-            us, _, count = word.partition("*")
-            yield from [int(us)] * int(count or 1)
+# a run, a comment, a line feed, or a word that is no run
+_WORDS = re.compile(rb"([0-9]{1,10})(?:\*([0-9]{1,8}))?(?![^ \t\r\n#])|#[^\n]*|\n|[^ \t\r\n#]+")
+
+
+def durations(capture):
+    """The half-bits of a capture, which is a text or bytes (docs/FORMATS.md).
+
+    A capture has words of microseconds, runs as 58*28, and comments from # on.
+
+    Errors: Refused as the program says it, after the half-bits before the fault: `U2 line 3: bad number` at a word that
+    is no duration, `U7 input too long` past 16777216 half-bits or 67108864 bytes. TypeError if the capture is neither
+    text nor bytes."""
+    return _durations(_encoded("a capture", capture) if isinstance(capture, str) else _bytes("a capture", capture))
+
+
+def _durations(text):
+    line, left, is_cut = 1, MOST_HALVES, len(text) > MOST_BYTES
+    last = MOST_BYTES - 1 if is_cut else len(text)  # (a word that ends behind it is cut by the limit)
+    for found in _WORDS.finditer(text, 0, MOST_BYTES):
+        us, count = found.groups()
+        if us is None:
+            word = found.group()
+            if word == b"\n":
+                line += 1
+                continue
+            if word[:1] == b"#":
+                continue
+        if found.end() > last:
+            break
+        count = 0 if us is None else 1 if count is None else int(count)
+        if not 1 <= count <= MOST_HALVES:
+            raise Refused(f"U2 line {line}: bad number")
+        left -= count
+        if left < 0:
+            raise Refused("U7 input too long")
+        us = min(int(us), 65535)
+        if count == 1:
+            yield us
+        else:
+            yield from repeat(us, count)
+    if is_cut:
+        raise Refused("U7 input too long")
 
 
 def line(frame):
     """The packet line of the bytes of a frame: 'loco s3 speed28 f 4'."""
-    room = ctypes.create_string_buffer(41)
-    _check(_line(bytes(frame), len(frame), room), "L")
+    room, frame = ctypes.create_string_buffer(41), _frame_bytes(frame)
+    _check(_line(frame, len(frame), room), "L")
     return room.value.decode()
 
 
 def frame(text):
     """The bytes of the frame of a packet line, the error byte last."""
-    found, words = _Frame(), text.encode()
+    found, words = _Frame(), _encoded("a packet line", text)
     _check(_frame_of_line(words, len(words), found), "P")
     return bytes(found)
 
 
 def halves(frame, one=58, zero_first=100, zero_second=100, preamble=14):
-    """What is sent for the bytes of a frame in this timing: a list of half-bits in microseconds."""
-    timing = _Timing(*(_in_range("a half-bit", it, 0, 65535) for it in (one, zero_first, zero_second)), _in_range("a preamble", preamble, 0, 255))
-    sender = _Sender()
-    answer = _sender_start(sender, bytes(frame), len(frame), timing)
+    """The half-bits in microseconds that are sent for the bytes of a frame in this timing, as a list."""
+    lengths = (_number("a half-bit", it, 0, 65535) for it in (one, zero_first, zero_second))
+    timing = _Timing(*lengths, _number("a preamble", preamble, 0, 255))
+    sender, frame = _Sender(), _frame_bytes(frame)
+    answer = _sender_start(sender, frame, len(frame), timing)
     _check(answer, "H" if answer > 2 else "L")
     return list(iter(lambda: _sender_half(sender), 0))
 
@@ -170,26 +255,32 @@ class Loco:
 
     def __init__(self, cvs):
         if isinstance(cvs, dict):
-            cvs = bytes(cvs.get(number, 0) for number in range(1, 1025))
+            values = [0] * 1024
+            for number, value in cvs.items():
+                values[_number("the number of a CV", number, 1, 1024) - 1] = value
+            cvs = values
+        cvs = _bytes("the list of CVs", cvs)
         if len(cvs) != 1024:
             raise ValueError(f"a decoder has 1024 CVs, not {len(cvs)}")
         self._loco = _Loco()
-        _loco_new(self._loco, bytes(cvs))
+        _loco_new(self._loco, cvs)
 
     def apply(self, frame):
         """Hears the packet that these bytes spell, and does what it says where it is for this decoder."""
-        _check(_loco_apply(self._loco, bytes(frame), len(frame)), "L")
+        frame = _frame_bytes(frame)
+        _check_heard(_loco_apply(self._loco, frame, len(frame)))
 
     def hears(self, frame):
         """Whether a packet is for this decoder."""
-        heard = ctypes.c_bool()
-        _check(_loco_hears(self._loco, bytes(frame), len(frame), heard), "L")
+        heard, frame = ctypes.c_bool(), _frame_bytes(frame)
+        _check_heard(_loco_hears(self._loco, frame, len(frame), heard))
         return heard.value
 
     @property
     def address(self):
         """Its active address: 's3', 'l1000', or None."""
-        return f"{' sl'[self._loco.address_kind]}{self._loco.address}" if self._loco.address_kind else None
+        kind = self._loco.address_kind
+        return f"{' sl'[kind]}{self._loco.address}" if kind else None
 
     @property
     def speed(self):
@@ -199,6 +290,7 @@ class Loco:
 
     @property
     def is_forward(self):
+        """True if its direction is forward."""
         return self._loco.forward
 
     @property
@@ -235,20 +327,22 @@ class Board:
 
     def __init__(self, number):
         self._board = _Board()
-        _check(_board_new(self._board, _in_range("a board", number, 0, 65535)), "P")
+        _check(_board_new(self._board, _number("a board", number, 0, 65535)), "P")
 
     def apply(self, frame):
         """Hears the packet that these bytes spell, and does what it says where it is for this decoder."""
-        _check(_board_apply(self._board, bytes(frame), len(frame)), "L")
+        frame = _frame_bytes(frame)
+        _check_heard(_board_apply(self._board, frame, len(frame)))
 
     def hears(self, frame):
         """Whether a packet is for this decoder."""
-        heard = ctypes.c_bool()
-        _check(_board_hears(self._board, bytes(frame), len(frame), heard), "L")
+        heard, frame = ctypes.c_bool(), _frame_bytes(frame)
+        _check_heard(_board_hears(self._board, frame, len(frame), heard))
         return heard.value
 
     @property
     def number(self):
+        """Its number, 0 to 510."""
         return self._board.number
 
     @property
@@ -277,11 +371,12 @@ class Station:
 
     def __init__(self, queue=64, slots=128, repeats=2):
         self._station = _Station()
-        _check(_station_new(self._station, *(_in_range("a size", it, 0, 255) for it in (queue, slots, repeats))), "C")
+        _check(_station_new(self._station, *(_number("a size", it, 0, 255) for it in (queue, slots, repeats))), "C")
 
     def command(self, frame):
         """The command that these bytes spell waits behind the others. Refused as C3 where no station sends it, C4 where the queue is full."""
-        answer = _station_command(self._station, bytes(frame), len(frame))
+        frame = _frame_bytes(frame)
+        answer = _station_command(self._station, frame, len(frame))
         _check(answer, "L" if answer < 3 else "C")
 
     def next(self):

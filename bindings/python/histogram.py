@@ -11,7 +11,10 @@ import dcc
 LIMITS = {52: "half of a one, from", 64: "half of a one, to", 90: "half of a zero, from", 10000: "half of a zero, to"}
 WIDTH = 60
 
-halves = list(dcc.durations(sys.stdin.read()))
+try:
+    halves = list(dcc.durations(sys.stdin.buffer.read()))
+except dcc.Refused as fault:
+    sys.exit(f"histogram.py: {fault}")
 counts = Counter(min(us, 65535) for us in halves)
 most = max(counts.values(), default=1)
 for us in sorted({*counts, *LIMITS}):

@@ -1,10 +1,18 @@
 #!/usr/bin/env python3
-"""Holds the module against the program, on 10,000 random packets with spoilt half-bits.
+"""Compares the module with the program: packet by packet on lines that are written out, then on 10,000 random packets
+with spoilt half-bits.
 
     bindings/python/test.py        wants libdcc_c.so (make), and the program: crates/dcc/out/dcc, or DCC_PROGRAM
 """
+import array
+import collections
+import itertools
 import os
+import random
+import re
 import subprocess
+import sys
+import tempfile
 import unittest
 
 HERE = os.path.dirname(os.path.abspath(__file__))
@@ -12,6 +20,9 @@ TOP = os.path.join(HERE, "..", "..")
 PROGRAM = os.environ.get("DCC_PROGRAM", os.path.join(TOP, "crates/dcc/out/dcc"))
 
 import dcc
+
+IDLE = b"\xff\0\xff"
+SPEED = bytes([0x03, 0x62, 0x61])  # loco s3 speed28 f 4
 
 
 def written(words, text=""):
@@ -22,16 +33,454 @@ def program(*words, text):
     return written([PROGRAM, *words], text)
 
 
-class Held(unittest.TestCase):
+def told(words, text):
+    """What a program of bytes writes, says and ends with."""
+    done = subprocess.run(words, input=text, capture_output=True)
+    return done.stdout, done.stderr, done.returncode
+
+
+def rows():
+    with open(os.path.join(HERE, "..", "each_register.txt"), encoding="ascii") as lines:
+        return [it.rstrip("\n") for it in lines if not it.startswith("#")]
+
+
+def decoders():
+    """The decoders of bindings/each_register.txt."""
+    locos = {1: 3, 29: 2}, {17: 0xC3, 18: 0xE8, 29: 0x22}, {1: 3, 29: 0}, {}
+    return [dcc.Loco(it) for it in locos] + [dcc.Board(it) for it in (12, 0, 510)]
+
+
+def text_of(fleet):
+    return "".join(["dcc-decoders 2\n", *(f"{it}\n" for it in fleet), "end\n"])
+
+
+def run(fleet, capture):
+    """The text of each decoder after the program has played a capture to it."""
+    text = program("run", text=text_of(fleet) + capture)
+    return re.split(r"\n(?=loco|board|end)", text)[1:-1]
+
+
+def is_for(decoder, line):
+    """Whether the packet of a line is for a decoder, by the line."""
+    words = line.split()
+    if isinstance(decoder, dcc.Board):
+        signals = range(decoder.number * 4, decoder.number * 4 + 4)
+        of_all = words[:3] == ["loco", "all", "reset"]
+        return (
+            of_all
+            or words[0] == "accessory"
+            and int(words[1]) in (decoder.number, 511)
+            or words[0] == "signal"
+            and int(words[1]) in (*signals, 2047)
+        )
+    if words[0] == "loco":
+        return words[1] in ("all", decoder.address)
+    if words[0] != "frame":
+        return False
+    first, second = bytes.fromhex(words[1])[:2]
+    return first == 0 or decoder.address in (
+        (f"s{first}",) if first < 128 else (f"l{(first - 192) * 256 + second}",) if 192 <= first < 232 else ()
+    )
+
+
+class ByHand(unittest.TestCase):
+    """Packet by packet, and rows that are written out."""
+
+    def assertRefused(self, name, call, *arguments, **words):
+        with self.subTest(name), self.assertRaises(dcc.Refused) as said:
+            call(*arguments, **words)
+        self.assertEqual(str(said.exception), name)
+
+    def test_each_register_is_as_run_writes_it(self):
+        fleet, reached = decoders(), set()
+        for line in rows():
+            frame = dcc.frame(line)
+            after = run(fleet, program("encode", text=line + "\n"))
+            for it, text in zip(fleet, after):
+                self.assertEqual(it.hears(frame), is_for(it, line), line)
+                self.assertTrue(it.hears(frame) or str(it) == text)
+                it.apply(frame)
+                self.assertEqual(str(it), text, line)
+            reached |= {word for text in after for word in text.splitlines()}
+        for it in (
+            "speed emergency r",
+            "speed 14 8 f",
+            "speed 28 28 r",
+            "speed 126 126 f",
+            "pending 03ec0609e0",
+            "out 0 2 5 6 7",
+            "aspect 6 6 6 6",
+            "board 510",
+        ):
+            self.assertIn(it, reached)
+
+    def test_properties(self):
+        loco = dcc.Loco({17: 0xC3, 18: 0xE8, 29: 0x22})
+        self.assertEqual((loco.address, loco.speed, loco.is_forward, loco.pending), ("l1000", "stop", True, None))
+        for line in (
+            "loco l1000 speed128 r 1",
+            "loco l1000 functions 61 129",
+            "loco l1000 state 127 on",
+            "loco l1000 cv write 3 7",
+        ):
+            loco.apply(dcc.frame(line))
+        self.assertEqual(
+            (loco.speed, loco.is_forward, loco.functions, loco.states), ("emergency", False, [61, 68], [127])
+        )
+        self.assertEqual(
+            (loco.pending, loco.cvs[16:18], len(loco.cvs)), (dcc.frame("loco l1000 cv write 3 7"), b"\xc3\xe8", 1024)
+        )
+        self.assertEqual((dcc.Loco({}).address, dcc.Loco({1024: 5}).cvs[1023]), (None, 5))
+        self.assertEqual(dcc.Loco([5, *[0] * 1023]).cvs, dcc.Loco({1: 5}).cvs)
+        board = dcc.Board(12)
+        for line in "accessory 12 7 on", "accessory 12 2 on", "signal 51 9":
+            board.apply(dcc.frame(line))
+        self.assertEqual(
+            (board.number, board.outputs, board.positions, board.aspects), (12, [2, 7], [0, 0, 0, 1], [0, 0, 0, 9])
+        )
+
+    def test_a_decoder_hears_what_changes_it(self):
+        # (each of these packets changes a decoder that hears it, one that is new or one that was set by the lines
+        # before)
+        lines = [
+            "loco s3 reset",
+            "loco l1000 reset",
+            "loco l3 reset",
+            "loco s4 reset",
+            "loco all reset",
+            "loco s3 speed28 f 4",
+            "loco l1000 speed128 f 4",
+        ]
+        lines += [
+            "loco s100 functions 0 1",
+            "loco all functions 0 1",
+            "loco l1000 state 9 on",
+            "loco s3 cv write 5 5",
+            "loco l1000 cv write 5 5",
+            "idle",
+        ]
+        lines += [f"accessory {board} 5 on" for board in (0, 1, 11, 12, 13, 509, 510, 511)]
+        lines += [f"signal {address} 1" for address in (0, 3, 4, 47, 48, 51, 52, 2039, 2040, 2043, 2044, 2047)]
+        new, old = decoders(), decoders()
+        for line in rows()[:-27]:
+            for it in old:
+                it.apply(dcc.frame(line))
+        for line in lines:
+            capture = program("encode", text=line + "\n")
+            after = zip(new, old, run(new, capture), run(old, capture))
+            changed = [str(a) != c or str(b) != d for a, b, c, d in after]
+            self.assertEqual([it.hears(dcc.frame(line)) for it in new], changed, line)
+
+    def test_a_station_counts(self):
+        station = dcc.Station(2, 4, 2)
+        state = lambda: (station.waiting, station.entries)
+        self.assertEqual(state(), (0, 0))
+        for line in "loco s3 speed28 f 4", "loco s3 cv write 29 2":
+            station.command(dcc.frame(line))
+        self.assertEqual(state(), (2, 0))
+        self.assertRefused("C4", station.command, dcc.frame("loco s4 reset"))
+        sent = [(dcc.line(station.next()), *state()) for _ in range(6)]
+        write = "loco s3 cv write 29 2"
+        self.assertEqual(sent[:2], [("loco s3 speed28 f 4", 2, 1), ("loco s3 speed28 f 4", 1, 1)])
+        self.assertEqual(sent[2:], [(write, 1, 0), (write, 1, 0), (write, 0, 0), ("idle", 0, 0)])
+        full = dcc.Station()
+        for n in range(64):
+            full.command(dcc.frame(f"loco s{n + 1} functions 0 16"))
+        self.assertEqual((full.waiting, full.entries), (64, 0))
+        self.assertRefused("C4", full.command, SPEED)
+
+    def test_halves_have_their_timing(self):
+        words = "\n".join(rows()) + "\n"
+        sent = "".join(" ".join(map(str, dcc.halves(dcc.frame(it), preamble=20))) + "\n" for it in rows())
+        self.assertEqual(sent, program("encode", "--service", text=words))
+        ones, zero = [55, 55], [9900, 2100]
+        self.assertEqual(
+            dcc.halves(IDLE, 55, 9900, 2100, 14), ones * 14 + zero + ones * 8 + zero * 9 + zero + ones * 8 + ones
+        )
+
+    def test_a_framer_takes_runs_and_long_half_bits(self):
+        for text in (
+            "58*28 100*14 58*4 100*4 58*4 100*6 58*2 100*6 58*4 100*8 58*4",
+            "58*28 100*14 58*4 100*4 58*4 100*6 65594*2",
+            "58*40 100*2 100*500",
+            "58*40 100*18 58*9",
+        ):
+            framer = dcc.Framer()
+            runs = [list(map(int, it.split("*"))) for it in text.split()]
+            found = "".join(f"{it}\n" for it in (framer.push(*run) for run in runs) if it)
+            self.assertEqual(found, program("show", "--words", text=text))
+        for us in 65535, 65536, 70000, 65536 + 58, 2**32 + 58, 2**64 + 58, 10**30:
+            framer = dcc.Framer()
+            self.assertIsNone(framer.push(58, 40))
+            self.assertIsNone(framer.push(100))
+            self.assertEqual(str(framer.push(us)), "42 refused H1", us)
+        framer = dcc.Framer()
+        framer.push(58, 0xFFFFFFFF)
+        framer.push(100, 18)
+        self.assertEqual(framer.push(58, 9), dcc.Seen(0xFFFFFFFF + 20, "H3", b""))
+
+    def test_a_capture_is_read_as_show_reads_it(self):
+        good = "58*28 100*14 58*4 100*4 58*4 100*6 58*2 100*6 58*4 100*8 58*4"
+        faults = "58*0|5_8|58*-3|58*|58x|*5|-58|+58|58*99999999|58*16777217|58*123456789|58*5*2|12345678901|00000000058|---|\u0665\u0668|58\x0c58|58\x0b58|58\x1c5|58\x85"
+        faults += "|58\u20287|58\u00a07|\0|58\0|\ufeff58|1e3|0x3a|58.0|58*٣"
+        texts = [f"{good}\n# a comment\r\n\t58\n58 {it} 58*0\n" for it in faults.split("|")]
+        texts += [
+            "",
+            "#",
+            "\n\n",
+            "58",
+            "58#58x",
+            f"{good}#58",
+            f"\r\n{good.replace(' ', chr(13))}\r\n{good}",
+            "0000000058*00000028 0*1 70000 4294967354 9999999999*3",
+        ]
+        texts += [f"{good} 58*20 100 {it} 58" for it in ("65594", "4294967354", "65535", "65536")]
+        chosen = random.Random(5)
+        for _ in range(150):
+            text = list(good)
+            for _ in range(1 + chosen.randrange(3)):
+                text.insert(chosen.randrange(len(text) + 1), chosen.choice(" \t\r\n#*-+_05889x\x0c\0\n\n"))
+            texts.append("".join(text))
+        for text in texts:
+            listing, fault = "", ""
+            try:
+                for it in dcc.seen(dcc.durations(text)):
+                    listing += f"{it}\n"
+            except dcc.Refused as refused:
+                fault = f"dcc: {refused}\n"
+            said = told([PROGRAM, "show", "--words"], text.encode())
+            self.assertEqual((listing.encode(), fault.encode(), 3 if fault else 0), said, text)
+            self.assertEqual(list_of(dcc.durations, text), list_of(dcc.durations, text.encode()))
+        for text in texts[:8] + texts[-3:]:
+            said = told([PROGRAM, "show", "--words"], text.encode())
+            here = told([sys.executable, os.path.join(HERE, "show.py")], text.encode())
+            self.assertEqual((here[0], here[1].replace(b"show.py", b"dcc"), here[2]), said, text)
+        self.assertEqual(
+            told([sys.executable, os.path.join(HERE, "histogram.py")], b"58x"),
+            (b"", b"histogram.py: U2 line 1: bad number\n", 1),
+        )
+
+    def test_limits_of_a_capture(self):
+        full = b"#" * (dcc.MOST_BYTES - 9) + b"\n"  # (eight bytes are left)
+        for text, wanted in (
+            (b"58*16777216", 16777216),
+            (b"58*16777216 58", 16777216),
+            (b"58*16777216 58x", 16777216),
+            (b"58*16777215 58*2", 16777215),
+            (full + b"58 58 58", 3),
+            (full + b"58 58 58 ", 2),
+            (full + b"58 58 588", 2),
+            (full + b"58 58 x", 2),
+            (full + b"58 58x  ", 1),
+            (full + b"58 58x  9", 1),
+            (full + b"58 58  x9", 2),
+            (full + b"58\n 58 #9", 2),
+            (full + b"58 58 58*", 2),
+        ):
+            count, fault = list_of(dcc.durations, text)
+            said = told([PROGRAM, "show"], text)
+            self.assertEqual((count, f"dcc: {fault}\n" if fault else ""), (wanted, said[1].decode()), text[-20:])
+
+    def test_what_is_refused(self):
+        for name, call, argument in (
+            ("P1", dcc.frame, "loco s128 reset"),
+            ("P10", dcc.frame, ""),
+            ("P10", dcc.frame, "idle\0"),
+            ("P10", dcc.frame, "idle\n"),
+            ("P11", dcc.frame, "loco s3 speed28 f 4\n"),
+            ("P10", dcc.frame, "idl\u00e9"),
+            ("P10", dcc.frame, "\ud800"),
+            ("P14", dcc.frame, "loco s3 state 128 on"),
+            ("P3", dcc.Board, 511),
+            ("P3", dcc.Board, 65535),
+            ("L1", dcc.line, b"\1\1"),
+            ("L2", dcc.line, b"\1\2\4"),
+            ("L1", dcc.line, bytes(7)),
+            ("L2", dcc.Loco({}).apply, b"\1\2\4"),
+            ("L1", dcc.Loco({}).apply, b""),
+            ("L1", dcc.Loco({}).hears, b"\1"),
+            ("L2", dcc.Loco({}).hears, b"\1\2\4"),
+            ("L2", dcc.Board(1).apply, b"\1\2\4"),
+            ("L1", dcc.Board(1).apply, b""),
+            ("L1", dcc.Board(1).hears, b"\1"),
+            ("L2", dcc.Board(1).hears, b"\1\2\4"),
+            ("C3", dcc.Station().command, IDLE),
+            ("L1", dcc.Station().command, b"\1\1"),
+            ("L2", dcc.Station().command, b"\1\2\4"),
+            ("L1", dcc.halves, b"\1\1"),
+            ("L2", dcc.halves, b"\1\2\4"),
+        ):
+            self.assertRefused(name, call, argument)
+        for name, words in (
+            ("H6", {"one": 54}),
+            ("H6", {"one": 62}),
+            ("H7", {"zero_first": 94}),
+            ("H7", {"zero_second": 94}),
+            ("H7", {"zero_first": 9900, "zero_second": 2101}),
+            ("H8", {"preamble": 41}),
+            ("H8", {"preamble": 13}),
+            ("H6", {"one": 54, "preamble": 1}),
+        ):
+            self.assertRefused(name, dcc.halves, IDLE, **words)
+        for sizes in (0, 1, 1), (65, 1, 1), (1, 129, 1), (1, 0, 1), (1, 1, 9), (1, 1, 0):
+            self.assertRefused("C1", dcc.Station, *sizes)
+        dcc.Station(1, 1, 1), dcc.Station(64, 128, 8)
+
+    def test_numbers_that_no_decoder_has(self):
+        loco, board = dcc.Loco({1: 3}), dcc.Board(1)
+        loco._loco.speed_mode = 77
+        board._board.number = 511
+        for call in loco.apply, board.apply, board.hears:
+            self.assertRefused("P13", call, SPEED)
+        loco._loco.address_kind = 3
+        self.assertRefused("P13", loco.hears, SPEED)
+
+    def test_arguments_are_checked(self):
+        loco, station = dcc.Loco({1: 3}), dcc.Station()
+        words = array.array("H", [0x03, 0x62, 0x61])
+        self.assertEqual(
+            [dcc.line(it) for it in (words, list(words), tuple(words), bytearray(SPEED), memoryview(SPEED))],
+            ["loco s3 speed28 f 4"] * 5,
+        )
+        self.assertEqual(dcc.Loco(array.array("H", [3, *[0] * 1023])).cvs, dcc.Loco({1: 3}).cvs)
+        longer = type("Longer", (bytes,), {"__len__": lambda self: 1024})
+        for call in (
+            lambda: dcc.Framer().push("58"),
+            lambda: dcc.Framer().push(None),
+            lambda: dcc.Framer().push(58.0),
+            lambda: dcc.Framer().push(58, 2.0),
+            lambda: dcc.line("036261"),
+            lambda: dcc.line(3),
+            lambda: dcc.line(None),
+            lambda: dcc.line({3: 1}),
+            lambda: dcc.line([3.0, 1, 2]),
+            lambda: dcc.frame(b"idle"),
+            lambda: dcc.frame(None),
+            lambda: dcc.halves(IDLE, one=58.0),
+            lambda: dcc.halves("idle"),
+            lambda: dcc.Loco("x" * 1024),
+            lambda: dcc.Loco(None),
+            lambda: dcc.Loco(1024),
+            lambda: dcc.Loco({"a": 2}),
+            lambda: dcc.Loco({1: None}),
+            lambda: dcc.Loco({1.0: 2}),
+            lambda: loco.apply("idle"),
+            lambda: loco.hears(3),
+            lambda: dcc.Board("1"),
+            lambda: dcc.Board(1.5),
+            lambda: dcc.Board(1).apply("idle"),
+            lambda: dcc.Board(1).hears(None),
+            lambda: dcc.Station("1"),
+            lambda: dcc.Station(1.0, 1, 1),
+            lambda: station.command("idle"),
+            lambda: dcc.durations(58),
+            lambda: dcc.durations(None),
+            lambda: list(dcc.seen(["58"])),
+        ):
+            self.assertRaises(TypeError, call)
+        for call in (
+            lambda: dcc.Framer().push(-1),
+            lambda: dcc.Framer().push(58, 0),
+            lambda: dcc.Framer().push(58, 2**32),
+            lambda: dcc.line([300, 98, 97]),
+            lambda: dcc.line(array.array("H", [0x6203, 0x61, 0])),
+            lambda: dcc.line([-1, 0, 0]),
+            lambda: dcc.halves(IDLE, preamble=-1),
+            lambda: dcc.halves(IDLE, preamble=256 + 14),
+            lambda: dcc.halves(IDLE, one=65536 + 58),
+            lambda: dcc.Loco(b"\3"),
+            lambda: dcc.Loco([0] * 1025),
+            lambda: dcc.Loco(longer(b"\3")),
+            lambda: dcc.Loco(array.array("H", [1] * 512)),
+            lambda: dcc.Loco({0: 5}),
+            lambda: dcc.Loco({1025: 5}),
+            lambda: dcc.Loco({2000: 1}),
+            lambda: dcc.Loco({1: 256}),
+            lambda: dcc.Loco({1: -1}),
+            lambda: dcc.Board(-1),
+            lambda: dcc.Board(65536),
+            lambda: dcc.Station(256 + 1),
+            lambda: dcc.Station(1, 256 + 1),
+            lambda: dcc.Station(1, 1, 256 + 1),
+            lambda: dcc.Station(-1),
+        ):
+            with self.assertRaises(ValueError) as said:
+                call()
+            self.assertNotIsInstance(said.exception, (dcc.Refused, UnicodeError))
+
+    def test_threads_on_one_object(self):
+        self.assertEqual(told([sys.executable, "-c", THREADS], b""), (b"ended\n", b"", 0))
+
+    def test_a_call_keeps_the_lock_of_the_interpreter(self):
+        with open(dcc.__file__, encoding="utf-8") as source:
+            names = set(re.findall(r'_call\("(\w+)"', source.read())) - {"dcc_station_waiting"}
+        with tempfile.TemporaryDirectory() as room:
+            with open(f"{room}/stub.c", "w", encoding="ascii") as stub:
+                stub.write(
+                    "int PyGILState_Check(void);\nunsigned char dcc_station_waiting(void) { return (unsigned char)PyGILState_Check(); }\n"
+                )
+                stub.writelines(f"unsigned char {name}(void) {{ return 0; }}\n" for name in sorted(names))
+            written([os.environ.get("CC", "cc"), "-shared", "-fPIC", "-o", f"{room}/stub.so", f"{room}/stub.c"])
+            said = subprocess.run(
+                [sys.executable, "-c", "import dcc; print(dcc.Station().waiting)"],
+                env={**os.environ, "DCC_SO": f"{room}/stub.so", "PYTHONPATH": HERE},
+                capture_output=True,
+                text=True,
+            )
+        self.assertEqual((said.stdout, said.stderr), ("1\n", ""))
+
+
+def list_of(call, text):
+    """How many half-bits a capture has before its fault, and the fault."""
+    counted, fault = itertools.count(), ""
+    try:
+        collections.deque(zip(call(text), counted), maxlen=0)
+    except dcc.Refused as refused:
+        fault = str(refused)
+    return next(counted), fault
+
+
+THREADS = f"""
+import sys, threading, time
+sys.path.insert(0, {HERE!r})
+sys.setswitchinterval(1e-6)
+import dcc
+station, loco, framer = dcc.Station(64, 128, 1), dcc.Loco({{1: 3, 29: 2}}), dcc.Framer()
+frames = [dcc.frame(f"loco s{{n}} functions {{g}} {{v}}") for n in range(1, 60) for g in (0, 5, 13) for v in range(0, 16, 5)]
+end, odd = time.time() + 1, []
+def work(at):
+    while time.time() < end:
+        at += 1
+        try:
+            if at % 2: station.command(frames[at % len(frames)])
+        except dcc.Refused as fault:
+            if str(fault) != "C4": odd.append(fault)
+        try:
+            dcc.line(station.next())
+            loco.apply(frames[at % len(frames)])
+            framer.push(58 if at % 50 else 100, 1 + at % 3)
+        except Exception as fault:
+            odd.append(fault)
+threads = [threading.Thread(target=work, args=(it,)) for it in range(4)]
+for it in threads: it.start()
+for it in threads: it.join()
+print("ended", *odd[:3])
+"""
+
+
+class RandomPackets(unittest.TestCase):
+    """On 10,000 random packets, of which each 500th half-bit is cut or long, and each 500th bit turned."""
+
     @classmethod
     def setUpClass(cls):
         cls.lines = written(["awk", "-f", os.path.join(TOP, "tools/random-packets.awk")]).splitlines()
         cls.text = "\n".join(cls.lines) + "\n"
         cls.frames = [dcc.frame(it) for it in cls.lines]
         sent = [us for it in cls.frames for us in dcc.halves(it)]
-        # (each 500th half-bit cut, and each 500th bit turned)
-        cls.halves = [20 if at % 500 == 499 else 158 - us if at % 1000 in (700, 701) else us for at, us in enumerate(sent)]
+        spoilt = {499: lambda us: 20, 999: lambda us: us + 65536, 700: lambda us: 158 - us, 701: lambda us: 158 - us}
+        cls.halves = [spoilt.get(at % 1000, int)(us) for at, us in enumerate(sent)]
         cls.capture = "\n".join(map(str, cls.halves)) + "\n"
+        cls.listing = program("show", "--words", text=cls.capture)
 
     def test_10_000_packets(self):
         self.assertGreater(len(self.lines), 10_000)
@@ -42,25 +491,23 @@ class Held(unittest.TestCase):
 
     def test_what_is_seen_is_what_show_lists(self):
         listing = "".join(f"{it}\n" for it in dcc.seen(self.halves))
-        self.assertTrue(listing == program("show", "--words", text=self.capture))
+        self.assertTrue(listing == self.listing)
         self.assertIn("refused H5", listing)
 
     def test_a_frame_has_its_line(self):
         self.assertTrue(all(dcc.frame(dcc.line(it)) == it for it in self.frames))
 
     def test_decoders_hold_what_run_writes(self):
-        loco, board = dcc.Loco({1: 3, 29: 2}), dcc.Board(12)
-        before = f"dcc-decoders 2\n{loco}\n{board}\nend\n"
-        for it in dcc.seen(self.halves):
-            if not it.refusal:
-                old = str(loco), str(board)
-                loco.apply(it.frame)
-                board.apply(it.frame)
-                self.assertTrue(loco.hears(it.frame) or str(loco) == old[0])
-                self.assertTrue(board.hears(it.frame) or str(board) == old[1])
-        after = f"dcc-decoders 2\n{loco}\n{board}\nend\n"
-        self.assertNotEqual(after, before)
-        self.assertEqual(after, program("run", text=before + self.capture))
+        fleet = decoders()
+        pieces = self.listing.splitlines()
+        for begin in range(0, len(pieces), 100):
+            lines = [it.split(" ", 1)[1] for it in pieces[begin : begin + 100] if "refused" not in it]
+            after = run(fleet, program("encode", text="\n".join(lines) + "\n"))
+            for line, frame in ((it, dcc.frame(it)) for it in lines):
+                for it in fleet:
+                    self.assertEqual(it.hears(frame), is_for(it, line))
+                    it.apply(frame)
+            self.assertEqual([str(it) for it in fleet], after)
 
     def test_a_station_sends_what_encode_sends(self):
         for queue, slots, repeats in (4, 8, 2), (64, 128, 1), (1, 1, 8), (16, 32, 3):
@@ -77,27 +524,6 @@ class Held(unittest.TestCase):
             sizes = "--queue", str(queue), "--slots", str(slots), "--repeats", str(repeats)
             wanted = program("encode", "--hex", "--station", *sizes, text="\n".join(asked) + "\n")
             self.assertTrue("\n".join(sent) + "\n" == wanted)
-
-    def test_what_is_refused(self):
-        rows = (
-            ("P1", dcc.frame, "loco s128 reset"), ("P10", dcc.frame, ""), ("P3", dcc.Board, 511), ("L1", dcc.line, b"\1\1"),
-            ("L2", dcc.line, b"\1\2\4"), ("L2", dcc.Loco({}).apply, b"\1\2\4"), ("C3", dcc.Station().command, b"\xff\0\xff"),
-        )
-        for name, call, argument in rows:
-            with self.subTest(name), self.assertRaises(dcc.Refused) as said:
-                call(argument)
-            self.assertEqual(str(said.exception), name)
-        idle = b"\xff\0\xff"
-        for name, words in (("H6", {"one": 54}), ("H7", {"zero_first": 9900, "zero_second": 2101}), ("H8", {"preamble": 41}), ("H6", {"one": 54, "preamble": 1})):
-            with self.subTest(name), self.assertRaises(dcc.Refused) as said:
-                dcc.halves(idle, **words)
-            self.assertEqual(str(said.exception), name)
-        for sizes in (0, 1, 1), (65, 1, 1), (1, 129, 1), (1, 1, 9):
-            with self.subTest(sizes), self.assertRaises(dcc.Refused) as said:
-                dcc.Station(*sizes)
-            self.assertEqual(str(said.exception), "C1")
-        for call in (lambda: dcc.Framer().push(-1), lambda: dcc.Framer().push(58, 0), lambda: dcc.Loco(b"\3"), lambda: dcc.Board(-1)):
-            self.assertRaises(ValueError, call)
 
 
 if __name__ == "__main__":

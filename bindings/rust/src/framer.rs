@@ -30,9 +30,9 @@ pub enum Refusal {
     TooLong,
     /// H5: the error byte of these bytes is wrong.
     ErrorByte {
-        /// How many bytes there are.
+        /// The number of bytes, 3 to 6.
         len: u8,
-        /// They, and zeros behind them.
+        /// The bytes, followed by zeros.
         bytes: [u8; 6],
     },
 }
@@ -104,8 +104,10 @@ impl fmt::Display for Refusal {
             Refusal::TooLong => f.write_str("H4"),
             Refusal::ErrorByte { len, bytes } => {
                 f.write_str("H5 ")?;
-                bytes[..usize::from(*len)]
+                // (the fields are public: a len above 6 stands for all six bytes)
+                bytes
                     .iter()
+                    .take(usize::from(*len))
                     .try_for_each(|byte| write!(f, "{byte:02x}"))
             }
         }

@@ -1,6 +1,7 @@
 //! What is sent for a frame.
 use crate::calls::{dcc_sender_half, dcc_sender_start};
 use crate::frame::Frame;
+use core::fmt;
 
 /// How a station sends: how long half-bits last, in microseconds, and how many ones stand before a packet (NMRA S-9.1, S-9.2).
 #[repr(C)]
@@ -25,10 +26,8 @@ pub enum TimingFault {
 
 /// The half-bits that are sent for a frame, in microseconds.
 #[repr(C)]
-#[derive(Clone, Debug)]
-pub struct Halves {
-    kept: [u64; 2],
-}
+#[derive(Clone)]
+pub struct Halves([u64; 2]);
 
 /// An idle packet.
 const IDLE: [u8; 3] = [0xff, 0x00, 0xff];
@@ -75,7 +74,7 @@ impl Timing {
 impl Halves {
     /// None at all.
     fn none() -> Halves {
-        Halves { kept: [0; 2] }
+        Halves([0; 2])
     }
 
     /// Those of a frame.
@@ -94,5 +93,11 @@ impl Iterator for Halves {
             0 => None,
             us => Some(us),
         }
+    }
+}
+
+impl fmt::Debug for Halves {
+    fn fmt(&self, f: &mut fmt::Formatter<'_>) -> fmt::Result {
+        f.write_str("Halves")
     }
 }

@@ -1,0 +1,436 @@
+//! Held against the program packet by packet, and against rows that are written out.
+mod common;
+
+use common::{cvs, dcc, frame, hex, output, program, rows, Fleet};
+use dcc::{
+    Address, Board, CommandFault, Frame, FrameFault, Framer, LineFault, Loco, Reader, Reading,
+    Refusal, Seen, Service, Speed, Station, Timing, TimingFault,
+};
+use std::fmt::Write as _;
+use std::process::Command;
+
+#[test]
+fn each_register_is_as_run_writes_it() {
+    let (mut fleet, mut reached) = (Fleet::new(), String::new());
+    for line in rows() {
+        let frame = frame(&line);
+        let after = fleet.run(&line);
+        assert_eq!(fleet.hears(&frame), fleet.is_for(&line), "{line}");
+        fleet.apply(&frame);
+        assert_eq!(fleet.texts(), after, "{line}");
+        reached += &after.concat();
+    }
+    for it in [
+        "speed emergency r",
+        "speed 14 8 f",
+        "speed 28 28 r",
+        "speed 126 126 f",
+        "pending 03ec0609e0",
+        "out 0 2 5 6 7",
+        "aspect 6 6 6 6",
+        "board 510",
+    ] {
+        assert!(reached.contains(&format!("\n{it}\n")), "{it}");
+    }
+}
+
+/// Each of these packets changes a decoder that hears it, one that is new or one that was set by the lines before.
+#[test]
+fn a_decoder_hears_what_changes_it() {
+    let mut lines: Vec<String> = [
+        "loco s3 reset",
+        "loco l1000 reset",
+        "loco l3 reset",
+        "loco s4 reset",
+        "loco all reset",
+        "loco s3 speed28 f 4",
+        "loco l1000 speed128 f 4",
+        "loco s100 functions 0 1",
+        "loco all functions 0 1",
+        "loco l1000 state 9 on",
+        "loco s3 cv write 5 5",
+        "loco l1000 cv write 5 5",
+        "idle",
+    ]
+    .map(str::to_owned)
+    .to_vec();
+    let boards = [0, 1, 11, 12, 13, 509, 510, 511];
+    let signals = [0, 3, 4, 47, 48, 51, 52, 2039, 2040, 2043, 2044, 2047];
+    lines.extend(boards.map(|it| format!("accessory {it} 5 on")));
+    lines.extend(signals.map(|it| format!("signal {it} 1")));
+    let (new, mut old, rows) = (Fleet::new(), Fleet::new(), rows());
+    rows[..rows.len() - 27]
+        .iter()
+        .for_each(|it| old.apply(&frame(it)));
+    for line in lines {
+        let (new_after, old_after) = (new.run(&line), old.run(&line));
+        let is_new = new.texts().into_iter().zip(new_after).map(|(a, b)| a != b);
+        let is_old = old.texts().into_iter().zip(old_after).map(|(a, b)| a != b);
+        let changed: Vec<bool> = is_new.zip(is_old).map(|(a, b)| a || b).collect();
+        assert_eq!(new.hears(&frame(&line)), changed, "{line}");
+    }
+}
+
+#[test]
+fn numbers_of_a_decoder() {
+    let mut loco = Loco::new(&cvs(&[(17, 0xC3), (18, 0xE8), (29, 0x22)]));
+    assert_eq!(loco.address(), Some(Address::Long(1000)));
+    assert_eq!(
+        (loco.speed(), loco.is_forward(), loco.pending()),
+        (Speed::Stop, true, None)
+    );
+    for line in [
+        "loco l1000 speed128 r 1",
+        "loco l1000 functions 61 129",
+        "loco l1000 state 127 on",
+        "loco l1000 cv write 3 7",
+    ] {
+        loco.apply(&frame(line));
+    }
+    assert_eq!((loco.speed(), loco.is_forward()), (Speed::Emergency, false));
+    assert_eq!(loco.pending(), Some(frame("loco l1000 cv write 3 7")));
+    let on: Vec<u8> = (0..=255).filter(|n| loco.function(*n)).collect();
+    let states: Vec<u8> = (0..=255).filter(|n| loco.state(*n)).collect();
+    assert_eq!((on, states), (vec![61, 68], vec![127]));
+    assert_eq!(
+        (loco.cvs()[16], loco.cvs()[17], loco.cvs()[1023]),
+        (0xC3, 0xE8, 0)
+    );
+    assert_eq!(Loco::new(&cvs(&[])).address(), None);
+    assert_eq!(
+        Loco::new(&cvs(&[(1, 127)])).address(),
+        Some(Address::Short(127))
+    );
+    let mut board = Board::new(12).unwrap();
+    for line in ["accessory 12 7 on", "accessory 12 2 on", "signal 51 9"] {
+        board.apply(&frame(line));
+    }
+    let outputs: Vec<u8> = (0..=255).filter(|n| board.output(*n)).collect();
+    assert_eq!((board.number(), outputs), (12, vec![2, 7]));
+    assert_eq!(board.positions(), [false, false, false, true]);
+    assert_eq!(board.aspects(), [0, 0, 0, 9]);
+}
+
+/// The decoder text of a locomotive with this value in a variable, and with no address.
+fn text_of(cv: u16, value: u8) -> String {
+    let line = match value {
+        0 => "".to_owned(),
+        value => format!("cv {cv} {value}\n"),
+    };
+    format!("dcc-decoders 2\nloco none\nspeed stop f\non\nstates\npending none\n{line}end\n")
+}
+
+/// What a reading asks and finds, as `dcc readcv` writes it.
+fn read(cv: u16, mut decoder: Option<Service>) -> String {
+    let (mut reader, mut text) = (Reader::new(cv).unwrap(), String::new());
+    let reset = Frame::new(&[0, 0, 0]).unwrap();
+    loop {
+        let question = reader.question();
+        let copies = [reset; 3].into_iter().chain([question; 5]);
+        let yes = copies.fold(false, |any, frame| {
+            decoder.as_mut().map_or(false, |it| it.apply(&frame)) | any
+        });
+        writeln!(text, "{question:x} {}", if yes { "yes" } else { "no" }).unwrap();
+        match reader.answer(yes) {
+            Reading::More => (),
+            Reading::Value(value) => return text + &format!("value {value}\n"),
+            Reading::NoAnswer => return text + "no answer\n",
+        }
+    }
+}
+
+#[test]
+fn a_variable_is_read_as_readcv_reads_it() {
+    for (cv, value) in [(1, 10), (29, 2), (8, 200), (1024, 255), (17, 0), (512, 85)] {
+        let service = Service::new(&cvs(&[(cv.into(), value)]));
+        let written = dcc(&["readcv", "--cv", &cv.to_string()], &text_of(cv, value));
+        assert_eq!(read(cv, Some(service)), written);
+        assert!(written.ends_with(&format!("value {value}\n")));
+    }
+    let written = dcc(&["readcv", "--cv", "3", "--empty"], "");
+    assert_eq!(read(3, None), written);
+    assert!(written.ends_with("no answer\n"));
+}
+
+#[test]
+fn a_decoder_is_in_service_after_a_reset() {
+    let mut decoder = Service::new(&cvs(&[(1, 10)]));
+    let verify = Frame::new(&[0x74, 0x00, 0x0A, 0x7E]).unwrap();
+    let write = Frame::new(&[0x7C, 0x00, 0x0B, 0x77]).unwrap();
+    assert!(!decoder.is_in_service() && !decoder.apply(&verify) && !decoder.apply(&verify));
+    assert_eq!((decoder.pending(), decoder.cvs()[0]), (None, 10));
+    assert!(!decoder.apply(&frame("loco all reset")));
+    assert!(decoder.is_in_service() && decoder.pending().is_none());
+    assert!(!decoder.apply(&verify));
+    assert_eq!(decoder.pending(), Some(verify));
+    assert!(decoder.apply(&verify));
+    assert!(!decoder.apply(&write) && decoder.cvs()[0] == 10);
+    assert!(decoder.apply(&write) && decoder.cvs()[0] == 11);
+    assert!(decoder.cvs()[1..].iter().all(|it| *it == 0));
+    decoder.apply(&frame("loco s3 speed28 f 4"));
+    assert!(!decoder.is_in_service());
+}
+
+#[test]
+fn a_reading_stays_at_its_ninth_question() {
+    let mut reader = Reader::new(1024).unwrap();
+    assert_eq!(format!("{:x}", reader.question()), "7bffe86c");
+    for place in 0..8 {
+        assert_eq!(reader.answer(0xA5 >> place & 1 == 1), Reading::More);
+    }
+    assert_eq!(reader.answer(false), Reading::NoAnswer);
+    assert_eq!(format!("{:x}", reader.question()), "77ffa52d");
+    assert_eq!(reader.answer(true), Reading::Value(0xA5));
+}
+
+#[test]
+fn a_station_counts() {
+    let mut station = Station::new(2, 4, 2).unwrap();
+    let state = |it: &Station| (it.waiting(), it.entries());
+    assert_eq!(state(&station), (0, 0));
+    let (speed, write) = (frame("loco s3 speed28 f 4"), frame("loco s3 cv write 29 2"));
+    assert_eq!(station.command(&speed), Ok(()));
+    assert_eq!(station.command(&write), Ok(()));
+    assert_eq!(state(&station), (2, 0));
+    let reset = frame("loco s4 reset");
+    assert_eq!(station.command(&reset), Err(CommandFault::QueueFull));
+    assert_eq!(
+        station.command(&frame("idle")),
+        Err(CommandFault::NoCommand)
+    );
+    let waits = (speed, (2, 1));
+    let mut sent = || (station.send_next(), state(&station));
+    let all = [sent(), sent(), sent(), sent(), sent(), sent()];
+    let rest = [
+        (speed, (1, 1)),
+        (write, (1, 0)),
+        (write, (1, 0)),
+        (write, (0, 0)),
+    ];
+    assert_eq!(all[0], waits);
+    assert_eq!(all[1..5], rest);
+    assert_eq!(all[5], (frame("idle"), (0, 0)));
+    assert_eq!(format!("{station:?}"), "Station { waiting: 0, entries: 0 }");
+    let mut full = Station::new(64, 128, 8).unwrap();
+    for n in 1..=64 {
+        full.command(&frame(&format!("loco s{n} functions 0 16")))
+            .unwrap();
+    }
+    assert_eq!(format!("{full:?}"), "Station { waiting: 64, entries: 0 }");
+    full.send_next();
+    assert_eq!(state(&full), (64, 1));
+}
+
+#[test]
+fn half_bits_have_their_timing() {
+    let lines = rows().join("\n") + "\n";
+    let mut sent = String::new();
+    for line in lines.lines() {
+        let halves = frame(line).halves(&Timing::PROGRAMMING);
+        let words: Vec<String> = halves.map(|us| us.to_string()).collect();
+        writeln!(sent, "{}", words.join(" ")).unwrap();
+    }
+    assert_eq!(sent, dcc(&["encode", "--service"], &lines));
+    let timing = Timing::new(55, 9900, 2100, 15).unwrap();
+    let (one, zero) = ([55, 55], [9900, 2100]);
+    let bits: Vec<[u16; 2]> = [
+        &[one; 15][..],
+        &[zero],
+        &[one; 8],
+        &[zero; 9],
+        &[zero],
+        &[one; 9],
+    ]
+    .concat();
+    assert!(frame("idle").halves(&timing).eq(bits.concat()));
+    let mut halves = frame("idle").halves(&timing);
+    assert_eq!(halves.by_ref().count(), 2 * (15 + 28));
+    assert_eq!(halves.next(), None);
+}
+
+#[test]
+fn a_run_tells_the_half_that_completes_it() {
+    let mut framer = Framer::new();
+    assert_eq!(
+        (framer.push_run(58, 40), framer.push_run(100, 1)),
+        (None, None)
+    );
+    assert_eq!(
+        framer.push_run(70, 3),
+        Some((1, Seen::Refused(Refusal::BadHalf)))
+    );
+    assert_eq!(
+        (framer.push_run(58, u32::MAX), framer.push(100)),
+        (None, None)
+    );
+    assert_eq!(framer.push(58), Some(Seen::Refused(Refusal::SplitBit)));
+    assert_eq!(
+        (framer.push_run(58, 40), framer.push_run(100, 18)),
+        (None, None)
+    );
+    assert_eq!(
+        framer.push_run(58, 9),
+        Some((2, Seen::Refused(Refusal::TooShort)))
+    );
+    assert_eq!(
+        (framer.push_run(58, 40), framer.push_run(100, 2)),
+        (None, None)
+    );
+    assert_eq!(
+        framer.push_run(100, 500),
+        Some((108, Seen::Refused(Refusal::TooLong)))
+    );
+    assert_eq!(
+        (framer.push_run(58, 40), framer.push_run(100, 52)),
+        (None, None)
+    );
+    let bytes = [0, 0, 1, 0, 0, 0];
+    let refusal = Refusal::ErrorByte { len: 3, bytes };
+    assert_eq!(framer.push_run(58, 9), Some((4, Seen::Refused(refusal))));
+    assert_eq!(
+        format!(
+            "{:?} {:?}",
+            Framer::default(),
+            frame("idle").halves(&Timing::MAIN)
+        ),
+        "Framer Halves"
+    );
+}
+
+#[test]
+fn a_fault_has_its_name() {
+    let bytes = [1, 2, 3, 4, 5, 6];
+    let error_byte = |len| Refusal::ErrorByte { len, bytes };
+    for (said, name) in [
+        (Refusal::BadHalf.to_string(), "H1"),
+        (Refusal::SplitBit.to_string(), "H2"),
+        (Refusal::TooShort.to_string(), "H3"),
+        (Refusal::TooLong.to_string(), "H4"),
+        (error_byte(3).to_string(), "H5 010203"),
+        (error_byte(6).to_string(), "H5 010203040506"),
+        (error_byte(7).to_string(), "H5 010203040506"),
+        (error_byte(255).to_string(), "H5 010203040506"),
+        (FrameFault::Length.to_string(), "L1"),
+        (FrameFault::ErrorByte.to_string(), "L2"),
+        (LineFault(14).to_string(), "P14"),
+        (CommandFault::NoCommand.to_string(), "C3"),
+        (CommandFault::QueueFull.to_string(), "C4"),
+        (frame("idle").to_string(), "idle"),
+        (
+            format!("{:>6}|{:<6}|", frame("idle"), frame("idle")),
+            "  idle|idle  |",
+        ),
+        (format!("{:x}", frame("idle")), "ff00ff"),
+        (format!("{:?}", frame("idle")), "Frame(ff00ff)"),
+        (hex(None), "none"),
+    ] {
+        assert_eq!(said, name);
+    }
+}
+
+#[test]
+fn what_is_past_its_limits_is_not_made() {
+    for (queue, slots, repeats) in [
+        (0, 1, 1),
+        (65, 1, 1),
+        (1, 0, 1),
+        (1, 129, 1),
+        (1, 1, 0),
+        (1, 1, 9),
+    ] {
+        assert!(Station::new(queue, slots, repeats).is_none());
+    }
+    assert!(Station::new(64, 128, 8).is_some() && Station::new(1, 1, 1).is_some());
+    assert!(Board::new(511).is_none() && Board::new(510).is_some());
+    assert!(Reader::new(0).is_none() && Reader::new(1025).is_none());
+    assert_eq!(Timing::new(54, 100, 100, 14), Err(TimingFault::One));
+    assert_eq!(Timing::new(62, 94, 100, 13), Err(TimingFault::One));
+    assert_eq!(Timing::new(58, 9900, 2101, 14), Err(TimingFault::Zero));
+    assert_eq!(Timing::new(58, 100, 94, 13), Err(TimingFault::Zero));
+    assert_eq!(Timing::new(58, 100, 100, 41), Err(TimingFault::Preamble));
+    assert_eq!(Timing::new(58, 100, 100, 13), Err(TimingFault::Preamble));
+    assert_eq!(Timing::new(58, 100, 100, 14), Ok(Timing::MAIN));
+    assert_eq!(Timing::new(58, 100, 100, 20), Ok(Timing::PROGRAMMING));
+    for bytes in [&[][..], &[1, 1], &[0; 7]] {
+        assert_eq!(Frame::new(bytes), Err(FrameFault::Length));
+    }
+    assert_eq!(Frame::new(&[1, 2, 4]), Err(FrameFault::ErrorByte));
+    assert_eq!(
+        Frame::new(&[1, 2, 3]).map(|it| it.bytes().to_vec()),
+        Ok(vec![1, 2, 3])
+    );
+    for (line, fault) in [
+        ("loco s128 reset", 1),
+        ("loco l10240 reset", 2),
+        ("accessory 512 0 on", 3),
+        ("accessory 1 8 on", 4),
+        ("signal 2048 0", 5),
+        ("loco s3 cv write 1025 0", 6),
+        ("loco s3 cv bitwrite 1 8 0", 7),
+        ("loco s3 speed28 f 32", 8),
+        ("loco s3 functions 0 32", 9),
+        ("", 10),
+        ("idle\0", 10),
+        ("idle\n", 10),
+        ("loco s3 speed28 f 4\n", 11),
+        ("frame 0102", 12),
+        ("loco s3 state 128 on", 14),
+    ] {
+        assert_eq!(line.parse::<Frame>(), Err(LineFault(fault)), "{line}");
+    }
+}
+
+/// The example `show` lists and refuses what the program lists and refuses.
+#[test]
+fn the_example_refuses_what_show_refuses() {
+    let mut show = std::env::current_exe().unwrap();
+    show.pop();
+    show.pop();
+    show.push("examples/show");
+    let good = "58*28 100*14 58*4 100*4 58*4 100*6 58*2 100*6 58*4 100*8 58*4";
+    let words = "58*0|5_8|58*-3|58*|58x|*5|-58|+58|58*99999999|58*16777217|58*123456789|58*5*2|12345678901|00000000058|---|\u{665}|58\x0c58|58\0|58\u{85}|1e3|58.0";
+    let mut captures: Vec<Vec<u8>> = words
+        .split('|')
+        .map(|it| format!("{good}\n# a comment\r\n\t58\n58 {it} 58*0\n").into_bytes())
+        .collect();
+    captures.extend(
+        [
+            "",
+            "#",
+            "58",
+            "58#58x",
+            "58*16777216",
+            "58*16777216 58",
+            "58*16777216 58x",
+            "70000 4294967354 9999999999*3 0000000058*00000028",
+        ]
+        .map(|it| it.as_bytes().to_vec()),
+    );
+    captures.push(format!("\r\n{good}#\n{good} 100 65594 {good}").into_bytes());
+    captures.push(b"58 \xff".to_vec());
+    let full = [&b"#".repeat(67_108_864 - 9)[..], b"\n"].concat();
+    for rest in [
+        "58 58 58",
+        "58 58 58 ",
+        "58 58 588",
+        "58 58 x",
+        "58 58x  9",
+        "58 58  x9",
+    ] {
+        captures.push([&full, rest.as_bytes()].concat());
+    }
+    for capture in captures {
+        let here = output(&mut Command::new(&show), &capture);
+        let there = output(Command::new(program()).args(["show", "--words"]), &capture);
+        let said = String::from_utf8(here.stderr)
+            .unwrap()
+            .replace("show: ", "dcc: ");
+        let rest = String::from_utf8_lossy(&capture[capture.len().saturating_sub(60)..]);
+        assert_eq!(said.into_bytes(), there.stderr, "{rest}");
+        assert_eq!(
+            (here.stdout, here.status.code()),
+            (there.stdout, there.status.code()),
+            "{rest}"
+        );
+    }
+}
