@@ -13,7 +13,7 @@ public:
     /* Called in the interrupt of the pin, at each change: micros(). */
     void edge(uint32_t now) { track.edge(now); }
 
-    /* Called in loop(): hears the packets that were found, and calls what they turn. */
+    /* Called in loop(): hears the packets that were found, and makes the calls below. */
     void process();
 
     enum : uint16_t { NO_BOARD = 0xffff };
@@ -31,25 +31,27 @@ private:
 
 /* Write those that you want: the others do nothing. Each is called in loop(), after a packet that was for this decoder. */
 
-/* A step from 1 of 14, 28 or 126. Step 0 is a stop: of 0 slowly, of 1 at once. */
+/* The speed or the direction has changed. A step from 1 of 14, 28 or 126. Step 0 is a stop: of 0 slowly, of 1 at
+ * once. */
 void notifyDccSpeed(uint8_t step, uint8_t of, bool forward);
 
-/* F0 to F68: one that was turned. */
+/* A function has changed, F0 to F68. */
 void notifyDccFunc(uint8_t function, bool on);
 
-/* A binary state that was turned, 1 to 127. */
+/* A binary state has changed, 1 to 127. */
 void notifyDccState(uint8_t state, bool on);
 
-/* A variable that has another value now: the place to put it into memory that lasts. */
+/* A variable has changed: write it into memory that lasts here. */
 void notifyCVChange(uint16_t cv, uint8_t value);
 
-/* The decoder was reset. */
+/* A reset packet came. */
 void notifyDccReset();
 
-/* An output of the board: its pair 0 to 3, which of the two, and whether it has power. */
+/* A packet named this output of the board, also if it keeps its state, or has changed it: its pair 0 to 3, which
+ * of the two, and whether it has power. */
 void notifyDccAccTurnoutBoard(uint16_t board, uint8_t pair, uint8_t direction, uint8_t power);
 
-/* A signal of the board, by its address, has this aspect. */
+/* A packet named this signal of the board, by its address, also if it keeps its aspect. */
 void notifyDccSigOutputState(uint16_t address, uint8_t aspect);
 
 #endif

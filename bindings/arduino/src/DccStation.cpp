@@ -10,9 +10,13 @@ bool DccStation::begin(uint8_t queue, uint8_t slots, uint8_t repeats) {
 }
 
 DccRefusal DccStation::command(const char *line) {
-    dcc_frame frame;
-    uint64_t len = 0;
+    uint32_t len = 0;
     while (line[len] != 0) len++;
+    return command(line, len);
+}
+
+DccRefusal DccStation::command(const char *line, uint32_t len) {
+    dcc_frame frame;
     uint8_t fault = dcc_frame_of_line(line, len, &frame);
     if (fault != 0) return {'P', fault};
     fault = dcc_station_command(&station, frame.bytes, frame.len);

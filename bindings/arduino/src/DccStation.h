@@ -16,8 +16,11 @@ public:
      * these are not 1 to 64, 1 to 128 and 1 to 8. */
     bool begin(uint8_t queue = 16, uint8_t slots = 32, uint8_t repeats = 2);
 
-    /* A command of a packet line, as "loco s3 speed28 f 4", waits behind the others. */
+    /* A command of a packet line, as "loco s3 speed28 f 4", waits behind the others. The line ends at its first NUL. */
     DccRefusal command(const char *line);
+
+    /* The same of len bytes. A NUL or line feed among them is part of a word: P10 or P11. */
+    DccRefusal command(const char *line, uint32_t len);
 
     /* Called in loop(): finds the packet that is sent next, which may take milliseconds on a small chip. */
     void process();

@@ -33,9 +33,11 @@ void Port::print(unsigned long number, int base) {
 }
 
 #ifdef STATION
-/* Lines come as they are typed; each half-bit is written as the timer asks for it. */
-static char line[LINE + 1];
+/* Lines come as they are typed, and each half-bit is written when the timer asks for it. The board keeps LINE
+ * bytes of a line; the bytes of a longer line after these come as x. */
+static char line[LINE];
 static uint32_t len, place;
+static bool isTyped;
 static uint16_t after;
 
 uint16_t turn();
@@ -48,15 +50,18 @@ extern "C" uint16_t on_timer() {
 }
 
 int Port::available() {
-    if (place == len) {
-        place = len = 0;
-        if (!next_line(line, &len)) return 0;
-        line[len++] = '\n';
+    if (!isTyped && next_line(line, &len)) {
+        isTyped = true;
+        place = 0;
     }
-    return (int)(len - place);
+    return isTyped ? (int)(len - place) + 1 : 0;
 }
 
-int Port::read() { return line[place++]; }
+int Port::read() {
+    uint32_t at = place++;
+    isTyped = at < len;
+    return at == len ? '\n' : at < LINE ? line[at] : 'x';
+}
 #else
 extern "C" void on_edge(uint32_t at) {
     now = at;

@@ -23,9 +23,14 @@ int64_t onAlarm(alarm_id_t, void *) { return -(int64_t)turn(); }
 void startTimer(uint16_t us) { add_alarm_in_us(us, onAlarm, nullptr, true); }
 #endif
 
-// A line that is complete.
-void command(const char *line) {
-    DccRefusal refusal = station.command(line);
+// The longest line that is kept. A packet line has 40 bytes at most, without the blanks that you add.
+enum { LINE = 80 };
+
+// A line that is complete, of len bytes. A longer line than LINE is refused whole, as `dcc` refuses a line that is
+// too long.
+void command(const char *line, uint32_t len) {
+    DccRefusal refusal = {'P', 10};
+    if (len <= LINE) refusal = station.command(line, len);
     if (refusal.letter == 0) return;
     Serial.print("# refused ");
     Serial.print(refusal.letter);
@@ -41,15 +46,18 @@ void setup() {
 }
 
 void loop() {
-    static char line[80];
+    static char line[LINE];
     static uint8_t len;
     while (Serial.available() > 0) {
         char c = Serial.read();
-        if (c != '\n' && len < sizeof line - 1) line[len++] = c;
-        if (c != '\n') continue;
-        line[len] = 0;
-        len = 0;
-        command(line);
+        if (c == '\n') {
+            command(line, len);
+            len = 0;
+        } else if (len < LINE) {
+            line[len++] = c;
+        } else {
+            len = LINE + 1;
+        }
     }
     station.process();
 }

@@ -1,0 +1,233 @@
+/* What no sketch shows of the classes: each line that does not hold is told, and the program ends with 1 if there
+ * is one. `classes station` reads packet lines and `send N` and writes what a station sends, as `dcc encode
+ * --station`. */
+#include "DccDecoder.h"
+#include "DccStation.h"
+#include <stdio.h>
+#include <stdlib.h>
+#include <string.h>
+
+#define HOLDS(condition) holds(condition, #condition, __LINE__)
+
+static int wrong = 0;
+
+static void holds(bool condition, const char *text, int line) {
+    if (condition) return;
+    printf("line %d: %s\n", line, text);
+    wrong = 1;
+}
+
+/* How the half-bits of a packet line come to a track or a decoder. Returns how many there were. */
+static uint32_t now;
+template <typename T> static uint32_t play(T &to, const char *line) {
+    dcc_frame frame;
+    uint16_t halves[DCC_HALVES];
+    HOLDS(dcc_frame_of_line(line, strlen(line), &frame) == 0);
+    uint32_t count = dcc_halves(frame.bytes, frame.len, DCC_MAIN_TRACK, halves);
+    for (uint32_t i = 0; i < count; i++) to.edge(now += halves[i]);
+    return count;
+}
+
+static bool isNext(DccTrack &track, const char *wanted) {
+    char line[DccTrack::LINE];
+    memset(line, 7, sizeof line);
+    if (track.nextLine(line) && !strcmp(line, wanted)) return true;
+    printf("a line %s in place of %s\n", line, wanted);
+    return false;
+}
+
+static void fourPacketsWait() {
+    static DccTrack track;
+    char line[DccTrack::LINE], wanted[64];
+    uint32_t halves[6], count = 0;
+    track.begin(now);
+    HOLDS(!track.nextLine(line));
+    for (int turn = 0; turn < 3; turn++) {
+        for (int n = 0; n < 6; n++) {
+            snprintf(wanted, sizeof wanted, "loco s%d speed28 f %d", n + 1, turn + 4);
+            halves[n] = count += play(track, wanted);
+        }
+        for (int n = 0; n < 4; n++) {
+            snprintf(wanted, sizeof wanted, "%u loco s%d speed28 f %d", halves[n], n + 1, turn + 4);
+            HOLDS(isNext(track, wanted));
+        }
+        HOLDS(!track.nextLine(line));
+    }
+    for (int n = 0; n < 9; n++) {
+        count += play(track, "idle");
+        snprintf(wanted, sizeof wanted, "%u idle", count);
+        HOLDS(isNext(track, wanted) && !track.nextLine(line));
+    }
+}
+
+static void aTrackIsBegunAnew() {
+    static DccTrack track;
+    char line[DccTrack::LINE];
+    track.begin(now);
+    play(track, "idle");
+    for (int i = 0; i < 40; i++) track.edge(now += 58);
+    now += 1000000;
+    track.begin(now);
+    HOLDS(!track.nextLine(line));
+    HOLDS(play(track, "loco s3 speed28 f 4") == 84 && isNext(track, "84 loco s3 speed28 f 4"));
+    /* micros() wraps after 71 minutes */
+    now = UINT32_MAX - 3000;
+    track.begin(now);
+    HOLDS(play(track, "idle") == 84 && isNext(track, "84 idle"));
+    HOLDS(now < 10000);
+    play(track, "idle");
+    HOLDS(isNext(track, "168 idle"));
+}
+
+/* A long half-bit after a start bit is a refusal, whatever its last 16 bits are. */
+static void longHalfBitsAreLong() {
+    static DccTrack track;
+    static const uint32_t lengths[] = {10001, 65535, 65536, 65536 + 58, 65536 + 100, 5 * 65536 + 100, UINT32_MAX - 10};
+    char wanted[32];
+    track.begin(now);
+    for (uint32_t n = 0; n < 7; n++) {
+        for (int i = 0; i < 40; i++) track.edge(now += 58);
+        track.edge(now += 100);
+        track.edge(now += lengths[n]);
+        snprintf(wanted, sizeof wanted, "%u refused H1", (n + 1) * 42);
+        HOLDS(isNext(track, wanted));
+    }
+    for (int i = 0; i < 40; i++) track.edge(now += 58);
+    for (int i = 0; i < 52; i++) track.edge(now += 100);
+    for (int i = 0; i < 4; i++) track.edge(now += 58);
+    HOLDS(isNext(track, "390 refused H5 000001"));
+    for (int i = 0; i < 40; i++) track.edge(now += 58);
+    for (int i = 0; i < 110; i++) track.edge(now += 100);
+    HOLDS(isNext(track, "540 refused H4"));
+}
+
+/* The calls of a decoder that are counted here. */
+static int resets, turnouts, signals;
+void notifyDccReset() { resets++; }
+void notifyDccAccTurnoutBoard(uint16_t, uint8_t, uint8_t, uint8_t) { turnouts++; }
+void notifyDccSigOutputState(uint16_t, uint8_t) { signals++; }
+
+static void aBoardIsOneOf0To510() {
+    static DccDecoder decoder;
+    static const uint8_t cvs[DCC_CVS] = {3};
+    static const struct {
+        uint16_t number;
+        int turnouts, signals;
+    } rows[] = {{510, 7, 5}, {511, 0, 0}, {DccDecoder::NO_BOARD, 0, 0}, {0, 6, 4}, {1000, 0, 0}};
+    for (const auto &row : rows) {
+        resets = turnouts = signals = 0;
+        decoder.begin(cvs, now, row.number);
+        HOLDS(decoder.loco.address_kind == DCC_SHORT && decoder.loco.address == 3 && decoder.loco.speed_mode == 0);
+        const char *lines[] = {"accessory 511 0 on", "accessory 510 0 on", "accessory 511 2 on", "accessory 511 5 on", "signal 2047 5", "signal 2041 5"};
+        for (const char *line : lines) {
+            play(decoder, line);
+            decoder.process();
+        }
+        play(decoder, "loco all reset");
+        decoder.process();
+        HOLDS(resets == 1);
+        HOLDS(signals == row.signals);
+        if (turnouts != row.turnouts) printf("turnouts %d of board %u\n", turnouts, row.number);
+        HOLDS(turnouts == row.turnouts);
+        if (row.turnouts > 0) HOLDS(decoder.board.number == row.number && decoder.board.outs == 0 && decoder.board.aspects[3] == 5);
+    }
+    /* begun anew, it is powered up */
+    play(decoder, "loco s3 functions 0 1");
+    decoder.process();
+    HOLDS(decoder.loco.functions[0] == 2);
+    decoder.begin(cvs, now);
+    HOLDS(decoder.loco.functions[0] == 0);
+}
+
+static bool isRefused(DccRefusal refusal, char letter, uint8_t number) { return refusal.letter == letter && refusal.number == number; }
+
+static void aStationIsMadeWithinItsLimits() {
+    static DccStation station;
+    HOLDS(!station.begin(0, 1, 1) && !station.begin(65, 1, 1) && !station.begin(1, 0, 1) && !station.begin(1, 129, 1));
+    HOLDS(!station.begin(1, 1, 0) && !station.begin(1, 1, 9));
+    HOLDS(isRefused(station.command("loco s3 reset"), 'C', 4));
+    HOLDS(station.begin(64, 128, 8) && station.begin(1, 1, 1) && station.begin(2));
+    HOLDS(isRefused(station.command("loco s3 speed28 f 32"), 'P', 8) && isRefused(station.command(""), 'P', 10));
+    HOLDS(isRefused(station.command("idle"), 'C', 3));
+    HOLDS(isRefused(station.command("loco s3 speed28 f 4"), 0, 0));
+    /* the bytes that are counted are the line */
+    HOLDS(isRefused(station.command("loco s4 reset\0", 14), 'P', 10) && isRefused(station.command("loco s3 speed28 f 4\n", 20), 'P', 11));
+    HOLDS(isRefused(station.command("loco s4 reset, then more", 13), 0, 0));
+    HOLDS(isRefused(station.command("loco s5 reset"), 'C', 4));
+    HOLDS(station.begin(2) && isRefused(station.command("loco s5 reset"), 0, 0) && isRefused(station.command("loco s5 reset"), 0, 0));
+    HOLDS(isRefused(station.command("loco s5 reset"), 'C', 4));
+}
+
+/* The packet that a station sends next, by its half-bits. If isWritten they are written as a line. */
+static dcc_frame sent(DccStation &station, bool isWritten = false) {
+    dcc_framer framer = dcc_framer_new();
+    dcc_outcome seen = {};
+    bool isOver = false;
+    for (int n = 0; !isOver && n < DCC_HALVES; n++) {
+        uint16_t us = station.half();
+        isOver = dcc_push(&framer, us, &seen);
+        if (isWritten) printf(n > 0 ? " %u" : "%u", us);
+    }
+    if (isWritten) printf("\n");
+    HOLDS(isOver && seen.refusal == 0);
+    return seen.frame;
+}
+
+static bool isSent(DccStation &station, const char *line) {
+    char text[DCC_LINE];
+    dcc_frame frame = sent(station);
+    HOLDS(dcc_line(frame.bytes, frame.len, text) == 0);
+    if (strcmp(text, line)) printf("%s in place of %s\n", text, line);
+    return !strcmp(text, line);
+}
+
+static void aLateLoopGivesIdlePackets() {
+    static DccStation station;
+    HOLDS(station.begin(4, 4, 1));
+    HOLDS(isSent(station, "idle") && isSent(station, "idle"));
+    HOLDS(isRefused(station.command("loco s3 speed28 f 4"), 0, 0));
+    station.process();
+    station.process();
+    HOLDS(isSent(station, "loco s3 speed28 f 4") && isSent(station, "idle"));
+    station.process();
+    HOLDS(isSent(station, "loco s3 speed28 f 4"));
+    HOLDS(isRefused(station.command("loco s4 reset"), 0, 0));
+    station.process();
+    /* begun anew in the middle of a packet, it has nothing to send */
+    for (int i = 0; i < 30; i++) station.half();
+    station.process();
+    HOLDS(station.begin());
+    HOLDS(isSent(station, "idle") && isSent(station, "idle"));
+}
+
+static void station() {
+    static DccStation station;
+    char line[100];
+    HOLDS(station.begin());
+    while (fgets(line, sizeof line, stdin)) {
+        line[strcspn(line, "\n")] = 0;
+        if (strncmp(line, "send ", 5)) {
+            DccRefusal refusal = station.command(line);
+            if (refusal.letter != 0) printf("# refused %c%u\n", refusal.letter, refusal.number);
+            continue;
+        }
+        for (int n = atoi(line + 5); n > 0; n--) {
+            station.process();
+            sent(station, true);
+        }
+    }
+}
+
+int main(int argc, char **) {
+    if (argc > 1) {
+        station();
+        return wrong;
+    }
+    fourPacketsWait();
+    aTrackIsBegunAnew();
+    longHalfBitsAreLong();
+    aBoardIsOneOf0To510();
+    aStationIsMadeWithinItsLimits();
+    aLateLoopGivesIdlePackets();
+    return wrong;
+}
