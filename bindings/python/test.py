@@ -221,7 +221,8 @@ class ByHand(unittest.TestCase):
 
     def test_a_capture_is_read_as_show_reads_it(self):
         good = "58*28 100*14 58*4 100*4 58*4 100*6 58*2 100*6 58*4 100*8 58*4"
-        faults = "58*0|5_8|58*-3|58*|58x|*5|-58|+58|58*99999999|58*16777217|58*123456789|58*5*2|12345678901|00000000058|---|\u0665\u0668|58\x0c58|58\x0b58|58\x1c5|58\x85"
+        faults = "58*0|5_8|58*-3|58*|58x|*5|-58|+58|58*99999999|58*16777217|58*123456789|58*5*2|12345678901|00000000058"
+        faults += "|---|\u0665\u0668|58\x0c58|58\x0b58|58\x1c5|58\x85"
         faults += "|58\u20287|58\u00a07|\0|58\0|\ufeff58|1e3|0x3a|58.0|58*٣"
         texts = [f"{good}\n# a comment\r\n\t58\n58 {it} 58*0\n" for it in faults.split("|")]
         texts += [
@@ -417,7 +418,8 @@ class ByHand(unittest.TestCase):
         with tempfile.TemporaryDirectory() as room:
             with open(f"{room}/stub.c", "w", encoding="ascii") as stub:
                 stub.write(
-                    "int PyGILState_Check(void);\nunsigned char dcc_station_waiting(void) { return (unsigned char)PyGILState_Check(); }\n"
+                    "int PyGILState_Check(void);\n"
+                    "unsigned char dcc_station_waiting(void) { return (unsigned char)PyGILState_Check(); }\n"
                 )
                 stub.writelines(f"unsigned char {name}(void) {{ return 0; }}\n" for name in sorted(names))
             written([os.environ.get("CC", "cc"), "-shared", "-fPIC", "-o", f"{room}/stub.so", f"{room}/stub.c"])
@@ -446,7 +448,7 @@ sys.path.insert(0, {HERE!r})
 sys.setswitchinterval(1e-6)
 import dcc
 station, loco, framer = dcc.Station(64, 128, 1), dcc.Loco({{1: 3, 29: 2}}), dcc.Framer()
-frames = [dcc.frame(f"loco s{{n}} functions {{g}} {{v}}") for n in range(1, 60) for g in (0, 5, 13) for v in range(0, 16, 5)]
+frames = [dcc.frame(f"loco s{{n}} functions {{g}} {{v}}") for n in range(1, 60) for g in (0, 5) for v in (0, 5, 10)]
 end, odd = time.time() + 1, []
 def work(at):
     while time.time() < end:

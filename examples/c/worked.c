@@ -32,12 +32,12 @@ static dcc_frame frame_of(const char *line) {
 
 /* The numbers are those of docs/FORMATS.md, and those that the calls return. */
 static void names_have_their_numbers(void) {
-    HOLDS(DCC_H1_BAD_HALF == 1 && DCC_H2_SPLIT_BIT == 2 && DCC_H3_TOO_SHORT == 3 && DCC_H4_TOO_LONG == 4 && DCC_H5_ERROR_BYTE == 5);
-    HOLDS(DCC_H6_ONE == 6 && DCC_H7_ZERO == 7 && DCC_H8_PREAMBLE == 8);
+    HOLDS(DCC_H1_BAD_HALF == 1 && DCC_H2_SPLIT_BIT == 2 && DCC_H3_TOO_SHORT == 3 && DCC_H4_TOO_LONG == 4);
+    HOLDS(DCC_H5_ERROR_BYTE == 5 && DCC_H6_ONE == 6 && DCC_H7_ZERO == 7 && DCC_H8_PREAMBLE == 8);
     HOLDS(DCC_L1_LENGTH == 1 && DCC_L2_ERROR_BYTE == 2);
-    HOLDS(DCC_P1_SHORT_ADDRESS == 1 && DCC_P2_LONG_ADDRESS == 2 && DCC_P3_BOARD == 3 && DCC_P4_OUTPUT == 4 && DCC_P5_SIGNAL == 5);
-    HOLDS(DCC_P6_CV == 6 && DCC_P7_BIT_PLACE == 7 && DCC_P8_SPEED_BITS == 8 && DCC_P9_FUNCTION_BITS == 9 && DCC_P10_WORD == 10);
-    HOLDS(DCC_P11_NUMBER == 11 && DCC_P12_FRAME == 12 && DCC_P13_STATE == 13 && DCC_P14_BINARY_STATE == 14);
+    HOLDS(DCC_P1_SHORT_ADDRESS == 1 && DCC_P2_LONG_ADDRESS == 2 && DCC_P3_BOARD == 3 && DCC_P4_OUTPUT == 4);
+    HOLDS(DCC_P5_SIGNAL == 5 && DCC_P6_CV == 6 && DCC_P7_BIT_PLACE == 7 && DCC_P8_SPEED_BITS == 8);
+    HOLDS(DCC_P9_FUNCTION_BITS == 9 && DCC_P10_WORD == 10 && DCC_P11_NUMBER == 11 && DCC_P12_FRAME == 12 && DCC_P13_STATE == 13 && DCC_P14_BINARY_STATE == 14);
     HOLDS(DCC_C1_SIZES == 1 && DCC_C2_MEMORY == 2 && DCC_C3_NO_COMMAND == 3 && DCC_C4_QUEUE_FULL == 4);
     HOLDS(DCC_MAIN_TRACK == 14 && DCC_PROGRAMMING_TRACK == 20);
     HOLDS(DCC_ALL == 0 && DCC_SHORT == 1 && DCC_LONG == 2);

@@ -118,7 +118,8 @@ static void aBoardIsOneOf0To510() {
         resets = turnouts = signals = 0;
         decoder.begin(cvs, now, row.number);
         HOLDS(decoder.loco.address_kind == DCC_SHORT && decoder.loco.address == 3 && decoder.loco.speed_mode == 0);
-        const char *lines[] = {"accessory 511 0 on", "accessory 510 0 on", "accessory 511 2 on", "accessory 511 5 on", "signal 2047 5", "signal 2041 5"};
+        const char *lines[] = {"accessory 511 0 on", "accessory 510 0 on", "accessory 511 2 on",
+                               "accessory 511 5 on", "signal 2047 5",      "signal 2041 5"};
         for (const char *line : lines) {
             play(decoder, line);
             decoder.process();
@@ -129,7 +130,8 @@ static void aBoardIsOneOf0To510() {
         HOLDS(signals == row.signals);
         if (turnouts != row.turnouts) printf("turnouts %d of board %u\n", turnouts, row.number);
         HOLDS(turnouts == row.turnouts);
-        if (row.turnouts > 0) HOLDS(decoder.board.number == row.number && decoder.board.outs == 0 && decoder.board.aspects[3] == 5);
+        if (row.turnouts == 0) continue;
+        HOLDS(decoder.board.number == row.number && decoder.board.outs == 0 && decoder.board.aspects[3] == 5);
     }
     /* begun anew, it is powered up */
     play(decoder, "loco s3 functions 0 1");
@@ -139,7 +141,9 @@ static void aBoardIsOneOf0To510() {
     HOLDS(decoder.loco.functions[0] == 0);
 }
 
-static bool isRefused(DccRefusal refusal, char letter, uint8_t number) { return refusal.letter == letter && refusal.number == number; }
+static bool isRefused(DccRefusal refusal, char letter, uint8_t number) {
+    return refusal.letter == letter && refusal.number == number;
+}
 
 static void aStationIsMadeWithinItsLimits() {
     static DccStation station;
@@ -151,10 +155,12 @@ static void aStationIsMadeWithinItsLimits() {
     HOLDS(isRefused(station.command("idle"), 'C', 3));
     HOLDS(isRefused(station.command("loco s3 speed28 f 4"), 0, 0));
     /* the bytes that are counted are the line */
-    HOLDS(isRefused(station.command("loco s4 reset\0", 14), 'P', 10) && isRefused(station.command("loco s3 speed28 f 4\n", 20), 'P', 11));
+    HOLDS(isRefused(station.command("loco s4 reset\0", 14), 'P', 10));
+    HOLDS(isRefused(station.command("loco s3 speed28 f 4\n", 20), 'P', 11));
     HOLDS(isRefused(station.command("loco s4 reset, then more", 13), 0, 0));
     HOLDS(isRefused(station.command("loco s5 reset"), 'C', 4));
-    HOLDS(station.begin(2) && isRefused(station.command("loco s5 reset"), 0, 0) && isRefused(station.command("loco s5 reset"), 0, 0));
+    HOLDS(station.begin(2) && isRefused(station.command("loco s5 reset"), 0, 0));
+    HOLDS(isRefused(station.command("loco s5 reset"), 0, 0));
     HOLDS(isRefused(station.command("loco s5 reset"), 'C', 4));
 }
 

@@ -33,7 +33,9 @@ void notifyDccFunc(uint8_t function, bool on) { tell(on ? "function on" : "funct
 void notifyDccState(uint8_t state, bool on) { tell(on ? "state on" : "state off", state); }
 void notifyCVChange(uint16_t cv, uint8_t value) { tell("cv", cv, value); }
 void notifyDccReset() { tell("reset", -1); }
-void notifyDccAccTurnoutBoard(uint16_t board, uint8_t pair, uint8_t direction, uint8_t power) { tell("turnout", board, pair, direction, power); }
+void notifyDccAccTurnoutBoard(uint16_t board, uint8_t pair, uint8_t direction, uint8_t power) {
+    tell("turnout", board, pair, direction, power);
+}
 void notifyDccSigOutputState(uint16_t address, uint8_t aspect) { tell("signal", address, aspect); }
 
 void setup() {
