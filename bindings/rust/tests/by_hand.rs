@@ -147,9 +147,12 @@ fn a_variable_is_read_as_readcv_reads_it() {
         assert_eq!(read(cv, Some(service)), written);
         assert!(written.ends_with(&format!("value {value}\n")));
     }
-    let written = dcc(&["readcv", "--cv", "3", "--empty"], "");
-    assert_eq!(read(3, None), written);
-    assert!(written.ends_with("no answer\n"));
+    let empty = output(
+        Command::new(program()).args(["readcv", "--cv", "3", "--empty"]),
+        b"",
+    );
+    assert_eq!(read(3, None).into_bytes(), empty.stdout);
+    assert!(empty.stdout.ends_with(b"no answer\n"));
 }
 
 #[test]

@@ -33,7 +33,7 @@ pub fn output(command: &mut Command, input: &[u8]) -> Output {
 /// What a program writes for this input.
 pub fn written(command: &mut Command, input: &str) -> String {
     let output = output(command, input.as_bytes());
-    assert!(output.status.success());
+    assert!(output.status.success(), "{command:?}: {output:?}");
     String::from_utf8(output.stdout).unwrap()
 }
 
