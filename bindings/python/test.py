@@ -183,6 +183,10 @@ class ByHand(unittest.TestCase):
         write = "loco s3 cv write 29 2"
         self.assertEqual(sent[:2], [("loco s3 speed28 f 4", 2, 1), ("loco s3 speed28 f 4", 1, 1)])
         self.assertEqual(sent[2:], [(write, 1, 0), (write, 1, 0), (write, 0, 0), ("idle", 0, 0)])
+        usual = dcc.Station()
+        for line in "loco s3 speed28 f 4", "loco s4 speed28 f 4":
+            usual.command(dcc.frame(line))
+        self.assertEqual([dcc.line(usual.next())[:7] for _ in range(4)], ["loco s3"] * 2 + ["loco s4"] * 2)
         full = dcc.Station()
         for n in range(64):
             full.command(dcc.frame(f"loco s{n + 1} functions 0 16"))
@@ -224,7 +228,7 @@ class ByHand(unittest.TestCase):
         faults = "58*0|5_8|58*-3|58*|58x|*5|-58|+58|58*99999999|58*16777217|58*123456789|58*5*2|12345678901|00000000058"
         faults += "|---|\u0665\u0668|58\x0c58|58\x0b58|58\x1c5|58\x85"
         faults += "|58\u20287|58\u00a07|\0|58\0|\ufeff58|1e3|0x3a|58.0|58*٣"
-        texts = [f"{good}\n# a comment\r\n\t58\n58 {it} 58*0\n" for it in faults.split("|")]
+        texts = [f"{good}\n# a comment\r\n\t58\n58 {it} 58\n58*0\n" for it in faults.split("|")]
         texts += [
             "",
             "#",

@@ -17,15 +17,15 @@ static void holds(bool condition, const char *text, int line) {
     wrong = 1;
 }
 
-/* How the half-bits of a packet line come to a track or a decoder. Returns how many there were. */
+/* How the half-bits of a packet line come to a track or a decoder, without the first ones. Returns how many there were. */
 static uint32_t now;
-template <typename T> static uint32_t play(T &to, const char *line) {
+template <typename T> static uint32_t play(T &to, const char *line, uint32_t first = 0) {
     dcc_frame frame;
     uint16_t halves[DCC_HALVES];
     HOLDS(dcc_frame_of_line(line, strlen(line), &frame) == 0);
     uint32_t count = dcc_halves(frame.bytes, frame.len, DCC_MAIN_TRACK, halves);
-    for (uint32_t i = 0; i < count; i++) to.edge(now += halves[i]);
-    return count;
+    for (uint32_t i = first; i < count; i++) to.edge(now += halves[i]);
+    return count - first;
 }
 
 static bool isNext(DccTrack &track, const char *wanted) {
@@ -70,6 +70,15 @@ static void aTrackIsBegunAnew() {
     track.begin(now);
     HOLDS(!track.nextLine(line));
     HOLDS(play(track, "loco s3 speed28 f 4") == 84 && isNext(track, "84 loco s3 speed28 f 4"));
+    /* the time before it is no half-bit: the first one counts among the 20 of a preamble */
+    now += 1000000;
+    track.begin(now);
+    HOLDS(play(track, "loco s3 speed28 f 4", 8) == 76 && isNext(track, "76 loco s3 speed28 f 4"));
+    /* nor do the ones before it count */
+    for (int i = 0; i < 40; i++) track.edge(now += 58);
+    track.begin(now);
+    play(track, "loco s3 speed28 f 4", 28);
+    HOLDS(!track.nextLine(line));
     /* micros() wraps after 71 minutes */
     now = UINT32_MAX - 3000;
     track.begin(now);
@@ -169,13 +178,14 @@ static dcc_frame sent(DccStation &station, bool isWritten = false) {
     dcc_framer framer = dcc_framer_new();
     dcc_outcome seen = {};
     bool isOver = false;
-    for (int n = 0; !isOver && n < DCC_HALVES; n++) {
+    int n = 0;
+    for (; !isOver && n < DCC_HALVES; n++) {
         uint16_t us = station.half();
         isOver = dcc_push(&framer, us, &seen);
         if (isWritten) printf(n > 0 ? " %u" : "%u", us);
     }
     if (isWritten) printf("\n");
-    HOLDS(isOver && seen.refusal == 0);
+    HOLDS(isOver && seen.refusal == 0 && n == 2 * (DCC_MAIN_TRACK + 9 * seen.frame.len + 1));
     return seen.frame;
 }
 

@@ -395,7 +395,7 @@ fn the_example_refuses_what_show_refuses() {
                  12345678901|00000000058|---|\u{665}|58\x0c58|58\0|58\u{85}|1e3|58.0";
     let mut captures: Vec<Vec<u8>> = words
         .split('|')
-        .map(|it| format!("{good}\n# a comment\r\n\t58\n58 {it} 58*0\n").into_bytes())
+        .map(|it| format!("{good}\n# a comment\r\n\t58\n58 {it} 58\n58*0\n").into_bytes())
         .collect();
     captures.extend(
         [
