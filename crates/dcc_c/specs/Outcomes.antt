@@ -6,7 +6,8 @@ use Rattle.dcc_wire.specs.declared.seen.Seen.TheVariants.{Nothing, Packet, Refus
 use Rattle.dcc_c.specs.declared.outcome.DccOutcome.{DccOutcome}
 use Rattle.dcc_c.specs.Frames.{bytes_of, frame_numbers}
 
--- a packet, or a refusal by its number, H1 to H5
+-- The packet or refusal that the outcome o says. Refusal 0 is a packet, and 1 to 5 are H1 to H5. An outcome with any other
+-- number says nothing; no call writes such a number.
 abbrev pub outcome_seen : DccOutcome → Seen
 outcome_seen o =
     if o.refusal == 0 then Packet (bytes_of o.frame)
@@ -14,7 +15,8 @@ outcome_seen o =
     else (if o.refusal == 2 then Refused SplitBit
     else (if o.refusal == 3 then Refused TooShort
     else (if o.refusal == 4 then Refused TooLong
-    else Refused (ErrorByte (bytes_of o.frame))))))
+    else (if o.refusal == 5 then Refused (ErrorByte (bytes_of o.frame))
+    else Nothing)))))
 
 -- the answer 0 says that there is none
 abbrev pub seen_at_answer : ℕ → DccOutcome → Seen
