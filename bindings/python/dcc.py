@@ -257,7 +257,7 @@ class Loco:
         if isinstance(cvs, dict):
             values = [0] * 1024
             for number, value in cvs.items():
-                values[_number("the number of a CV", number, 1, 1024) - 1] = value
+                values[_number("the number of a CV", number, 1, 1024) - 1] = _number(f"CV{number}", value, 0, 255)
             cvs = values
         cvs = _bytes("the list of CVs", cvs)
         if len(cvs) != 1024:

@@ -223,7 +223,7 @@ class ByHand(unittest.TestCase):
         framer.push(100, 18)
         self.assertEqual(framer.push(58, 9), dcc.Seen(0xFFFFFFFF + 20, "H3", b""))
 
-    def test_a_capture_is_read_as_show_reads_it(self):
+    def test_texts_of_captures_are_read_as_show_reads_them(self):
         good = "58*28 100*14 58*4 100*4 58*4 100*6 58*2 100*6 58*4 100*8 58*4"
         faults = "58*0|5_8|58*-3|58*|58x|*5|-58|+58|58*99999999|58*16777217|58*123456789|58*5*2|12345678901|00000000058"
         faults += "|---|\u0665\u0668|58\x0c58|58\x0b58|58\x1c5|58\x85"
@@ -265,7 +265,7 @@ class ByHand(unittest.TestCase):
             (b"", b"histogram.py: U2 line 1: bad number\n", 1),
         )
 
-    def test_limits_of_a_capture(self):
+    def test_texts_of_captures_have_limits(self):
         full = b"#" * (dcc.MOST_BYTES - 9) + b"\n"  # (eight bytes are left)
         for text, wanted in (
             (b"58*16777216", 16777216),
