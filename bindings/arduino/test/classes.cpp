@@ -17,7 +17,7 @@ static void holds(bool condition, const char *text, int line) {
     wrong = 1;
 }
 
-/* How the half-bits of a packet line come to a track or a decoder, without the first ones. Returns how many there were. */
+/* Gives the half-bits of a packet line to a track or a decoder, without the first ones. Returns their number. */
 static uint32_t now;
 template <typename T> static uint32_t play(T &to, const char *line, uint32_t first = 0) {
     dcc_frame frame;
