@@ -3,7 +3,8 @@
  *   calls NAME library | plain | loop      makes the call 2,000 times, on seven frames in turn; `loop` makes no call
  *   calls same                             compares what both do on each frame; status 1 if they differ
  *
- * The plain functions do the job as a maker would write it by hand, and prove nothing. `plain_apply` does not look whether the numbers of the
+ * The plain functions do the job as a maker would write it by hand, and prove nothing. `plain_apply` does not look
+ * whether the numbers of the
  * decoder are those of a decoder, which the library owes. */
 #include "dcc.h"
 #include <stdio.h>
@@ -36,14 +37,17 @@ static int fault_of(const uint8_t *frame, uint64_t len) {
 typedef struct {
     uint64_t bits; /* of the body, the next one highest */
     uint16_t one, zero_first, zero_second;
-    uint8_t ones, left, second; /* ones of the preamble left, bits of the body left, whether the second half is next */
+    uint8_t ones, left, second; /* ones of the preamble left, bits of the body left,
+            whether the second half is next */
 } plain_sender;
 
-static __attribute__((noinline)) int plain_start(plain_sender *sender, const uint8_t *frame, uint64_t len, const dcc_timing *in) {
+static __attribute__((noinline)) int plain_start(plain_sender *sender, const uint8_t *frame, uint64_t len,
+        const dcc_timing *in) {
     uint64_t bits = 0;
     int count = 0, fault;
     if (in->one < 55 || in->one > 61) return DCC_H6_ONE;
-    if (in->zero_first < 95 || in->zero_first > 9900 || in->zero_second < 95 || in->zero_second > 9900) return DCC_H7_ZERO;
+    if (in->zero_first < 95 || in->zero_first > 9900 || in->zero_second < 95
+            || in->zero_second > 9900) return DCC_H7_ZERO;
     if (in->zero_first + in->zero_second > 12000) return DCC_H7_ZERO;
     if (in->preamble < 14 || in->preamble > 40) return DCC_H8_PREAMBLE;
     if ((fault = fault_of(frame, len))) return fault;
@@ -70,13 +74,15 @@ static __attribute__((noinline)) uint16_t plain_half(plain_sender *sender) {
     return us;
 }
 
-static __attribute__((noinline)) int plain_halves(const uint8_t *frame, uint64_t len, uint8_t preamble, uint16_t *halves) {
+static __attribute__((noinline)) int plain_halves(const uint8_t *frame, uint64_t len, uint8_t preamble,
+        uint16_t *halves) {
     int count = 0;
     if (fault_of(frame, len) || preamble < 14 || preamble > 40) return 0;
     for (int i = 0; i < preamble; i++) halves[count] = halves[count + 1] = 58, count += 2;
     for (uint64_t i = 0; i < len; i++) {
         halves[count] = halves[count + 1] = 100, count += 2;
-        for (int place = 7; place >= 0; place--) halves[count] = halves[count + 1] = frame[i] >> place & 1 ? 58 : 100, count += 2;
+        for (int place = 7; place >= 0; place--) halves[count] = halves[count + 1] = frame[i] >> place & 1
+                ? 58 : 100, count += 2;
     }
     halves[count] = halves[count + 1] = 58;
     return count + 2;
@@ -98,7 +104,8 @@ static int plain_instruction(const uint8_t *rest, int n, dcc_packet *packet) {
         if (n == 1 && rest[0] == 0) return packet->kind = DCC_RESET, 0;
         break;
     case 1:
-        if (n == 2 && rest[0] == 0x3f) return packet->kind = DCC_SPEED128, packet->forward = rest[1] >> 7, packet->bits = rest[1] & 127, 0;
+        if (n == 2 && rest[0] == 0x3f) return packet->kind = DCC_SPEED128, packet->forward = rest[1] >> 7,
+                packet->bits = rest[1] & 127, 0;
         break;
     case 2:
     case 3:
@@ -110,11 +117,13 @@ static int plain_instruction(const uint8_t *rest, int n, dcc_packet *packet) {
         if (n == 1) return packet->kind = DCC_FUNCTIONS, packet->bits = rest[0] & 31, 0;
         break;
     case 5:
-        if (n == 1) return packet->kind = DCC_FUNCTIONS, packet->group = rest[0] & 16 ? 5 : 9, packet->bits = rest[0] & 15, 0;
+        if (n == 1) return packet->kind = DCC_FUNCTIONS, packet->group = rest[0] & 16 ? 5 : 9,
+                packet->bits = rest[0] & 15, 0;
         break;
     case 6:
         if (n != 2 || rest[0] < 0xd8) break;
-        if (rest[0] == 0xdd) return packet->kind = DCC_STATE, packet->on = rest[1] >> 7, packet->state = rest[1] & 127, 0;
+        if (rest[0] == 0xdd) return packet->kind = DCC_STATE, packet->on = rest[1] >> 7,
+                packet->state = rest[1] & 127, 0;
         return packet->kind = DCC_FUNCTIONS, packet->group = groups[rest[0] - 0xd8], packet->bits = rest[1], 0;
     default:
         if (n != 3 || rest[0] & 0x10) break;
@@ -122,7 +131,8 @@ static int plain_instruction(const uint8_t *rest, int n, dcc_packet *packet) {
         if ((rest[0] >> 2 & 3) == 3) return packet->kind = DCC_CV_WRITE, packet->value = rest[2], 0;
         if ((rest[0] >> 2 & 3) == 1) return packet->kind = DCC_CV_VERIFY, packet->value = rest[2], 0;
         if ((rest[0] >> 2 & 3) != 2 || rest[2] < 0xe0) break;
-        packet->kind = rest[2] & 16 ? DCC_CV_BIT_WRITE : DCC_CV_BIT_VERIFY, packet->place = rest[2] & 7, packet->one = rest[2] >> 3 & 1;
+        packet->kind = rest[2] & 16 ? DCC_CV_BIT_WRITE : DCC_CV_BIT_VERIFY, packet->place = rest[2] & 7,
+                packet->one = rest[2] >> 3 & 1;
         return 0;
     }
     return plain_other(packet);
@@ -146,7 +156,8 @@ static __attribute__((noinline)) int plain_read(const uint8_t *frame, uint64_t l
     return plain_instruction(frame + behind, n - behind, packet);
 }
 
-static __attribute__((noinline)) int plain_hears(const dcc_loco *loco, const uint8_t *frame, uint64_t len, bool *heard) {
+static __attribute__((noinline)) int plain_hears(const dcc_loco *loco, const uint8_t *frame, uint64_t len,
+        bool *heard) {
     int fault = fault_of(frame, len);
     if (fault) return fault;
     if (loco->address_kind > 2) return 13;
@@ -188,7 +199,8 @@ static __attribute__((noinline)) int plain_apply(dcc_loco *loco, const uint8_t *
     if (packet.kind == DCC_IDLE || packet.kind >= DCC_ACCESSORY) return 0;
     if (packet.to != DCC_ALL && (loco->address_kind != packet.to || loco->address != packet.address)) return 0;
     bool is_second = loco->pending.len == len && !memcmp(loco->pending.bytes, frame, len);
-    if (packet.kind != DCC_CV_WRITE && packet.kind != DCC_CV_BIT_WRITE) memset(&loco->pending, 0, sizeof loco->pending);
+    if (packet.kind != DCC_CV_WRITE && packet.kind != DCC_CV_BIT_WRITE) memset(&loco->pending, 0,
+            sizeof loco->pending);
     uint8_t cv = packet.cv ? loco->cvs[packet.cv - 1] : 0, bit = (uint8_t)(1 << packet.place);
     int count = packet.group == 0 ? 5 : packet.group < 13 ? 4 : 8;
     switch (packet.kind) {
@@ -199,14 +211,16 @@ static __attribute__((noinline)) int plain_apply(dcc_loco *loco, const uint8_t *
     case DCC_SPEED28: set_speed(loco, loco->cvs[28] & 2 ? 28 : 14, packet.bits, packet.forward); break;
     case DCC_SPEED128: set_speed(loco, 126, packet.bits, packet.forward); break;
     case DCC_FUNCTIONS:
-        for (int i = 0; i < count; i++) set_bit(loco->functions, packet.group ? packet.group + i : i == 4 ? 0 : i + 1, packet.bits >> i & 1);
+        for (int i = 0; i < count; i++) set_bit(loco->functions, packet.group ? packet.group + i : i == 4
+                ? 0 : i + 1, packet.bits >> i & 1);
         break;
     case DCC_STATE:
         if (packet.state) set_bit(loco->states, packet.state, packet.on);
         else loco->states[0] = packet.on ? ~1ull : 0, loco->states[1] = packet.on ? ~0ull : 0;
         break;
     case DCC_CV_WRITE: write_cv(loco, is_second, packet.value, packet.cv, frame, len); break;
-    case DCC_CV_BIT_WRITE: write_cv(loco, is_second, (uint8_t)(packet.one ? cv | bit : cv & ~bit), packet.cv, frame, len); break;
+    case DCC_CV_BIT_WRITE: write_cv(loco, is_second, (uint8_t)(packet.one ? cv | bit : cv & ~bit), packet.cv,
+            frame, len); break;
     default: break;
     }
     return 0;
@@ -227,7 +241,8 @@ static void new_locos(void) {
 
 /* the numbers of two decoders, without the free bytes between them */
 static bool is_same_loco(const dcc_loco *a, const dcc_loco *b) {
-    return a->address_kind == b->address_kind && a->speed_mode == b->speed_mode && a->step == b->step && a->forward == b->forward
+    return a->address_kind == b->address_kind && a->speed_mode == b->speed_mode && a->step == b->step
+            && a->forward == b->forward
         && a->address == b->address && !memcmp(&a->pending, &b->pending, sizeof a->pending)
         && !memcmp(a->functions, b->functions, sizeof a->functions) && !memcmp(a->states, b->states, sizeof a->states)
         && !memcmp(a->cvs, b->cvs, sizeof a->cvs);
@@ -242,14 +257,18 @@ static int same(void) {
         plain_sender plain;
         if (dcc_read(it->bytes, it->len, &packet) || plain_read(it->bytes, it->len, &plain_packet)) return 1;
         if (memcmp(&packet, &plain_packet, sizeof packet)) return 2;
-        if (dcc_loco_hears(&loco, it->bytes, it->len, &heard) || plain_hears(&loco, it->bytes, it->len, &plain_heard) || heard != plain_heard) return 3;
+        if (dcc_loco_hears(&loco, it->bytes, it->len, &heard) || plain_hears(&loco, it->bytes, it->len,
+                &plain_heard) || heard != plain_heard) return 3;
         if (dcc_loco_apply(&loco, it->bytes, it->len) || plain_apply(&plain_loco, it->bytes, it->len)) return 4;
         if (!is_same_loco(&loco, &plain_loco)) return 5;
         int count = dcc_halves(it->bytes, it->len, 14, halves);
-        if (count != plain_halves(it->bytes, it->len, 14, same_halves) || memcmp(halves, same_halves, 2 * (size_t)count)) return 6;
-        if (dcc_sender_start(&sender, it->bytes, it->len, &timing) || plain_start(&plain, it->bytes, it->len, &timing)) return 7;
+        if (count != plain_halves(it->bytes, it->len, 14, same_halves) || memcmp(halves, same_halves,
+                2 * (size_t)count)) return 6;
+        if (dcc_sender_start(&sender, it->bytes, it->len, &timing) || plain_start(&plain, it->bytes, it->len,
+                &timing)) return 7;
         for (int k = 0; k < count + 2; k++)
-            if (dcc_sender_half(&sender) != (k < count ? halves[k] : 0) || plain_half(&plain) != (k < count ? halves[k] : 0)) return 8;
+            if (dcc_sender_half(&sender) != (k < count ? halves[k] : 0) || plain_half(&plain) != (k < count
+                ? halves[k] : 0)) return 8;
     }
     return 0;
 }
@@ -276,14 +295,20 @@ int main(int argc, char **argv) {
     for (int i = 0; i < CALLS; i++) {
         const dcc_frame *it = &frames[only < 0 ? i % FRAMES : only];
         sum += it->bytes[0] + it->len;
-#define CALL(its_name, library, by_hand) if (!strcmp(name, its_name)) { if (is_library) { library; } else if (is_plain) { by_hand; } continue; }
-        CALL("read", sum += dcc_read(it->bytes, it->len, &packet), sum += (uint32_t)plain_read(it->bytes, it->len, &packet))
-        CALL("hears", sum += dcc_loco_hears(&loco, it->bytes, it->len, &heard), sum += (uint32_t)plain_hears(&loco, it->bytes, it->len, &heard))
-        CALL("halves", sum += dcc_halves(it->bytes, it->len, 14, halves), sum += (uint32_t)plain_halves(it->bytes, it->len, 14, halves))
-        CALL("start", sum += dcc_sender_start(&sender, it->bytes, it->len, &timing), sum += (uint32_t)plain_start(&plain, it->bytes, it->len, &timing))
+#define CALL(its_name, library, by_hand) if (!strcmp(name, its_name)) { if (is_library) { library; \
+    } else if (is_plain) { by_hand; } continue; }
+        CALL("read", sum += dcc_read(it->bytes, it->len, &packet), sum += (uint32_t)plain_read(it->bytes,
+                it->len, &packet))
+        CALL("hears", sum += dcc_loco_hears(&loco, it->bytes, it->len, &heard),
+                sum += (uint32_t)plain_hears(&loco, it->bytes, it->len, &heard))
+        CALL("halves", sum += dcc_halves(it->bytes, it->len, 14, halves),
+                sum += (uint32_t)plain_halves(it->bytes, it->len, 14, halves))
+        CALL("start", sum += dcc_sender_start(&sender, it->bytes, it->len, &timing),
+                sum += (uint32_t)plain_start(&plain, it->bytes, it->len, &timing))
         if (!strcmp(name, "half")) {
             /* 84 half-bits and the end, so the start counts little */
-            if (i % 85 == 0) dcc_sender_start(&sender, frames[0].bytes, 3, &timing), plain_start(&plain, frames[0].bytes, 3, &timing);
+            if (i % 85 == 0) dcc_sender_start(&sender, frames[0].bytes, 3, &timing), plain_start(&plain,
+                frames[0].bytes, 3, &timing);
             if (is_library) sum += dcc_sender_half(&sender);
             if (is_plain) sum += plain_half(&plain);
             continue;

@@ -1,10 +1,11 @@
 #!/usr/bin/env python3
-"""Counts the instructions of the calls of the library for C beside plain C of the same job (bench/calls.c), by valgrind's callgrind.
+"""Counts the instructions of the calls of the library for C beside plain C of the same job, by valgrind's callgrind.
 
     bench/calls.py [--tell]
 
-It needs crates/dcc_c/out/libdcc_c.a (tools/c-library), a C compiler and valgrind. bench/calls.bounds holds the most that each call may take.
-Status 1 if a call takes more, if both do different things, or if a bound names no call. --tell prints a line for each call.
+bench/calls.c makes the calls. It needs crates/dcc_c/out/libdcc_c.a (tools/c-library), a C compiler and valgrind.
+bench/calls.bounds holds the most that each call may take. Status 1 if a call takes more, if both do different
+things, or if a bound names no call. --tell prints a line for each call.
 """
 import os
 import re
@@ -38,7 +39,8 @@ def main():
     failed += [f"bench/calls.bounds has no bound for {name}" for name in NAMES if name not in most]
     with tempfile.TemporaryDirectory() as room:
         program = f"{room}/calls"
-        subprocess.run(["cc", "-O2", "-Wl,--gc-sections", f"-I{TOP}/include", "-o", program, f"{BENCH}/calls.c", LIBRARY], check=True)
+        words = ["cc", "-O2", "-Wl,--gc-sections", f"-I{TOP}/include", "-o", program, f"{BENCH}/calls.c", LIBRARY]
+        subprocess.run(words, check=True)
         same = subprocess.run([program, "same"], capture_output=True, text=True, check=False)
         if same.returncode:
             failed.append(f"the library and plain C: {same.stdout.strip()}")

@@ -151,8 +151,8 @@ typedef struct {
 #define DCC_MAIN_TIMING {58, 100, 100, DCC_MAIN_TRACK}
 #define DCC_PROGRAMMING_TIMING {58, 100, 100, DCC_PROGRAMMING_TRACK}
 
-/* The half-bits of a packet that are still to be sent: 16 bytes, where dcc_halves writes 380. A dcc_sender of zeros has no half-bit left, as
- * `static dcc_sender sender;` is. Its contents are private to the library. */
+/* The half-bits of a packet that are still to be sent: 16 bytes, where dcc_halves writes 380. A dcc_sender of zeros has no
+ * half-bit left, as `static dcc_sender sender;` has none. Its contents are private to the library. */
 typedef struct {
     uint64_t kept[2];
 } dcc_sender;
@@ -161,8 +161,8 @@ typedef struct {
  * which is looked at first, 1 or 2 for the frame (L1, L2). */
 uint8_t dcc_sender_start(dcc_sender *sender, const uint8_t *frame, uint64_t len, const dcc_timing *timing);
 
-/* Returns the next half-bit of the packet in microseconds, and counts it as sent. Returns 0 and writes nothing if no half-bit is left.
- * The call divides nothing and copies nothing, so a timer interrupt may make it. */
+/* Returns the next half-bit of the packet in microseconds, and counts it as sent. Returns 0 and writes nothing if no
+ * half-bit is left. The call divides nothing and copies nothing, so a timer interrupt may make it. */
 uint16_t dcc_sender_half(dcc_sender *sender);
 
 /* ---- decoders ---- */

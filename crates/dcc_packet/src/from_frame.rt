@@ -75,6 +75,7 @@ fn long_address(high: u8, low: u8) -> Address
 }
 
 /// A packet to multifunction decoders.
+#[inline(always)]
 fn loco_row(bytes: &[u8]) -> Option<Packet>
     ensures found { IfSome result (λ packet. spelling packet ≡ with_error_byte bytes.now) }
     ensures none { IfNone result ((to : Address) (what : What) → loco_bytes to what ≢ bytes.now) }

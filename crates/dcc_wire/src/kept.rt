@@ -255,6 +255,7 @@ impl KeptFramer {
     }
 
     /// The framer, taken up again: it stands for the halves for which the one that was kept stood.
+    #[inline(never)]
     pub fn framer(&self) -> Framer
         ensures { result ≡ kept_rest self.now }
     {
