@@ -187,6 +187,10 @@ class ByHand(unittest.TestCase):
         for line in "loco s3 speed28 f 4", "loco s4 speed28 f 4":
             usual.command(dcc.frame(line))
         self.assertEqual([dcc.line(usual.next())[:7] for _ in range(4)], ["loco s3"] * 2 + ["loco s4"] * 2)
+        for n in range(130):
+            usual.command(dcc.frame(f"loco l{n} functions 0 16"))
+            usual.next(), usual.next()
+        self.assertEqual((usual.waiting, usual.entries), (0, 128))
         full = dcc.Station()
         for n in range(64):
             full.command(dcc.frame(f"loco s{n + 1} functions 0 16"))
