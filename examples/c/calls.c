@@ -23,7 +23,7 @@ static void encode(const dcc_frame *frame) {
 /* The same half-bits, one by one, as an interrupt of a timer asks for them. */
 static void send(const dcc_frame *frame) {
     static const dcc_timing main_track = DCC_MAIN_TIMING;
-    dcc_sender sender;
+    dcc_sender sender = {0};
     if (dcc_sender_start(&sender, frame->bytes, frame->len, &main_track)) exit(1);
     uint16_t us = dcc_sender_half(&sender);
     for (bool is_first = true; us; is_first = false, us = dcc_sender_half(&sender)) printf(is_first ? "%u" : " %u", us);

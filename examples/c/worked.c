@@ -163,7 +163,7 @@ static void a_sender_gives_the_halves_one_by_one(void) {
     static const dcc_timing tracks[] = {DCC_MAIN_TIMING, DCC_PROGRAMMING_TIMING};
     static const uint8_t six[6] = {1, 2, 4, 8, 16, 31};
     uint16_t halves[DCC_HALVES];
-    dcc_sender sender, at_end;
+    dcc_sender sender = {0}, at_end;
     for (int i = 0; i < 2; i++) {
         int count = dcc_halves(six, 6, tracks[i].preamble, halves);
         HOLDS(dcc_sender_start(&sender, six, 6, &tracks[i]) == 0);
@@ -178,7 +178,7 @@ static void a_sender_gives_the_halves_one_by_one(void) {
 
 static void a_sender_has_the_timing_of_its_caller(void) {
     static const dcc_timing timing = {55, 9900, 2100, 40};
-    dcc_sender sender;
+    dcc_sender sender = {0};
     HOLDS(dcc_sender_start(&sender, speed, 3, &timing) == 0);
     for (int k = 0; k < 80; k++) HOLDS(dcc_sender_half(&sender) == 55);
     HOLDS(dcc_sender_half(&sender) == 9900);
@@ -207,7 +207,7 @@ static void a_sender_that_is_refused_is_left(void) {
     };
     static const dcc_timing main_track = DCC_MAIN_TIMING;
     for (size_t i = 0; i < sizeof rows / sizeof *rows; i++) {
-        dcc_sender sender, before;
+        dcc_sender sender = {0}, before;
         HOLDS(dcc_sender_start(&sender, speed, 3, &main_track) == 0);
         for (size_t k = 0; k < 8 * i; k++) HOLDS(dcc_sender_half(&sender) > 0);
         memcpy(&before, &sender, sizeof before);
@@ -229,7 +229,7 @@ static void a_copy_of_a_sender_goes_on_by_itself(void) {
     static const dcc_timing timing = DCC_MAIN_TIMING;
     uint16_t halves[DCC_HALVES];
     int count = dcc_halves(speed, 3, DCC_MAIN_TRACK, halves);
-    dcc_sender sender;
+    dcc_sender sender = {0};
     HOLDS(dcc_sender_start(&sender, speed, 3, &timing) == 0);
     for (int k = 0; k < count; k++) {
         dcc_sender copy = sender;
