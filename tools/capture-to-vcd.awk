@@ -12,8 +12,8 @@ BEGIN {
     print "#" at " 1!"
 }
 
-# writes the last bytes. busybox awk does not notice a failed write, so there `cat` writes them, and its status counts. It is the one awk
-# that can close what was never opened
+# writes the last bytes. busybox awk does not notice a failed write, so there `cat` writes them, and its status
+# counts. It is the one awk that can close what was never opened
 function finish(text) {
     if (close("never opened")) {
         printf "%s", text
@@ -30,7 +30,8 @@ function finish(text) {
     for (i = 1; i <= words; i++) {
         if (word[i] == "") continue
         parts = split(word[i], run, "*")
-        if (word[i] !~ /^[0-9]+(\*[0-9]+)?$/ || length(run[1]) > 10 || parts > 1 && (length(run[2]) > 8 || run[2] < 1)) {
+        if (word[i] !~ /^[0-9]+(\*[0-9]+)?$/ || length(run[1]) > 10 ||
+            parts > 1 && (length(run[2]) > 8 || run[2] < 1)) {
             gsub(/[^ -~]/, "?", word[i])
             print "capture-to-vcd: line " NR ": \"" substr(word[i], 1, 40) "\" is no duration" > "/dev/stderr"
             refused = 1

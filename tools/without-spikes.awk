@@ -1,7 +1,8 @@
 # Removes the spikes of a capture: awk -f tools/without-spikes.awk CAPTURE
-# A spike is a half-bit shorter than 5 microseconds (-v least=.. sets another bound). A spike, the half-bit before it and the half-bit
-# after it become one half-bit of their sum. A run is read as its half-bits, one by one. All other text stays as it is: half-bits
-# and runs without a spike, comments, and each line with a word that is no duration, as `---` and the lines of a decoder text.
+# A spike is a half-bit shorter than 5 microseconds (-v least=.. sets another bound). A spike, the half-bit before it
+# and the half-bit after it become one half-bit of their sum. A run is read as its half-bits, one by one. All other
+# text stays as it is: half-bits and runs without a spike, comments, and each line with a word that is no duration, as
+# `---` and the lines of a decoder text.
 BEGIN { if (least == "") least = 5 }
 
 # returns true if a word is a duration or a run, and sets its digits, microseconds and count: spelled, us, n
@@ -73,8 +74,8 @@ function end_capture() {
     joins = 0
 }
 
-# writes the last bytes. busybox awk does not notice a failed write, so there `cat` writes them, and its status counts. It is the one awk
-# that can close what was never opened
+# writes the last bytes. busybox awk does not notice a failed write, so there `cat` writes them, and its status
+# counts. It is the one awk that can close what was never opened
 function finish(text) {
     if (close("never opened")) {
         printf "%s", text

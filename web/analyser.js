@@ -239,7 +239,8 @@ class Csv {
     if (count) [this.toldChannels, this.toldNames] = [Number(count), names ? names.split(', ') : []];
   }
 
-  /** The fields of a row, without the blanks around them: of a row without quotes at most one more than the header has. */
+  /** The fields of a row, without the blanks around them: of a row without quotes at most one more than the header
+   * has. */
   split(row) {
     const most = this.headerColumns === undefined ? undefined : this.headerColumns + 1;
     const fields = row.includes('"') ? this.splitQuoted(row) : row.split(this.separator, most);
@@ -272,7 +273,8 @@ class Csv {
     return [...fields, text];
   }
 
-  /** What the columns are, by the first line. One that is a row already has channels that are called by their places, from 0. */
+  /** What the columns are, by the first line. One that is a row already has channels that are called by their
+   * places, from 0. */
   columns(row, fields) {
     const { recording, rate } = this;
     const isRow = this.timeOf(fields[0]) !== null;
@@ -330,7 +332,8 @@ class Csv {
 /** How many channels the page offers. A browser needs minutes for a menu of 200,000. */
 const CHANNELS_OFFERED = 1000;
 
-/** The half-bits of a file, the channels that it has and the one that was read; where it cannot be read to its end, why. */
+/** The half-bits of a file, the channels that it has and the one that was read; where it cannot be read to its end,
+ * why. */
 const readRecording = (form, text, key, tell) => {
   const recording = new Recording();
   const file = form === 'VCD' ? new Vcd(recording, key) : new Csv(recording, key);
@@ -371,7 +374,8 @@ const strangeFile = (text) => {
   return null;
 };
 
-/** VCD or CSV, null for a capture: what the first line is that is no comment. Words of a capture stand between blanks, not commas. */
+/** VCD or CSV, null for a capture: what the first line is that is no comment. Words of a capture stand between
+ * blanks, not commas. */
 const formOf = (text) => {
   let form = null;
   takeLines(text, (row) => {
@@ -390,9 +394,10 @@ const isCsvRow = (front) => /^"?[a-z].*[,;\t]/i.test(front) || /^[^,;]+[,;] *"?[
 const FRONT = 1000000;
 
 /** The bytes behind a byte order mark, as editors of Windows write it. */
-const withoutMark = (bytes) => (bytes[0] === 0xef && bytes[1] === 0xbb && bytes[2] === 0xbf ? bytes.subarray(3) : bytes);
+const withoutMark = (bytes) => ([0xef, 0xbb, 0xbf].every((it, i) => it === bytes[i]) ? bytes.subarray(3) : bytes);
 
-/** The half-bits of a file in any form, up to its first fault. `tell` is called with the part that is read, from 0 to 1. */
+/** The half-bits of a file in any form, up to its first fault. `tell` is called with the part that is read, from 0
+ * to 1. */
 const readBytes = (file, key, tell) => {
   const bytes = withoutMark(file);
   const front = textOf(bytes.subarray(0, FRONT));

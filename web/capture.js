@@ -75,7 +75,8 @@ const numberIn = (bytes, from, to, digits) => {
   return number;
 };
 
-/** Adds the half-bits that the word bytes[from..to] spells, `us` or `us*n`. Answers null where it spells none, false where they are too many. */
+/** Adds the half-bits that the word bytes[from..to] spells, `us` or `us*n`. Answers null where it spells none,
+ * false where they are too many. */
 const pushWord = (halves, bytes, from, to) => {
   let star = from;
   while (star < to && bytes[star] !== STAR) star += 1;
@@ -137,7 +138,8 @@ const textOf = (bytes) => new TextDecoder('utf-8', { ignoreBOM: true }).decode(b
 /** How much is read before the page is told how much that is: characters of a text, or bytes. */
 const TOLD_EACH = 2000000;
 
-/** Takes the lines of a text, each with its number from 1, as long as `take` answers true. Empty lines are passed over. */
+/** Takes the lines of a text, each with its number from 1, as long as `take` answers true. Empty lines are passed
+ * over. */
 const takeLines = (text, take, tell = () => {}) => {
   for (let line = 1, at = 0, next = TOLD_EACH; at < text.length; line += 1) {
     const feed = text.indexOf('\n', at);

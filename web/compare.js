@@ -1,7 +1,8 @@
 // The first difference of two captures for a decoder, by the definitions of `dcc same` (docs/DEFINITIONS.md, "Lists that are alike"). Who
 // hears a packet, whether it writes a variable and what it sets are asked of the module; the comparison is the page's own and not proved.
 
-/** A probe of one kind of decoder: two states that differ in each plain register, and what a packet leaves the same in both. */
+/** A probe of one kind of decoder: two states that differ in each plain register, and what a packet leaves the same
+ * in both. */
 const LOCO_PROBES = [
   { speed: [0, 0, 1], bits: 0 },
   { speed: [28, 5, 0], bits: 255 },
@@ -34,13 +35,15 @@ const probesOf = (fresh) => {
   return [28, 14].map((mode) => LOCO_PROBES.map((it) => locoProbe(fresh, mode, it)));
 };
 
-/** The plain registers of a decoder that are numbers of their own: speed with its mode, direction; or the sides and aspects of a board. */
+/** The plain registers of a decoder that are numbers of their own: speed with its mode, direction; or the sides and
+ * aspects of a board. */
 const plainNumbers = ({ kind, numbers }) =>
   kind === 'board'
     ? [...numbers.subarray(BOARD.positions, BOARD.aspects + 4)]
     : [256 * numbers[LOCO.speedMode] + numbers[LOCO.step], numbers[LOCO.forward]];
 
-/** The bytes whose bits are plain registers, and which bits of a byte are: there is no function above 68 and no state 0. */
+/** The bytes whose bits are plain registers, and which bits of a byte are: there is no function above 68 and no
+ * state 0. */
 const plainBits = ({ kind }) => {
   const bytes = (at, count) => [...Array(count).keys()].map((i) => ({ at: at + i, mask: 255 }));
   if (kind === 'board') return bytes(BOARD.outs, 1);
@@ -50,8 +53,8 @@ const plainBits = ({ kind }) => {
   return [...functions, ...states];
 };
 
-/** What a packet sets plain registers to: pairs of a register's number, from a first one on, and its value. Both probes hold that
- * afterwards. */
+/** What a packet sets plain registers to: pairs of a register's number, from a first one on, and its value. Both
+ * probes hold that afterwards. */
 const setBy = (dcc, probes, first, bytes) => {
   const [one, other] = probes.map((it) => dcc.after(it, [bytes]));
   const others = plainNumbers(other);
@@ -136,8 +139,9 @@ class Recent {
   }
 }
 
-/** All packets of a block that set some registers, by their numbers, with what each sets them to. Two of them conflict where that differs. It
- * counts how often two of them change turns: one way up for the first block, down for the second. */
+/** All packets of a block that set some registers, by their numbers, with what each sets them to. Two of them
+ * conflict where that differs. It counts how often two of them change turns: one way up for the first block, down
+ * for the second. */
 class Rivals {
   constructor(numbers, values) {
     const known = [...new Set(values)];
@@ -155,8 +159,8 @@ class Rivals {
     });
   }
 
-  /** The first two that conflict and take other turns, null for none. Their turns are the same if they change them as often, and the same
-   * one has the last. */
+  /** The first two that conflict and take other turns, null for none. Their turns are the same if they change them
+   * as often, and the same one has the last. */
   firstOther() {
     const { changes, values, numbers } = this;
     const [left, right] = this.recent.map((it) => it.ranks());
@@ -189,7 +193,8 @@ const rivalsAmong = (packets, members) => {
   return [...groups.values()].map(({ numbers, values }) => new Rivals(numbers, values));
 };
 
-/** The first two packets that conflict and take other turns in two blocks of the same packets; null where there are none. */
+/** The first two packets that conflict and take other turns in two blocks of the same packets; null where there are
+ * none. */
 const otherOrder = (packets, blocks, sides) => {
   const frames = blocks.map((block, side) => block.map((i) => sides[side][i].bytes));
   const members = [...new Set(frames[0])];
@@ -211,8 +216,8 @@ const missingIn = (block, outcomes, other, others) => {
   return block.filter((i) => !known.has(outcomes[i].bytes));
 };
 
-/** The first difference: the verdict of `dcc same`, and the places of each capture that show it. `tell` is called with the part that is
- * compared, from 0 to 1. */
+/** The first difference: the verdict of `dcc same`, and the places of each capture that show it. `tell` is called
+ * with the part that is compared, from 0 to 1. */
 const differenceOf = (packets, sides, tell = () => {}) => {
   const [left, right] = sides.map((it) => packets.blocks(it));
   for (let k = 0; ; k += 1) {

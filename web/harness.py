@@ -98,14 +98,14 @@ class Browser:
 
     def paste(self, text):
         """Puts a text into the field as a reader does who pastes it, and waits until the page has read it."""
-        was = self.js("Number(document.body.dataset.read)")
+        was = self.reads()
         self.js("document.getElementById('text').select()")
         self.js(f"(() => {{ const it = document.getElementById('text'); it.value = {json.dumps(text)};"
                 " it.dispatchEvent(new InputEvent('input', { bubbles: true, inputType: 'insertFromPaste' })); })()")
         self.wait(f"Number(document.body.dataset.read) > {was}")
 
     def open(self, path):
-        was = self.js("Number(document.body.dataset.read)")
+        was = self.reads()
         root = self.ask("DOM.getDocument")["root"]["nodeId"]
         field = self.ask("DOM.querySelector", nodeId=root, selector="#file")["nodeId"]
         self.ask("DOM.setFileInputFiles", files=[str(path)], nodeId=field)
@@ -147,7 +147,7 @@ class Browser:
 
     def choose(self, channel):
         """Chooses a channel by its name or its end, or by its id, which stands in brackets behind it."""
-        was = self.js("Number(document.body.dataset.read)")
+        was = self.reads()
         self.js("""((channel) => {
             const menu = document.getElementById('channel');
             const fits = (it) => [` (${channel})`, channel].some((end) => it.text.endsWith(end)) || it.text.startsWith(`${channel} (`);
@@ -207,6 +207,11 @@ class Browser:
             for (const kind of ['input', 'change']) it.dispatchEvent(new Event(kind, { bubbles: true }));
         })(%s)""" % json.dumps([name, value]))
         self.rest_of_work()
+
+    def reads(self):
+        """How many texts and files the page has read, when it reads none any more."""
+        self.rest_of_work()
+        return self.js("Number(document.body.dataset.read)")
 
     def rest_of_work(self):
         """Waits until no worker of the page has anything to do."""
@@ -276,7 +281,7 @@ def to_capture(data, channel=""):
 
 def by_hand(browser, text):
     """Types or pastes a text into the field, by the browser's own input."""
-    was = browser.js("Number(document.body.dataset.read)")
+    was = browser.reads()
     browser.js("document.getElementById('text').focus(); document.getElementById('text').select()")
     browser.ask("Input.insertText", text=text)
     browser.wait(f"Number(document.body.dataset.read) > {was}")

@@ -6,16 +6,20 @@ const WIDEST = 560;
 const SHORT = { from: 40, to: 130, ticks: [40, 50, 60, 70, 80, 90, 100, 110, 120, 130] };
 const LONG_BARS = { from: 130, to: 66000, bars: 48, ticks: [200, 500, 1000, 2000, 5000, 10000, 20000, 50000] };
 
-/** The bars of short half-bits: from, to, how many half-bits are of such a duration, and a name. The first has all shorter ones too. */
+/** The bars of short half-bits: from, to, how many half-bits are of such a duration, and a name. The first has all
+ * shorter ones too. */
 const shortBars = (counts) => {
   const bars = [];
-  for (let us = SHORT.from; us < SHORT.to; us += 1) bars.push({ from: us, to: us + 1, count: counts[us], name: `${us} µs` });
+  for (let us = SHORT.from; us < SHORT.to; us += 1) {
+    bars.push({ from: us, to: us + 1, count: counts[us], name: `${us} µs` });
+  }
   bars[0].count += counts.subarray(0, SHORT.from).reduce((a, b) => a + b, 0);
   bars[0].name = `${SHORT.from} µs or less`;
   return bars;
 };
 
-/** The bars of long half-bits, each wider than the one before it. A half-bit above 65535 µs counts as 65535, so the last has them too. */
+/** The bars of long half-bits, each wider than the one before it. A half-bit above 65535 µs counts as 65535, so the
+ * last has them too. */
 const longBars = (counts) => {
   const ratio = (LONG_BARS.to / LONG_BARS.from) ** (1 / LONG_BARS.bars);
   return [...Array(LONG_BARS.bars).keys()].map((i) => {

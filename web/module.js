@@ -82,7 +82,8 @@ class Dcc {
     return this.known.get(name);
   }
 
-  /** The outcomes of half-bits: the number of the last half, from 1, when it ends in microseconds, the refusal, 0 for none, and the bytes. */
+  /** The outcomes of half-bits: the number of the last half, from 1, when it ends in microseconds, the refusal, 0
+   * for none, and the bytes. */
   outcomes(halves, tell = () => {}) {
     const [framer, outcome] = [BigInt(this.framer), BigInt(this.outcome)];
     const view = new DataView(this.calls.memory.buffer, this.outcome, OUTCOME_BYTES);

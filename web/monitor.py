@@ -152,7 +152,7 @@ def states(browser, program):
 
 
 def kept_states(browser, program):
-    """A state is kept each 4,096 outcomes. Here only the packets on either side of these set anything, and a refusal stands between."""
+    """A state is kept each 4,096 outcomes. Here only the packets on either side of these set anything."""
     idle, *set_something = encoded(program, ["idle", *(f"loco s3 {it}" for it in
         ("speed28 f 9", "functions 0 17", "functions 5 3", "state 7 on", "functions 9 2", "state 8 on"))]).splitlines()
     lines = [idle] * 8300
@@ -258,12 +258,13 @@ def distinct_packets(browser, program):
     verified = [f"loco s3 cv verify {cv} {value}" for value in range(4) for cv in range(1, 1001)]
     groups = {"0": 32, "5": 16, "9": 16, **{str(it): 256 for it in range(13, 69, 8)}}
     moving = [f"loco {who} {it}" for who in ("s3", "all") for it in (
-        *(f"speed128 {to} {step}" for to in "fr" for step in range(128)), *(f"functions {it} {n}" for it, most in groups.items() for n in range(most)))]
+        *(f"speed128 {to} {step}" for to in "fr" for step in range(128)),
+        *(f"functions {it} {n}" for it, most in groups.items() for n in range(most)))]
     random.Random(5).shuffle(moving)
     one, other = [i for i, it in enumerate(moving) if " functions 13 " in it][100:102]
     turned = [*moving[:one], moving[other], *moving[one + 1 : other], moving[one], *moving[other + 1 :]]
-    cases = {"4,000 CVs verified": (verified, verified), "each speed and function": (moving, moving), "two of them turned": (moving, turned),
-             "each twice": (moving + moving[:700], moving + moving[:699] + [moving[700]])}
+    cases = {"4,000 CVs verified": (verified, verified), "each speed and function": (moving, moving),
+             "two of them turned": (moving, turned), "each twice": (moving + moving[:700], moving + moving[:699] + [moving[700]])}
     browser.js("document.getElementById('comparison').open = true")
     browser.pick("who", "s3")
     for name, lines in cases.items():
@@ -273,9 +274,13 @@ def distinct_packets(browser, program):
         browser.js("page.second.put(%s)" % json.dumps(second))
         took = peak_of(browser)[1] - before
         same(f"{name}: the verdict", browser.text("#verdict code"), same_says(program, "s3", first, second))
-        print(f"{name}: {len(set(lines[0])):,} packets, none like another, read and compared in {took:.1f} s of a processor")
+        print(f"{name}: {len(set(lines[0])):,} packets, read and compared in {took:.1f} s of a processor")
         check(f"{name}: within 10 seconds of a processor", took < 10, took)
-    browser.js("window.begun = 0; (() => { const { run } = page.work; page.work.run = (...words) => { window.begun += 1; return run.apply(page.work, words); }; })()")
+    browser.js("""(() => {
+        const { run } = page.work;
+        window.begun = 0;
+        page.work.run = (...words) => { window.begun += 1; return run.apply(page.work, words); };
+    })()""")
     browser.pick("zoom", 110)
     browser.pick("zoom", 100)
     same("zoom does not compare anew", browser.js("delete page.work.run && window.begun"), 0)
@@ -338,7 +343,7 @@ def sides_chosen(browser, program):
 
 def two_sides(browser, program):
     browser.paste((TOP / "examples" / "two_tracks.txt").read_text())
-    was = browser.js("Number(document.body.dataset.read)")
+    was = browser.reads()
     browser.js("document.getElementById('cut').click()")
     browser.wait(f"Number(document.body.dataset.read) >= {was} + 2 && document.activeElement.id === 'second-who'")
     same("a text of two captures is cut into both", browser.fault(), "")
@@ -382,7 +387,7 @@ def zoom(browser):
 
 def dropped(browser, file, where):
     """Drops a file on an element as a reader does."""
-    was = browser.js("Number(document.body.dataset.read)")
+    was = browser.reads()
     x, y = browser.js("(() => { const it = document.querySelector(%s); it.scrollIntoView({ block: 'center' });"
                       " const r = it.getBoundingClientRect(); return [r.x + r.width / 2, r.y + r.height / 2]; })()" % json.dumps(where))
     data = {"items": [], "files": [str(file)], "dragOperationsMask": 1}
@@ -578,7 +583,8 @@ def timings(browser, program):
     bars = browser.texts(".bar")
     same("bars of what lies beyond the drawing are named so", [bars[0], bars[1], bars[-1]],
          ["40 µs or less: 5 half-bits", "41 µs: 3 half-bits", "57967 µs or more: 3 half-bits"])
-    check("others have their durations", {"58 µs: 28 half-bits", "129 µs: 1 half-bit", "130 to 147 µs: 1 half-bit"} <= set(bars), bars)
+    others = {"58 µs: 28 half-bits", "129 µs: 1 half-bit", "130 to 147 µs: 1 half-bit"}
+    check("others have their durations", others <= set(bars), bars)
     cases = {"none": "58", "noise": some_noise(1500), **{it.name: it.read_text() for it in sorted((TOP / "examples").glob("*.txt"))}}
     if not knows_timing(program):
         print("left out: the figures against `dcc timing`, which this program does not know")

@@ -1,5 +1,6 @@
-// Work that may take long: reading a file, and the comparison of two captures. It is done in a worker, so that the page stays usable and
-// the reader can stop it. A worker runs this page's own script, so nothing is loaded. Nothing here is proved.
+// Work that may take long: reading a file, and the comparison of two captures. It is done in a worker, so that the
+// page stays usable and the reader can stop it. A worker runs this page's own script, so nothing is loaded. Nothing
+// here is proved.
 
 /** The script of the page. A worker has no document. */
 const SCRIPT = globalThis.document?.currentScript.textContent;
@@ -24,11 +25,12 @@ const bytesOf = async (input, tell = () => {}) => {
 /** Outcomes as few arrays, in which they go from a worker to the page and back. Equal frames are one number. */
 const packOutcomes = (outcomes) => {
   const n = outcomes.length;
-  const packed = { at: new Uint32Array(n), time: new Float64Array(n), refusal: new Uint8Array(n), frame: new Uint32Array(n), frames: [] };
+  const [at, time] = [new Uint32Array(n), new Float64Array(n)];
+  const packed = { at, time, refusal: new Uint8Array(n), frame: new Uint32Array(n), frames: [] };
   const known = new Map();
-  outcomes.forEach(({ at, time, refusal, bytes }, i) => {
-    if (!known.has(bytes)) known.set(bytes, packed.frames.push(bytes) - 1);
-    [packed.at[i], packed.time[i], packed.refusal[i], packed.frame[i]] = [at, time, refusal, known.get(bytes)];
+  outcomes.forEach((it, i) => {
+    if (!known.has(it.bytes)) known.set(it.bytes, packed.frames.push(it.bytes) - 1);
+    [at[i], time[i], packed.refusal[i], packed.frame[i]] = [it.at, it.time, it.refusal, known.get(it.bytes)];
   });
   return packed;
 };
@@ -82,7 +84,8 @@ const beginWorker = () => {
 /** The answer of a job that the reader has stopped. */
 const STOPPED = Symbol('stopped');
 
-/** Work within a page: each job in a worker of its own, with a line that tells what is done, and a button that stops it. */
+/** Work within a page: each job in a worker of its own, with a line that tells what is done, and a button that
+ * stops it. */
 class Work {
   constructor(module) {
     this.module = module;
@@ -91,7 +94,8 @@ class Work {
     $('stop').addEventListener('click', () => this.stop());
   }
 
-  /** Does a job. Answers null where another one for the same place begins before it is done, and STOPPED where the reader stops it. */
+  /** Does a job. Answers null where another one for the same place begins before it is done, and STOPPED where the
+   * reader stops it. */
   run(place, title, name, job) {
     this.drop(place);
     return new Promise((done, fail) => {

@@ -1,7 +1,9 @@
-# Reads the levels of a digital CSV, after edges.awk: the time and a column for each channel, a row for each edge of any of them or for
-# each sample, as Saleae Logic, DSView and others write it. sigrok may leave out the times and give the sample rate in a comment.
+# Reads the levels of a digital CSV, after edges.awk: the time and a column for each channel, a row for each edge of
+# any of them or for each sample, as Saleae Logic, DSView and others write it. sigrok may leave out the times and give
+# the sample rate in a comment.
 
-# comments stand above the header. sigrok gives the number of channels there, and their names between commas and blanks, without quotes
+# comments stand above the header. sigrok gives the number of channels there, and their names between commas and
+# blanks, without quotes
 form == "csv" && /^[;#]/ {
     if (match($0, /[Ss]ample ?rate: /)) rate = hertz(substr($0, RSTART + RLENGTH))
     if (match($0, /Channels \([0-9]+\/[0-9]+\): */)) {
@@ -31,7 +33,8 @@ function split_row(row,    i) {
     for (i = 1; i <= columns; i++) if (field[i] ~ /^ | $/) gsub(/^ +| +$/, "", field[i])
 }
 
-# splits a row with quotes. A quote at the begin of a field opens it, and the next one closes it; of two within it one remains
+# splits a row with quotes. A quote at the begin of a field opens it, and the next one closes it; of two within it one
+# remains
 function split_quoted(row,    pieces, piece, parts, part, i, j, text, is_quoted, is_closed) {
     columns = 0
     pieces = split(row, piece, "\"")

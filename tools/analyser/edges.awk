@@ -58,8 +58,8 @@ function pick(    how, place, fits) {
         (channels == 1 ? "; the only one is " plain(label(1)) : choice()))
 }
 
-# takes a level at a time in microseconds. Only a change of it is an edge; the first level is that at the start. A half-bit is written at
-# once, since the next may be long in coming
+# takes a level at a time in microseconds. Only a change of it is an edge; the first level is that at the start. A
+# half-bit is written at once, since the next may be long in coming
 function take(at, level) {
     if (levels && level == last_level) return
     if (levels++ > 1) {
@@ -70,7 +70,8 @@ function take(at, level) {
     last_edge = at
 }
 
-# counts a half-bit, and returns its microseconds: the nearest number, and at most 65535, as a capture counts longer ones too
+# counts a half-bit, and returns its microseconds: the nearest number, and at most 65535, as a capture counts longer
+# ones too
 function half(us) {
     us = us < 65535 ? int(us + .5) : 65535
     if (!halves++ || us < shortest) shortest = us
@@ -82,8 +83,8 @@ function half(us) {
     return us
 }
 
-# writes the last bytes. busybox awk does not notice a failed write, so there `cat` writes them, and its status counts. It is the one awk
-# that can close what was never opened
+# writes the last bytes. busybox awk does not notice a failed write, so there `cat` writes them, and its status
+# counts. It is the one awk that can close what was never opened
 function finish(text) {
     if (close("never opened")) {
         printf "%s", text
