@@ -261,10 +261,11 @@ def distinct_packets(browser, program):
         *(f"speed128 {to} {step}" for to in "fr" for step in range(128)),
         *(f"functions {it} {n}" for it, most in groups.items() for n in range(most)))]
     random.Random(5).shuffle(moving)
-    one, other = [i for i, it in enumerate(moving) if " functions 13 " in it][100:102]
+    one, other = [i for i, it in enumerate(moving) if "s3 functions 13 " in it][100:102]
     turned = [*moving[:one], moving[other], *moving[one + 1 : other], moving[one], *moving[other + 1 :]]
     cases = {"4,000 CVs verified": (verified, verified), "each speed and function": (moving, moving),
-             "two of them turned": (moving, turned), "each twice": (moving + moving[:700], moving + moving[:699] + [moving[700]])}
+             "each twice": (moving + moving[:700], moving + moving[:699] + [moving[700]]),
+             "two of them turned": (moving, turned)}
     browser.js("document.getElementById('comparison').open = true")
     browser.pick("who", "s3")
     for name, lines in cases.items():
@@ -284,9 +285,12 @@ def distinct_packets(browser, program):
     browser.pick("zoom", 110)
     browser.pick("zoom", 100)
     same("zoom does not compare anew", browser.js("delete page.work.run && window.begun"), 0)
-    browser.pick("who", "s4")
-    browser.pick("who", "s3")
-    same("another decoder does", browser.text("#verdict code"), same_says(program, "s3", first, second))
+    told = {}
+    for who in ("s4", "s3"):
+        browser.pick("who", who)
+        told[who] = browser.text("#verdict code")
+        same(f"another decoder, {who}, does", told[who], same_says(program, who, first, second))
+    check("their verdicts differ", told["s3"] != told["s4"], told)
     browser.pick("who", "")
     browser.js("page.second.put(''); document.getElementById('comparison').open = false")
 
