@@ -13,7 +13,7 @@ import sys
 import tempfile
 
 TOP = os.path.join(os.path.dirname(os.path.abspath(__file__)), "..")
-MOST = float(os.environ.get("MOST", 1.4))
+MOST = float(os.environ.get("MOST", 1.37))
 PACKETS = ["036261", "ff00ff", "039093", "ff00ff", "8cfd71", "c3e83f7f6b", "03ec1c06f5"]
 
 
