@@ -10,6 +10,7 @@ import itertools
 import os
 import random
 import re
+import shutil
 import subprocess
 import sys
 import tempfile
@@ -90,6 +91,7 @@ class ByHand(unittest.TestCase):
         with self.subTest(name), self.assertRaises(dcc.Refused) as said:
             call(*arguments, **words)
         self.assertEqual(str(said.exception), name)
+        self.assertIsInstance(said.exception, ValueError)
 
     def test_each_register_is_as_run_writes_it(self):
         fleet, reached = decoders(), set()
@@ -240,6 +242,7 @@ class ByHand(unittest.TestCase):
             "58",
             "58#58x",
             f"{good}#58",
+            f"{good} # a\r58x\n{good}",
             f"\r\n{good.replace(' ', chr(13))}\r\n{good}",
             "0000000058*00000028 0*1 70000 4294967354 9999999999*3",
         ]
@@ -268,6 +271,8 @@ class ByHand(unittest.TestCase):
             told([sys.executable, os.path.join(HERE, "histogram.py")], b"58x"),
             (b"", b"histogram.py: U2 line 1: bad number\n", 1),
         )
+        self.assertEqual(list(dcc.durations("65534 65535 65536 4294967354*2")), [65534] + [65535] * 4)
+        self.assertEqual(list_of(dcc.durations, "58 58\udc80 58"), (1, "U2 line 1: bad number"))
 
     def test_texts_of_captures_have_limits(self):
         full = b"#" * (dcc.MOST_BYTES - 9) + b"\n"  # (eight bytes are left)
@@ -299,6 +304,7 @@ class ByHand(unittest.TestCase):
             ("P11", dcc.frame, "loco s3 speed28 f 4\n"),
             ("P10", dcc.frame, "idl\u00e9"),
             ("P10", dcc.frame, "\ud800"),
+            ("P11", dcc.frame, "loco s3 speed28 f 4\udc80"),
             ("P14", dcc.frame, "loco s3 state 128 on"),
             ("P3", dcc.Board, 511),
             ("P3", dcc.Board, 65535),
@@ -348,8 +354,11 @@ class ByHand(unittest.TestCase):
         loco, station = dcc.Loco({1: 3}), dcc.Station()
         words = array.array("H", [0x03, 0x62, 0x61])
         self.assertEqual(
-            [dcc.line(it) for it in (words, list(words), tuple(words), bytearray(SPEED), memoryview(SPEED))],
-            ["loco s3 speed28 f 4"] * 5,
+            [
+                dcc.line(it)
+                for it in (words, memoryview(words), list(words), tuple(words), bytearray(SPEED), memoryview(SPEED))
+            ],
+            ["loco s3 speed28 f 4"] * 6,
         )
         self.assertEqual(dcc.Loco(array.array("H", [3, *[0] * 1023])).cvs, dcc.Loco({1: 3}).cvs)
         longer = type("Longer", (bytes,), {"__len__": lambda self: 1024})
@@ -362,6 +371,9 @@ class ByHand(unittest.TestCase):
             lambda: dcc.line(3),
             lambda: dcc.line(None),
             lambda: dcc.line({3: 1}),
+            lambda: dcc.line(set(SPEED)),
+            lambda: dcc.line(frozenset(SPEED)),
+            lambda: dcc.line(memoryview(bytes(4)).cast("B", [2, 2])),
             lambda: dcc.line([3.0, 1, 2]),
             lambda: dcc.frame(b"idle"),
             lambda: dcc.frame(None),
@@ -416,9 +428,35 @@ class ByHand(unittest.TestCase):
             with self.assertRaises(ValueError) as said:
                 call()
             self.assertNotIsInstance(said.exception, (dcc.Refused, UnicodeError))
+        for text, kind, call in (
+            ("a half-bit is 0 or more, not -1", ValueError, lambda: dcc.Framer().push(-1)),
+            ("a count is 1 to 4294967295, not 0", ValueError, lambda: dcc.Framer().push(58, 0)),
+            ("a half-bit is an integer, not float", TypeError, lambda: dcc.Framer().push(58.0)),
+            ("a byte of a frame is 0 to 255, not 300", ValueError, lambda: dcc.line([300, 98, 97])),
+            ("CV1 is 0 to 255, not 256", ValueError, lambda: dcc.Loco({1: 256})),
+            ("a decoder has 1024 CVs, not 1", ValueError, lambda: dcc.Loco(b"\3")),
+            ("a packet line is a text, not bytes", TypeError, lambda: dcc.frame(b"idle")),
+        ):
+            with self.assertRaises(kind) as said:
+                call()
+            self.assertEqual(str(said.exception), text)
 
     def test_threads_on_one_object(self):
         self.assertEqual(told([sys.executable, "-c", THREADS], b""), (b"ended\n", b"", 0))
+
+    def test_the_shared_object_lies_beside_the_module(self):
+        words = {name: it for name, it in os.environ.items() if name != "DCC_SO"}
+        with tempfile.TemporaryDirectory() as room, tempfile.TemporaryDirectory() as elsewhere:
+            shutil.copy(dcc.__file__, room)
+            shutil.copy(dcc._library._name, f"{room}/libdcc_c.so")
+            said = subprocess.run(
+                [sys.executable, "-c", "import dcc; print(dcc.frame('idle').hex())"],
+                cwd=elsewhere,
+                env={**words, "PYTHONPATH": room},
+                capture_output=True,
+                text=True,
+            )
+        self.assertEqual((said.stdout, said.stderr), ("ff00ff\n", ""))
 
     def test_a_call_keeps_the_lock_of_the_interpreter(self):
         with open(dcc.__file__, encoding="utf-8") as source:

@@ -20,7 +20,7 @@ fn folders_of(target: &str) -> Option<(&'static str, &'static str)> {
 }
 
 /// The folders in which the library may be, the first one first.
-fn places(top: &Path, target: &str) -> Vec<PathBuf> {
+pub fn places(top: &Path, target: &str) -> Vec<PathBuf> {
     if let Some(folder) = env::var_os("DCC_LIB") {
         return vec![folder.into()];
     }

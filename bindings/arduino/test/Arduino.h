@@ -6,7 +6,7 @@
 
 enum { LOW, HIGH };
 enum { OUTPUT = 1 };
-enum { CHANGE = 1 };
+enum { CHANGE = 1, FALLING, RISING };
 enum { DEC = 10, HEX = 16 };
 
 uint32_t micros();

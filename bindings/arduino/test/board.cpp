@@ -8,12 +8,17 @@ extern "C" {
 Port Serial;
 static uint32_t now;
 static void (*edge)();
+static int edges;
 
 uint32_t micros() { return now; }
 void pinMode(uint8_t, uint8_t) {}
 void digitalWrite(uint8_t, uint8_t) {}
 void analogWrite(uint8_t, int) {}
-void attachInterrupt(uint8_t, void (*call)(), int) { edge = call; }
+
+void attachInterrupt(uint8_t, void (*call)(), int mode) {
+    edge = call;
+    edges = mode;
+}
 
 void Port::print(const char *text) { show(text); }
 
@@ -40,12 +45,31 @@ static uint32_t len, place;
 static bool isTyped;
 static uint16_t after;
 
+#ifdef ARDUINO_ARCH_RP2040
+#include <pico/time.h>
+static alarm_callback_t alarm;
+
+alarm_id_t add_alarm_in_us(uint64_t us, alarm_callback_t call, void *, bool) {
+    alarm = call;
+    after = us;
+    return 1;
+}
+
+/* The SDK counts a negative answer from the time of the alarm. It counts a positive answer from the end of the call,
+ * which is a microsecond later here. */
+static uint16_t turned() {
+    int64_t answer = alarm(1, nullptr);
+    return answer < 0 ? -answer : answer + 1;
+}
+#else
 uint16_t turn();
+static uint16_t turned() { return turn(); }
 void startTimer(uint16_t us) { after = us; }
+#endif
 
 extern "C" uint16_t on_timer() {
     uint16_t us = after;
-    after = turn();
+    after = turned();
     return us;
 }
 
@@ -64,8 +88,10 @@ int Port::read() {
 }
 #else
 extern "C" void on_edge(uint32_t at) {
+    static bool level;
     now = at;
-    if (edge) edge();
+    level = !level;
+    if (edge && (edges == CHANGE || level == (edges == RISING))) edge();
 }
 #endif
 

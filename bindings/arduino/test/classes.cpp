@@ -42,13 +42,14 @@ static void fourPacketsWait() {
     uint32_t halves[6], count = 0;
     track.begin(now);
     HOLDS(!track.nextLine(line));
-    for (int turn = 0; turn < 3; turn++) {
+    /* the count of packets passes 256 */
+    for (int turn = 0; turn < 70; turn++) {
         for (int n = 0; n < 6; n++) {
-            snprintf(wanted, sizeof wanted, "loco s%d speed28 f %d", n + 1, turn + 4);
+            snprintf(wanted, sizeof wanted, "loco s%d speed28 f %d", n + 1, turn % 28 + 4);
             halves[n] = count += play(track, wanted);
         }
         for (int n = 0; n < 4; n++) {
-            snprintf(wanted, sizeof wanted, "%u loco s%d speed28 f %d", halves[n], n + 1, turn + 4);
+            snprintf(wanted, sizeof wanted, "%u loco s%d speed28 f %d", halves[n], n + 1, turn % 28 + 4);
             HOLDS(isNext(track, wanted));
         }
         HOLDS(!track.nextLine(line));
@@ -59,6 +60,9 @@ static void fourPacketsWait() {
         HOLDS(isNext(track, wanted) && !track.nextLine(line));
     }
 }
+
+/* A line has the number of a half-bit, ten digits at most, a blank and a packet line with its zero. */
+static void aLineHasRoom() { HOLDS(DccTrack::LINE >= 10 + 1 + DCC_LINE); }
 
 static void aTrackIsBegunAnew() {
     static DccTrack track;
@@ -197,6 +201,48 @@ static bool isSent(DccStation &station, const char *line) {
     return !strcmp(text, line);
 }
 
+/* A station that begins without sizes has 32 entries. The 33rd entry replaces the first entry. */
+static void aStationHasItsEntries() {
+    static DccStation station;
+    char line[64];
+    HOLDS(station.begin());
+    for (int n = 1; n <= 33; n++) {
+        snprintf(line, sizeof line, "loco s%d speed28 f 4", n);
+        HOLDS(isRefused(station.command(line), 0, 0));
+        for (int copy = 0; copy < 2; copy++) {
+            station.process();
+            HOLDS(isSent(station, line));
+        }
+    }
+    for (int n = 0; n < 64; n++) {
+        snprintf(line, sizeof line, "loco s%d speed28 f 4", n % 32 + 2);
+        station.process();
+        HOLDS(isSent(station, line));
+    }
+}
+
+/* The linker directs each call of dcc_station_next to this function. If a station is interrupted, the timer takes its
+ * half-bits during the call. */
+static DccStation *interrupted;
+extern "C" void __real_dcc_station_next(dcc_station *station, dcc_frame *frame);
+extern "C" void __wrap_dcc_station_next(dcc_station *station, dcc_frame *frame) {
+    if (interrupted) HOLDS(isSent(*interrupted, "idle"));
+    __real_dcc_station_next(station, frame);
+}
+
+/* A station sends idle until process() has found the next packet. */
+static void aPacketIsFoundBeforeItIsSent() {
+    static DccStation station;
+    HOLDS(station.begin());
+    HOLDS(isRefused(station.command("loco s3 speed28 f 4"), 0, 0));
+    for (int copy = 0; copy < 2; copy++) {
+        interrupted = &station;
+        station.process();
+        interrupted = nullptr;
+        HOLDS(isSent(station, "loco s3 speed28 f 4") && isSent(station, "idle"));
+    }
+}
+
 static void aLateLoopGivesIdlePackets() {
     static DccStation station;
     HOLDS(station.begin(4, 4, 1));
@@ -240,10 +286,13 @@ int main(int argc, char **) {
         return wrong;
     }
     fourPacketsWait();
+    aLineHasRoom();
     aTrackIsBegunAnew();
     longHalfBitsAreLong();
     aBoardIsOneOf0To510();
     aStationIsMadeWithinItsLimits();
+    aStationHasItsEntries();
+    aPacketIsFoundBeforeItIsSent();
     aLateLoopGivesIdlePackets();
     return wrong;
 }
