@@ -1,4 +1,5 @@
-/* A board for the sketches, over that of examples/firmware: text goes to standard output. */
+/* A board for the sketches, over that of examples/firmware: text goes to standard output. A sketch of a decoder also
+ * writes a line for each value of a pin. */
 #include "Arduino.h"
 extern "C" {
 #define _Noreturn
@@ -9,11 +10,27 @@ Port Serial;
 static uint32_t now;
 static void (*edge)();
 static int edges;
+static bool isOutput[256];
+static uint8_t level;
 
 uint32_t micros() { return now; }
-void pinMode(uint8_t, uint8_t) {}
-void digitalWrite(uint8_t, uint8_t) {}
-void analogWrite(uint8_t, int) {}
+void pinMode(uint8_t pin, uint8_t mode) { isOutput[pin] = mode == OUTPUT; }
+
+void digitalWrite(uint8_t pin, uint8_t to) {
+    if (!isOutput[pin]) return;
+    level = to;
+#ifndef STATION
+    analogWrite(pin, to);
+#endif
+}
+
+void analogWrite(uint8_t pin, int value) {
+    Serial.print("pin ");
+    Serial.print(pin);
+    Serial.print(" is ");
+    Serial.println(value);
+}
+
 
 void attachInterrupt(uint8_t, void (*call)(), int mode) {
     edge = call;
@@ -69,7 +86,9 @@ void startTimer(uint16_t us) { after = us; }
 
 extern "C" uint16_t on_timer() {
     uint16_t us = after;
+    uint8_t before = level;
     after = turned();
+    if (level == before) show("# the level stays\n");
     return us;
 }
 
@@ -88,10 +107,10 @@ int Port::read() {
 }
 #else
 extern "C" void on_edge(uint32_t at) {
-    static bool level;
+    static bool isRising;
     now = at;
-    level = !level;
-    if (edge && (edges == CHANGE || level == (edges == RISING))) edge();
+    isRising = !isRising;
+    if (edge && (edges == CHANGE || isRising == (edges == RISING))) edge();
 }
 #endif
 
