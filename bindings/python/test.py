@@ -15,6 +15,7 @@ import subprocess
 import sys
 import tempfile
 import unittest
+import unittest.mock
 
 HERE = os.path.dirname(os.path.abspath(__file__))
 TOP = os.path.join(HERE, "..", "..")
@@ -443,6 +444,13 @@ class ByHand(unittest.TestCase):
 
     def test_threads_on_one_object(self):
         self.assertEqual(told([sys.executable, "-c", THREADS], b""), (b"ended\n", b"", 0))
+
+    def test_a_packet_line_has_the_room_that_the_library_writes(self):
+        with open(os.path.join(TOP, "include/dcc.h"), encoding="utf-8") as header:
+            wanted = int(re.search(r"\bDCC_LINE = (\d+)", header.read())[1])
+        with unittest.mock.patch.object(dcc, "_line", return_value=0) as call:
+            dcc.line(SPEED)
+        self.assertEqual(len(call.call_args[0][2]), wanted)
 
     def test_the_shared_object_lies_beside_the_module(self):
         words = {name: it for name, it in os.environ.items() if name != "DCC_SO"}
