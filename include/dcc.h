@@ -6,10 +6,10 @@
  * nothing checks:
  *
  * - Objects are whole and come from a call named _new or _start, or are whole copies of such objects. A dcc_framer of
- *   zeros is a new framer. A dcc_framer and a dcc_station are not written to by hand. The fields of the other objects
- *   may be read and changed. A call returns 13 if no decoder and no reading has such fields, and a sender that has no
- *   packet returns 0. A dcc_timing may have any fields. A bool holds 0 or 1.
- * - A dcc_station is all zeros before its first dcc_station_new.
+ *   zeros is a new framer, and a dcc_sender of zeros sends nothing. A dcc_framer, a dcc_sender and a dcc_station are not
+ *   written to by hand. The fields of the other objects may be read and changed. A call returns 13 if no decoder and no
+ *   reading has such fields. A dcc_timing may have any fields. A bool holds 0 or 1.
+ * - A dcc_sender is all zeros before its first dcc_sender_start, and a dcc_station before its first dcc_station_new.
  * - Pointers are not null, are aligned, and point to as many items as the call says. They are not null even if a
  *   length is 0.
  * - The objects and arrays of one call do not overlap.
