@@ -6,9 +6,9 @@
     >>> [str(it) for it in dcc.seen(dcc.halves(dcc.frame("loco s3 speed28 f 4")))]
     ['84 loco s3 speed28 f 4']
 
-The library that this module calls is proved (docs/C.md): each of its calls is safe and does what its contract says.
+The library that this module calls is proved (docs/C.md): each of its functions is safe and does what its contract says.
 This module is tested against the program. It needs the library as a shared object, which `bindings/python/make` makes
-of the proved archive. The object lies beside this file, or where the variable DCC_SO says.
+from the proved archive. The object is in the folder of this file, or at the path in the variable DCC_SO.
 
 Arguments are checked before the library gets them: a wrong type is a TypeError, a number out of its range a
 ValueError.
@@ -98,7 +98,7 @@ _station_entries = _call("dcc_station_entries", _u8, _at(_Station))
 
 
 class Refused(ValueError):
-    """A refusal of the library or of a capture, by its name: H6, L1, P10, C4, U2 line 3: bad number .."""
+    """An error code of the library or of a capture, by its name: H6, L1, P10, C4, U2 line 3: bad number .."""
 
 
 def _check(answer, letter):
@@ -151,7 +151,7 @@ class Seen(namedtuple("Seen", "at refusal frame")):
     """A packet or a refusal: the number of its last half-bit, from 1; None, or H1 to H5; its bytes, none with H1 to H4."""
 
     def __str__(self):
-        """As `dcc show --words` writes it."""
+        """Returns the line that `dcc show --words` writes."""
         said = line(self.frame) if self.refusal is None else f"refused {self.refusal} {self.frame.hex()}".rstrip()
         return f"{self.at} {said}"
 
@@ -163,7 +163,7 @@ class Framer:
         self._framer, self._taken = _framer_new(), 0
 
     def push(self, us, count=1):
-        """Takes so many half-bits of so many microseconds. Returns the packet or refusal that one completes, else None.
+        """Takes equal half-bits, of these microseconds. Returns the packet or refusal that one completes, else None.
 
         A half-bit above 65535 counts as 65535. The count is 1 to 4294967295."""
         us = min(_number("a half-bit", us, 0), 65535)
@@ -177,7 +177,7 @@ class Framer:
 
 
 def seen(halves):
-    """The packets and refusals in half-bits, numbers of microseconds, in their order."""
+    """Returns the packets and refusals in half-bits, which are numbers of microseconds, in order."""
     framer = Framer()
     return filter(None, map(framer.push, halves))
 
@@ -187,11 +187,11 @@ _WORDS = re.compile(rb"([0-9]{1,10})(?:\*([0-9]{1,8}))?(?![^ \t\r\n#])|#[^\n]*|\
 
 
 def durations(capture):
-    """The half-bits of a capture, which is a text or bytes (docs/FORMATS.md).
+    """Yields the half-bits of a capture, which is a text or bytes (docs/FORMATS.md).
 
     A capture has words of microseconds, runs as 58*28, and comments from # on.
 
-    Errors: Refused as the program says it, after the half-bits before the fault: `U2 line 3: bad number` at a word that
+    Errors: Refused with the text of the program, after the half-bits before the error: `U2 line 3: bad number` at a word that
     is no duration, `U7 input too long` past 16777216 half-bits or 67108864 bytes. TypeError if the capture is neither
     text nor bytes."""
     return _durations(_encoded("a capture", capture) if isinstance(capture, str) else _bytes("a capture", capture))
@@ -227,21 +227,21 @@ def _durations(text):
 
 
 def line(frame):
-    """The packet line of the bytes of a frame: 'loco s3 speed28 f 4'."""
+    """Returns the packet line of the bytes of a frame: 'loco s3 speed28 f 4'."""
     room, frame = ctypes.create_string_buffer(41), _frame_bytes(frame)
     _check(_line(frame, len(frame), room), "L")
     return room.value.decode()
 
 
 def frame(text):
-    """The bytes of the frame of a packet line, the error byte last."""
+    """Returns the bytes of the frame of a packet line, the error byte last."""
     found, words = _Frame(), _encoded("a packet line", text)
     _check(_frame_of_line(words, len(words), found), "P")
     return bytes(found)
 
 
 def halves(frame, one=58, zero_first=100, zero_second=100, preamble=14):
-    """The half-bits in microseconds that are sent for the bytes of a frame in this timing, as a list."""
+    """Returns the half-bits of the bytes of a frame in this timing, in microseconds, as a list."""
     lengths = (_number("a half-bit", it, 0, 65535) for it in (one, zero_first, zero_second))
     timing = _Timing(*lengths, _number("a preamble", preamble, 0, 255))
     sender, frame = _Sender(), _frame_bytes(frame)
@@ -266,55 +266,55 @@ class Loco:
         _loco_new(self._loco, cvs)
 
     def apply(self, frame):
-        """Hears the packet that these bytes spell, and does what it says where it is for this decoder."""
+        """Applies the packet of these bytes. A packet for other decoders changes nothing."""
         frame = _frame_bytes(frame)
         _check_heard(_loco_apply(self._loco, frame, len(frame)))
 
     def hears(self, frame):
-        """Whether a packet is for this decoder."""
+        """Returns True if the packet of these bytes is for this decoder."""
         heard, frame = ctypes.c_bool(), _frame_bytes(frame)
         _check_heard(_loco_hears(self._loco, frame, len(frame), heard))
         return heard.value
 
     @property
     def address(self):
-        """Its active address: 's3', 'l1000', or None."""
+        """Returns its active address: 's3', 'l1000', or None."""
         kind = self._loco.address_kind
         return f"{' sl'[kind]}{self._loco.address}" if kind else None
 
     @property
     def speed(self):
-        """'stop', 'emergency', or (step, of how many: 14, 28 or 126)."""
+        """Returns 'stop', 'emergency', or (step, number of steps: 14, 28 or 126)."""
         mode = self._loco.speed_mode
         return ("stop", "emergency")[mode] if mode < 2 else (self._loco.step, mode)
 
     @property
     def is_forward(self):
-        """True if its direction is forward."""
+        """Returns True if its direction is forward."""
         return self._loco.forward
 
     @property
     def functions(self):
-        """The numbers of the functions that are on."""
+        """Returns the numbers of the functions that are on."""
         return [n for n in range(69) if self._loco.functions[n // 64] >> n % 64 & 1]
 
     @property
     def states(self):
-        """The numbers of the binary states that are on."""
+        """Returns the numbers of the binary states that are on."""
         return [n for n in range(128) if self._loco.states[n // 64] >> n % 64 & 1]
 
     @property
     def pending(self):
-        """The frame of the CV write that it does when it hears it once more, or None."""
+        """Returns the frame of the CV write that takes effect if it is heard again, or None."""
         return bytes(self._loco.pending) or None
 
     @property
     def cvs(self):
-        """Its variables, CV1 first."""
+        """Returns its CVs, CV1 first."""
         return bytes(self._loco.cvs)
 
     def __str__(self):
-        """Its lines in a decoder text (docs/FORMATS.md)."""
+        """Returns its lines in a decoder text (docs/FORMATS.md)."""
         speed = self.speed if isinstance(self.speed, str) else "{1} {0}".format(*self.speed)
         lines = [f"loco {self.address or 'none'}", f"speed {speed} {'f' if self.is_forward else 'r'}"]
         lines += [" ".join(map(str, [head, *on])) for head, on in (("on", self.functions), ("states", self.states))]
@@ -330,38 +330,38 @@ class Board:
         _check(_board_new(self._board, _number("a board", number, 0, 65535)), "P")
 
     def apply(self, frame):
-        """Hears the packet that these bytes spell, and does what it says where it is for this decoder."""
+        """Applies the packet of these bytes. A packet for other decoders changes nothing."""
         frame = _frame_bytes(frame)
         _check_heard(_board_apply(self._board, frame, len(frame)))
 
     def hears(self, frame):
-        """Whether a packet is for this decoder."""
+        """Returns True if the packet of these bytes is for this decoder."""
         heard, frame = ctypes.c_bool(), _frame_bytes(frame)
         _check_heard(_board_hears(self._board, frame, len(frame), heard))
         return heard.value
 
     @property
     def number(self):
-        """Its number, 0 to 510."""
+        """Returns its number, 0 to 510."""
         return self._board.number
 
     @property
     def outputs(self):
-        """The numbers of the outputs that are on."""
+        """Returns the numbers of the outputs that are on."""
         return [n for n in range(8) if self._board.outs >> n & 1]
 
     @property
     def positions(self):
-        """The sides of its pairs of outputs, 0 or 1."""
+        """Returns the sides of its pairs of outputs, 0 or 1."""
         return [int(it) for it in self._board.positions]
 
     @property
     def aspects(self):
-        """The aspects of its signals."""
+        """Returns the aspects of its signals."""
         return list(self._board.aspects)
 
     def __str__(self):
-        """Its lines in a decoder text (docs/FORMATS.md)."""
+        """Returns its lines in a decoder text (docs/FORMATS.md)."""
         lines = ("out", self.outputs), ("position", self.positions), ("aspect", self.aspects)
         return "\n".join([f"board {self.number}", *(" ".join(map(str, [head, *words])) for head, words in lines)])
 
@@ -374,23 +374,23 @@ class Station:
         _check(_station_new(self._station, *(_number("a size", it, 0, 255) for it in (queue, slots, repeats))), "C")
 
     def command(self, frame):
-        """The command that these bytes spell waits behind the others. Refused as C3 where no station sends it, C4 where the queue is full."""
+        """Adds the command of these bytes to the queue. Errors: Refused, C3 if a station does not send it, C4 if the queue is full."""
         frame = _frame_bytes(frame)
         answer = _station_command(self._station, frame, len(frame))
         _check(answer, "L" if answer < 3 else "C")
 
     def next(self):
-        """The bytes of the frame that is sent next."""
+        """Returns the bytes of the next frame to send."""
         found = _Frame()
         _station_next(self._station, found)
         return bytes(found)
 
     @property
     def waiting(self):
-        """How many commands wait."""
+        """Returns the number of waiting commands."""
         return _station_waiting(self._station)
 
     @property
     def entries(self):
-        """How many entries there are."""
+        """Returns the number of entries."""
         return _station_entries(self._station)

@@ -1,6 +1,9 @@
-//! Says where `libdcc_c.a` is: in the folder that `DCC_LIB` names, else in that of a release, else where this repository makes it.
+//! Finds the library for C. `DCC_LIB` names the folder of `libdcc_c.a`, and `DCC_SOURCE` the file `dcc.c` to compile in
+//! its place. Without them the script takes the archive of a release or of this repository. If the target has no archive
+//! there, the script compiles `dcc.c`.
 use std::env;
 use std::path::{Path, PathBuf};
+use std::process::Command;
 
 /// The folders of a target in a release and below `crates/dcc_c/out`; `tools/c-for-mcu` makes those of microcontrollers.
 fn folders_of(target: &str) -> Option<(&'static str, &'static str)> {
@@ -19,7 +22,7 @@ fn folders_of(target: &str) -> Option<(&'static str, &'static str)> {
     }
 }
 
-/// The folders in which the library may be, the first one first.
+/// The folders in which the archive may be, the first one first.
 pub fn places(top: &Path, target: &str) -> Vec<PathBuf> {
     if let Some(folder) = env::var_os("DCC_LIB") {
         return vec![folder.into()];
@@ -33,21 +36,85 @@ pub fn places(top: &Path, target: &str) -> Vec<PathBuf> {
     folders_of(target).map_or(vec![], of_target)
 }
 
+/// The places of `dcc.c`, the first one first. None if `DCC_LIB` names a folder.
+pub fn sources(top: &Path) -> Vec<PathBuf> {
+    if env::var_os("DCC_LIB").is_some() {
+        return vec![];
+    }
+    vec![top.join("c/dcc.c"), top.join("crates/dcc_c/out/c/dcc.c")]
+}
+
+/// A tool for the target: the one that a variable such as `CC_thumbv7m_none_eabi` names, or `native` on the target
+/// itself.
+fn tool(variable: &str, native: &str, target: &str) -> String {
+    let of_target = format!("{variable}_{}", target.replace('-', "_"));
+    for it in [of_target.as_str(), variable] {
+        println!("cargo:rerun-if-env-changed={it}");
+    }
+    let is_native = env::var("HOST").map_or(false, |host| host == target);
+    env::var(&of_target)
+        .or_else(|_| env::var(variable))
+        .or_else(|it| {
+            if is_native {
+                Ok(native.into())
+            } else {
+                Err(it)
+            }
+        })
+        .unwrap_or_else(|_| panic!("no C compiler for {target}: name it in {of_target}"))
+}
+
+fn run(command: &mut Command) {
+    let done = command.status();
+    assert!(
+        done.map_or(false, |it| it.success()),
+        "this command fails: {command:?}"
+    );
+}
+
+/// Compiles `dcc.c` to an archive in a folder of cargo.
+fn compile(source: &Path, target: &str) -> PathBuf {
+    let folder = PathBuf::from(env::var_os("OUT_DIR").expect("cargo tells the folder"));
+    let (object, archive) = (folder.join("dcc.o"), folder.join("libdcc_c.a"));
+    let mut words = vec!["-std=c99", "-O2", "-ffunction-sections", "-fdata-sections"];
+    if !target.contains("-none") && !target.contains("windows") {
+        words.push("-fPIC");
+    }
+    let _ = std::fs::remove_file(&archive);
+    run(Command::new(tool("CC", "cc", target))
+        .args(words)
+        .arg("-c")
+        .arg(source)
+        .arg("-o")
+        .arg(&object));
+    run(Command::new(tool("AR", "ar", target))
+        .arg("rcs")
+        .arg(&archive)
+        .arg(&object));
+    folder
+}
+
 fn main() {
     let target = env::var("TARGET").expect("cargo tells the target");
     let here = PathBuf::from(env::var_os("CARGO_MANIFEST_DIR").expect("cargo tells the folder"));
+    let top = here.join("../..");
     println!("cargo:rerun-if-env-changed=DCC_LIB");
-    let places = places(&here.join("../.."), &target);
-    let folder = match places.iter().find(|it| it.join("libdcc_c.a").is_file()) {
-        Some(folder) => folder,
-        None => {
-            panic!("no libdcc_c.a for {target}: name its folder in DCC_LIB, or make it (docs/C.md)")
-        }
+    println!("cargo:rerun-if-env-changed=DCC_SOURCE");
+    let source = env::var_os("DCC_SOURCE").map(PathBuf::from);
+    let archive = places(&top, &target)
+        .into_iter()
+        .find(|it| it.join("libdcc_c.a").is_file());
+    let (of, folder) = match (source, archive) {
+        (Some(source), _) => (source.clone(), compile(&source, &target)),
+        (None, Some(folder)) => (folder.join("libdcc_c.a"), folder),
+        (None, None) => match sources(&top).into_iter().find(|it| it.is_file()) {
+            Some(source) => (source.clone(), compile(&source, &target)),
+            None => panic!(
+                "no libdcc_c.a for {target} and no dcc.c: name one in DCC_LIB or DCC_SOURCE, or make it (docs/C.md)"
+            ),
+        },
     };
-    println!(
-        "cargo:rerun-if-changed={}",
-        folder.join("libdcc_c.a").display()
-    );
+    println!("cargo:rerun-if-changed={}", of.display());
     println!("cargo:rustc-link-search=native={}", folder.display());
     println!("cargo:rustc-link-lib=static=dcc_c");
 }

@@ -71,11 +71,14 @@ static void notify(const dcc_packet *p, const dcc_frame *frame) {
     }
 }
 
-/* The numbers of the bits that are one. */
+/* Prints the numbers of the bits that are one. The loop has no n / 64: avr-gcc 5.4 -Os takes it for 0. */
 static void print_bits(const char *head, const uint64_t words[2], int count) {
     printf("%s", head);
-    for (int n = 0; n < count; n++) {
-        if (words[n / 64] >> (n % 64) & 1) printf(" %d", n);
+    for (int word = 0; word < 2; word++) {
+        uint64_t bits = words[word];
+        for (int n = 64 * word; n < count && bits != 0; n++, bits >>= 1) {
+            if (bits & 1) printf(" %d", n);
+        }
     }
     printf("\n");
 }

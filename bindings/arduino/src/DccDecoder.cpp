@@ -5,8 +5,6 @@ __attribute__((weak)) void notifyDccFunc(uint8_t, bool) {}
 __attribute__((weak)) void notifyDccState(uint8_t, bool) {}
 __attribute__((weak)) void notifyCVChange(uint16_t, uint8_t) {}
 __attribute__((weak)) void notifyDccReset() {}
-__attribute__((weak)) void notifyDccAccTurnoutBoard(uint16_t, uint8_t, uint8_t, uint8_t) {}
-__attribute__((weak)) void notifyDccSigOutputState(uint16_t, uint8_t) {}
 
 static bool isOne(const uint64_t words[2], uint8_t n) {
     return words[n / 64] >> (n % 64) & 1;
@@ -32,7 +30,7 @@ void DccDecoder::process() {
     while (track.next(&half, &seen)) {
         if (seen.refusal != 0 || dcc_read(seen.frame.bytes, seen.frame.len, &packet) != 0) continue;
         hearLoco(seen.frame, packet);
-        if (hasBoard) hearBoard(seen.frame, packet);
+        if (hasBoard) dccHearBoard(board, seen.frame, packet);
     }
 }
 
@@ -49,18 +47,4 @@ void DccDecoder::hearLoco(const dcc_frame &frame, const dcc_packet &packet) {
     notifyTurned(functions, loco.functions, notifyDccFunc);
     notifyTurned(states, loco.states, notifyDccState);
     if (isWrite && value != loco.cvs[packet.cv - 1]) notifyCVChange(packet.cv, loco.cvs[packet.cv - 1]);
-}
-
-void DccDecoder::hearBoard(const dcc_frame &frame, const dcc_packet &packet) {
-    bool heard = false;
-    if (dcc_board_hears(&board, frame.bytes, frame.len, &heard) != 0 || !heard) return;
-    dcc_board before = board;
-    if (dcc_board_apply(&board, frame.bytes, frame.len) != 0) return;
-    for (uint8_t n = 0; n < 8; n++) {
-        bool isOn = board.outs >> n & 1, isNamed = packet.kind == DCC_ACCESSORY && packet.output == n;
-        if (isNamed || isOn != (before.outs >> n & 1)) notifyDccAccTurnoutBoard(board.number, n / 2, n % 2, isOn);
-    }
-    for (uint8_t n = 0; n < 4 && packet.kind == DCC_SIGNAL; n++) {
-        if (packet.address == 2047 || packet.address % 4 == n) notifyDccSigOutputState(board.number * 4 + n, board.aspects[n]);
-    }
 }

@@ -1,10 +1,10 @@
-/* A command station: commands as packet lines, half-bits for a timer's interrupt. */
+/* A command station. It takes commands as packet lines and gives half-bits to a timer interrupt. */
 #ifndef DCC_STATION_H
 #define DCC_STATION_H
 
 #include <dcc.h>
 
-/* Why a command is not taken: P1 to P14, C3 or C4 (docs/FORMATS.md). No letter where it is. */
+/* The reason why a command is refused: P1 to P14, C3 or C4 (docs/FORMATS.md). The letter is 0 if it is accepted. */
 struct DccRefusal {
     char letter;
     uint8_t number;
@@ -12,27 +12,27 @@ struct DccRefusal {
 
 class DccStation {
 public:
-    /* Begins with no command, for at most so many that wait, so many packets that are sent again and again, and so many copies of a command in a row. false where
-     * these are not 1 to 64, 1 to 128 and 1 to 8. */
+    /* Begins with no command. queue is the most waiting commands, 1 to 64, slots the most entries, 1 to 128, and repeats
+     * the copies of a command in a row, 1 to 8. Returns false for other sizes. */
     bool begin(uint8_t queue = 16, uint8_t slots = 32, uint8_t repeats = 2);
 
-    /* A command of a packet line, as "loco s3 speed28 f 4", waits behind the others. The line ends at its first NUL. */
+    /* Adds the command of a packet line, for example "loco s3 speed28 f 4". The line ends at its first NUL. */
     DccRefusal command(const char *line);
 
-    /* The same of len bytes. A NUL or line feed among them is part of a word: P10 or P11. */
+    /* Adds the command of a line of len bytes. A NUL or line feed among them is part of a word: P10 or P11. */
     DccRefusal command(const char *line, uint32_t len);
 
-    /* Called in loop(): finds the packet that is sent next, which may take milliseconds on a small chip. */
+    /* Call it in loop(). Prepares the next packet, which may take milliseconds on a small chip. */
     void process();
 
-    /* Called in the timer's interrupt, where the track's level turns: for how many microseconds it stays. Where loop() is late an idle packet goes out, so
-     * the track is never without a signal. */
+    /* Call it in the interrupt of the timer that changes the level of the track (DccSignal.h). Returns the duration of the
+     * next half-bit in microseconds. If loop() is late, the station sends an idle packet, so the track always has a
+     * signal. */
     uint16_t half();
 
 private:
     dcc_station station;
-    dcc_sender sender;
-    dcc_frame next;
+    dcc_sender sender, idle, next; /* the packet that is sent, an idle packet, and the next packet if isReady */
     volatile bool isReady;
 };
 

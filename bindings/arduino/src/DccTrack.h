@@ -1,4 +1,4 @@
-/* The packets in the signal of a track, by the edges of one pin. */
+/* Finds the packets in the signal of a track, from the edges of one pin. */
 #ifndef DCC_TRACK_H
 #define DCC_TRACK_H
 
@@ -8,17 +8,20 @@ class DccTrack {
 public:
     enum { LINE = DCC_LINE + 16 };
 
-    /* Begins to listen, at so many microseconds: micros(). */
+    /* Begins to listen. now is micros(). */
     void begin(uint32_t now);
 
-    /* Called in the interrupt of the pin, at each change: the level turned at so many microseconds, micros(). */
+    /* Call it in an interrupt at the end of each half-bit, with its microseconds (DccEdges.h). */
+    void halfBit(uint16_t us);
+
+    /* Or call it in the interrupt of the pin at each change of the level. now is micros(). */
     void edge(uint32_t now);
 
-    /* Called in loop(): the next packet or refusal that was found, with the number of its last half-bit, from 1. Four of them wait; one that is
-     * found while four wait is lost, as one is that the rails spoil: stations repeat theirs. */
+    /* Call it in loop(). Writes the next packet or refusal that was found, with the number of its last half-bit, from 1.
+     * At most four can wait, and further ones are lost. Stations repeat their packets. */
     bool next(uint32_t *half, dcc_outcome *seen);
 
-    /* The same as a line of text: "84 loco s3 speed28 f 4", "252 refused H5 036260". */
+    /* Writes the next one as a line of text: "84 loco s3 speed28 f 4" or "252 refused H5 036260". */
     bool nextLine(char line[LINE]);
 
 private:
@@ -29,7 +32,9 @@ private:
     dcc_framer framer;
     uint32_t last, halves;
     Found found[4];
-    volatile uint32_t written, read; /* how many were, by the interrupt and by loop() */
+    /* The numbers of outcomes that the interrupt wrote and loop() read, modulo 256. A processor of 8 bits reads and
+     * writes each at once, so an interrupt never sees half of a change. */
+    volatile uint8_t written, read;
 };
 
 #endif

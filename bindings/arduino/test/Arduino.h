@@ -3,9 +3,10 @@
 #define ARDUINO_H
 
 #include <stdint.h>
+#include <string.h>
 
 enum { LOW, HIGH };
-enum { OUTPUT = 1 };
+enum { INPUT, OUTPUT };
 enum { CHANGE = 1, FALLING, RISING };
 enum { DEC = 10, HEX = 16 };
 
@@ -15,6 +16,8 @@ void digitalWrite(uint8_t pin, uint8_t level);
 void analogWrite(uint8_t pin, int value);
 inline uint8_t digitalPinToInterrupt(uint8_t pin) { return pin; }
 void attachInterrupt(uint8_t interrupt, void (*call)(), int mode);
+inline void interrupts() {}
+inline void noInterrupts() {}
 
 struct Port {
     void begin(unsigned long) {}

@@ -106,6 +106,9 @@ int Port::read() {
     return at == len ? '\n' : at < LINE ? line[at] : 'x';
 }
 #else
+int Port::available() { return 0; }
+int Port::read() { return -1; }
+
 extern "C" void on_edge(uint32_t at) {
     static bool isRising;
     now = at;

@@ -1,6 +1,7 @@
 /* What no sketch shows of the classes: each line that does not hold is told, and the program ends with 1 if there
  * is one. `classes station` reads packet lines and `send N` and writes what a station sends, as `dcc encode
  * --station`. */
+#include "DccAccessory.h"
 #include "DccDecoder.h"
 #include "DccStation.h"
 #include <stdio.h>
@@ -243,6 +244,24 @@ static void aPacketIsFoundBeforeItIsSent() {
     }
 }
 
+static void anAccessoryDecoderIsOneOf0To510() {
+    static DccAccessory decoder;
+    const uint16_t boards[] = {0, 12, 510}, others[] = {511, 65535};
+    for (uint16_t number : others) {
+        HOLDS(!decoder.begin(number, now));
+        play(decoder, "accessory 511 3 on");
+        decoder.process();
+        HOLDS(decoder.board.outs == 0);
+    }
+    for (uint16_t number : boards) {
+        HOLDS(decoder.begin(number, now) && decoder.board.number == number);
+        play(decoder, "accessory 511 3 on");
+        play(decoder, "accessory 13 2 on");
+        decoder.process();
+        HOLDS(decoder.board.outs == 1 << 3);
+    }
+}
+
 static void aLateLoopGivesIdlePackets() {
     static DccStation station;
     HOLDS(station.begin(4, 4, 1));
@@ -290,6 +309,7 @@ int main(int argc, char **) {
     aTrackIsBegunAnew();
     longHalfBitsAreLong();
     aBoardIsOneOf0To510();
+    anAccessoryDecoderIsOneOf0To510();
     aStationIsMadeWithinItsLimits();
     aStationHasItsEntries();
     aPacketIsFoundBeforeItIsSent();

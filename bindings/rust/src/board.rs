@@ -13,7 +13,7 @@ pub struct Board {
 }
 
 impl Board {
-    /// One with all off, of a number of 0 to 510; there is none above (P3).
+    /// Creates a decoder with all outputs off, for a board of 0 to 510. Errors: P3 above 510.
     pub fn new(number: u16) -> Option<Board> {
         let mut board = Board {
             number: 0,
@@ -27,13 +27,14 @@ impl Board {
         }
     }
 
-    /// Hears a packet, and does what it says where it is for this decoder.
+    /// Applies a packet. A packet for other decoders changes nothing.
     pub fn apply(&mut self, frame: &Frame) {
         let answer = unsafe { dcc_board_apply(self, frame.as_ptr(), frame.len()) };
         debug_assert_eq!(answer, 0);
     }
 
-    /// Whether a packet is for this decoder: its outputs and signals, those of all boards, the reset of all decoders.
+    /// Returns true if a packet is for this decoder: its outputs and signals, those of all boards, or the reset of all
+    /// decoders.
     pub fn hears(&self, frame: &Frame) -> bool {
         let mut heard = false;
         let answer = unsafe { dcc_board_hears(self, frame.as_ptr(), frame.len(), &mut heard) };
@@ -41,22 +42,22 @@ impl Board {
         heard
     }
 
-    /// Its number.
+    /// Returns its number.
     pub fn number(&self) -> u16 {
         self.number
     }
 
-    /// Whether the output `n` is on, 0 to 7.
+    /// Returns true if output `n` of 0 to 7 is on.
     pub fn output(&self, n: u8) -> bool {
         n < 8 && self.outs >> n & 1 == 1
     }
 
-    /// The sides of its pairs of outputs: true is side 1.
+    /// Returns the sides of its pairs of outputs: true is side 1.
     pub fn positions(&self) -> [bool; 4] {
         self.positions
     }
 
-    /// The aspects of its signals.
+    /// Returns the aspects of its signals.
     pub fn aspects(&self) -> [u8; 4] {
         self.aspects
     }

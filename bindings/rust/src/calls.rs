@@ -1,4 +1,4 @@
-//! The calls of the library, as `include/dcc.h` has them, and its objects, of which the other files have those that are theirs.
+//! The functions of the library as in `include/dcc.h`, and the objects that no other file has.
 use crate::board::Board;
 use crate::frame::Frame;
 use crate::framer::Framer;
@@ -18,7 +18,7 @@ pub(crate) struct Outcome {
 }
 
 impl Outcome {
-    /// Room for one that the library writes.
+    /// An empty outcome, for the library to write.
     pub(crate) const NONE: Outcome = Outcome {
         at: 0,
         refusal: 0,

@@ -7,7 +7,7 @@ use core::str::FromStr;
 
 /// The bytes of a packet, 3 to 6 of them, the error byte last (NMRA S-9.2).
 ///
-/// Its text is the packet line, as `loco s3 speed28 f 4`, of which it is also made.
+/// Its text is the packet line, for example `loco s3 speed28 f 4`. `parse` makes a frame from such a line.
 #[repr(C)]
 #[derive(Clone, Copy, PartialEq, Eq, Hash)]
 pub struct Frame {
@@ -15,7 +15,7 @@ pub struct Frame {
     bytes: [u8; 6],
 }
 
-/// Why bytes are no frame.
+/// The error of bytes that are not a frame.
 #[derive(Clone, Copy, Debug, PartialEq, Eq)]
 pub enum FrameFault {
     /// L1: there are not 3 to 6 of them.
@@ -24,18 +24,18 @@ pub enum FrameFault {
     ErrorByte,
 }
 
-/// The number of the fault for which a line is no packet line, 1 to 14 for P1 to P14.
+/// The first error of a packet line, 1 to 14 for P1 to P14.
 #[derive(Clone, Copy, Debug, PartialEq, Eq)]
 pub struct LineFault(pub u8);
 
 impl Frame {
-    /// Room for a frame that the library writes.
+    /// An empty frame, for the library to write.
     pub(crate) const NONE: Frame = Frame {
         len: 0,
         bytes: [0; 6],
     };
 
-    /// The frame of these bytes.
+    /// Returns the frame of these bytes. Errors: L1 or L2.
     pub fn new(bytes: &[u8]) -> Result<Frame, FrameFault> {
         match unsafe { dcc_read(bytes.as_ptr(), bytes.len() as u64, &mut Numbers::default()) } {
             0 => {
@@ -51,12 +51,12 @@ impl Frame {
         }
     }
 
-    /// The frame that the library wrote, where it wrote one.
+    /// Returns the frame that the library wrote, if it wrote one.
     pub(crate) fn written(self) -> Option<Frame> {
         (self.len > 0).then_some(self)
     }
 
-    /// Its bytes, the error byte last.
+    /// Returns its bytes, the error byte last.
     pub fn bytes(&self) -> &[u8] {
         &self.bytes[..usize::from(self.len)]
     }
@@ -69,14 +69,14 @@ impl Frame {
         self.bytes.as_ptr()
     }
 
-    /// What the packet says.
+    /// Returns the packet.
     pub fn packet(&self) -> Packet {
         let mut numbers = Numbers::default();
         unsafe { dcc_read(self.as_ptr(), self.len(), &mut numbers) };
         Packet::of(&numbers, self)
     }
 
-    /// What is sent for it: half-bits in microseconds.
+    /// Returns its half-bits in microseconds, in this timing.
     pub fn halves(&self, timing: &Timing) -> Halves {
         Halves::of(self, timing)
     }

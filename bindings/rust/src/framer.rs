@@ -8,21 +8,21 @@ use core::fmt;
 #[derive(Clone)]
 pub struct Framer([u64; 3]);
 
-/// What ends with a half-bit.
+/// The packet or refusal that a half-bit completes.
 #[derive(Clone, Copy, Debug, PartialEq, Eq)]
 pub enum Seen {
     /// A packet.
     Packet(Frame),
-    /// A body that is none.
+    /// A body that is no packet.
     Refused(Refusal),
 }
 
-/// Why half-bits behind a start bit are no packet.
+/// The reason why half-bits after a start bit are no packet.
 #[derive(Clone, Copy, Debug, PartialEq, Eq)]
 pub enum Refusal {
-    /// H1: a half is neither that of a one nor that of a zero.
+    /// H1: a half-bit is neither half of a one nor half of a zero.
     BadHalf,
-    /// H2: the halves of a bit are not of one kind.
+    /// H2: the two half-bits of a bit are of different classes.
     SplitBit,
     /// H3: there are fewer than 3 bytes.
     TooShort,
@@ -38,12 +38,12 @@ pub enum Refusal {
 }
 
 impl Framer {
-    /// One that was given no half-bits.
+    /// Creates a framer that was given no half-bits.
     pub fn new() -> Framer {
         unsafe { dcc_framer_new() }
     }
 
-    /// Takes a half-bit of so many microseconds, and tells what ends with it.
+    /// Takes a half-bit of `us` microseconds. Returns the packet or refusal that it completes.
     pub fn push(&mut self, us: u16) -> Option<Seen> {
         let mut outcome = Outcome::NONE;
         match unsafe { dcc_push(self, us, &mut outcome) } {
@@ -52,8 +52,8 @@ impl Framer {
         }
     }
 
-    /// Takes `n` half-bits of so many microseconds, all of them, as `n` calls of [`push`](Framer::push) would. At most one of them ends
-    /// something, which is told with its number in the run, from 1.
+    /// Takes `n` half-bits of `us` microseconds, as `n` calls of [`push`](Framer::push) would. At most one of them
+    /// completes a packet or refusal, which is returned with its number in the run, from 1.
     pub fn push_run(&mut self, us: u16, n: u32) -> Option<(u32, Seen)> {
         let mut outcome = Outcome::NONE;
         match unsafe { dcc_push_run(self, us, n, &mut outcome) } {
@@ -94,7 +94,7 @@ fn seen(outcome: Outcome) -> Seen {
     })
 }
 
-/// As `dcc show` writes it behind the word `refused`: `H5 036260`.
+/// The text that `dcc show` writes after the word `refused`: `H5 036260`.
 impl fmt::Display for Refusal {
     fn fmt(&self, f: &mut fmt::Formatter<'_>) -> fmt::Result {
         match self {

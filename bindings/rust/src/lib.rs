@@ -1,5 +1,5 @@
-//! Digital Command Control (DCC), the signal on the rails of a digital model railway: packets found in half-bits, read and sent, decoders
-//! that hear them, variables that are read on a programming track, and a command station.
+//! Digital Command Control (DCC), the signal on the rails of a digital model railway. This crate finds packets in
+//! half-bits, reads and sends packets, simulates decoders, reads CVs on a programming track, and runs a command station.
 //!
 //! ```
 //! use dcc::{Frame, Framer, Seen, Timing};
@@ -13,12 +13,12 @@
 //! # Ok::<(), dcc::LineFault>(())
 //! ```
 //!
-//! **What is proved** is the library below, `libdcc_c.a`: each of its calls is safe and does what its contract says, for every input
-//! (`docs/C.md` has the clauses). **Not proved** is this crate, which calls it: it is tested against the program. A C caller owes the
-//! library whole objects, valid pointers and no overlap. Here the types see to that: an object is made by the library, its numbers are
-//! private, and a call borrows it whole. So no number that a decoder cannot have reaches a call, and no call refuses one.
+//! **Proved** is the library below, `libdcc_c.a`: each of its functions is safe and does what its contract says, for every
+//! input (`docs/C.md`). **Not proved** is this crate, which calls the library; it is tested against the program. A C caller
+//! must pass whole objects and valid pointers without overlap. The types of this crate ensure this: the library makes each
+//! object, its fields are private, and a call borrows a whole object. So no function is called with impossible fields.
 //!
-//! Nothing here takes memory, and nothing needs `std`.
+//! The crate does not allocate and does not need `std`.
 #![no_std]
 #![deny(missing_docs)]
 
@@ -43,5 +43,5 @@ pub use sending::{Halves, Timing, TimingFault};
 pub use service::Service;
 pub use station::{CommandFault, Station};
 
-/// The values of a decoder's configuration variables: CV1 is the first.
+/// The values of the CVs of a decoder, CV1 first.
 pub type Cvs = [u8; 1024];

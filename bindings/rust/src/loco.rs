@@ -5,7 +5,7 @@ use crate::packet::Address;
 use crate::Cvs;
 use core::mem::MaybeUninit;
 
-/// A locomotive decoder: its registers, and its variables.
+/// A locomotive decoder: its registers and its CVs.
 #[repr(C)]
 #[derive(Clone, Debug, PartialEq, Eq)]
 pub struct Loco {
@@ -20,24 +20,24 @@ pub struct Loco {
     cvs: Cvs,
 }
 
-/// How fast a locomotive goes.
+/// The speed of a locomotive.
 #[derive(Clone, Copy, Debug, PartialEq, Eq)]
 pub enum Speed {
-    /// It stops.
+    /// Stopped.
     Stop,
-    /// It stops at once.
+    /// Emergency stop.
     Emergency,
-    /// It goes at a step.
+    /// A speed step.
     Step {
         /// The step, from 1.
         step: u8,
-        /// Of how many: 14, 28 or 126.
+        /// The number of steps: 14, 28 or 126.
         of: u8,
     },
 }
 
 impl Loco {
-    /// One that is powered up with these variables. Its address is that of CV1, CV17, CV18 and CV29.
+    /// Creates a decoder that is powered up with these CVs. Its address comes from CV1, CV17, CV18 and CV29.
     pub fn new(cvs: &Cvs) -> Loco {
         let mut loco = MaybeUninit::<Loco>::zeroed();
         unsafe {
@@ -46,13 +46,13 @@ impl Loco {
         }
     }
 
-    /// Hears a packet, and does what it says where it is for this decoder.
+    /// Applies a packet. A packet for other decoders changes nothing.
     pub fn apply(&mut self, frame: &Frame) {
         let answer = unsafe { dcc_loco_apply(self, frame.as_ptr(), frame.len()) };
         debug_assert_eq!(answer, 0);
     }
 
-    /// Whether a packet is for this decoder: one to all, or to its address.
+    /// Returns true if a packet is for all decoders or for the address of this decoder.
     pub fn hears(&self, frame: &Frame) -> bool {
         let mut heard = false;
         let answer = unsafe { dcc_loco_hears(self, frame.as_ptr(), frame.len(), &mut heard) };
@@ -60,12 +60,12 @@ impl Loco {
         heard
     }
 
-    /// Its active address; it may have none.
+    /// Returns its active address, or `None`.
     pub fn address(&self) -> Option<Address> {
         Address::of(self.address_kind, self.address)
     }
 
-    /// How fast it goes.
+    /// Returns its speed.
     pub fn speed(&self) -> Speed {
         match self.speed_mode {
             0 => Speed::Stop,
@@ -77,27 +77,27 @@ impl Loco {
         }
     }
 
-    /// Whether its direction is forward.
+    /// Returns true if its direction is forward.
     pub fn is_forward(&self) -> bool {
         self.forward
     }
 
-    /// Whether the function F `n` is on, 0 to 68.
+    /// Returns true if function `n` of 0 to 68 is on.
     pub fn function(&self, n: u8) -> bool {
         is_one(&self.functions, n)
     }
 
-    /// Whether the binary state `n` is on, 1 to 127.
+    /// Returns true if binary state `n` of 1 to 127 is on.
     pub fn state(&self, n: u8) -> bool {
         is_one(&self.states, n)
     }
 
-    /// The write to a variable that it does when it hears it once more.
+    /// Returns the CV write that takes effect if the decoder hears the same packet again.
     pub fn pending(&self) -> Option<Frame> {
         self.pending.written()
     }
 
-    /// Its variables, CV1 first.
+    /// Returns its CVs, CV1 first.
     pub fn cvs(&self) -> &Cvs {
         &self.cvs
     }

@@ -1,8 +1,8 @@
-//! What a packet says.
+//! The content of a packet.
 use crate::calls::Numbers;
 use crate::frame::Frame;
 
-/// Whom a packet to locomotives is for.
+/// The address of a packet to locomotives.
 #[derive(Clone, Copy, Debug, PartialEq, Eq, Hash)]
 pub enum Address {
     /// All decoders.
@@ -13,19 +13,19 @@ pub enum Address {
     Long(u16),
 }
 
-/// What a packet says (NMRA S-9.2.1).
+/// The content of a packet (NMRA S-9.2.1).
 #[derive(Clone, Copy, Debug, PartialEq, Eq, Hash)]
 pub enum Packet {
-    /// Nothing.
+    /// Idle.
     Idle,
     /// The decoder's reset.
     Reset {
-        /// Whom it is for.
+        /// The address.
         to: Address,
     },
     /// A speed in 28 steps.
     Speed28 {
-        /// Whom it is for.
+        /// The address.
         to: Address,
         /// The direction.
         forward: bool,
@@ -34,7 +34,7 @@ pub enum Packet {
     },
     /// A speed in 126 steps.
     Speed128 {
-        /// Whom it is for.
+        /// The address.
         to: Address,
         /// The direction.
         forward: bool,
@@ -43,84 +43,84 @@ pub enum Packet {
     },
     /// Functions of a group.
     Functions {
-        /// Whom it is for.
+        /// The address.
         to: Address,
         /// The group's first function: 0 (F1 to F4 and F0), 5, 9, 13, 21, 29, 37, 45, 53 or 61.
         group: u8,
-        /// Its functions, the lowest one lowest.
+        /// Its functions, the lowest function in the lowest bit.
         bits: u8,
     },
     /// A binary state.
     State {
-        /// Whom it is for.
+        /// The address.
         to: Address,
-        /// Its number, 0 for all of them.
+        /// The number, 0 for all of them.
         number: u8,
-        /// Whether it is on.
+        /// True for on.
         on: bool,
     },
-    /// A variable is written.
+    /// A write of a CV.
     CvWrite {
-        /// Whom it is for.
+        /// The address.
         to: Address,
-        /// Its number, 1 to 1024.
+        /// The number of the CV, 1 to 1024.
         cv: u16,
-        /// Its value.
+        /// The value.
         value: u8,
     },
-    /// A variable is verified.
+    /// A verify of a CV.
     CvVerify {
-        /// Whom it is for.
+        /// The address.
         to: Address,
-        /// Its number, 1 to 1024.
+        /// The number of the CV, 1 to 1024.
         cv: u16,
-        /// The value that is asked for.
+        /// The asked value.
         value: u8,
     },
-    /// A bit of a variable is written.
+    /// A write of a bit of a CV.
     CvBitWrite {
-        /// Whom it is for.
+        /// The address.
         to: Address,
-        /// The variable's number, 1 to 1024.
+        /// The number of the CV, 1 to 1024.
         cv: u16,
         /// The place of the bit, from the lowest, 0 to 7.
         place: u8,
         /// The bit.
         one: bool,
     },
-    /// A bit of a variable is verified.
+    /// A verify of a bit of a CV.
     CvBitVerify {
-        /// Whom it is for.
+        /// The address.
         to: Address,
-        /// The variable's number, 1 to 1024.
+        /// The number of the CV, 1 to 1024.
         cv: u16,
         /// The place of the bit, from the lowest, 0 to 7.
         place: u8,
-        /// The bit that is asked for.
+        /// The asked bit.
         one: bool,
     },
     /// An output of an accessory decoder.
     Accessory {
-        /// The board, 0 to 511, which is all of them.
+        /// The board, 0 to 511; 511 is all of them.
         board: u16,
         /// The output, 0 to 7.
         output: u8,
-        /// Whether it is on.
+        /// True for on.
         on: bool,
     },
     /// A signal's aspect.
     Signal {
-        /// The signal, 0 to 2047, which is all of them.
+        /// The signal, 0 to 2047; 2047 is all of them.
         address: u16,
         /// The aspect.
         aspect: u8,
     },
-    /// A packet of no row of the table.
+    /// Any other packet.
     Other(Frame),
 }
 
 impl Address {
-    /// The address of these numbers, none where they are of none.
+    /// The address with this kind and number, or `None`.
     pub(crate) fn of(kind: u8, number: u16) -> Option<Address> {
         match kind {
             0 => None,
@@ -131,7 +131,7 @@ impl Address {
 }
 
 impl Packet {
-    /// What the library tells of a frame.
+    /// The packet that the library reads from a frame.
     pub(crate) fn of(it: &Numbers, frame: &Frame) -> Packet {
         let to = Address::of(it.to, it.address).unwrap_or(Address::All);
         match it.kind {

@@ -1,9 +1,9 @@
-//! A variable that is read on a programming track.
+//! The reading of a CV on a programming track.
 use crate::calls::{dcc_reader_answer, dcc_reader_new, dcc_reader_question};
 use crate::frame::Frame;
 
-/// A variable that is read by nine questions: whether bit 0 is one, and so on to bit 7, then whether the byte is that of the answers
-/// (NMRA S-9.2.3).
+/// The reading of a CV by nine questions: for each of bits 0 to 7 whether it is one, then whether the CV has the value
+/// of these answers (NMRA S-9.2.3).
 ///
 /// ```
 /// use dcc::{Frame, Reader, Reading, Service};
@@ -34,19 +34,19 @@ pub struct Reader {
     value: u8,
 }
 
-/// What an answer makes of a reading.
+/// The state of a reading after an answer.
 #[derive(Clone, Copy, Debug, PartialEq, Eq)]
 pub enum Reading {
     /// There is a further question.
     More,
-    /// The variable has this value, which the decoder has acknowledged.
+    /// The CV has this value, which the decoder has acknowledged.
     Value(u8),
     /// The ninth question was not acknowledged, so no value is known (S1).
     NoAnswer,
 }
 
 impl Reader {
-    /// Begins to read a variable of 1 to 1024; there is no other (P6).
+    /// Begins to read a CV of 1 to 1024. Errors: P6 for any other number.
     pub fn new(cv: u16) -> Option<Reader> {
         let mut reader = Reader {
             cv: 0,
@@ -59,8 +59,9 @@ impl Reader {
         }
     }
 
-    /// The next question. It is sent five times behind three resets, in the [timing](crate::Timing::PROGRAMMING) of the programming track;
-    /// the answer is yes where any of the eight was acknowledged.
+    /// Returns the next question. Send three resets and then the question five times, in the
+    /// [timing](crate::Timing::PROGRAMMING) of the programming track. The answer is yes if any of the eight was
+    /// acknowledged.
     pub fn question(&self) -> Frame {
         let mut question = Frame::NONE;
         let answer = unsafe { dcc_reader_question(self, &mut question) };
@@ -68,7 +69,7 @@ impl Reader {
         question
     }
 
-    /// Takes the answer. Behind the ninth it stays at its ninth question.
+    /// Takes the answer. After the ninth answer the reading stays at its ninth question.
     pub fn answer(&mut self, yes: bool) -> Reading {
         let mut value = 0;
         match unsafe { dcc_reader_answer(self, yes, &mut value) } {

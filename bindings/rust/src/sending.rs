@@ -1,9 +1,10 @@
-//! What is sent for a frame.
+//! The half-bits of a frame, and their timing.
 use crate::calls::{dcc_sender_half, dcc_sender_start};
 use crate::frame::Frame;
 use core::fmt;
 
-/// How a station sends: how long half-bits last, in microseconds, and how many ones stand before a packet (NMRA S-9.1, S-9.2).
+/// The timing of a station: the lengths of half-bits in microseconds, and the number of ones before a packet (NMRA S-9.1,
+/// S-9.2).
 #[repr(C)]
 #[derive(Clone, Copy, Debug, PartialEq, Eq)]
 pub struct Timing {
@@ -13,7 +14,7 @@ pub struct Timing {
     preamble: u8,
 }
 
-/// Why numbers are no timing, the first of these that holds.
+/// The first error of numbers that are not a timing.
 #[derive(Clone, Copy, Debug, PartialEq, Eq)]
 pub enum TimingFault {
     /// H6: a half of a one is not 55 to 61.
@@ -24,7 +25,7 @@ pub enum TimingFault {
     Preamble,
 }
 
-/// The half-bits that are sent for a frame, in microseconds.
+/// The half-bits of a frame, in microseconds.
 #[repr(C)]
 #[derive(Clone)]
 pub struct Halves([u64; 2]);
@@ -41,7 +42,7 @@ impl Timing {
         preamble: 14,
     };
 
-    /// The programming track: the same with 20 ones (NMRA S-9.2.3).
+    /// The programming track: 58 and 58, 100 and 100, and 20 ones (NMRA S-9.2.3).
     pub const PROGRAMMING: Timing = Timing {
         one: 58,
         zero_first: 100,
@@ -49,7 +50,7 @@ impl Timing {
         preamble: 20,
     };
 
-    /// A timing of one's own.
+    /// Creates a timing. Errors: the first of H6, H7 and H8.
     pub fn new(
         one: u16,
         zero_first: u16,
@@ -72,12 +73,12 @@ impl Timing {
 }
 
 impl Halves {
-    /// None at all.
+    /// Creates half-bits of no frame: none is left.
     fn none() -> Halves {
         Halves([0; 2])
     }
 
-    /// Those of a frame.
+    /// Creates the half-bits of a frame in a timing.
     pub(crate) fn of(frame: &Frame, timing: &Timing) -> Halves {
         let mut halves = Halves::none();
         unsafe { dcc_sender_start(&mut halves, frame.as_ptr(), frame.len(), timing) };

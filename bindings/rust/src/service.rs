@@ -14,7 +14,7 @@ pub struct Service {
 }
 
 impl Service {
-    /// One with these variables, out of service.
+    /// Creates a decoder with these CVs, out of service.
     pub fn new(cvs: &Cvs) -> Service {
         let mut service = MaybeUninit::<Service>::zeroed();
         unsafe {
@@ -23,7 +23,7 @@ impl Service {
         }
     }
 
-    /// Takes a frame, and tells whether it is acknowledged.
+    /// Takes a frame. Returns true if the decoder acknowledges it.
     pub fn apply(&mut self, frame: &Frame) -> bool {
         let mut acknowledged = false;
         let answer =
@@ -32,17 +32,17 @@ impl Service {
         acknowledged
     }
 
-    /// Whether it is in service mode.
+    /// Returns true if it is in service mode.
     pub fn is_in_service(&self) -> bool {
         self.in_service
     }
 
-    /// The service packet that it acts on when it comes once more.
+    /// Returns the service packet that takes effect if the same packet comes again.
     pub fn pending(&self) -> Option<Frame> {
         self.pending.written()
     }
 
-    /// Its variables, CV1 first.
+    /// Returns its CVs, CV1 first.
     pub fn cvs(&self) -> &Cvs {
         &self.cvs
     }

@@ -6,7 +6,7 @@ use crate::calls::{
 use crate::frame::Frame;
 use core::fmt;
 
-/// A command station: commands that wait, and entries, packets that it sends again and again while nothing waits.
+/// A command station: commands that wait, and entries, which it sends again and again while no command waits.
 ///
 /// ```
 /// let mut station = dcc::Station::new(8, 16, 2).unwrap();
@@ -17,18 +17,18 @@ use core::fmt;
 #[derive(Clone)]
 pub struct Station([u8; 1800]);
 
-/// Why a command is not taken.
+/// The reason why a command is refused.
 #[derive(Clone, Copy, Debug, PartialEq, Eq)]
 pub enum CommandFault {
-    /// C3: no station sends it: an idle packet, a frame of no row, or an access to variables of all decoders.
+    /// C3: a station does not send it: an idle packet, any other packet without a kind, or a CV access to all decoders.
     NoCommand,
     /// C4: the queue is full.
     QueueFull,
 }
 
 impl Station {
-    /// One with no command, for at most so many commands that wait, 1 to 64, so many entries, 1 to 128, and so many copies of a
-    /// command in a row, 1 to 8; there is none past these (C1).
+    /// Creates a station without commands. It has at most `queue` waiting commands, 1 to 64, and at most `slots` entries,
+    /// 1 to 128. It sends `repeats` copies of a command in a row, 1 to 8. Errors: C1 for other sizes.
     pub fn new(queue: u8, slots: u8, repeats: u8) -> Option<Station> {
         let mut station = Station([0; 1800]);
         match unsafe { dcc_station_new(&mut station, queue, slots, repeats) } {
@@ -37,7 +37,7 @@ impl Station {
         }
     }
 
-    /// A command waits behind the others.
+    /// Adds a command to the end of the queue.
     pub fn command(&mut self, frame: &Frame) -> Result<(), CommandFault> {
         match unsafe { dcc_station_command(self, frame.as_ptr(), frame.len()) } {
             0 => Ok(()),
@@ -46,20 +46,20 @@ impl Station {
         }
     }
 
-    /// The frame that is sent next: a copy of the first command that waits; where none waits the front entry, which goes to the end;
-    /// where there is none either, idle.
+    /// Returns the next frame to send: a copy of the first waiting command. If no command waits, it is the first entry,
+    /// which goes to the end. If there is no entry either, it is idle.
     pub fn send_next(&mut self) -> Frame {
         let mut frame = Frame::NONE;
         unsafe { dcc_station_next(self, &mut frame) };
         frame
     }
 
-    /// How many commands wait.
+    /// Returns the number of waiting commands.
     pub fn waiting(&self) -> u8 {
         unsafe { dcc_station_waiting(self) }
     }
 
-    /// How many entries there are.
+    /// Returns the number of entries.
     pub fn entries(&self) -> u8 {
         unsafe { dcc_station_entries(self) }
     }

@@ -35,9 +35,12 @@ fn a_target_has_a_folder_in_a_release_and_one_in_the_repository() {
         assert_eq!(build::places(top, target), wanted, "{target}");
     }
     assert!(build::places(top, "thumbv8m.main-none-eabi").is_empty());
+    let sources = ["/top/c/dcc.c", "/top/crates/dcc_c/out/c/dcc.c"].map(PathBuf::from);
+    assert_eq!(build::sources(top), sources);
 
     env::set_var("DCC_LIB", "/named");
     for target in ["x86_64-unknown-linux-gnu", "thumbv8m.main-none-eabi"] {
         assert_eq!(build::places(top, target), [PathBuf::from("/named")]);
     }
+    assert!(build::sources(top).is_empty());
 }

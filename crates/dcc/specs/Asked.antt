@@ -1,4 +1,4 @@
--- What the words that clap has taken ask for.
+-- The request that parsed arguments make.
 use Rattle.std.specs.Prelude.{◌≡◌, ◌<◌, ◌^◌, ℕ, Bool, true, false, List, Option, None, Some, Result, Ok, Err, codes}
 use Rattle.std.specs.Str.Parse.{IsNumeral, without_leading_plus, digits_value}
 use Rattle.clap.specs.Words.{Row, Text, first_of, one_of}
@@ -14,36 +14,40 @@ use Rattle.dcc_send.specs.declared.encoding.Encode.{Encode}
 use Rattle.dcc_tool.specs.declared.performing.Request.{Request}
 use Rattle.dcc_tool.specs.declared.performing.Request.TheVariants as request
 
--- a flag is set or not, as the word that clap keeps of it says
+-- `given` is true if and only if the flag `id` was given, according to the text that clap stores
+-- for it
 pub record IsFlag (id : Text) (rows : List Row) (given : Bool) : Type 0 where
   pub absent : one_of id rows ≡ None → given ≡ false
   pub set : one_of id rows ≡ Some (codes "true") → given ≡ true
   pub unset : one_of id rows ≡ Some (codes "false") → given ≡ false
 
--- a text that is a number of so many bits, with or without a plus before it
+-- `text` is a number below 2 to the power of `bits`, with or without a plus sign before it
 abbrev pub IsNumber : ℕ → Text → Type 0
 IsNumber bits text = IsNumeral 10 (without_leading_plus text) × (digits_value 10 (without_leading_plus text) < 2 ^ bits)
 
--- the number that was given, and this one where none was
+-- `size` is the number that was given for the option `id`, or `other` if the option was not given
 pub record IsSize (id : Text) (rows : List Row) (other : ℕ) (size : ℕ) : Type 0 where
   pub absent : one_of id rows ≡ None → size ≡ other
   pub given : (text : Text) → one_of id rows ≡ Some text → IsNumber 8 text
       → size ≡ digits_value 10 (without_leading_plus text)
 
--- the sizes of the station that is asked for, with 16, 32 and 2 for those that are not given
+-- `rows` request no station for `None`, otherwise a station with the sizes `queue`, `slots` and
+-- `repeats`. A size that was not given is 16 for the queue, 32 for the slots, and 2 for the
+-- repeats.
 abbrev pub IsStation : List Row → Option (ℕ × ℕ × ℕ) → Type 0
 IsStation rows None = IsFlag (codes "station") rows false
 IsStation rows (Some (queue, slots, repeats)) =
     IsFlag (codes "station") rows true × IsSize (codes "queue") rows 16 queue × IsSize (codes "slots") rows 32 slots
     × IsSize (codes "repeats") rows 2 repeats
 
--- how packets are written
+-- `how` is the encoding that the arguments request
 pub record IsEncoding (rows : List Row) (how : Encode) : Type 0 where
   pub hex : IsFlag (codes "hex") rows how.hex
   pub service : IsFlag (codes "service") rows how.service
   pub station : IsStation rows how.station
 
--- two captures are compared for the decoder that the word names
+-- the request to compare two captures for a decoder, or the error of the word that names the
+-- decoder
 abbrev pub compared_for : Result Who ToolFault → Result Request ToolFault
 compared_for (Ok who) = Ok (request.Same who)
 compared_for (Err refused) = Err refused
@@ -52,7 +56,8 @@ abbrev pub comparison : Option Text → Result Request ToolFault
 comparison None = Err (fault.Usage usage.Words)
 comparison (Some word) = compared_for (who_named word)
 
--- the CV of this number is read
+-- the request to read a CV, on an empty track if `empty` is true; the error U1 if there is no such
+-- CV
 abbrev pub reading_of : Result CvNumber PacketFault → Bool → Result Request ToolFault
 reading_of (Ok cv) empty = Ok (request.ReadCv cv empty)
 reading_of (Err refused) empty = Err (fault.Usage usage.Words)
@@ -62,8 +67,8 @@ ReadsCvOf rows result = (text : Text) → one_of (codes "cv") rows ≡ Some text
     (empty : Bool) × IsFlag (codes "empty") rows empty
     × (result ≡ reading_of (cv_of (digits_value 10 (without_leading_plus text))) empty)
 
--- What the subcommand of this name, with what was found for its arguments, asks for.
-pub record Asks (name : Text) (rows : List Row) (result : Result Request ToolFault) : Type 0 where
+-- `result` is the request of the subcommand `name` with the parsed arguments `rows`, or its error.
+pub record IsRequestNamed (name : Text) (rows : List Row) (result : Result Request ToolFault) : Type 0 where
   pub show : name ≡ codes "show"
       → (words : Bool) × IsFlag (codes "words") rows words × (result ≡ Ok (request.Show words))
   pub encode : name ≡ codes "encode" → (how : Encode) × IsEncoding rows how × (result ≡ Ok (request.Encode how))
@@ -72,7 +77,7 @@ pub record Asks (name : Text) (rows : List Row) (result : Result Request ToolFau
   pub readcv : name ≡ codes "readcv" → ReadsCvOf rows result
   pub timing : name ≡ codes "timing" → result ≡ Ok request.Timing
 
--- a subcommand has to be given
-abbrev pub AsksOf : Option (Text × List Row) → Result Request ToolFault → Type 0
-AsksOf None result = result ≡ Err (fault.Usage usage.Words)
-AsksOf (Some (name, rows)) result = Asks name rows result
+-- `result` is the request of a parsed subcommand, or the error U1 if there is no subcommand
+abbrev pub IsRequestOf : Option (Text × List Row) → Result Request ToolFault → Type 0
+IsRequestOf None result = result ≡ Err (fault.Usage usage.Words)
+IsRequestOf (Some (name, rows)) result = IsRequestNamed name rows result

@@ -1,21 +1,21 @@
-//! One call of the program, over any words, streams and standard error.
+//! One run of the program, over any arguments, input, writer and standard error.
 
 use crate::request::asked;
-use dcc_command::tell_words;
-use dcc_tool::{Ending, Input, Sink, Source, ToolFault, Usage, perform, tell_end};
+use dcc_command::print_clap_error;
+use dcc_tool::{Ending, Input, Sink, Source, ToolFault, Usage, perform, report_end};
 use std::alloc::Global;
 use std::env::{Env, FillError};
 use std::{env, io};
 
-/// Runs the subcommand that the words of the runtime ask for, and answers the exit status. What it reads and writes
-/// goes through the input and the writer; faults and clap's texts go to the runtime.
+/// Executes the subcommand that the arguments name, and returns the exit status. The subcommand
+/// reads `input` and writes to `writer`. The runtime writes errors and the texts of clap.
 pub fn run<T, R, W>(rt: &T, input: &mut Input<R>, writer: &mut W) -> u8
 where
     T: Env + Print + Eprint + AllocGlobal,
     R: Source,
     W: Sink,
 {
-    tell_end(rt, &outcome(rt, input, writer))
+    report_end(rt, &outcome(rt, input, writer))
 }
 
 fn outcome<T, R, W>(rt: &T, input: &mut Input<R>, writer: &mut W) -> Result<Ending, ToolFault>
@@ -28,14 +28,16 @@ where
     match asked(rt.alloc(), words.as_slice()) {
         Ok(request) => perform(rt.alloc(), request?, input, writer),
         Err(error) => {
-            tell_words(rt, &error)?;
+            print_clap_error(rt, &error)?;
             Ok(Ending::Done)
         }
     }
 }
 
-/// The words of the command line, where those behind the program's name are text and there is room for them. The name itself
-/// may be any path, and stands as `dcc`.
+/// Returns the arguments. The first argument is `dcc` instead of the name of the program, which can
+/// be any path.
+///
+/// Errors: U1 if an argument is not UTF-8, U6 if an allocation fails.
 fn words_of<T: Env + Eprint + AllocGlobal>(rt: &T) -> Result<Vec<String>, ToolFault> {
     let mut words = Vec::new(rt.alloc());
     let name = String::from_str(rt.alloc(), "dcc").map_err(|_| ToolFault::NoMemory)?;
@@ -56,7 +58,8 @@ fn words_of<T: Env + Eprint + AllocGlobal>(rt: &T) -> Result<Vec<String>, ToolFa
     }
 }
 
-/// The words of a runtime but its first, the program's name, which is a path and need not be text.
+/// The arguments of a runtime without the first argument. The first argument is the name of the
+/// program, which is a path and need not be UTF-8.
 #[derive(Drop)]
 struct BehindName<'a, T> {
     rt: &'a T,

@@ -1,8 +1,9 @@
-//! What the words of a command line ask for.
+//! Functions that return the request of a command line.
 ghost use Rattle.std.specs.Prelude.{◌≡◌, IfOk, codes, map};
 ghost use Rattle.clap.specs.Words.{FailsBy, fault_of, first_of, found_of, rows_of, subcommand_of, subcommand_rows_of};
 ghost use Rattle.dcc_command.specs.CommandLine.{dcc_app};
-ghost use Rattle.dcc.specs.Asked.{Asks, AsksOf, IsEncoding, IsFlag, IsSize, IsStation, ReadsCvOf, comparison};
+ghost use Rattle.dcc.specs.Asked.{IsRequestNamed, IsRequestOf, IsEncoding, IsFlag, IsSize, IsStation, ReadsCvOf};
+ghost use Rattle.dcc.specs.Asked.{comparison};
 
 use clap::{ArgMatches, Error};
 use dcc_command::taken;
@@ -11,19 +12,24 @@ use dcc_tool::{Encode, Request, ToolFault, Usage, read_who};
 use std::alloc::Global;
 use std::convert::AsStr;
 
-/// What the words ask for, the first of which is the program's name. The error is clap's: the words are not taken, they
-/// ask for help or the version, or there is no memory.
+/// Returns the request that the arguments express. The first argument is the name of the program.
+///
+/// Errors: the error of clap if the arguments are wrong, if they request the help or the version,
+/// or if an allocation fails.
 pub fn asked<S: AsStr>(alloc: Global, words: &[S]) -> Result<Result<Request, ToolFault>, Error>
-    // Which words are taken is settled, and so is what is wrong with the others.
+    // The definition `fault_of` says which arguments are accepted, and which error other arguments
+    // have.
     ensures takes { FailsBy (fault_of dcc_app (map S.text words.now)) result }
-    ensures asks { IfOk result (AsksOf (subcommand_of dcc_app (map S.text words.now))) }
+    ensures asks { IfOk result (IsRequestOf (subcommand_of dcc_app (map S.text words.now))) }
 {
     Ok(request_of(&taken(alloc, words)?))
 }
 
-/// The request of words that clap has taken. A word for `--who` that names no decoder is U1.
+/// Returns the request that parsed arguments express.
+///
+/// Errors: U1 if the value of `--who` names no decoder.
 fn request_of(matches: &ArgMatches) -> Result<Request, ToolFault>
-    ensures { AsksOf (subcommand_rows_of matches.now) result }
+    ensures { IsRequestOf (subcommand_rows_of matches.now) result }
 {
     match matches.subcommand() {
         Some((name, found)) => request_named(name, found),
@@ -31,9 +37,9 @@ fn request_of(matches: &ArgMatches) -> Result<Request, ToolFault>
     }
 }
 
-/// The request of the subcommand of this name.
+/// Returns the request of the subcommand with the name `name`.
 fn request_named(name: &str, found: &ArgMatches) -> Result<Request, ToolFault>
-    ensures { Asks name.now (rows_of (found_of found.now)) result }
+    ensures { IsRequestNamed name.now (rows_of (found_of found.now)) result }
 {
     match name {
         "show" => Ok(Request::Show {
@@ -48,21 +54,22 @@ fn request_named(name: &str, found: &ArgMatches) -> Result<Request, ToolFault>
     }
 }
 
-/// Whether a flag was given.
+/// Returns true if the flag `id` was given.
 fn flag_of(matches: &ArgMatches, id: &str) -> bool
     ensures { IsFlag id.now (rows_of (found_of matches.now)) result }
 {
     matches.get_flag(id)
 }
 
-/// The size that was given, 0 to 255, or this one.
+/// Returns the value of the option `id`, 0 to 255. Returns `other` if the option was not given.
 fn size_of(matches: &ArgMatches, id: &str, other: u8) -> u8
     ensures { IsSize id.now (rows_of (found_of matches.now)) other result }
 {
     matches.get_one(id).unwrap_or(other)
 }
 
-/// How `encode` writes packets. Where no station is asked for, its sizes are passed over.
+/// Returns the options of the operation `encode`. Without `--station` the sizes of a station are
+/// ignored.
 fn encoding_of(matches: &ArgMatches) -> Encode
     ensures { IsEncoding (rows_of (found_of matches.now)) result }
 {
@@ -73,7 +80,8 @@ fn encoding_of(matches: &ArgMatches) -> Encode
     }
 }
 
-/// The sizes of the station that is asked for: queue, slots and repeats. clap has refused what is no number of 0 to 255.
+/// Returns the sizes of the requested station: queue, slots and repeats. Returns `None` without
+/// `--station`. clap accepts only numbers from 0 to 255.
 fn station_of(matches: &ArgMatches) -> Option<(usize, usize, u8)>
     ensures { IsStation (rows_of (found_of matches.now)) result }
 {
@@ -86,7 +94,7 @@ fn station_of(matches: &ArgMatches) -> Option<(usize, usize, u8)>
     Some((usize::from(queue), usize::from(slots), repeats))
 }
 
-/// Two captures are compared for the decoder that the word names.
+/// Returns the request to compare two captures for the decoder that the value of `--who` names.
 fn comparison_of(matches: &ArgMatches) -> Result<Request, ToolFault>
     ensures { result ≡ comparison (first_of (codes "who") (rows_of (found_of matches.now))) }
 {
@@ -96,7 +104,7 @@ fn comparison_of(matches: &ArgMatches) -> Result<Request, ToolFault>
     }
 }
 
-/// A CV is read. clap has refused what is no number of 1 to 1024.
+/// Returns the request to read the CV that `--cv` gives. clap accepts only numbers from 1 to 1024.
 fn reading_of(matches: &ArgMatches) -> Result<Request, ToolFault>
     ensures { ReadsCvOf (rows_of (found_of matches.now)) result }
 {

@@ -13,7 +13,7 @@ use Rattle.dcc_c.specs.declared.loco_numbers.DccLoco.{DccLoco}
 use Rattle.dcc_c.specs.Locos.{loco_numbers}
 use Rattle.dcc_service.specs.declared.progress.ServiceProgress.{ServiceProgress}
 use Rattle.dcc_service.specs.Machine.{ServiceState, Step}
-use Rattle.dcc_service.specs.Progress.{with_cvs as with_service_cvs}
+use Rattle.dcc_service.specs.Progress.{state_with_cvs as with_service_cvs}
 use Rattle.dcc_c.specs.declared.service.DccService.{DccService}
 use Rattle.dcc_c.specs.Services.{service_numbers}
 use Rattle.dcc_regs.specs.Result.{RegisterMap, left_pending}

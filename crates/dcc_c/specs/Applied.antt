@@ -7,8 +7,9 @@ use Rattle.dcc_regs.specs.Heard.{hears}
 use Rattle.dcc_regs.specs.Result.{RegisterMap, step}
 use Rattle.dcc_regs.specs.Setting.{set_from}
 
--- the decoder is who it was, and its registers are those after the step; where it does not hear the packet they are as
--- before, and each is that the packet does not set
+-- A decoder has applied `packet`: its identity is unchanged, and its registers are those after this
+-- packet. If it does not hear `packet`, all its registers are unchanged. Each register that
+-- `packet` does not set is unchanged.
 pub record HasApplied (packet : Packet) (who : Who) (before : RegisterMap) (who' : Who) (after : RegisterMap) : Type 0
   where
     pub same_who : who' ≡ who

@@ -1,4 +1,4 @@
--- The packet that is kept gives its numbers back.
+-- A theorem: a packet that is stored as bytes and read again is unchanged.
 use Rattle.std.specs.Prelude.{◌≡◌, ◌⊎◌, ℕ, ◌-◌, List, [], length, replicate}
 use Rattle.std.proofs.Common.{◌∙◌, sym, ap, subst}
 use Rattle.std.proofs.Math.Seq.{take-append_seam}
@@ -9,14 +9,14 @@ use Rattle.dcc_c.specs.declared.kept_packet.KeptPacket.TheInside.{Inside}
 use Rattle.dcc_c.specs.Frames.{bytes_of, frame_numbers}
 use Rattle.dcc_c.specs.KeptPackets.{kept_bytes, KeptBy, KeptBy-prop}
 
--- the bytes of the numbers of bytes
+-- bytes that are stored in a C structure and read again are unchanged
 pub bytes_back : (bytes : List ℕ) → bytes_of (frame_numbers bytes) ≡ bytes
 bytes_back bytes = take-append_seam bytes (replicate (6 - length bytes) 0)
 
 abbrev pub packet_of : Inside → Packet
 packet_of k = k.says.0
 
--- the bytes are those of a frame or none, and zeros stand behind them
+-- the C structure holds the bytes of a frame, or no bytes, followed by zeros
 abbrev pub IsKeptPacket : Inside → Type 0
 IsKeptPacket k = ((bytes_of k.frame ≡ []) ⊎ IsFrame (bytes_of k.frame)) × (k.frame ≡ frame_numbers (bytes_of k.frame))
 

@@ -1,4 +1,4 @@
--- A packet that is kept as the numbers of a frame.
+-- A packet that is stored as the bytes of its frame.
 use Rattle.std.specs.Prelude.{◌≡◌, ℕ, List, [], ◌∷◌, length, refl}
 use Rattle.std.specs.Coded.{coded_list, coded_ℕ, Coded-set}
 use Rattle.std.proofs.Common.{◌∙◌, sym, ap, subst, arith}
@@ -9,12 +9,13 @@ use Rattle.dcc_packet.specs.Spelling.{spelling}
 use Rattle.dcc_wire.specs.Frames.{with_error_byte}
 use Rattle.dcc_packet.proofs.OneSpelling.{one_packet}
 
--- the bytes by which a packet is kept: those that spell it, and none for Idle, so that zeros keep a packet too
+-- the bytes that store a packet: its frame, or no bytes for an idle packet. So a structure of zeros
+-- is an idle packet.
 abbrev pub kept_bytes : Packet → List ℕ
 kept_bytes Idle = []
 kept_bytes packet = spelling packet
 
--- the packet that is kept by these bytes
+-- a packet that `bytes` store, and the proof of this
 abbrev pub KeptBy : List ℕ → Type 0
 KeptBy bytes = (packet : Packet) × (kept_bytes packet ≡ bytes)
 
@@ -27,7 +28,8 @@ some_bytes Idle e = cc
 some_bytes (Loco to what) e = some_behind (loco_bytes to what) e
 some_bytes (Accessory board output on) e = some_behind (accessory_bytes board output on) e
 some_bytes (Signal address aspect) e = some_behind (signal_bytes address aspect) e
-some_bytes (Other other) e = let none : length other.frame ≡ 0 = ap length e in let most = other.valid.least in omega arith
+some_bytes (Other other) e = let none : length other.frame
+    ≡ 0 = ap length e in let most = other.valid.least in omega arith
 
 pub one_kept : (packet other : Packet) → kept_bytes packet ≡ kept_bytes other → packet ≡ other
 one_kept Idle Idle e = refl
@@ -42,6 +44,6 @@ same_pair bytes p q e =
     → ◌≡◌ {A = KeptBy bytes} (p, h) (r, k)) e
     (λ h k. ap (λ (m : kept_bytes p ≡ bytes). (p, m)) (Coded-set (coded_list coded_ℕ) _ _ h k))
 
--- there is one at most
+-- `bytes` store at most one packet
 pub KeptBy-prop : (bytes : List ℕ) → IsProp (KeptBy bytes)
 KeptBy-prop bytes a b = same_pair bytes a.0 b.0 (one_kept a.0 b.0 (a.1 ∙ sym b.1)) a.1 b.1

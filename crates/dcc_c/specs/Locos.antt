@@ -1,4 +1,4 @@
--- The numbers of a locomotive decoder.
+-- The C structure of a locomotive decoder.
 use Rattle.std.specs.Prelude.{◌≡◌, ℕ, true, ◌%◌, ◌/◌, ◌^◌, Option, None, Some, List, [], ◌∷◌}
 use Rattle.dcc_packet.specs.declared.address.Address.{Address}
 use Rattle.dcc_packet.specs.declared.packet.Packet.{Packet}
@@ -12,7 +12,7 @@ use Rattle.dcc_c.specs.declared.loco_numbers.DccLoco.{DccLoco}
 use Rattle.dcc_c.specs.Frames.{frame_numbers}
 use Rattle.dcc_c.specs.Packets.{address_kind, address_number}
 
--- the active address: its kind, 0 where there is none, and its number
+-- the number of the kind of an active address, or 0 if there is no active address
 abbrev pub own_kind : Option Address → ℕ
 own_kind None = 0
 own_kind (Some own) = address_kind own
@@ -21,13 +21,14 @@ abbrev pub own_number : Option Address → ℕ
 own_number None = 0
 own_number (Some own) = address_number own
 
--- the address of a decoder's numbers is this one, to which a decoder may listen, or there is none
+-- the fields of `loco` for the address have the values for the active address `own`
 pub record HasAddress (loco : DccLoco) (own : Option Address) : Type 0 where
   pub active : is_active own ≡ true
   pub kind : loco.address_kind ≡ own_kind own
   pub number : loco.address ≡ own_number own
 
--- the speed: 0 stop, 1 emergency stop, or how many steps there are, and the step
+-- the number of the kind of a speed: 0 for stop, 1 for emergency stop, otherwise the number of
+-- speed steps
 abbrev pub speed_mode : Speed → ℕ
 speed_mode Stop = 0
 speed_mode Emergency = 1
@@ -42,16 +43,16 @@ speed_step (Step14 step) = step
 speed_step (Step28 step) = step
 speed_step (Step126 step) = step
 
--- bits 0 to 63 of a number, and those from 64 on
+-- the two words that store the number `bits`: its bits 0 to 63, and its bits from 64 on
 abbrev pub words_of : ℕ → List ℕ
 words_of bits = bits % 2 ^ 64 ∷ bits / 2 ^ 64 ∷ []
 
--- the bytes of the pending write, or none
+-- the C structure of the frame of a pending write, or of no bytes if no write is pending
 abbrev pub pending_numbers : Option Packet → DccFrame
 pending_numbers None = frame_numbers []
 pending_numbers (Some packet) = frame_numbers (spelling packet)
 
--- the numbers of a decoder in a state
+-- the C structure of a locomotive decoder in state `s`
 abbrev pub loco_numbers : LocoState → DccLoco
 loco_numbers s = record {
   address_kind = own_kind s.address;

@@ -1,4 +1,4 @@
--- What the numbers of an outcome say.
+-- The C structure of an outcome.
 use Rattle.std.specs.Prelude.{ℕ, ◌==◌, if◌then◌else◌, []}
 use Rattle.dcc_wire.specs.declared.seen.Fault.TheVariants.{BadHalf, SplitBit, TooShort, TooLong, ErrorByte}
 use Rattle.dcc_wire.specs.declared.seen.Seen.{Seen}
@@ -6,8 +6,8 @@ use Rattle.dcc_wire.specs.declared.seen.Seen.TheVariants.{Nothing, Packet, Refus
 use Rattle.dcc_c.specs.declared.outcome.DccOutcome.{DccOutcome}
 use Rattle.dcc_c.specs.Frames.{bytes_of, frame_numbers}
 
--- The packet or refusal that the outcome o says. Refusal 0 is a packet, and 1 to 5 are H1 to H5. An outcome with any other
--- number says nothing; no call writes such a number.
+-- the outcome in the C structure `o`: a packet if the field `refusal` is 0, and the errors H1 to H5
+-- for 1 to 5. No function writes another number, which would mean no outcome.
 abbrev pub outcome_seen : DccOutcome → Seen
 outcome_seen o =
     if o.refusal == 0 then Packet (bytes_of o.frame)
@@ -18,11 +18,13 @@ outcome_seen o =
     else (if o.refusal == 5 then Refused (ErrorByte (bytes_of o.frame))
     else Nothing)))))
 
--- the answer 0 says that there is none
+-- the outcome after a call that returned the number `answer`: no outcome for 0, otherwise the
+-- outcome in the C structure `o`
 abbrev pub seen_at_answer : ℕ → DccOutcome → Seen
 seen_at_answer answer o = if answer == 0 then Nothing else outcome_seen o
 
--- the numbers of an outcome at a half: the bytes of a packet or of a wrong error byte, none with other refusals
+-- the C structure of an outcome at the half-bit `at`. It has the bytes of a packet or of the error
+-- H5, and no bytes for any other error.
 abbrev pub outcome_numbers : ℕ → Seen → DccOutcome
 outcome_numbers at Nothing = record { at = at; refusal = 0; frame = frame_numbers [] }
 outcome_numbers at (Packet bytes) = record { at = at; refusal = 0; frame = frame_numbers bytes }

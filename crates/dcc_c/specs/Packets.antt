@@ -1,4 +1,4 @@
--- The numbers of a packet. What its kind has no use for is 0.
+-- The C structure of a packet. A field that the kind of the packet does not use is 0.
 use Rattle.std.specs.Prelude.{ℕ, false}
 use Rattle.dcc_packet.specs.declared.address.Address.{Address}
 use Rattle.dcc_packet.specs.declared.address.Address.TheVariants.{Broadcast, Short, Long}
@@ -11,7 +11,8 @@ use Rattle.dcc_packet.specs.declared.packet.Packet.{Packet}
 use Rattle.dcc_packet.specs.declared.packet.Packet.TheVariants.{Idle, Loco, Accessory, Signal, Other}
 use Rattle.dcc_c.specs.declared.packet.DccPacket.{DccPacket}
 
--- the kind of an address: 0 all, 1 short, 2 long
+-- the number of the kind of an address: 0 for the broadcast address, 1 for a short address, 2 for a
+-- long address
 abbrev pub address_kind : Address → ℕ
 address_kind Broadcast = 0
 address_kind (Short address) = 1
@@ -22,7 +23,7 @@ address_number Broadcast = 0
 address_number (Short address) = address.number
 address_number (Long address) = address.number
 
--- a group by its first function
+-- the number of the first function of a function group
 abbrev pub group_number : Group → ℕ
 group_number F0 = 0
 group_number F5 = 5
@@ -35,7 +36,7 @@ group_number F45 = 45
 group_number F53 = 53
 group_number F61 = 61
 
--- a packet of a kind, and nothing else
+-- the C structure of a packet of the kind `kind` in which all other fields are 0
 abbrev pub of_kind : ℕ → DccPacket
 of_kind kind = record {
   kind = kind;
@@ -54,7 +55,7 @@ of_kind kind = record {
   aspect = 0;
 }
 
--- an instruction to locomotive decoders
+-- the C structure of an instruction to locomotive decoders, without the address
 abbrev pub instruction_numbers : What → DccPacket
 instruction_numbers Reset = of_kind 1
 instruction_numbers (Speed28 forward speed) = record (of_kind 2) { forward = forward; bits = speed.bits }
@@ -67,7 +68,7 @@ instruction_numbers (CvVerify cv value) = record (of_kind 7) { cv = cv.number; v
 instruction_numbers (CvBitWrite cv place one) = record (of_kind 8) { cv = cv.number; place = place.place; one = one }
 instruction_numbers (CvBitVerify cv place one) = record (of_kind 9) { cv = cv.number; place = place.place; one = one }
 
--- a packet
+-- the C structure of a packet
 abbrev pub packet_numbers : Packet → DccPacket
 packet_numbers Idle = of_kind 0
 packet_numbers (Loco to what) = record (instruction_numbers what) { to = address_kind to; address = address_number to }

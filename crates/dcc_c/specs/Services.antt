@@ -1,17 +1,17 @@
--- The numbers of a decoder on the programming track.
+-- The C structure of a decoder on the programming track.
 use Rattle.std.specs.Prelude.{Option, None, Some, []}
 use Rattle.dcc_service.specs.declared.packet.ServicePacket.{ServicePacket}
 use Rattle.dcc_service.specs.Machine.{ServiceState}
-use Rattle.dcc_service.specs.Table.{spelling}
+use Rattle.dcc_service.specs.Table.{service_spelling}
 use Rattle.dcc_c.specs.declared.frame.DccFrame.{DccFrame}
 use Rattle.dcc_c.specs.declared.service.DccService.{DccService}
 use Rattle.dcc_c.specs.Frames.{frame_numbers}
 
--- the bytes of the pending packet, or none
+-- the C structure of the frame of a pending packet, or of no bytes if no packet is pending
 abbrev pub pending_bytes : Option ServicePacket → DccFrame
 pending_bytes None = frame_numbers []
-pending_bytes (Some packet) = frame_numbers (spelling packet)
+pending_bytes (Some packet) = frame_numbers (service_spelling packet)
 
--- the numbers of a decoder in a state
+-- the C structure of a decoder on the programming track in state `s`
 abbrev pub service_numbers : ServiceState → DccService
 service_numbers s = record { in_service = s.in_service; pending = pending_bytes s.pending; cvs = s.cvs }

@@ -9,14 +9,15 @@ use Rattle.dcc_c.specs.declared.station_ring.DccRing.{DccRing}
 use Rattle.dcc_c.specs.declared.station_numbers.DccStation.{DccStation}
 use Rattle.dcc_c.specs.Frames.{frame_answer}
 
--- the packets of a ring, from the front to the end, and how many there may be
+-- the packets in the ring `r` in order, and its capacity
 abbrev pub ring_of : DccRing → Buffer Packet
 ring_of r = buffer (ring_items r.start r.len r.packets) r.capacity
 
--- what a station has
+-- the state of the station in the C structure `s`: its queue, the number of copies sent, its
+-- entries and its sizes
 abbrev pub sending_of : DccStation → Sending
 sending_of s = sending_over (ring_of s.commands) s.sent (ring_of s.entries) s.repeats
 
--- these bytes are a frame, and the packet is the one that it spells
+-- `bytes` are the frame of `packet`
 abbrev pub FrameSpells : List ℕ → Packet → Type 0
 FrameSpells bytes packet = (frame_answer bytes ≡ 0) × (spelling packet ≡ bytes)

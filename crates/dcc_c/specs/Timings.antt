@@ -1,4 +1,4 @@
--- The numbers of a timing.
+-- The C structure of a timing.
 use Rattle.std.specs.Prelude.{ℕ, Option, None, Some}
 use Rattle.dcc_wire.specs.declared.timing.Timing.{Timing}
 use Rattle.dcc_wire.specs.declared.timing.TimingFault.{TimingFault}
@@ -6,12 +6,12 @@ use Rattle.dcc_wire.specs.FaultNumbers.{timing_fault_number}
 use Rattle.dcc_wire.specs.Timings.{timing_fault}
 use Rattle.dcc_c.specs.declared.timing.DccTiming.{DccTiming}
 
--- the numbers of a timing
+-- the C structure of the timing `t`
 abbrev pub timing_numbers : Timing → DccTiming
 timing_numbers t =
     record { one = t.one; zero_first = t.zero_first; zero_second = t.zero_second; preamble = t.preamble }
 
--- 0 where there is no fault, else its number, 6 to 8 for H6 to H8
+-- the number of the error of a timing, 6 to 8 for H6 to H8, or 0 if it has no error
 abbrev pub timing_number : Option TimingFault → ℕ
 timing_number None = 0
 timing_number (Some fault) = timing_fault_number fault

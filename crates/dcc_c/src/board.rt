@@ -1,4 +1,4 @@
-//! Accessory decoders.
+//! The C struct of an accessory decoder, and the functions on it.
 
 ghost use Rattle.std.specs.Prelude.{◌≡◌, ◌≢◌, true, false, nat_le, Some, Ok, Err, IfOk, IfErr, IfSome};
 ghost use Rattle.dcc_packet.specs.declared.accessory.Board.{Board};
@@ -17,22 +17,23 @@ use crate::frame::frame_of;
 use dcc_packet::{Board, Packet, PacketFault};
 use dcc_regs::{BoardState, Decoder, PackedBoard, Who, hears};
 
-/// What an accessory decoder holds.
+/// The state of an accessory decoder as a C struct.
 #[repr(C)]
 #[derive(Clone, Copy, Drop)]
 pub struct DccBoard {
-    /// Its board, 0 to 510.
+    /// The address of the decoder, 0 to 510.
     pub number: u16,
-    /// Bit n is output n, 0 to 7.
+    /// The outputs: bit n is one if output n, 0 to 7, is on.
     pub outs: u8,
-    /// The sides of its four pairs of outputs: true is side 1.
+    /// The positions of the four pairs. Element n is true if output 2n + 1 was the last output of
+    /// pair n that was turned on.
     pub positions: [bool; 4],
-    /// The aspects of its four signals.
+    /// The aspects of the four signals, each 0 to 255.
     pub aspects: [u8; 4],
 }
 
-/// Makes a decoder: all outputs off, all pairs at side 0, all aspects 0. The answer is 0, or 3 where there is no single board
-/// of this number, 0 to 510 (P3), and then nothing is written.
+/// Initialises an accessory decoder with all outputs off, all positions false and all aspects 0.
+/// Returns 0, or 3 (P3) if `number` is not 0 to 510. If the result is not 0, nothing is written.
 #[unsafe(no_mangle)]
 pub extern "C" fn dcc_board_new(board: &mut DccBoard, number: u16) -> u8
     ensures made { nat_le number 510 ≡ true
@@ -61,8 +62,9 @@ fn new(number: u16) -> Result<BoardState, PacketFault>
     }
 }
 
-/// The decoder hears the packet that these bytes spell, and does what it says where it is for it. The answer is 0; 1 or 2 where
-/// the bytes are no frame (L1, L2), 13 where the numbers are of no decoder (P13). In these cases nothing changes.
+/// Applies the packet of the frame with these bytes. The decoder ignores a packet that it does not
+/// hear. Returns 0, or 1 (L1) or 2 (L2) if the bytes are no frame, or 13 (P13) if no decoder has
+/// these fields. If the result is not 0, nothing changes.
 #[unsafe(no_mangle)]
 pub extern "C" fn dcc_board_apply(board: &mut DccBoard, frame: &[u8]) -> u8
     ensures no_frame { frame_answer frame.now ≢ 0 → result ≡ frame_answer frame.now }
@@ -88,8 +90,9 @@ pub extern "C" fn dcc_board_apply(board: &mut DccBoard, frame: &[u8]) -> u8
     }
 }
 
-/// Tells whether the packet that these bytes spell is for the decoder. The answer is 0; 1 or 2 where the bytes are no frame (L1,
-/// L2), 13 where there is no single board of this number (P13). In these cases nothing is told.
+/// Writes true to `heard` if the decoder hears the packet of the frame with these bytes, otherwise
+/// false. Returns 0, or 1 (L1) or 2 (L2) if the bytes are no frame. Returns 13 (P13) if the address
+/// of the decoder is not 0 to 510. If the result is not 0, nothing is written.
 #[unsafe(no_mangle)]
 pub extern "C" fn dcc_board_hears(board: &DccBoard, frame: &[u8], heard: &mut bool) -> u8
     ensures no_frame { frame_answer frame.now ≢ 0 → result ≡ frame_answer frame.now }
@@ -112,7 +115,9 @@ pub extern "C" fn dcc_board_hears(board: &DccBoard, frame: &[u8], heard: &mut bo
     }
 }
 
-/// The board of these numbers. P13 where there is no single board of this number.
+/// Returns the address of the decoder with these fields.
+///
+/// Errors: P13 if the address is not 0 to 510.
 fn own_board(board: &DccBoard) -> Result<Board, PacketFault>
     ensures board { IfOk result (λ own. (own.number ≡ board.now.number) × (nat_le board.now.number 510 ≡ true)) }
     ensures fault { IfErr result (λ fault. (fault ≡ PacketFault.State) × (nat_le board.now.number 510 ≡ false)) }
@@ -123,7 +128,8 @@ fn own_board(board: &DccBoard) -> Result<Board, PacketFault>
     Board::new(board.number)
 }
 
-/// The state of a decoder with these numbers after a packet.
+/// Returns the state of a decoder with these fields after a packet. Returns `None` if no decoder
+/// has these fields.
 fn after(board: &DccBoard, packet: &Packet) -> Option<BoardState>
     ensures decoder { IfSome result
         (λ _. (before : BoardState) × (is_single before ≡ true) × (board.now ≡ board_numbers before)) }
@@ -134,7 +140,8 @@ fn after(board: &DccBoard, packet: &Packet) -> Option<BoardState>
     heard(&state_of(board)?, packet)
 }
 
-/// The state of a decoder that was in a state and heard a packet.
+/// Returns the state of a decoder after a packet. Returns `None` if no decoder can be in the state
+/// `before`.
 fn heard(before: &BoardState, packet: &Packet) -> Option<BoardState>
     ensures possible { IfSome result (λ _. is_single before.now ≡ true) }
     ensures applies { is_single before.now ≡ true →
@@ -150,7 +157,7 @@ fn heard(before: &BoardState, packet: &Packet) -> Option<BoardState>
     }
 }
 
-/// The numbers of a state.
+/// Returns the C struct with the values of a state.
 fn numbers(state: &BoardState) -> DccBoard
     ensures { result ≡ board_numbers state.now }
 {
@@ -162,7 +169,7 @@ fn numbers(state: &BoardState) -> DccBoard
     }
 }
 
-/// The state of these numbers, where a decoder has such a state.
+/// Returns the state with the values of a C struct. Returns `None` if the address is above 511.
 fn state_of(board: &DccBoard) -> Option<BoardState>
     ensures found { (state : BoardState) → board.now ≡ board_numbers state → result ≡ Some state }
     ensures numbers { IfSome result (λ state. board.now ≡ board_numbers state) }

@@ -1,4 +1,4 @@
-//! Frames as numbers.
+//! A frame as a C struct.
 
 ghost use Rattle.std.specs.Prelude.{◌≡◌, ◌≤◌, length, MatchResult};
 ghost use Rattle.dcc_wire.specs.Frames.{IsFrame};
@@ -6,13 +6,13 @@ ghost use Rattle.dcc_c.specs.Frames.{frame_answer, frame_numbers};
 
 use dcc_wire::Frame;
 
-/// The bytes of a frame, or none.
+/// The bytes of a frame, or no bytes, as a C struct.
 #[repr(C)]
 #[derive(Clone, Copy, Drop)]
 pub struct DccFrame {
-    /// How many bytes there are.
+    /// The number of bytes of the frame, or 0.
     pub len: u8,
-    /// The bytes, the error byte last, and zeros behind them.
+    /// The bytes of the frame, with the error byte last, followed by zeros.
     pub bytes: [u8; 6],
 }
 
@@ -20,7 +20,7 @@ impl DccFrame {
     ghost use Rattle.std.specs.Prelude.{◌≡◌, ◌≤◌, ◌↔◌, IsTrue, length};
     ghost use Rattle.dcc_c.specs.Frames.{bytes_of, frame_numbers};
 
-    /// These bytes, of which there are at most six.
+    /// Creates the struct with these bytes. The list must have at most six bytes.
     pub fn of(bytes: &[u8]) -> DccFrame
         requires { length bytes.now ≤ 6 }
         ensures { result ≡ frame_numbers bytes.now }
@@ -33,8 +33,9 @@ impl DccFrame {
         }
     }
 
-    /// Whether these numbers are the same as others.
-    // (byte by byte: arrays are compared by calls for lists of any length, which take three times as long)
+    /// Returns true if all fields are equal.
+    // compares byte by byte, since Rust compares arrays by functions for lists of any length, which
+    // take three times as long
     pub fn is(&self, other: &DccFrame) -> bool
         ensures { IsTrue result ↔ (self.now ≡ other.now) }
     {
@@ -48,7 +49,7 @@ impl DccFrame {
             & (a[5] == b[5])
     }
 
-    /// The bytes.
+    /// Returns the bytes of the frame, without the zeros after it.
     pub fn as_slice(&self) -> &[u8]
         ensures { result.now ≡ bytes_of self.now }
     {
@@ -56,8 +57,8 @@ impl DccFrame {
     }
 }
 
-/// The frame of these bytes, or the number of the fault for which they are none: 1 for L1, 2 for L2.
-// (once in the archive, for all calls)
+/// Returns the frame of these bytes, or the number of the error: 1 for L1, 2 for L2.
+// not inlined, so that the archive contains the code once for all functions
 #[inline(never)]
 pub(crate) fn frame_of(bytes: &[u8]) -> Result<Frame, u8>
     ensures { MatchResult result
@@ -67,7 +68,8 @@ pub(crate) fn frame_of(bytes: &[u8]) -> Result<Frame, u8>
     Frame::of(bytes).map_err(|fault| fault.number())
 }
 
-/// Tells whether these bytes are a frame, as `frame_of` does, and copies none of them.
+/// Returns Ok if these bytes form a frame, without a copy of the bytes. The errors of `check_frame`
+/// are those of `frame_of`.
 pub(crate) fn check_frame(bytes: &[u8]) -> Result<(), u8>
     ensures { MatchResult result
         (λ _. IsFrame bytes.now × (frame_answer bytes.now ≡ 0))

@@ -1,4 +1,4 @@
-//! A framer in the caller's memory.
+//! Functions on framers, in memory that the caller owns.
 
 ghost use Rattle.std.specs.Prelude.{◌≡◌, ◌≢◌, ◌≤◌, ◌+◌, ◌-◌, ◌++◌, ◌∷◌, [], ℕ, List, length, replicate};
 ghost use Rattle.dcc_wire.specs.declared.seen.Seen.TheVariants.{Nothing};
@@ -12,7 +12,7 @@ ghost use Rattle.dcc_c.specs.Outcomes.{outcome_numbers, outcome_seen, seen_at_an
 use crate::outcome::{DccOutcome, outcome_of};
 use dcc_wire::{Framer, KeptFramer, RunSeen, Seen};
 
-/// A framer that was given no halves.
+/// Creates a framer that has taken no half-bit.
 #[unsafe(no_mangle)]
 pub extern "C" fn dcc_framer_new() -> KeptFramer
     ensures { StandsFor (kept_rest result) [] }
@@ -20,8 +20,9 @@ pub extern "C" fn dcc_framer_new() -> KeptFramer
     Framer::new().keep()
 }
 
-/// Takes a half of this many microseconds, as `Framer::push` does. The answer is 1 where an outcome ends with it, which is
-/// written then, and else 0.
+/// Takes a half-bit of `us` microseconds, as `Framer::push` does. If an outcome ends with this
+/// half-bit, the function writes this outcome and returns 1. If no outcome ends, the function
+/// returns 0.
 #[tactic(auto, unfolding(dcc_wire::specs::Framing::report_at))]
 #[unsafe(no_mangle)]
 pub extern "C" fn dcc_push(framer: &mut KeptFramer, us: u16, outcome: &mut DccOutcome) -> u8
@@ -42,7 +43,8 @@ pub extern "C" fn dcc_push(framer: &mut KeptFramer, us: u16, outcome: &mut DccOu
     push_apart(framer, us, outcome)
 }
 
-/// The same for a half that shows something, out of the way of what each half costs.
+/// Takes a half-bit with an outcome. The function is separate from the code that runs for each
+/// half-bit.
 #[inline(never)]
 fn push_apart(framer: &mut KeptFramer, us: u16, outcome: &mut DccOutcome) -> u8
     requires { (halves : List ℕ) → StandsFor (kept_rest framer.old) halves → seen (halves ++ us ∷ []) ≢ seen halves }
@@ -61,7 +63,8 @@ fn push_apart(framer: &mut KeptFramer, us: u16, outcome: &mut DccOutcome) -> u8
     1
 }
 
-/// A run of halves for a framer that is kept, with the promise of `Framer::push_run`.
+/// Takes a run of `n` half-bits of `us` microseconds for a stored framer. The function has the
+/// contract of `Framer::push_run`.
 fn push_run(kept: &mut KeptFramer, us: u16, n: u32) -> RunSeen
     ensures history { (halves : List ℕ) × StandsFor (kept_rest kept.old) halves }
     ensures stands { (halves : List ℕ) → StandsFor (kept_rest kept.old) halves
@@ -80,8 +83,11 @@ fn push_run(kept: &mut KeptFramer, us: u16, n: u32) -> RunSeen
     answer
 }
 
-/// Takes n halves of this many microseconds, as n calls of `dcc_push` would. The answer is 1 where an outcome ends with one of
-/// them, which is written then with that half's number, and else 0. At most one of them ends an outcome.
+/// Takes `n` half-bits of `us` microseconds, as `n` calls of `dcc_push` do. At most one of these
+/// half-bits ends an outcome.
+///
+/// If an outcome ends, the function writes the outcome with the number of its last half-bit,
+/// counted from 1 in the run, and returns 1. If no outcome ends, the function returns 0.
 #[tactic(auto, unfolding(dcc_wire::specs::Framing::report_at))]
 #[unsafe(no_mangle)]
 pub extern "C" fn dcc_push_run(

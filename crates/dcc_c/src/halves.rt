@@ -1,26 +1,28 @@
-//! The halves of a packet that is sent.
+//! A function that writes the half-bits of a packet that is sent.
 
 ghost use Rattle.std.specs.Prelude.{◌≡◌, ◌≤◌, length, take, drop, true, false, IfSome, IfNone};
 ghost use Rattle.dcc_wire.specs.declared.timing.Timing.{Timing};
 ghost use Rattle.dcc_wire.specs.Frames.{IsFrame};
 ghost use Rattle.dcc_wire.specs.Sending.{sent};
 ghost use Rattle.dcc_wire.specs.Timings.{is_preamble};
-ghost use Rattle.dcc_c.specs.Halves.{IsNominal, is_sendable};
+ghost use Rattle.dcc_c.specs.Halves.{IsNominal, is_sendable_by_numbers};
 
 use crate::frame::check_frame;
 use dcc_wire::{Halves, Timing};
 
-/// Writes what is sent for the frame of these bytes, behind so many ones, 14 to 40: the halves in microseconds, 58 of a one and
-/// 100 of a zero. The answer is their number, 190 at most, or 0 where the bytes are no frame or the ones not so many; then
-/// nothing is written. What stands behind the last half stays as it is.
+/// Writes the half-bits of the frame with these bytes after `preamble` ones, 14 to 40. Each
+/// half-bit of a one takes 58 microseconds, and each half-bit of a zero takes 100 microseconds.
+/// Returns the number of half-bits, at most 190. The elements of `halves` after the last half-bit
+/// do not change. Returns 0, and writes nothing, if the bytes are no frame or the number of ones is
+/// not 14 to 40.
 #[unsafe(no_mangle)]
 pub extern "C" fn dcc_halves(frame: &[u8], preamble: u8, halves: &mut [u16; 190]) -> u8
-    ensures sent { is_sendable frame.now preamble ≡ true →
+    ensures sent { is_sendable_by_numbers frame.now preamble ≡ true →
         (timing : Timing) × IsNominal preamble timing × (take result halves.new ≡ sent frame.now timing) }
     ensures few { result ≤ 190 }
     ensures behind { drop result halves.new ≡ drop result halves.old }
-    ensures refused { is_sendable frame.now preamble ≡ false → result ≡ 0 }
-    ensures kept { is_sendable frame.now preamble ≡ false → halves.new ≡ halves.old }
+    ensures refused { is_sendable_by_numbers frame.now preamble ≡ false → result ≡ 0 }
+    ensures kept { is_sendable_by_numbers frame.now preamble ≡ false → halves.new ≡ halves.old }
 {
     match (check_frame(frame), nominal(preamble)) {
         (Ok(()), Some(timing)) => put_halves(frame, &timing, halves),
@@ -28,7 +30,8 @@ pub extern "C" fn dcc_halves(frame: &[u8], preamble: u8, halves: &mut [u16; 190]
     }
 }
 
-/// The nominal timing with so many ones, where a station may send them.
+/// Returns the nominal timing with this number of ones. Returns `None` if the number is not 14 to
+/// 40.
 #[tactic(auto, using(crate::proofs::HalvesLemmas::sent_with))]
 fn nominal(preamble: u8) -> Option<Timing>
     ensures timing { IfSome result (IsNominal preamble) }
@@ -42,7 +45,7 @@ fn nominal(preamble: u8) -> Option<Timing>
     }
 }
 
-/// Writes the halves of a frame, both of a bit at once, and those that may be left.
+/// Writes the half-bits of a frame, two at a time. Returns the number of half-bits.
 fn put_halves(frame: &[u8], timing: &Timing, halves: &mut [u16; 190]) -> u8
     requires frame { IsFrame frame.now }
     requires short { timing.now.preamble ≤ 40 }

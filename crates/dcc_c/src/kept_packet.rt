@@ -1,4 +1,4 @@
-//! A packet as the numbers of its frame.
+//! A packet that is stored as its frame.
 
 ghost use Rattle.std.specs.Prelude.{◌≡◌, ◌⊎◌, [], IsTrue, ◌↔◌};
 ghost use Rattle.dcc_wire.specs.Frames.{IsFrame};
@@ -12,7 +12,8 @@ use dcc_station::{displaces, displaces_loco};
 use dcc_wire::Frame;
 use std::marker::Model;
 
-/// A packet, kept as the numbers of its frame; Idle as no bytes. So it has 7 bytes, and zeros keep a packet.
+/// A packet that is stored as its frame, in 7 bytes. An idle packet is stored as no bytes, so a
+/// struct of zeros is an idle packet.
 #[repr(C)]
 #[derive(Clone, Copy)]
 pub struct KeptPacket {
@@ -37,7 +38,7 @@ impl Model for KeptPacket {
 }
 
 impl KeptPacket {
-    /// The packet, kept.
+    /// Creates the stored form of a packet.
     pub fn of(packet: &Packet) -> KeptPacket
         ensures { result ≡ packet.now }
     {
@@ -46,7 +47,7 @@ impl KeptPacket {
         }
     }
 
-    /// The packet that is kept.
+    /// Returns the packet that is stored.
     pub fn packet(&self) -> Packet
         ensures { result ≡ self.now }
     {
@@ -59,8 +60,8 @@ impl KeptPacket {
         }
     }
 
-    /// Whether a command puts an end to an entry that is kept. Of a packet to locomotives the two instructions are compared, and
-    /// no frame is made.
+    /// Returns true if a command displaces the stored entry. If the entry is a packet to
+    /// locomotives, the function compares instructions and creates no frame.
     pub fn is_displaced_by(&self, command: &Packet) -> bool
         ensures { IsTrue result ↔ Displaces command.now self.now }
     {
@@ -72,8 +73,9 @@ impl KeptPacket {
         self.is_displaced_as_read(command)
     }
 
-    /// The same of any packet, which is read for it.
-    // (it has no place on the stack where the instructions are compared)
+    /// Returns true if a command displaces the stored entry. The function reads the packet of the
+    /// entry from the frame, so the entry can be any packet.
+    // not inlined, so that the packet takes no stack while instructions are compared
     #[inline(never)]
     fn is_displaced_as_read(&self, command: &Packet) -> bool
         ensures { IsTrue result ↔ Displaces command.now self.now }
@@ -82,7 +84,7 @@ impl KeptPacket {
     }
 }
 
-/// The numbers by which a packet is kept.
+/// Returns the frame in which a packet is stored. An idle packet is stored as no bytes.
 fn kept_frame(packet: &Packet) -> DccFrame
     ensures numbers { result ≡ frame_numbers (kept_bytes packet.now) }
     ensures valid { (kept_bytes packet.now ≡ []) ⊎ IsFrame (kept_bytes packet.now) }

@@ -1,6 +1,7 @@
-//! The toolkit for programs in C: it finds packets in half-bits, reads and sends packets, and has decoders, command stations, the
-//! programming track and the reading of CVs. All values are numbers in the caller's memory, and no call allocates.
-//! `include/dcc.h` declares these calls and says what a caller owes.
+//! The toolkit for programs in C. The functions find packets in half-bits, read and send packets,
+//! and implement decoders, command stations, the programming track and the reading of CVs. The
+//! caller owns the memory of all objects, and no function allocates. `include/dcc.h` declares these
+//! functions and lists the duties of a caller.
 #![tactic(auto)]
 
 mod board;

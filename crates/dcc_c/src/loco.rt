@@ -1,4 +1,4 @@
-//! Locomotive decoders.
+//! Functions of locomotive decoders.
 
 ghost use Rattle.std.specs.Prelude.{◌≡◌, ◌≢◌, true, false, Option};
 ghost use Rattle.dcc_packet.specs.declared.address.Address.{Address};
@@ -21,7 +21,8 @@ use dcc_packet::{Packet, PacketFault};
 use dcc_regs::{LocoRegisters, Speed, loco_hears_frame};
 use dcc_wire::Frame;
 
-/// Makes a decoder that is powered up with these CVs, that of CV1 first: stopped, forward, all functions and binary states off.
+/// Initialises a locomotive decoder that is powered up with these CVs. The first byte of `cvs` is
+/// CV1. The decoder is stopped and forward, and all its functions and binary states are off.
 #[unsafe(no_mangle)]
 pub extern "C" fn dcc_loco_new(loco: &mut DccLoco, cvs: &[u8; 1024])
     ensures { (state : LocoState) × (is_state state ≡ true) × (loco.new ≡ loco_numbers state)
@@ -31,14 +32,16 @@ pub extern "C" fn dcc_loco_new(loco: &mut DccLoco, cvs: &[u8; 1024])
     loco.cvs.copy_from_slice(cvs);
 }
 
-/// The decoder hears the packet that these bytes spell, and does what it says where it is for it. The answer is 0; 1 or 2 where
-/// the bytes are no frame (L1, L2), 13 where the numbers are of no decoder (P13). In these cases nothing changes.
+/// Applies the packet of the frame with these bytes. The decoder ignores a packet that it does not
+/// hear. Returns 0, or 1 (L1) or 2 (L2) if the bytes are no frame, or 13 (P13) if no decoder has
+/// these fields. If the result is not 0, nothing changes.
 #[unsafe(no_mangle)]
 pub extern "C" fn dcc_loco_apply(loco: &mut DccLoco, frame: &[u8]) -> u8
     ensures no_frame { frame_answer frame.now ≢ 0 → result ≡ frame_answer frame.now }
     ensures applies { frame_answer frame.now ≡ 0 → (before : LocoState) → is_state before ≡ true
         → loco.old ≡ loco_numbers before →
-        (packet : Packet) × (after : LocoState) × (spelling packet ≡ frame.now) × (is_state after ≡ true) × (loco.new ≡ loco_numbers after)
+        (packet : Packet) × (after : LocoState) × (spelling packet ≡ frame.now) × (is_state after ≡ true)
+        × (loco.new ≡ loco_numbers after)
         × (result ≡ 0) × HasApplied packet (loco_who before) (loco_map before) (loco_who after) (loco_map after) }
     ensures decoder { result ≡ 0 → (before : LocoState) × (is_state before ≡ true) × (loco.old ≡ loco_numbers before) }
     ensures refused { result ≢ 0 → result ≢ frame_answer frame.now → result ≡ 13 }
@@ -56,13 +59,16 @@ pub extern "C" fn dcc_loco_apply(loco: &mut DccLoco, frame: &[u8]) -> u8
     }
 }
 
-/// Tells whether the packet that these bytes spell is for the decoder. The answer is 0; 1 or 2 where the bytes are no frame (L1,
-/// L2), 13 where no decoder has the address of these numbers (P13). In these cases nothing is told. The other numbers say nothing of it.
+/// Writes true to `heard` if the decoder hears the packet of the frame with these bytes, otherwise
+/// false. Returns 0, or 1 (L1) or 2 (L2) if the bytes are no frame, or 13 (P13) if no decoder has
+/// the address in the fields. If the result is not 0, nothing is written. The function reads only
+/// the address fields of `loco`.
 #[unsafe(no_mangle)]
 pub extern "C" fn dcc_loco_hears(loco: &DccLoco, frame: &[u8], heard: &mut bool) -> u8
     ensures no_frame { frame_answer frame.now ≢ 0 → result ≡ frame_answer frame.now }
     ensures tells { frame_answer frame.now ≡ 0 → (own : Option Address) → HasAddress loco.now own →
-        (packet : Packet) × (spelling packet ≡ frame.now) × (heard.new ≡ is_heard_by (Who.Loco own) packet) × (result ≡ 0) }
+        (packet : Packet) × (spelling packet ≡ frame.now) × (heard.new ≡ is_heard_by (Who.Loco own) packet)
+        × (result ≡ 0) }
     ensures address { result ≡ 0 → (own : Option Address) × HasAddress loco.now own }
     ensures refused { result ≢ 0 → result ≢ frame_answer frame.now → result ≡ 13 }
     ensures untold { result ≢ 0 → heard.new ≡ heard.old }
@@ -80,9 +86,11 @@ pub extern "C" fn dcc_loco_hears(loco: &DccLoco, frame: &[u8], heard: &mut bool)
     }
 }
 
-/// The decoder of these numbers hears the packet of a frame. Answers whether they are of one; where they are not nothing changes.
+/// Applies the packet of a frame to the decoder with these fields. Returns false, and changes
+/// nothing, if no decoder has these fields.
 fn apply(loco: &mut DccLoco, frame: &Frame) -> bool
-    ensures decoder { result ≡ true → (before : LocoState) × (is_state before ≡ true) × (loco.old ≡ loco_numbers before) }
+    ensures decoder { result ≡ true → (before : LocoState) × (is_state before ≡ true)
+        × (loco.old ≡ loco_numbers before) }
     ensures applies { (before : LocoState) → is_state before ≡ true → loco.old ≡ loco_numbers before →
         (packet : Packet) × (after : LocoState) × (spelling packet ≡ frame.now) × (is_state after ≡ true)
         × (loco.new ≡ loco_numbers after) × (result ≡ true)

@@ -1,6 +1,7 @@
-//! The numbers of a locomotive decoder, and the state that they stand for.
+//! The C struct of a locomotive decoder, and the state that its fields represent.
 
-ghost use Rattle.std.specs.Prelude.{◌≡◌, ◌↔◌, ℕ, ◌≤◌, ◌^◌, ◌<◌, true, Option, Some, None, Ok, IfSome, IfOk, IfErr, IsTrue};
+ghost use Rattle.std.specs.Prelude.{◌≡◌, ◌↔◌, ℕ, ◌≤◌, ◌^◌, ◌<◌, true, Option, Some, None, Ok, IfSome, IfOk, IfErr};
+ghost use Rattle.std.specs.Prelude.{IsTrue};
 ghost use Rattle.dcc_packet.specs.declared.address.Address.{Address};
 ghost use Rattle.dcc_packet.specs.declared.address.LongAddress.{LongAddress};
 ghost use Rattle.dcc_packet.specs.declared.address.ShortAddress.{ShortAddress};
@@ -13,7 +14,8 @@ ghost use Rattle.dcc_regs.specs.Loco.{is_pending_for};
 ghost use Rattle.dcc_regs.specs.LocoRegisters.{registers_in, with_cvs};
 ghost use Rattle.dcc_regs.specs.LocoState.{is_state};
 ghost use Rattle.dcc_c.specs.Packets.{address_kind, address_number};
-ghost use Rattle.dcc_c.specs.Locos.{HasAddress, loco_numbers, own_kind, own_number, pending_numbers, speed_mode, speed_step};
+ghost use Rattle.dcc_c.specs.Locos.{HasAddress, loco_numbers, own_kind, own_number, pending_numbers, speed_mode};
+ghost use Rattle.dcc_c.specs.Locos.{speed_step};
 ghost use Rattle.dcc_c.specs.Locos.{words_of};
 
 use crate::frame::DccFrame;
@@ -22,34 +24,37 @@ use dcc_packet::{Address, Packet, PacketFault};
 use dcc_regs::{LocoRegisters, Speed};
 use dcc_wire::Frame;
 
-/// What a locomotive decoder holds.
+/// The state of a locomotive decoder as a C struct.
 #[repr(C)]
 #[derive(Clone, Copy, Drop)]
 pub struct DccLoco {
-    /// The kind of its address: 0 it has none, 1 short, 2 long.
+    /// The kind of the address: 0 for none, 1 for short, 2 for long.
     pub address_kind: u8,
-    /// 0 stopped, 1 stopped at once, or 14, 28 or 126: at a step of so many.
+    /// The kind of the speed: 0 for stop, 1 for emergency stop, or the number of speed steps, which
+    /// is 14, 28 or 126.
     pub speed_mode: u8,
-    /// That step, from 1; 0 where it is stopped.
+    /// The speed step, counted from 1, or 0 for stop and emergency stop.
     pub step: u8,
-    /// Whether the direction is forward.
+    /// True if the direction is forward.
     pub forward: bool,
-    /// The number of its address, 0 where it has none.
+    /// The number of the address, or 0 if the decoder has no address.
     pub address: u16,
-    /// The CV write that it does when it hears it again, or no bytes.
+    /// The frame of the pending CV write, or no bytes if no write is pending.
     pub pending: DccFrame,
-    /// Bit n of the first is function n, bit n of the second function 64 + n.
+    /// The functions: bit n of the first number is function n, and bit n of the second number is
+    /// function 64 + n.
     pub functions: [u64; 2],
-    /// Bit n of the first is the binary state n, bit n of the second state 64 + n.
+    /// The binary states: bit n of the first number is state n, and bit n of the second number is
+    /// state 64 + n.
     pub states: [u64; 2],
-    /// CV1 to CV1024.
+    /// The values of CV1 to CV1024. The first byte of `cvs` is CV1.
     pub cvs: [u8; 1024],
 }
 
-/// How many numbers 64 bits have.
+/// The constant 2^64.
 const WORD: u128 = 1 << 64;
 
-/// Puts registers away as numbers, with the numbers of what is pending. The CVs stay as they are.
+/// Writes the registers and the frame of the pending write to the fields. The CVs do not change.
 pub(crate) fn put(loco: &mut DccLoco, registers: &LocoRegisters, pending: DccFrame)
     requires { pending ≡ pending_numbers registers.now.pending }
     ensures { loco.new ≡ loco_numbers (with_cvs registers.now loco.old.cvs) }
@@ -103,7 +108,8 @@ fn speed_step(speed: Speed) -> u8
     }
 }
 
-/// The numbers of what a packet leaves pending: those of its frame, or none.
+/// Returns the frame of the pending write after the packet of `frame`, or no bytes if no write is
+/// pending.
 pub(crate) fn pending_left(pending: &Option<Packet>, frame: &Frame) -> DccFrame
     requires { IfSome pending.now (λ packet. spelling packet ≡ frame.now) }
     ensures { result ≡ pending_numbers pending.now }
@@ -120,8 +126,9 @@ fn words_of(bits: u128) -> [u64; 2]
     [(bits % WORD) as u64, (bits / WORD) as u64]
 }
 
-/// Takes up the registers of these numbers, and answers whether they are of a decoder. Where they are of none the registers may be any.
-// (they are made in one place: each copy would stand on the stack beside it)
+/// Reads the registers from the fields. Returns false if no decoder has these fields. If the result
+/// is false, the registers can have any value.
+// writes the registers in place, since each copy would take space on the stack
 pub(crate) fn take_up(loco: &DccLoco, registers: &mut LocoRegisters) -> bool
     ensures found { (state : LocoState) → is_state state ≡ true → loco.now ≡ loco_numbers state
         → (result ≡ true) × (registers.new ≡ registers_in state) }
@@ -131,7 +138,8 @@ pub(crate) fn take_up(loco: &DccLoco, registers: &mut LocoRegisters) -> bool
     read(loco, registers) && registers.is_possible()
 }
 
-/// Reads the registers of these numbers, and answers whether they are of registers. Whether a decoder can hold these is not asked.
+/// Reads the registers from the fields. Returns false if a field is out of its range. The function
+/// does not check that a decoder can have these registers.
 fn read(loco: &DccLoco, registers: &mut LocoRegisters) -> bool
     ensures found { (state : LocoState) → is_state state ≡ true → loco.now ≡ loco_numbers state
         → (result ≡ true) × (registers.new ≡ registers_in state) }
@@ -151,7 +159,9 @@ fn read(loco: &DccLoco, registers: &mut LocoRegisters) -> bool
     read_pending(&loco.pending, &mut registers.pending)
 }
 
-/// The address of these numbers, or none. P13 where no decoder has such an address.
+/// Returns the address in the fields, or `None` if the decoder has no address.
+///
+/// Errors: P13 if no decoder can have this address.
 pub(crate) fn own_address(loco: &DccLoco) -> Result<Option<Address>, PacketFault>
     ensures found { (own : Option Address) → HasAddress loco.now own → result ≡ Ok own }
     ensures address { IfOk result (HasAddress loco.now) }
@@ -212,8 +222,9 @@ fn bits_of(words: &[u64; 2]) -> u128
     u128::from(words[1]) * WORD + u128::from(words[0])
 }
 
-/// What is pending by these numbers; by others it may be anything.
-// (a packet is read for it, which has no place on the stack beside the one that is heard)
+/// Reads the pending packet from its frame. Returns false if the bytes are no frame. If the result
+/// is false, the packet can have any value.
+// not inlined, so that the pending packet takes no stack while another packet is applied
 #[inline(never)]
 fn read_pending(numbers: &DccFrame, pending: &mut Option<Packet>) -> bool
     ensures found { (own : Option Address) (packet : Option Packet) → is_pending_for own packet ≡ true

@@ -1,4 +1,4 @@
-//! What a framer answers, as numbers.
+//! An outcome as a C struct.
 
 ghost use Rattle.std.specs.Prelude.{◌≡◌, ◌≢◌, ◌≤◌, [], length};
 ghost use Rattle.dcc_c.specs.Frames.{bytes_of, frame_numbers, zeros_behind};
@@ -7,19 +7,20 @@ ghost use Rattle.dcc_c.specs.Outcomes.{outcome_numbers, outcome_seen};
 use crate::frame::DccFrame;
 use dcc_wire::{Fault, Seen};
 
-/// An outcome: a packet, or a refusal by its number.
+/// An outcome as a C struct: a packet, or the number of a refusal.
 #[repr(C)]
 #[derive(Clone, Copy, Drop)]
 pub struct DccOutcome {
-    /// The number of its last half in the run that was pushed, from 1.
+    /// The number of the last half-bit of the outcome, counted from 1 in the pushed run.
     pub at: u32,
-    /// 0 for a packet, else 1 to 5 for the refusals H1 to H5.
+    /// The number of a refusal, 1 to 5 for H1 to H5, or 0 for a packet.
     pub refusal: u8,
-    /// The bytes of a packet or of a refusal 5, none with other refusals.
+    /// The bytes of a packet or of a refusal H5. Other refusals have no bytes.
     pub frame: DccFrame,
 }
 
-/// The outcome of an answer that is one.
+/// Returns the C struct of an outcome whose last half-bit is half-bit `at` of the run.
+#[inline(always)]
 pub(crate) fn outcome_of(at: u32, answer: &Seen) -> DccOutcome
     ensures at { result.at ≡ at }
     ensures says { answer.now ≢ Seen.Nothing → outcome_seen result ≡ answer.now }
@@ -36,7 +37,8 @@ pub(crate) fn outcome_of(at: u32, answer: &Seen) -> DccOutcome
     }
 }
 
-/// An outcome with no bytes.
+/// Returns the C struct of a refusal without bytes.
+#[inline(always)]
 fn refused(at: u32, refusal: u8) -> DccOutcome
     ensures at { result.at ≡ at }
     ensures refusal { result.refusal ≡ refusal }
@@ -53,7 +55,9 @@ fn refused(at: u32, refusal: u8) -> DccOutcome
     }
 }
 
-/// An outcome with these bytes, which are given once more with zeros behind them.
+/// Returns the C struct of an outcome with these bytes. The parameter `padded` has the bytes of
+/// `bytes`, followed by zeros.
+#[inline(always)]
 fn numbers(at: u32, refusal: u8, bytes: &[u8], padded: [u8; 6]) -> DccOutcome
     requires few { length bytes.now ≤ 6 }
     requires padded { padded ≡ zeros_behind 6 bytes.now }

@@ -1,150 +1,175 @@
-//! Packets as numbers.
+//! A packet as a C struct with a field for each value.
 
 ghost use Rattle.std.specs.Prelude.{◌≡◌, ◌≢◌};
 ghost use Rattle.dcc_packet.specs.declared.packet.Packet.{Packet};
+ghost use Rattle.dcc_wire.specs.Frames.{IsFrame};
 ghost use Rattle.dcc_packet.specs.Spelling.{spelling};
 ghost use Rattle.dcc_c.specs.Frames.{frame_answer};
 ghost use Rattle.dcc_c.specs.Packets.{address_kind, address_number, group_number, instruction_numbers, of_kind};
 ghost use Rattle.dcc_c.specs.Packets.{packet_numbers};
 
-use crate::frame::frame_of;
+use crate::frame::check_frame;
 use dcc_packet::{Address, CvNumber, Group, Packet, What};
 
-/// What a packet says. The fields that its kind has no use for are 0 or false.
+/// A packet as a C struct. The fields that the kind of the packet does not use are 0 or false.
 #[repr(C)]
 #[derive(Clone, Copy, Drop)]
 pub struct DccPacket {
-    /// 0 idle, 1 reset, 2 speed in 28 steps, 3 speed in 128, 4 functions, 5 binary state, 6 CV write, 7 CV verify, 8 CV bit
-    /// write, 9 CV bit verify, 10 accessory, 11 signal, 12 any other frame.
+    /// The kind of the packet. Kinds 0 to 5 are idle, reset, speed in 28 steps, speed in 128 steps,
+    /// functions and binary state. Kinds 6 to 9 are CV write, CV verify, CV bit write and CV bit
+    /// verify. Kinds 10 to 12 are accessory, signal and any other frame.
     pub kind: u8,
-    /// Kinds 1 to 9: 0 to all locomotive decoders, 1 to a short address, 2 to a long one.
+    /// The kind of the address, for kinds 1 to 9: 0 for a broadcast, 1 for a short address, 2 for a
+    /// long address.
     pub to: u8,
-    /// Kinds 1 to 9: the address, 0 where it is to all. Kind 10: the board. Kind 11: the signal.
+    /// The number of the address, for kinds 1 to 11, or 0 for a broadcast to locomotives. For kind
+    /// 10 the number is the address of the accessory decoder, and for kind 11 the address of the
+    /// signal.
     pub address: u16,
-    /// Kinds 2 and 3: whether the direction is forward.
+    /// True if the direction is forward, for kinds 2 and 3.
     pub forward: bool,
-    /// Kinds 2 and 3: the speed bits. Kind 4: the function bits.
+    /// The speed bits, for kinds 2 and 3, or the function bits, for kind 4.
     pub bits: u8,
-    /// Kind 4: the first function of the group: 0, 5, 9, 13, 21, 29, 37, 45, 53 or 61.
+    /// The first function of the function group, for kind 4: 0, 5, 9, 13, 21, 29, 37, 45, 53 or 61.
     pub group: u8,
-    /// Kind 5: the binary state, 0 for all of them.
+    /// The number of the binary state, for kind 5. Number 0 stands for all states.
     pub state: u8,
-    /// Kinds 5 and 10: whether the state or the output is to be on.
+    /// True if the binary state (kind 5) or the output (kind 10) is switched on.
     pub on: bool,
-    /// Kinds 6 to 9: the CV, 1 to 1024.
+    /// The number of the CV, 1 to 1024, for kinds 6 to 9.
     pub cv: u16,
-    /// Kinds 6 and 7: the byte.
+    /// The byte that is written or compared, for kinds 6 and 7.
     pub value: u8,
-    /// Kinds 8 and 9: the place of the bit, from the lowest.
+    /// The place of the bit, for kinds 8 and 9. Place 0 is the lowest bit.
     pub place: u8,
-    /// Kinds 8 and 9: whether the bit is one.
+    /// The value of the bit, for kinds 8 and 9.
     pub one: bool,
-    /// Kind 10: the output, 0 to 7.
+    /// The number of the output, 0 to 7, for kind 10.
     pub output: u8,
-    /// Kind 11: the aspect.
+    /// The aspect of the signal, for kind 11.
     pub aspect: u8,
 }
 
-/// What the packet says that these bytes spell. The answer is 0; 1 or 2 where they are no frame (L1, L2), and then nothing is
-/// written.
+/// Writes the packet of the frame with these bytes as a C struct. Returns 0, or 1 (L1) or 2 (L2) if
+/// the bytes are no frame. If the result is not 0, nothing is written.
 #[unsafe(no_mangle)]
 pub extern "C" fn dcc_read(frame: &[u8], packet: &mut DccPacket) -> u8
     ensures answer { result ≡ frame_answer frame.now }
     ensures read { result ≡ 0 → (what : Packet) × (spelling what ≡ frame.now) × (packet.new ≡ packet_numbers what) }
     ensures kept { result ≢ 0 → packet.new ≡ packet.old }
 {
-    match frame_of(frame) {
-        Ok(frame) => {
-            *packet = numbers(&Packet::read(&frame));
+    match check_frame(frame) {
+        Ok(()) => {
+            read(frame, packet);
             0
         }
         Err(number) => number,
     }
 }
 
-fn numbers(packet: &Packet) -> DccPacket
-    ensures { result ≡ packet_numbers packet.now }
+/// Writes the packet of the frame with these bytes as a C struct.
+#[inline(always)]
+fn read(frame: &[u8], packet: &mut DccPacket)
+    requires { IsFrame frame.now }
+    ensures { (what : Packet) × (spelling what ≡ frame.now) × (packet.new ≡ packet_numbers what) }
 {
-    match packet {
-        Packet::Idle => of_kind(0),
-        Packet::Loco { to, what } => DccPacket {
-            to: address_kind(to),
-            address: address_number(to),
-            ..instruction(what)
-        },
-        Packet::Accessory { board, output, on } => DccPacket {
-            address: board.number(),
-            output: output.number(),
-            on: *on,
-            ..of_kind(10)
-        },
-        Packet::Signal { address, aspect } => DccPacket {
-            address: address.number(),
-            aspect: *aspect,
-            ..of_kind(11)
-        },
-        Packet::Other(_) => of_kind(12),
+    *packet = of_kind(12);
+    if let Some(what) = Packet::of_row(frame) {
+        put(&what, packet);
     }
 }
 
-fn instruction(what: &What) -> DccPacket
-    ensures { result ≡ instruction_numbers what.now }
+/// Writes the kind and the values of a packet into `packet`, which has kind 12 and zeros.
+#[inline(always)]
+fn put(what: &Packet, packet: &mut DccPacket)
+    requires { packet.old ≡ of_kind 12 }
+    ensures { packet.new ≡ packet_numbers what.now }
 {
     match what {
-        What::Reset => of_kind(1),
-        What::Speed28 { forward, bits } => speed(2, *forward, bits.bits()),
-        What::Speed128 { forward, bits } => speed(3, *forward, bits.bits()),
-        What::Functions(functions) => DccPacket {
-            group: group_number(functions.group()),
-            bits: functions.bits(),
-            ..of_kind(4)
-        },
-        What::BinaryState { number, on } => DccPacket {
-            state: number.number(),
-            on: *on,
-            ..of_kind(5)
-        },
-        What::CvWrite { cv, value } => DccPacket {
-            value: *value,
-            ..cv_access(6, cv)
-        },
-        What::CvVerify { cv, value } => DccPacket {
-            value: *value,
-            ..cv_access(7, cv)
-        },
-        What::CvBitWrite { cv, place, one } => DccPacket {
-            place: place.place(),
-            one: *one,
-            ..cv_access(8, cv)
-        },
-        What::CvBitVerify { cv, place, one } => DccPacket {
-            place: place.place(),
-            one: *one,
-            ..cv_access(9, cv)
-        },
+        Packet::Idle => packet.kind = 0,
+        Packet::Loco { to, what } => {
+            packet.to = address_kind(to);
+            packet.address = address_number(to);
+            put_instruction(what, packet);
+        }
+        Packet::Accessory { board, output, on } => {
+            packet.kind = 10;
+            packet.address = board.number();
+            packet.output = output.number();
+            packet.on = *on;
+        }
+        Packet::Signal { address, aspect } => {
+            packet.kind = 11;
+            packet.address = address.number();
+            packet.aspect = *aspect;
+        }
+        Packet::Other(_) => (),
     }
 }
 
-fn speed(kind: u8, forward: bool, bits: u8) -> DccPacket
-    ensures { result ≡ record (of_kind kind) { forward = forward; bits = bits } }
+/// Writes the kind and the values of an instruction into `packet`, which has kind 12 and the
+/// address of the instruction.
+#[inline(always)]
+fn put_instruction(what: &What, packet: &mut DccPacket)
+    requires { packet.old ≡ record (of_kind 12) { to = packet.old.to; address = packet.old.address } }
+    ensures { packet.new ≡ record (instruction_numbers what.now) { to = packet.old.to; address = packet.old.address } }
 {
-    DccPacket {
-        forward,
-        bits,
-        ..of_kind(kind)
+    match what {
+        What::Reset => packet.kind = 1,
+        What::Speed28 { forward, bits } => put_speed(2, *forward, bits.bits(), packet),
+        What::Speed128 { forward, bits } => put_speed(3, *forward, bits.bits(), packet),
+        What::Functions(functions) => {
+            packet.kind = 4;
+            packet.group = group_number(functions.group());
+            packet.bits = functions.bits();
+        }
+        What::BinaryState { number, on } => {
+            packet.kind = 5;
+            packet.state = number.number();
+            packet.on = *on;
+        }
+        What::CvWrite { cv, value } => {
+            put_cv(6, cv, packet);
+            packet.value = *value;
+        }
+        What::CvVerify { cv, value } => {
+            put_cv(7, cv, packet);
+            packet.value = *value;
+        }
+        What::CvBitWrite { cv, place, one } => {
+            put_cv(8, cv, packet);
+            packet.place = place.place();
+            packet.one = *one;
+        }
+        What::CvBitVerify { cv, place, one } => {
+            put_cv(9, cv, packet);
+            packet.place = place.place();
+            packet.one = *one;
+        }
     }
 }
 
-fn cv_access(kind: u8, cv: &CvNumber) -> DccPacket
-    ensures { result ≡ record (of_kind kind) { cv = cv.now.number } }
+/// Writes the kind, the direction and the speed bits of a speed instruction.
+#[inline(always)]
+fn put_speed(kind: u8, forward: bool, bits: u8, packet: &mut DccPacket)
+    ensures { packet.new ≡ record packet.old { kind = kind; forward = forward; bits = bits } }
 {
-    DccPacket {
-        cv: cv.number(),
-        ..of_kind(kind)
-    }
+    packet.kind = kind;
+    packet.forward = forward;
+    packet.bits = bits;
 }
 
-/// A packet of a kind, and nothing else.
+/// Writes the kind and the number of the CV of an access to a CV.
+#[inline(always)]
+fn put_cv(kind: u8, cv: &CvNumber, packet: &mut DccPacket)
+    ensures { packet.new ≡ record packet.old { kind = kind; cv = cv.now.number } }
+{
+    packet.kind = kind;
+    packet.cv = cv.number();
+}
+
+/// Returns a packet of this kind, whose other fields are 0 or false.
+#[inline(always)]
 fn of_kind(kind: u8) -> DccPacket
     ensures { result ≡ of_kind kind }
 {
@@ -166,7 +191,7 @@ fn of_kind(kind: u8) -> DccPacket
     }
 }
 
-/// 0 all, 1 short, 2 long.
+/// Returns the kind of an address: 0 for a broadcast, 1 for a short address, 2 for a long address.
 pub(crate) fn address_kind(address: &Address) -> u8
     ensures { result ≡ address_kind address.now }
 {
@@ -187,7 +212,7 @@ pub(crate) fn address_number(address: &Address) -> u16
     }
 }
 
-/// A group by its first function.
+/// Returns the number of the first function of a group.
 fn group_number(group: Group) -> u8
     ensures { result ≡ group_number group }
 {

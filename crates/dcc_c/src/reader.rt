@@ -1,12 +1,12 @@
-//! A CV that is read on a programming track.
+//! Functions that read a CV on a programming track.
 
 ghost use Rattle.std.specs.Prelude.{◌≡◌, ◌≢◌, ◌≤◌, ◌∷◌, ◌++◌, [], true, false, Some, IfSome};
 ghost use Rattle.dcc_packet.specs.declared.cv.CvNumber.{CvNumber};
 ghost use Rattle.dcc_service.specs.declared.packet.ServicePacket.{ServicePacket};
 ghost use Rattle.dcc_service.specs.declared.reader.Reading.{Reading};
 ghost use Rattle.dcc_service.specs.CvAnswers.{Asks, CvAnswers};
-ghost use Rattle.dcc_service.specs.Readings.{Comes};
-ghost use Rattle.dcc_service.specs.Table.{spelling};
+ghost use Rattle.dcc_service.specs.Readings.{ReadingEnds};
+ghost use Rattle.dcc_service.specs.Table.{service_spelling};
 ghost use Rattle.dcc_c.specs.Frames.{frame_numbers};
 ghost use Rattle.dcc_c.specs.Readers.{IsReading, Tells, is_cv, reader_numbers};
 
@@ -14,19 +14,20 @@ use crate::frame::DccFrame;
 use dcc_packet::{CvNumber, PacketFault};
 use dcc_service::{CvReader, Reading};
 
-/// A CV that is read by nine questions.
+/// A reading of a CV, which asks nine questions.
 #[repr(C)]
 #[derive(Clone, Copy, Drop)]
 pub struct DccReader {
-    /// The CV, 1 to 1024.
+    /// The number of the CV, 1 to 1024.
     pub cv: u16,
-    /// How many questions were answered, 0 to 8: as many bits of the CV are known, from the lowest on.
+    /// The number of answers, 0 to 8. After n answers, the bits 0 to n - 1 of the CV are known.
     pub known: u8,
-    /// The value of these bits.
+    /// The value of the known bits. The unknown bits are 0.
     pub value: u8,
 }
 
-/// Begins to read a CV. The answer is 0, or 6 where there is no CV of this number, 1 to 1024 (P6), and then nothing is written.
+/// Begins to read a CV. Returns 0, or 6 (P6) if `cv` is not 1 to 1024. If the result is not 0,
+/// nothing is written.
 #[unsafe(no_mangle)]
 pub extern "C" fn dcc_reader_new(reader: &mut DccReader, cv: u16) -> u8
     ensures made { is_cv cv ≡ true
@@ -44,12 +45,14 @@ pub extern "C" fn dcc_reader_new(reader: &mut DccReader, cv: u16) -> u8
     }
 }
 
-/// Writes the frame of the next question. The answer is 0, or 13 where the numbers are of no reading (P13), and then nothing is
-/// written. The frame is sent five times behind three resets, `00 00 00` (NMRA S-9.2.3).
+/// Writes the frame of the next question. Returns 0, or 13 (P13) if no reading has these fields. If
+/// the result is not 0, nothing is written. The caller sends three resets, `00 00 00`, and then
+/// this frame five times (NMRA S-9.2.3).
 #[unsafe(no_mangle)]
 pub extern "C" fn dcc_reader_question(reader: &DccReader, question: &mut DccFrame) -> u8
     ensures asks { (so_far : CvAnswers) → IsReading reader.now so_far →
-        (packet : ServicePacket) × Asks so_far packet × (result ≡ 0) × (question.new ≡ frame_numbers (spelling packet)) }
+        (packet : ServicePacket) × Asks so_far packet × (result ≡ 0)
+        × (question.new ≡ frame_numbers (service_spelling packet)) }
     ensures reading { result ≡ 0 → (so_far : CvAnswers) × IsReading reader.now so_far }
     ensures refused { result ≢ 0 → result ≡ 13 }
     ensures kept { result ≢ 0 → question.new ≡ question.old }
@@ -63,13 +66,16 @@ pub extern "C" fn dcc_reader_question(reader: &DccReader, question: &mut DccFram
     }
 }
 
-/// Takes the answer to the question, yes where one of its frames was acknowledged. The answer is 0 where there is a further
-/// question; 1 where the CV has a value, which is written; 2 where none is known, since the last question was not acknowledged (S1);
-/// 13 where the numbers are of no reading (P13). The reading goes on with 0 alone, else it stays as it is.
+/// Applies the answer to the question. The parameter `yes` is true if the decoder acknowledged one
+/// of the frames. Returns 0 if a question is left. Returns 1 and writes the value if the CV has a
+/// value. Returns 2 (S1) if the decoder did not acknowledge the last question, so the value is
+/// unknown. Returns 13 (P13) if no reading has these fields. The reading changes only if the result
+/// is 0.
 #[unsafe(no_mangle)]
 pub extern "C" fn dcc_reader_answer(reader: &mut DccReader, yes: bool, value: &mut u8) -> u8
     ensures comes { (so_far : CvAnswers) → IsReading reader.old so_far →
-        (reading : Reading) × Comes so_far.cv (so_far.answers ++ yes ∷ []) reading × Tells reading result reader.new value.new }
+        (reading : Reading) × ReadingEnds so_far.cv (so_far.answers ++ yes ∷ []) reading
+        × Tells reading result reader.new value.new }
     ensures reading { result ≢ 13 → (so_far : CvAnswers) × IsReading reader.old so_far }
     ensures refused { 3 ≤ result → result ≡ 13 }
     ensures ended { result ≢ 0 → reader.new ≡ reader.old }
@@ -91,7 +97,7 @@ pub extern "C" fn dcc_reader_answer(reader: &mut DccReader, yes: bool, value: &m
     }
 }
 
-/// The numbers of a reading.
+/// Returns the C struct of a reading.
 fn numbers(reader: &CvReader) -> DccReader
     ensures { result ≡ reader_numbers reader.now }
 {
@@ -102,7 +108,8 @@ fn numbers(reader: &CvReader) -> DccReader
     }
 }
 
-/// The reading of these numbers, where they are of one.
+/// Returns the reading with the fields of a C struct. Returns `None` if no reading has these
+/// fields.
 fn taken_up(reader: &DccReader) -> Option<CvReader>
     ensures found { (so_far : CvAnswers) → IsReading reader.now so_far → result ≡ Some so_far }
     ensures reading { IfSome result (IsReading reader.now) }

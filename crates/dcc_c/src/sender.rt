@@ -1,4 +1,4 @@
-//! A packet that is sent half by half.
+//! Functions that send a packet half-bit by half-bit.
 
 ghost use Rattle.std.specs.Prelude.{◌≡◌, ◌≢◌, ◌≤◌, ℕ, List, [], ◌∷◌, MatchResult};
 ghost use Rattle.dcc_wire.specs.declared.timing.Timing.{Timing};
@@ -11,8 +11,9 @@ use crate::frame::check_frame;
 use crate::timing::{DccTiming, timing_of};
 use dcc_wire::Halves;
 
-/// Begins to send the frame of these bytes in this timing. The answer is 0; 6, 7 or 8 where a station may not send in the timing
-/// (H6, H7, H8), 1 or 2 where the bytes are no frame (L1, L2), and then nothing is written. The timing is looked at first.
+/// Begins to send the frame with these bytes in this timing. Returns 0, or 6 (H6), 7 (H7) or 8 (H8)
+/// if a station cannot send in this timing. Returns 1 (L1) or 2 (L2) if the timing is possible, but
+/// the bytes are no frame. If the result is not 0, nothing is written.
 #[unsafe(no_mangle)]
 pub extern "C" fn dcc_sender_start(sender: &mut Halves, frame: &[u8], timing: &DccTiming) -> u8
     ensures answer { result ≡ sending_answer frame.now timing.now }
@@ -29,7 +30,7 @@ pub extern "C" fn dcc_sender_start(sender: &mut Halves, frame: &[u8], timing: &D
     }
 }
 
-/// The halves of a packet of which nothing was sent, or the number of what refuses it.
+/// Returns all half-bits of the frame with these bytes, or the number of the error.
 fn started(frame: &[u8], timing: &DccTiming) -> Result<Halves, u8>
     ensures { MatchResult result
         (λ s. (sending_answer frame.now timing.now ≡ 0)
@@ -41,8 +42,8 @@ fn started(frame: &[u8], timing: &DccTiming) -> Result<Halves, u8>
     Ok(Halves::of_bytes(frame, &timing))
 }
 
-/// The next half of the packet in microseconds, which then counts as sent; 0 where none is left, and then nothing changes. A
-/// sender of zeros has none left.
+/// Removes the next half-bit of the packet and returns its duration in microseconds. Returns 0, and
+/// changes nothing, if no half-bit is left. A sender whose bytes are zeros has no half-bit left.
 #[unsafe(no_mangle)]
 pub extern "C" fn dcc_sender_half(sender: &mut Halves) -> u16
     ensures half { (us : ℕ) (later : List ℕ) → HasLeft sender.old (us ∷ later)

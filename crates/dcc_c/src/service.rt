@@ -1,9 +1,9 @@
-//! Decoders on the programming track.
+//! The C struct of a decoder on the programming track, and the functions on it.
 
 ghost use Rattle.std.specs.Prelude.{◌≡◌, ◌≢◌, Option, None, Some, false, IfSome};
 ghost use Rattle.dcc_service.specs.declared.packet.ServicePacket.{ServicePacket};
 ghost use Rattle.dcc_service.specs.Machine.{ServiceState, Step};
-ghost use Rattle.dcc_service.specs.Progress.{with_cvs};
+ghost use Rattle.dcc_service.specs.Progress.{state_with_cvs};
 ghost use Rattle.dcc_c.specs.Frames.{frame_answer};
 ghost use Rattle.dcc_c.specs.Services.{pending_bytes, service_numbers};
 
@@ -12,19 +12,20 @@ use dcc_packet::PacketFault;
 use dcc_service::{ServicePacket, ServiceProgress};
 use dcc_wire::Frame;
 
-/// What a decoder on the programming track holds.
+/// The state of a decoder on the programming track as a C struct.
 #[repr(C)]
 #[derive(Clone, Copy, Drop)]
 pub struct DccService {
-    /// Whether it is in service.
+    /// True if the decoder is in service mode.
     pub in_service: bool,
-    /// The service packet that it acts on when it comes again, or no bytes.
+    /// The frame of the pending service packet, or no bytes if no packet is pending.
     pub pending: DccFrame,
-    /// CV1 to CV1024.
+    /// The values of CV1 to CV1024. The first byte of `cvs` is CV1.
     pub cvs: [u8; 1024],
 }
 
-/// Makes a decoder out of service with these CVs, that of CV1 first.
+/// Initialises a decoder that is not in service mode, with these CVs. The first byte of `cvs` is
+/// CV1.
 #[unsafe(no_mangle)]
 pub extern "C" fn dcc_service_new(service: &mut DccService, cvs: &[u8; 1024])
     ensures { service.new ≡ service_numbers (record { in_service = false; pending = None; cvs = cvs.now }) }
@@ -33,8 +34,9 @@ pub extern "C" fn dcc_service_new(service: &mut DccService, cvs: &[u8; 1024])
     service.cvs.copy_from_slice(cvs);
 }
 
-/// The decoder takes the frame of these bytes, and tells whether it acknowledges it. The answer is 0; 1 or 2 where the bytes
-/// are no frame (L1, L2), 13 where the numbers are of no decoder (P13). In these cases nothing changes.
+/// Applies the frame with these bytes. The function writes true to `acknowledged` if the decoder
+/// acknowledges the frame, otherwise false. Returns 0, or 1 (L1) or 2 (L2) if the bytes are no
+/// frame, or 13 (P13) if no decoder has these fields. If the result is not 0, nothing changes.
 #[unsafe(no_mangle)]
 pub extern "C" fn dcc_service_apply(
     service: &mut DccService,
@@ -43,7 +45,8 @@ pub extern "C" fn dcc_service_apply(
 ) -> u8
     ensures no_frame { frame_answer frame.now ≢ 0 → result ≡ frame_answer frame.now }
     ensures steps { frame_answer frame.now ≡ 0 → (before : ServiceState) → service.old ≡ service_numbers before →
-        (after : ServiceState) × (service.new ≡ service_numbers after) × (result ≡ 0) × Step before frame.now after acknowledged.new }
+        (after : ServiceState) × (service.new ≡ service_numbers after) × (result ≡ 0)
+        × Step before frame.now after acknowledged.new }
     ensures decoder { result ≡ 0 → (before : ServiceState) × (service.old ≡ service_numbers before) }
     ensures refused { result ≢ 0 → result ≢ frame_answer frame.now → result ≡ 13 }
     ensures kept { result ≢ 0 → service.new ≡ service.old }
@@ -62,9 +65,9 @@ pub extern "C" fn dcc_service_apply(
     }
 }
 
-/// Puts away how far a decoder is. The CVs stay as they are.
+/// Writes the state of a decoder to the fields, except the CVs.
 fn put(service: &mut DccService, progress: &ServiceProgress)
-    ensures { service.new ≡ service_numbers (with_cvs progress.now service.old.cvs) }
+    ensures { service.new ≡ service_numbers (state_with_cvs progress.now service.old.cvs) }
 {
     service.in_service = progress.in_service;
     service.pending = pending_bytes(&progress.pending);
@@ -79,11 +82,13 @@ fn pending_bytes(pending: &Option<ServicePacket>) -> DccFrame
     }
 }
 
-/// How far the decoder of these numbers is, where they are of one.
+/// Returns the state of the decoder with these fields, without the CVs. Returns `None` if no
+/// decoder has these fields.
 fn progress_of(service: &DccService) -> Option<ServiceProgress>
     ensures found { (state : ServiceState) → service.now ≡ service_numbers state
         → result ≡ Some (record { in_service = state.in_service; pending = state.pending }) }
-    ensures numbers { IfSome result (λ progress. service.now ≡ service_numbers (with_cvs progress service.now.cvs)) }
+    ensures numbers { IfSome result (λ progress. service.now ≡ service_numbers
+        (state_with_cvs progress service.now.cvs)) }
 {
     let pending = pending_of(&service.pending)?;
     if service.pending.is(&pending_bytes(&pending)) {

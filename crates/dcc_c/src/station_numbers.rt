@@ -1,11 +1,11 @@
-//! What a command station has, in the caller's memory.
+//! The C struct of a command station, in memory that the caller owns.
 
 ghost use Rattle.std.specs.Prelude.{◌≤◌};
 
 use crate::station_ring::DccRing;
 
-/// A command station: a ring of the commands that wait, and one of the entries that it refreshes. What it holds is no
-/// caller's business. Zeros are a station with no room.
+/// A command station, which consists of a ring for the queue and a ring for the entries. The fields
+/// of a `DccStation` are private. A struct of zeros is a station without capacity.
 #[repr(C)]
 #[derive(Clone, Copy, Drop)]
 pub struct DccStation {

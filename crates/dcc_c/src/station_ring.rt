@@ -1,4 +1,4 @@
-//! A ring of packets in the caller's memory.
+//! The C struct of a ring of packets, in memory that the caller owns.
 
 ghost use Rattle.std.specs.Prelude.{◌≡◌, ◌≤◌, ◌<◌, length};
 ghost use Rattle.circular_buffer.specs.Places.{Wraps};
@@ -7,7 +7,8 @@ use crate::kept_packet::KeptPacket;
 use dcc_packet::Packet;
 use dcc_station::PacketRing;
 
-/// A ring of at most 128 packets, each kept as its frame. Behind the last place comes the first.
+/// A ring of at most 128 packets, each stored as its frame. In the ring, the first place follows
+/// the last place.
 #[repr(C)]
 #[derive(Clone, Copy, Drop)]
 pub struct DccRing {
@@ -23,7 +24,7 @@ impl DccRing {
     ghost use Rattle.circular_buffer.specs.Buffer.{buffer};
     ghost use Rattle.dcc_c.specs.Stations.{ring_of};
 
-    /// No packet is left in it, and it is for so many.
+    /// Removes all packets and sets the capacity of the ring.
     pub fn clear(&mut self, capacity: u8)
         requires { capacity ≤ 128 }
         ensures { ring_of self.new ≡ buffer [] capacity }
@@ -33,7 +34,7 @@ impl DccRing {
         self.capacity = capacity;
     }
 
-    /// Takes the front one away. There is one.
+    /// Removes the first packet. The ring must not be empty.
     fn remove_front(&mut self)
         requires { 0 < length (ring_of self.old).items }
         ensures { ring_of self.new ≡ buffer (drop 1 (ring_of self.old).items) (ring_of self.old).capacity }
@@ -42,7 +43,7 @@ impl DccRing {
         self.len -= 1;
     }
 
-    /// Adds one at the end. There is room.
+    /// Appends a packet. The ring must not be full.
     fn add(&mut self, packet: KeptPacket)
         requires { length (ring_of self.old).items < (ring_of self.old).capacity }
         ensures { ring_of self.new ≡ buffer ((ring_of self.old).items ++ packet ∷ []) (ring_of self.old).capacity }
@@ -116,7 +117,7 @@ impl PacketRing for DccRing {
     }
 }
 
-/// The place so many places behind another.
+/// Returns the place in the ring that is `by` places after `place`.
 fn place_behind(place: u8, by: u8) -> u8
     requires inside { place < 128 }
     requires once { by ≤ 128 }

@@ -9,14 +9,15 @@ use Rattle.dcc_io.specs.declared.fault.KeptFault.{KeptFault}
 use Rattle.dcc_io.specs.declared.fault.KeptFault.TheVariants.{Number, Read, TooMuch}
 use Rattle.dcc_io.specs.TextPlace.{TextPlace, line_behind}
 use Rattle.dcc_io.specs.InputState.{InputState, all_lines}
-use Rattle.dcc_io.specs.Words.{Word, ended_words, is_gap, without_comments, onto_first, pieces, but_last, has_bytes}
+use Rattle.dcc_io.specs.Words.{PlacedWord, ended_words, is_gap, without_comments, onto_first, pieces, but_last}
+use Rattle.dcc_io.specs.Words.{has_bytes}
 use Rattle.dcc_io.specs.Words.{is_mark, run_of}
 use Rattle.dcc_io.specs.Took.{within_limit}
 use Rattle.dcc_io.specs.PassedWords.{Passed, IsBeforeWord, AnswersWord}
-use Rattle.dcc_capture.specs.Capture.{halves_of}
+use Rattle.dcc_capture.specs.Capture.{halves_of_words}
 use Rattle.dcc_capture.specs.BothCaptures.{Both, Said, fault_alone, in_front, only_second, has_more_words, behind_mark}
 use Rattle.dcc_capture.specs.BothCaptures.{both_of, both_from, in_limit}
-use Rattle.dcc_capture.specs.FirstRead.{LeadsIn, Leads, first_so_far, first_is, StopsBoth, FirstLinesAt, AnswersFirst}
+use Rattle.dcc_capture.specs.FirstRead.{LeadsIn, LeadsTo, first_so_far, first_is, StopsBoth, FirstLinesAt, AnswersFirst}
 use Rattle.dcc_capture.specs.Inner.FirstSteps.{CountsWord, EndsMark}
 use Rattle.dcc_io.proofs.TookLemmas.{same_cond, if_some_all, map_text, Took-start, Took-counted, Took-join, told_behind}
 use Rattle.dcc_io.proofs.TookLemmas.{fails_behind, within_limit-used, not_within, LinesAt-behind}
@@ -24,25 +25,25 @@ use Rattle.dcc_capture.proofs.CaptureLemmas.{enough, next_runs_over}
 use Rattle.dcc_capture.proofs.RunWordLemmas.{some_half}
 
 -- each word stands on this line or behind it
-abbrev AllFrom : ℕ → List Word → Type 0
+abbrev AllFrom : ℕ → List PlacedWord → Type 0
 AllFrom line [] = Unit {0}
 AllFrom line (word ∷ words) = (line ≤ word.line) × AllFrom line words
 
-from_before : (line next : ℕ) (words : List Word) → line ≤ next → AllFrom next words → AllFrom line words
+from_before : (line next : ℕ) (words : List PlacedWord) → line ≤ next → AllFrom next words → AllFrom line words
 from_before line next [] before all = tt
 from_before line next (word ∷ words) before all =
     (omega (arith, before, all.0), from_before line next words before all.1)
 
-from_onto_first : (line byte : ℕ) (words : List Word) → AllFrom line words → AllFrom line (onto_first byte words)
+from_onto_first : (line byte : ℕ) (words : List PlacedWord) → AllFrom line words → AllFrom line (onto_first byte words)
 from_onto_first line byte [] all = tt
 from_onto_first line byte (word ∷ words) all = all
 
-from_but_last : (line : ℕ) (words : List Word) → AllFrom line words → AllFrom line (but_last words)
+from_but_last : (line : ℕ) (words : List PlacedWord) → AllFrom line words → AllFrom line (but_last words)
 from_but_last line [] all = tt
 from_but_last line (word ∷ []) all = tt
 from_but_last line (word ∷ next ∷ words) all = (all.0, from_but_last line (next ∷ words) all.1)
 
-from_filter : (line : ℕ) (p : Word → Bool) (words : List Word) → AllFrom line words → AllFrom line (filter p words)
+from_filter : (line : ℕ) (p : PlacedWord → Bool) (words : List PlacedWord) → AllFrom line words → AllFrom line (filter p words)
 from_filter line p [] all = tt
 from_filter line p (word ∷ words) all =
     let rest = from_filter line p words all.1 in
@@ -66,27 +67,27 @@ no_more_words line place text behind =
     go (ended_words place text) (from_filter place.line has_bytes (but_last words)
     (from_but_last place.line words (from_pieces place.line shown)))
   where
-    go : (words : List Word) → AllFrom place.line words → has_more_words line words ≡ false
+    go : (words : List PlacedWord) → AllFrom place.line words → has_more_words line words ≡ false
     go [] all = refl
     go (word ∷ words) all = ne_eqb word.line line (λ same. omega (arith, behind, all.0, same))
 
 -- what comes behind the line of a mark is the second capture
 pub second_behind : (line most : ℕ) (place : TextPlace) (rest more : List ℕ) (last : Option KeptFault)
     → (rest ≡ []) ⊎ (line < place.line) → (rest ≡ [] → more ≡ [])
-    → behind_mark line most (ended_words place more) last ≡ only_second (halves_of most (ended_words place more) last)
+    → behind_mark line most (ended_words place more) last ≡ only_second (halves_of_words most (ended_words place more) last)
 second_behind line most place rest more last (inl none) front = rw (front none) refl
 second_behind line most place rest more last (inr behind) front = rw (no_more_words line place more behind) refl
 
 pub Leads-start : (before : ℕ) (input : InputState) → input.fault ≡ None
-    → Leads before input input (both_from before input)
+    → LeadsTo before input input (both_from before input)
 Leads-start before input fault = Took-start input fault (λ end more last. refl)
 
 -- more words were read
-pub Leads-words : (before : ℕ) {old now new : InputState} {words : List Word} (F : ℕ → List Word → Option KeptFault → Both)
-    {G : Said} → Leads before old now (λ end more last. F end (ended_words now.place more) last) → Passed now words new
+pub Leads-words : (before : ℕ) {old now new : InputState} {words : List PlacedWord} (F : ℕ → List PlacedWord → Option KeptFault → Both)
+    {G : Said} → LeadsTo before old now (λ end more last. F end (ended_words now.place more) last) → Passed now words new
     → ((end : ℕ) (more : List ℕ) (last : Option KeptFault)
     → F end (words ++ ended_words new.place more) last ≡ G end more last)
-    → Leads before old new G
+    → LeadsTo before old new G
 Leads-words before F leads passed each =
     Took-join leads passed.took
     (λ first second says passes end more last.
@@ -94,9 +95,9 @@ Leads-words before F leads passed each =
 
 -- halves of the first capture, and then what leads on from there
 pub Leads-join : (first before : ℕ) (start now new : InputState) (halves : List ℕ) (G H : Said)
-    → Leads first start now (first_so_far halves before now) → Leads before now new G
+    → LeadsTo first start now (first_so_far halves before now) → LeadsTo before now new G
     → ((end : ℕ) (more : List ℕ) (last : Option KeptFault) → in_front halves (G end more last) ≡ H end more last)
-    → Leads first start new H
+    → LeadsTo first start new H
 Leads-join first before start now new halves G H leads next each =
     Took-join leads next
     (λ front back says then end more last.
@@ -113,7 +114,7 @@ in_limit_of before old new said text rest leads =
 
 -- a fault stands, whatever follows
 stops_said : (before : ℕ) {old mid : InputState} (fault : KeptFault)
-    → Leads before old mid (λ end more last. fault_alone fault)
+    → LeadsTo before old mid (λ end more last. fault_alone fault)
     → IfSome old.text (λ text. in_limit (both_from before old) old text ≡ fault_alone fault)
 stops_said before {old = old} {mid = mid} fault leads =
     map_text (LeadsIn before old mid (λ end more last. fault_alone fault)) _ old.text mid.text (λ text rest uses.
@@ -121,8 +122,8 @@ stops_said before {old = old} {mid = mid} fault leads =
     ∙ same_cond (nat_le (length rest) mid.bytes) (fault_alone fault)) leads.text
 
 -- a fault before the next word
-stops_word : (before : ℕ) {old mid : InputState} (F : ℕ → List Word → Option KeptFault → Both) (new : InputState)
-    (fault : KeptFault) → Leads before old mid (λ end more last. F end (ended_words mid.place more) last)
+stops_word : (before : ℕ) {old mid : InputState} (F : ℕ → List PlacedWord → Option KeptFault → Both) (new : InputState)
+    (fault : KeptFault) → LeadsTo before old mid (λ end more last. F end (ended_words mid.place more) last)
     → AnswersWord mid (Err fault) new → ((end : ℕ) (f : KeptFault) → F end [] (Some f) ≡ fault_alone f)
     → StopsBoth before old fault new × (new.fault ≡ Some fault) × FirstLinesAt before old fault new
 stops_word before {old = old} {mid = mid} F new Read leads answer each = (
@@ -157,7 +158,7 @@ module _ (before line : ℕ) (word : List ℕ) (old mid : InputState) (fault : o
       → ((end : ℕ) (more : List ℕ) (last : Option KeptFault)
       → both_of before old.halves end (record { line = line; bytes = word } ∷ ended_words mid.place more) last ≡ G
       end more last)
-      → Leads before old mid G
+      → LeadsTo before old mid G
   led G each =
       Leads-words before (λ end ws last. both_of before old.halves end ws last) (Leads-start before old fault) passed each
 
@@ -212,7 +213,7 @@ module _ (before line : ℕ) (word : List ℕ) (old mid : InputState) (fault : o
   counts new (Err told) none fewer lines count = refuses_word new told none lines count.0 count.1
 
   at_mark : mark ≡ true
-      → Leads before old mid (λ end more last. behind_mark line old.halves (ended_words mid.place more) last)
+      → LeadsTo before old mid (λ end more last. behind_mark line old.halves (ended_words mid.place more) last)
   at_mark begins = led _ (λ end more last. rw begins refl)
 
   pub marks : (new : InputState) (result : Result (Option (ℕ × Run)) KeptFault) → mark ≡ true → line ≤ mid.place.line

@@ -8,10 +8,10 @@ use Rattle.dcc_io.specs.declared.word.RunWord.{RunWord}
 use Rattle.dcc_io.specs.declared.fault.KeptFault.{KeptFault}
 use Rattle.dcc_io.specs.declared.fault.KeptFault.TheVariants.{Number, Line, Read, TooMuch}
 use Rattle.dcc_io.specs.InputState.{InputState}
-use Rattle.dcc_io.specs.Words.{Word, ended_words, run_of}
+use Rattle.dcc_io.specs.Words.{PlacedWord, ended_words, run_of}
 use Rattle.dcc_io.specs.PassedWords.{Passed, IsBeforeWord, EndsWord, AnswersWord}
 use Rattle.dcc_io.specs.Items.{only_fault, Gave}
-use Rattle.dcc_capture.specs.Capture.{halves_of, capture_in, captures, GaveHalves, NextRunsOver, CaptureLinesAt}
+use Rattle.dcc_capture.specs.Capture.{halves_of_words, capture_in, captures, GaveHalves, NextRunsOver, CaptureLinesAt}
 use Rattle.dcc_capture.specs.Capture.{AnswersRun}
 use Rattle.dcc_io.specs.Counted.{CountsRun}
 use Rattle.dcc_io.proofs.TookLemmas.{within_limit-stops, not_within, Took-counted, Stops-map, overflows, LinesAt-behind}
@@ -29,8 +29,8 @@ Gave-word {mid = mid} {run = run} passed spells fits is_new = rw is_new record {
 }
 
 -- words behind which only this fault comes
-stops_text : (old mid : InputState) (words : List Word) (fault : KeptFault) → Passed old words mid
-    → ((ws : List Word) (last : Option KeptFault) → halves_of old.halves (words ++ ws) last ≡ only_fault (Some fault))
+stops_text : (old mid : InputState) (words : List PlacedWord) (fault : KeptFault) → Passed old words mid
+    → ((ws : List PlacedWord) (last : Option KeptFault) → halves_of_words old.halves (words ++ ws) last ≡ only_fault (Some fault))
     → IfSome old.text (λ text. capture_in old text ≡ only_fault (Some fault))
 stops_text old mid words fault passed each =
     within_limit-stops (captures old) (only_fault (Some fault)) passed.took

@@ -6,10 +6,10 @@ use Rattle.std.specs.Fmt.{decimal}
 use Rattle.std.specs.List.{AllByRecursion}
 use Rattle.dcc_io.specs.declared.fault.KeptFault.{KeptFault}
 use Rattle.dcc_io.specs.Items.{items_behind}
-use Rattle.dcc_io.specs.Words.{Word, duration_of}
+use Rattle.dcc_io.specs.Words.{PlacedWord, duration_of}
 use Rattle.dcc_io.proofs.DecimalLemmas.{half_is_short}
 use Rattle.dcc_io.proofs.NumberWords.{IsSmall, number_words, decimal_digits}
-use Rattle.dcc_capture.specs.Capture.{halves_of}
+use Rattle.dcc_capture.specs.Capture.{halves_of_words}
 use Rattle.dcc_capture.proofs.CaptureLemmas.{enough}
 use Rattle.dcc_capture.proofs.RunWordLemmas.{run_of_duration}
 
@@ -22,11 +22,11 @@ duration_back n small =
     rw (some, few, decimal_digits n small, (decimal_is_IsNumeral n (omega (arith, small))).1) (ap Some capped)
 
 -- these halves are taken, and then those of the words behind them
-pub numbers_taken : (most line : ℕ) (ns : List ℕ) (ws : List Word) (last : Option KeptFault)
+pub numbers_taken : (most line : ℕ) (ns : List ℕ) (ws : List PlacedWord) (last : Option KeptFault)
     → AllByRecursion IsSmall ns → length ns ≤ most
-    → halves_of most (number_words line ns ++ ws) last ≡ items_behind ns (halves_of (most - length ns) ws last)
+    → halves_of_words most (number_words line ns ++ ws) last ≡ items_behind ns (halves_of_words (most - length ns) ws last)
 numbers_taken most line [] ws last small fits =
-    let none : most ≡ most - 0 = omega arith in ap (λ m. halves_of m ws last) none
+    let none : most ≡ most - 0 = omega arith in ap (λ m. halves_of_words m ws last) none
 numbers_taken most line (n ∷ ns) ws last small fits =
     let run = run_of_duration (decimal n) n (decimal_digits n small.0) (duration_back n small.0) in
     let fewer : most - 1 - length ns ≡ most - suc (length ns) = omega arith in

@@ -6,11 +6,11 @@ use Rattle.std.specs.List.{list_all}
 use Rattle.std.specs.Char.{is_ascii_digit}
 use Rattle.std.specs.Str.Parse.{digits_value}
 use Rattle.dcc_io.specs.declared.word.Run.{Run}
-use Rattle.dcc_io.specs.Words.{duration_of, count_of, before_star, behind_star, times, run_with, run_of}
+use Rattle.dcc_io.specs.Words.{duration_of, count_in_word, before_star, behind_star, times, run_with, run_of}
 use Rattle.dcc_io.proofs.SpellsLemmas.{no_star_in, before_all}
 
 -- a count is at least one
-count_some : (count : List ℕ) (n : ℕ) → count_of count ≡ Some n → 0 < n
+count_some : (count : List ℕ) (n : ℕ) → count_in_word count ≡ Some n → 0 < n
 count_some count n is =
     let v = digits_value 10 count in
     let form = nat_lt 0 (length count) && (nat_le (length count) 8 && list_all is_ascii_digit count) in

@@ -24,7 +24,7 @@ use Rattle.dcc_capture.specs.Capture.{captures, capture_in, GaveHalves, AnswersR
 use Rattle.dcc_io.specs.Items.{Items, Gives, StopsAt}
 use Rattle.dcc_capture.specs.Listing.{IsListing}
 use Rattle.dcc_io.specs.WrittenBytes.{AppendsFront}
-use Rattle.dcc_capture.specs.Shown.{StopsWriting, Lists, ListsFront, Shows}
+use Rattle.dcc_capture.specs.Shown.{StopsWriting, WritesListing, ListsFront, Shows}
 use Rattle.dcc_io.specs.Held.{Holds}
 use Rattle.dcc_capture.specs.Inner.Held.{WritesRest}
 use Rattle.dcc_io.proofs.CallLemmas.{gives_up}
@@ -206,14 +206,14 @@ module _ {words : Bool} {start : InputState} {before : WriterState} where
         → Shows words start before result new then
     stops_at_fault new fault answer (inl wrote) =
         let stops = stops_at_run_fault now new fault answer in
-        rw wrote.0 (gives_up (λ kept. (IsOfCapture kept × ReadsTo captures start kept new (Lists words before then)
+        rw wrote.0 (gives_up (λ kept. (IsOfCapture kept × ReadsTo captures start kept new (WritesListing words before then)
         × CaptureLinesAt start kept new)
         × (then.failures ≡ before.failures)) _ _ fault (
           (
             stops.2,
             record {
               kept = stops.1;
-              items = reads_up_to captures start now new fault showing.halves (Lists words before then)
+              items = reads_up_to captures start now new fault showing.halves (WritesListing words before then)
                   showing.gave.items stops.0
                   (showing.text, showing.lists, Holds-rest before after then _ _ showing.holds wrote.1);
             },
@@ -248,7 +248,7 @@ module _ {words : Bool} {start : InputState} {before : WriterState} where
           record {
             items = (
               up_to_fault captures start now showing.halves None
-                  (λ halves. Lists words before then halves × (new.halves + length halves ≡ start.halves))
+                  (λ halves. WritesListing words before then halves × (new.halves + length halves ≡ start.halves))
                   showing.gave.items answer.2 (
                     (showing.text, showing.lists, Holds-rest before after then _ _ showing.holds wrote.1),
                     omega (arith, showing.gave.left, all.left),

@@ -1,71 +1,77 @@
--- The two captures of one input, with a line of the one word `---` between them.
+-- The two captures of an input. The line between them has the word `---` and no other word.
 use Rattle.std.specs.Prelude.{ℕ, ◌+◌, ◌-◌, ◌==◌, ◌&&◌, not, nat_le, ◌∷◌, ◌++◌, List, [], Bool, false, Option, None}
 use Rattle.std.specs.Prelude.{Some, replicate, if◌then◌else◌}
 use Rattle.dcc_io.specs.declared.fault.KeptFault.{KeptFault}
 use Rattle.dcc_io.specs.declared.fault.KeptFault.TheVariants.{Number, TooMuch}
 use Rattle.dcc_io.specs.declared.word.Run.{Run}
 use Rattle.dcc_io.specs.InputState.{InputState, all_lines}
-use Rattle.dcc_io.specs.Words.{Word, ended_words, is_mark, run_of}
+use Rattle.dcc_io.specs.Words.{PlacedWord, ended_words, is_mark, run_of}
 use Rattle.dcc_io.specs.Took.{within_limit, fault_at_end}
 use Rattle.dcc_io.specs.Items.{Items}
-use Rattle.dcc_capture.specs.Capture.{halves_of}
+use Rattle.dcc_capture.specs.Capture.{halves_of_words}
 
--- the halves of both captures before the first fault, and that fault
+-- the half-bits of two captures before the first error, and this error, or `None` if there is no
+-- error
 pub record Both : Type 0 where
   pub first : List ℕ
   pub second : List ℕ
   pub fault : Option KeptFault
 
--- nothing comes before this fault
+-- two captures without half-bits, and the error `fault`
 abbrev pub fault_alone : KeptFault → Both
 fault_alone fault = record { first = []; second = []; fault = Some fault }
 
--- more halves in front of the first capture
+-- two captures: `halves` followed by the first capture of `both`, and the second capture of `both`
 abbrev pub in_front : List ℕ → Both → Both
 in_front halves both = record { first = halves ++ both.first; second = both.second; fault = both.fault }
 
--- all that is left is the second capture
+-- an empty first capture, and the second capture `items`
 abbrev pub only_second : Items ℕ → Both
 only_second items = record { first = []; second = items.said; fault = items.fault }
 
--- whether the next word stands on this line
-abbrev pub has_more_words : ℕ → List Word → Bool
+-- true if the next word of a list is on line `line`
+abbrev pub has_more_words : ℕ → List PlacedWord → Bool
 has_more_words line [] = false
 has_more_words line (word ∷ words) = word.line == line
 
--- what comes behind the word `---` that begins this line
-abbrev pub behind_mark : ℕ → ℕ → List Word → Option KeptFault → Both
+-- both captures after the word `---` at the beginning of line `line`: no half-bit, and the
+-- half-bits of `words`. If another word is on line `line`, they end with the error U2.
+abbrev pub behind_mark : ℕ → ℕ → List PlacedWord → Option KeptFault → Both
 behind_mark line most words last =
-    if has_more_words line words then fault_alone (Number line) else only_second (halves_of most words last)
+    if has_more_words line words then fault_alone (Number line) else only_second (halves_of_words most words last)
 
--- a run of the first capture, where at most so many halves may be taken, and what comes behind it where so many are
--- left
+-- both captures if the first one begins with `run`, or the error U7 if `run` has more half-bits
+-- than the limit `most`. `rest` gives both captures after `run` for the remaining limit.
 abbrev pub counted_first : ℕ → Run → (ℕ → Both) → Both
 counted_first most run rest =
     if nat_le run.n most then in_front (replicate run.n run.us) (rest (most - run.n)) else fault_alone TooMuch
 
--- a word of the first capture on this line that spells a run, or does not, and what comes behind it
+-- both captures if the first one begins with the run of a word on line `line`, or the error U2 if
+-- the word has no run. `rest` gives both captures after the run for the remaining limit.
 abbrev pub spelled_first : ℕ → ℕ → Option Run → (ℕ → Both) → Both
 spelled_first most line None rest = fault_alone (Number line)
 spelled_first most line (Some run) rest = counted_first most run rest
 
--- Both captures in these words, where at most so many halves may be taken. The word before them stands on the line
--- `before`, 0 where there is none. Behind the last word comes this fault, or else the end: what lacks the line `---`
--- there lacks it on the line `end`.
-abbrev pub both_of : ℕ → ℕ → ℕ → List Word → Option KeptFault → Both
+-- Both captures of a list of words, if `most` is the limit of half-bits. The word before the list
+-- is on line `before`, or `before` is 0. If `last` is `None`, the input ends after the list,
+-- otherwise `last` is the error after it. If no line `---` follows the first capture, this is an
+-- error of line `end`.
+abbrev pub both_of : ℕ → ℕ → ℕ → List PlacedWord → Option KeptFault → Both
 both_of before most end [] last = fault_alone (fault_at_end end last)
 both_of before most end (word ∷ words) last =
     if is_mark word.bytes && not (word.line == before) then behind_mark word.line most words last
     else spelled_first most word.line (run_of word.bytes) (λ left. both_of word.line left end words last)
 
--- what is said of the bytes that are still to come, with the fault behind them or none, and the line behind the last
+-- the type of a function that gives both captures of an input. Its arguments are the number of the
+-- line after the last, the bytes to come, and the error after them, or `None` at the end.
 abbrev pub Said : Type 0
 Said = ℕ → List ℕ → Option KeptFault → Both
 
--- both captures, the word before them standing on this line
+-- both captures of the bytes that are still to come in `input`, if the word before them is on line
+-- `before`
 abbrev pub both_from : ℕ → InputState → Said
 both_from before input end bytes last = both_of before input.halves end (ended_words input.place bytes) last
 
--- what is said of an input with this text, cut at its limit
+-- both captures that `said` gives for `text`, up to the limit of bytes of `input`
 abbrev pub in_limit : Said → InputState → List ℕ → Both
 in_limit said input text = within_limit (said (all_lines input text + 1)) input text

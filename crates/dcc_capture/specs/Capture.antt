@@ -1,4 +1,4 @@
--- What a capture gives: its halves up to the first fault.
+-- The half-bits of a capture before its first error.
 use Rattle.std.specs.Prelude.{◌≡◌, ◌⊎◌, ℕ, ◌+◌, ◌-◌, ◌<◌, ◌∷◌, List, [], Option, None, Some, Result, Ok, Err, nat_le}
 use Rattle.std.specs.Prelude.{length, replicate, IfSome, if◌then◌else◌}
 use Rattle.dcc_io.specs.declared.fault.KeptFault.{KeptFault}
@@ -9,42 +9,48 @@ use Rattle.dcc_io.specs.InputState.{InputState}
 use Rattle.dcc_io.specs.Took.{LinesAt}
 use Rattle.dcc_io.specs.PassedWords.{Passed}
 use Rattle.dcc_io.specs.Items.{Items, Grammar, in_text, before_failure, items_behind, only_fault, Gave, StopsAt}
-use Rattle.dcc_io.specs.Words.{Word, ended_words, run_of}
+use Rattle.dcc_io.specs.Words.{PlacedWord, ended_words, run_of}
 
--- a run, where at most so many halves may be taken, and what comes behind it where so many are left
+-- the half-bits of `run`, followed by `rest` for the remaining limit, or the error U7 if `run` has
+-- more half-bits than the limit `most`
 abbrev pub run_within : ℕ → Run → (ℕ → Items ℕ) → Items ℕ
 run_within most run rest =
     if nat_le run.n most then items_behind (replicate run.n run.us) (rest (most - run.n)) else only_fault (Some TooMuch)
 
--- a word on this line that spells a run, or does not, and what comes behind it
+-- the half-bits of the run of a word, followed by `rest` for the remaining limit. If the word has
+-- no run, the error U2 of line `line`.
 abbrev pub behind_word : ℕ → ℕ → Option Run → (ℕ → Items ℕ) → Items ℕ
 behind_word most line None rest = only_fault (Some (Number line))
 behind_word most line (Some run) rest = run_within most run rest
 
--- the halves of these words, where at most so many may be taken, and the fault behind the last word
-abbrev pub halves_of : ℕ → List Word → Option KeptFault → Items ℕ
-halves_of most [] last = only_fault last
-halves_of most (word ∷ words) last = behind_word most word.line (run_of word.bytes) (λ left. halves_of left words last)
+-- the half-bits of a list of words, if `most` is the limit of half-bits and `last` is the error
+-- after the list, or `None` at the end
+abbrev pub halves_of_words : ℕ → List PlacedWord → Option KeptFault → Items ℕ
+halves_of_words most [] last = only_fault last
+halves_of_words most (word ∷ words) last = behind_word most word.line (run_of word.bytes)
+    (λ left. halves_of_words left words last)
 
 abbrev pub captures : Grammar ℕ
-captures input bytes last = halves_of input.halves (ended_words input.place bytes) last
+captures input bytes last = halves_of_words input.halves (ended_words input.place bytes) last
 
--- the capture in an input with this text
+-- the capture in an `input` whose text is `text`
 abbrev pub capture_in : InputState → List ℕ → Items ℕ
 capture_in input text = in_text captures input text
 
--- the capture in an input whose reader fails behind these bytes
+-- the capture in an `input` whose reader fails after the bytes `used`
 abbrev pub capture_before_failure : InputState → List ℕ → Items ℕ
 capture_before_failure input used = before_failure captures input used
 
--- these halves were taken, and nothing went wrong
+-- the half-bits `halves` were read from `old` to `new` without an error, and were subtracted from
+-- the limit
 pub record GaveHalves (old : InputState) (halves : List ℕ) (new : InputState) : Type 0 where
   pub items : Gave captures old halves new
   pub left : new.halves + length halves ≡ old.halves
 
--- the next word spells a run of more halves than may be taken, and its line is the last that was used
+-- the next word is a run of more half-bits than the limit of `old` allows, and its line is the last
+-- line that `new` has used
 pub record NextRunsOver (old new : InputState) : Type 0 where
-  pub word : Word
+  pub word : PlacedWord
   pub behind : InputState
   pub passed : Passed old (word ∷ []) behind
   pub run : Run
@@ -52,21 +58,22 @@ pub record NextRunsOver (old new : InputState) : Type 0 where
   pub over : old.halves < run.n
   pub lines : IfSome old.text (λ text. new.lines ≡ word.line)
 
--- these halves were taken, and the next word spells a run of more than are left
+-- some half-bits were read, and the next word is a run of more half-bits than the remaining limit
+-- allows
 pub record RunsOver (old new : InputState) : Type 0 where
   pub halves : List ℕ
   pub mid : InputState
   pub gave : Gave captures old halves mid
   pub next : NextRunsOver mid new
 
--- how many lines were used when a capture met this fault: past a limit those of the bytes that may be taken, or those up to
--- the word of the run that is refused
+-- `new` has used the lines that `LinesAt` gives for an error of a capture. If a run exceeds the
+-- limit of half-bits, these are instead the lines up to this run.
 abbrev pub CaptureLinesAt : InputState → KeptFault → InputState → Type 0
 CaptureLinesAt old (Line line fault) new = ⊥
 CaptureLinesAt old TooMuch new = LinesAt old TooMuch new ⊎ RunsOver old new
 CaptureLinesAt old fault new = LinesAt old fault new
 
--- the halves of the next run were taken, or the end or a fault is next
+-- the result is the next run, `None` at the end of the capture, or the first error
 abbrev pub AnswersRun : InputState → Result (Option Run) KeptFault → InputState → Type 0
 AnswersRun old (Ok (Some run)) new = GaveHalves old (replicate run.n run.us) new × (0 < run.n) × (new.bytes < old.bytes)
 AnswersRun old (Ok None) new =
@@ -75,7 +82,7 @@ AnswersRun old (Err (Line line fault)) new = ⊥
 AnswersRun old (Err fault) new =
     StopsAt captures old fault new × (new.fault ≡ Some fault) × CaptureLinesAt old fault new
 
--- a fault that a capture may have: none refuses a line
+-- the error can occur in a capture: it is not U3
 abbrev pub IsOfCapture : KeptFault → Type 0
 IsOfCapture (Line line fault) = ⊥
 IsOfCapture fault = Unit {0}

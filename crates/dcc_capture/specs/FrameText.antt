@@ -1,11 +1,12 @@
--- The text that stands for a frame.
+-- The text of a frame.
 use Rattle.std.specs.Prelude.{◌≡◌, ℕ, Bool, true, false, List}
 use Rattle.hex.specs.Hex.{encode_lower}
 use Rattle.dcc_packet.specs.declared.packet.Packet.{Packet}
 use Rattle.dcc_packet.specs.Spelling.{spelling}
 use Rattle.dcc_packet.specs.Written.{written_line}
 
--- the bytes of the frame in hex, or with words the line of the packet that it spells
+-- `text` is the text of `frame`. With words this is the packet line of its packet, otherwise the
+-- hexadecimal digits of its bytes.
 abbrev pub IsFrameText : Bool → List ℕ → List ℕ → Type 0
 IsFrameText false frame text = text ≡ encode_lower frame
 IsFrameText true frame text = (packet : Packet) × (spelling packet ≡ frame) × (text ≡ written_line packet)

@@ -1,13 +1,13 @@
--- Laws of listings.
+-- Theorems about listings.
 use Rattle.std.specs.Prelude.{◌≡◌, ◌↔◌, ℕ, Bool, false, List}
 use Rattle.dcc_wire.specs.declared.seen.Seen.{Seen}
 use Rattle.dcc_capture.specs.Listing.{IsListing, listing}
 
--- outcomes have one listing
+-- a list of outcomes has exactly one listing: two listings with equal `words` are equal
 abbrev pub OneListing : Type 0
 OneListing = (words : Bool) (outcomes : List (ℕ × Seen)) (one other : List ℕ)
     → IsListing words outcomes one → IsListing words outcomes other → one ≡ other
 
--- without words it is the listing in hex
+-- `text` is a listing of `outcomes` without words if and only if it equals `listing outcomes`
 abbrev pub ListsInHex : Type 0
 ListsInHex = (outcomes : List (ℕ × Seen)) (text : List ℕ) → IsListing false outcomes text ↔ (text ≡ listing outcomes)

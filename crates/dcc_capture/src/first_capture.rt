@@ -1,4 +1,4 @@
-//! The runs of the first of two captures in one input.
+//! Functions that read the runs of the first of two captures in one input.
 
 ghost use Rattle.std.specs.Prelude.{◌≡◌, ◌==◌, ◌&&◌, not, ℕ, List, None};
 ghost use Rattle.dcc_io.specs.Words.{is_mark};
@@ -8,14 +8,15 @@ ghost use Rattle.dcc_capture.specs.FirstRead.{AnswersFirst};
 ghost use Rattle.dcc_capture.specs.Inner.FirstSteps.{CountsWord, EndsMark};
 
 use dcc_io::inputs::{
-    count_run, ends_line, half_at_hand, line_of_next_byte, next_word, refuse_line, refuse_number,
-    run_at_hand,
+    count_run, ends_line, line_of_next_byte, next_word, refuse_line, refuse_number,
+    take_buffered_half, take_buffered_run,
 };
 use dcc_io::{Input, KeptFault, Run, RunWord, Source};
 use dcc_packet::PacketFault;
 
-/// The next run of the first of two captures and its line, or none where the line `---` ends it; then all of
-/// that line is read. The word before stands on the given line, 0 where there is none. A fault is kept.
+/// Returns the next run of the first of two captures and its line. Returns `None` after the line
+/// `---`, which ends the first capture and is read to its end. The parameter `before` is the line
+/// of the previous word, or 0. If the function returns an error, `input` stores this error.
 pub fn next_of_first<R: Source>(
     input: &mut Input<R>,
     before: u64,
@@ -25,13 +26,14 @@ pub fn next_of_first<R: Source>(
 {
     match input.fault() {
         Some(fault) => Err(fault),
-        None => first_at_hand(input, before),
+        None => buffered_or_next_of_first(input, before),
     }
 }
 
-/// The same, where no fault is kept. Most words are durations that stand whole among the bytes at hand.
+/// Returns the next run of the first capture and its line, for an input without a stored error.
+/// Most words are durations that the buffer contains completely.
 #[tactic(auto, using(crate::proofs::HalfLemmas::first_half_taken))]
-fn first_at_hand<R: Source>(
+fn buffered_or_next_of_first<R: Source>(
     input: &mut Input<R>,
     before: u64,
 ) -> Result<Option<(u64, Run)>, KeptFault>
@@ -39,14 +41,15 @@ fn first_at_hand<R: Source>(
     ensures { AnswersFirst before input.old result input.new }
 {
     let line = line_of_next_byte(input);
-    match half_at_hand(input) {
+    match take_buffered_half(input) {
         Some(us) => Ok(Some((line, Run { us, n: 1 }))),
-        None => first_run_at_hand(input, before),
+        None => buffered_or_read_run_of_first(input, before),
     }
 }
 
-/// The same, where no duration alone stands whole among them.
-fn first_run_at_hand<R: Source>(
+/// Returns the next run of the first capture and its line, if the buffer does not begin with a
+/// complete word that is a duration.
+fn buffered_or_read_run_of_first<R: Source>(
     input: &mut Input<R>,
     before: u64,
 ) -> Result<Option<(u64, Run)>, KeptFault>
@@ -54,13 +57,14 @@ fn first_run_at_hand<R: Source>(
     ensures { AnswersFirst before input.old result input.new }
 {
     let line = line_of_next_byte(input);
-    match run_at_hand(input) {
+    match take_buffered_run(input) {
         Some(run) => Ok(Some((line, run))),
         None => run_or_mark(input, before),
     }
 }
 
-/// The next run of the first capture and its line, or none where the line `---` ends it.
+/// Returns the next run of the first capture and its line. Returns `None` after the line `---`,
+/// which ends the first capture.
 fn run_or_mark<R: Source>(
     input: &mut Input<R>,
     before: u64,
@@ -83,14 +87,14 @@ fn run_or_mark<R: Source>(
     }
 }
 
-/// Whether a word is `---` and the first one of its line.
+/// Returns true if the word is `---` and the first word of its line.
 fn begins_with_mark(word: &RunWord, line: u64, before: u64) -> bool
     ensures { (bytes : List ℕ) → Spells word.now bytes → result ≡ (is_mark bytes && not (line == before)) }
 {
     word.is_mark() && line != before
 }
 
-/// The run that a word on this line spells.
+/// Returns the run that a word on the line `line` gives, with this line.
 fn count_word<R: Source>(
     input: &mut Input<R>,
     line: u64,
@@ -108,7 +112,8 @@ fn count_word<R: Source>(
     }
 }
 
-/// Reads on behind the first word `---` of this line, on which no further word may stand.
+/// Reads to the end of the line that begins with `---`. A further word on this line is the error
+/// U2.
 fn end_mark<R: Source>(input: &mut Input<R>, line: u64) -> Result<Option<(u64, Run)>, KeptFault>
     requires { input.old.fault ≡ None }
     ensures { EndsMark input.old line result input.new }

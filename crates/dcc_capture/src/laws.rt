@@ -1,4 +1,4 @@
-//! Laws of captures and of listings.
+//! Theorems about captures and listings.
 
 ghost use Rattle.std.specs.Prelude.{◌≡◌, ℕ, None, Ok, Some};
 ghost use Rattle.dcc_io.specs.Counted.{TakesHalf, TakesRun};
@@ -8,31 +8,33 @@ ghost use Rattle.dcc_capture.specs.Capture.{AnswersRun};
 ghost use Rattle.dcc_capture.specs.FirstRead.{AnswersFirst};
 ghost use Rattle.dcc_capture.specs.ListingLaws.{OneListing, ListsInHex};
 
-/// A half that is taken at hand (`half_at_hand` of `dcc_io`) is the next run of a capture, of one half, and of the first of
-/// two captures.
+/// Theorem: a half-bit that `take_buffered_half` of `dcc_io` returns is the next run of the
+/// capture, with one half-bit. In the first of two captures, this half-bit is the next run of the
+/// first capture.
 #[tactic(auto, using(crate::proofs::HalfLemmas::half_taken, crate::proofs::HalfLemmas::first_half_taken))]
-pub fn halves_at_hand_are_runs()
+pub fn buffered_halves_are_runs()
     ensures run { (old new : InputState) (us : ℕ) → TakesHalf old us new
         → AnswersRun old (Ok (Some (record { us = us; n = 1 }))) new }
     ensures first { (before : ℕ) (old new : InputState) (us : ℕ) → old.fault ≡ None → TakesHalf old us new
         → AnswersFirst before old (Ok (Some (old.place.line, record { us = us; n = 1 }))) new }
 {}
 
-/// So is a run that is taken at hand (`run_at_hand`), of as many halves as it counts.
+/// Theorem: a run that `take_buffered_run` of `dcc_io` returns is the next run of the capture. In
+/// the first of two captures, this run is the next run of the first capture.
 #[tactic(auto, using(crate::proofs::HalfLemmas::run_taken, crate::proofs::HalfLemmas::first_run_taken))]
-pub fn runs_at_hand_are_runs()
+pub fn buffered_runs_are_runs()
     ensures run { (old new : InputState) (run : Run) → TakesRun old run new → AnswersRun old (Ok (Some run)) new }
     ensures first { (before : ℕ) (old new : InputState) (run : Run) → old.fault ≡ None → TakesRun old run new
         → AnswersFirst before old (Ok (Some (old.place.line, run))) new }
 {}
 
-/// A listing is one text: what `show` writes is settled by what the halves show.
+/// Theorem: a list of outcomes has exactly one listing.
 #[tactic(auto, using(crate::proofs::ListingLaws::one_listing))]
 pub fn outcomes_have_one_listing()
     ensures { OneListing }
 {}
 
-/// Without words the listing is a function of the outcomes, each packet in hex.
+/// Theorem: the listing without words is a function of the outcomes, and has each packet in hex.
 #[tactic(auto, using(crate::proofs::ListingLaws::lists_in_hex))]
 pub fn without_words_the_listing_is_in_hex()
     ensures { ListsInHex }

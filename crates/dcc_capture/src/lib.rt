@@ -1,4 +1,5 @@
-//! What a capture says: its runs of halves, those of the first of two captures in one input, and its listing.
+//! Captures: functions that read the runs of a capture or of the first of two captures in one
+//! input, and the listing of a capture.
 #![tactic(auto)]
 
 mod first_capture;

@@ -1,4 +1,4 @@
-//! The line of an outcome in a listing.
+//! Functions that write the lines of a listing.
 ghost use Rattle.std.specs.Prelude.{◌≡◌, ◌+◌, ◌≤◌, ◌++◌, ℕ, List};
 ghost use Rattle.arrayvec.specs.ArrayVec.{array_vec_len};
 ghost use Rattle.dcc_capture.specs.FrameText.{IsFrameText};
@@ -8,8 +8,9 @@ use dcc_io::{Line, append, append_decimal, append_hex};
 use dcc_packet::Packet;
 use dcc_wire::{Fault, Frame, Seen};
 
-/// The line of an outcome that this half showed, counted from 1. With words a packet has its line in
-/// place of its hex.
+/// Returns the line of an outcome. The parameter `half` is the number of the last half-bit of the
+/// outcome, counted from 1. A packet is written as a packet line if `words` is true, otherwise in
+/// hex.
 #[tactic(auto, using(dcc_io::proofs::DecimalLemmas::decimal_is_short))]
 pub fn outcome_line(half: u32, outcome: &Seen, words: bool) -> Line
     ensures { IsLine words half outcome.now result.items }
@@ -26,7 +27,7 @@ pub fn outcome_line(half: u32, outcome: &Seen, words: bool) -> Line
     line
 }
 
-/// Adds the bytes of a frame in hex, or with words the line of its packet.
+/// Appends the packet line of a frame if `words` is true, otherwise the bytes of the frame in hex.
 fn append_frame(line: &mut Line, frame: &Frame, words: bool)
     requires { array_vec_len line.old + 40 ≤ 64 }
     ensures items { (text : List ℕ) × IsFrameText words frame.now text × (line.new.items ≡ line.old.items ++ text) }
@@ -40,7 +41,7 @@ fn append_frame(line: &mut Line, frame: &Frame, words: bool)
     }
 }
 
-/// Adds the text of a refusal.
+/// Appends the text of a refusal.
 fn append_refusal(line: &mut Line, fault: &Fault)
     requires { array_vec_len line.old + 23 ≤ 64 }
     ensures items { line.new.items ≡ line.old.items ++ refusal_text fault.now }

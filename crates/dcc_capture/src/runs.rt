@@ -1,13 +1,14 @@
-//! The runs of a capture.
+//! Functions that read the runs of a capture.
 
 ghost use Rattle.std.specs.Prelude.{◌≡◌, None};
 ghost use Rattle.dcc_io.specs.KeptAnswers.{AnswersKept};
 ghost use Rattle.dcc_capture.specs.Capture.{AnswersRun};
 
-use dcc_io::inputs::{count_run, half_at_hand, next_word, refuse_number, run_at_hand};
+use dcc_io::inputs::{count_run, next_word, refuse_number, take_buffered_half, take_buffered_run};
 use dcc_io::{Input, KeptFault, Run, Source};
 
-/// The run that the next word spells, or none at the end. A fault is kept.
+/// Returns the run of the next word. Returns `None` at the end of the capture. If the function
+/// returns an error, `input` stores this error.
 #[inline(always)]
 pub fn read_run<R: Source>(input: &mut Input<R>) -> Result<Option<Run>, KeptFault>
     ensures kept { AnswersKept input.old result input.new }
@@ -19,20 +20,21 @@ pub fn read_run<R: Source>(input: &mut Input<R>) -> Result<Option<Run>, KeptFaul
     }
 }
 
-/// The same, where no fault is kept. Most words that are no durations alone stand whole among the bytes at hand.
+/// Returns the run of the next word, for an input without a stored error. Most words that are no
+/// durations are runs that the buffer contains completely.
 #[inline(always)]
 #[tactic(auto, using(crate::proofs::HalfLemmas::run_taken))]
 fn run_of_next_word<R: Source>(input: &mut Input<R>) -> Result<Option<Run>, KeptFault>
     requires { input.old.fault ≡ None }
     ensures { AnswersRun input.old result input.new }
 {
-    match run_at_hand(input) {
+    match take_buffered_run(input) {
         Some(run) => Ok(Some(run)),
         None => run_of_read_word(input),
     }
 }
 
-/// The run of the next word, read as far as need be.
+/// Returns the run of the next word, and reads this word byte by byte.
 #[inline(always)]
 fn run_of_read_word<R: Source>(input: &mut Input<R>) -> Result<Option<Run>, KeptFault>
     requires { input.old.fault ≡ None }
@@ -47,7 +49,8 @@ fn run_of_read_word<R: Source>(input: &mut Input<R>) -> Result<Option<Run>, Kept
     }
 }
 
-/// The next run of halves, or none at the end. A fault is kept.
+/// Returns the next run of half-bits. Returns `None` at the end of the capture. If the function
+/// returns an error, `input` stores this error.
 #[tactic(auto, using(crate::proofs::HalfLemmas::half_taken))]
 pub fn next_run<R: Source>(input: &mut Input<R>) -> Result<Option<Run>, KeptFault>
     ensures kept { AnswersKept input.old result input.new }
@@ -56,7 +59,7 @@ pub fn next_run<R: Source>(input: &mut Input<R>) -> Result<Option<Run>, KeptFaul
     if let Some(fault) = input.fault() {
         return Err(fault);
     }
-    match half_at_hand(input) {
+    match take_buffered_half(input) {
         Some(us) => Ok(Some(Run { us, n: 1 })),
         None => run_of_next_word(input),
     }

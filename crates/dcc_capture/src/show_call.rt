@@ -1,40 +1,43 @@
-//! The listing of a capture.
+//! The operation `show`, which lists a capture.
 ghost use Rattle.std.specs.Prelude.{◌≡◌, ◌≢◌, ◌<◌, ◌+◌, ◌++◌, ◌⊎◌, ℕ, List, [], None, IfSome, OnOk};
 ghost use Rattle.dcc_wire.specs.Framing.{report_at};
 ghost use Rattle.dcc_io.specs.Held.{HoldsOrFails};
-ghost use Rattle.dcc_capture.specs.Inner.Held.{HoldsListing, TakesRun, WritesRest};
+ghost use Rattle.dcc_capture.specs.Inner.Held.{HoldsListing, ReadsRun, WritesRest};
 ghost use Rattle.dcc_io.specs.Faults.{as_tool_fault};
-ghost use Rattle.dcc_io.specs.InputState.{HasCause};
+ghost use Rattle.dcc_io.specs.InputState.{ReadHasFailure};
 ghost use Rattle.dcc_io.specs.Words.{ended_words};
 ghost use Rattle.dcc_capture.specs.Listing.{IsLine};
 ghost use Rattle.dcc_capture.specs.Shown.{Shows};
 
 use crate::listing::outcome_line;
 use crate::runs::read_run;
-use dcc_io::inputs::{half_at_hand, run_at_hand};
+use dcc_io::inputs::{take_buffered_half, take_buffered_run};
 use dcc_io::{Failed, HeldLines, Input, KeptFault, Run, Sink, Source, ToolFault};
 use dcc_wire::{Framer, Seen};
 
-/// Writes a line for each outcome of a capture, with the number of the half that shows it, from 1.
+/// Writes a line for each outcome of a capture. The line begins with the number of the last
+/// half-bit of the outcome, counted from 1.
 ///
-/// A packet's line is `84 036261`, its bytes in hex, or with `words` `84 loco s3 speed28 f 4`, its
-/// packet line; that of a refused body is `31 refused H1` to `refused H4`, or `84 refused H5 036260`
-/// with its bytes (NMRA S-9.2, RCN-211). A line that is finished is written before more is read, at
-/// the latest.
+/// The line of a packet has the bytes in hex, `84 036261`, or with `words` the packet line, `84
+/// loco s3 speed28 f 4`. The line of a refusal is `31 refused H1` to `refused H4`, or `84 refused
+/// H5 036260` with the bytes (NMRA S-9.2, RCN-211). The function writes a complete line before it
+/// reads more input.
 ///
-/// At U2, U4 and U7 all that stood before the fault is written, and the input keeps the fault. At U5
-/// a front of that is written; a fault that was found before the write failed is kept all the same.
+/// Errors: U2 at a word that is no run. U4 if a read fails. U7 if the input exceeds a limit. U5 if
+/// a write fails. After U2, U4 or U7 the listing of the capture before the error was written, and
+/// `input` stores the error. After U5 a prefix of the listing was written. `input` also stores an
+/// error that was found before the write failed.
 pub fn show<R: Source, W: Sink>(
     input: &mut Input<R>,
     writer: &mut W,
     words: bool,
 ) -> Result<(), ToolFault>
-    // A fault that the input keeps is answered again, and nothing is read or written.
+    // If an error is stored, the function returns this error, and reads and writes nothing.
     ensures kept { IfSome input.old.fault
         (λ fault. (result ≡ Err (as_tool_fault fault)) × (input.new ≡ input.old) × (writer.new ≡ writer.old)) }
-    ensures cause { HasCause input.old.fault input.old.failures }
+    ensures cause { ReadHasFailure input.old.fault input.old.failures }
 
-    // Else the listing of the capture is written, up to the first fault.
+    // If no error is stored, the function writes the listing of the capture up to the first error.
     ensures shows { input.old.fault ≡ None
         → Shows words input.old (W.state writer.old) result
         input.new (W.state writer.new) }
@@ -45,7 +48,7 @@ pub fn show<R: Source, W: Sink>(
     list(input, writer, words)
 }
 
-/// Writes the listing of a capture, up to the first fault.
+/// Writes the listing of a capture, up to the first error.
 fn list<R: Source, W: Sink>(
     input: &mut Input<R>,
     writer: &mut W,
@@ -58,7 +61,7 @@ fn list<R: Source, W: Sink>(
     let mut framer = Framer::new();
     let mut held = HeldLines::new();
     'runs: loop {
-        match half_at_hand(input) {
+        match take_buffered_half(input) {
             Some(us) => {
                 let seen = framer.push(us);
                 let half = most - input.halves_left();
@@ -77,25 +80,26 @@ fn list<R: Source, W: Sink>(
     }
 }
 
-/// The next run, or none at the end. What is held is written before more is read for it.
+/// Returns the next run. Returns `None` at the end of the capture. The function writes the buffered
+/// lines before it reads more input.
 fn next_run<R: Source, W: Sink>(
     input: &mut Input<R>,
     held: &mut HeldLines,
     writer: &mut W,
 ) -> Result<Result<Option<Run>, KeptFault>, Failed>
     requires { input.old.fault ≡ None }
-    ensures { TakesRun input.old (W.state writer.old) held.old result input.new held.new
+    ensures { ReadsRun input.old (W.state writer.old) held.old result input.new held.new
         (W.state writer.new) }
 {
-    if let Some(run) = run_at_hand(input) {
+    if let Some(run) = take_buffered_run(input) {
         return Ok(Ok(Some(run)));
     }
     write_before_read(held, input, writer)?;
     Ok(read_run(input))
 }
 
-/// Writes what is held, unless the next half is at hand. So who watches a live track sees each line
-/// once its half has come, and a long recording still goes out many lines at a time.
+/// Writes the buffered lines, unless the next word is buffered. So each line of a live track is
+/// shown as soon as its half-bit has come, and the lines of a long recording are written together.
 fn write_before_read<R: Source, W: Sink>(
     held: &mut HeldLines,
     input: &Input<R>,
@@ -105,13 +109,13 @@ fn write_before_read<R: Source, W: Sink>(
         (W.state writer.new) }
     ensures waits { OnOk result ((held.new ≡ []) ⊎ (ended_words input.now.place input.now.ahead ≢ [])) }
 {
-    if held.is_empty() || input.has_word_at_hand() {
+    if held.is_empty() || input.has_buffered_word() {
         return Ok(());
     }
     held.write_out(writer)
 }
 
-/// Holds the line of what this half showed, if anything.
+/// Appends a line to the buffer if an outcome ends with half-bit `half`.
 #[inline(always)]
 #[tactic(auto, unfolding(dcc_wire::specs::Framing::report_at))]
 fn hold_seen<W: Sink>(
@@ -132,7 +136,7 @@ fn hold_seen<W: Sink>(
     }
 }
 
-/// Holds the line of an outcome that this half showed.
+/// Appends the line of the outcome that ends with half-bit `half` to the buffer.
 #[inline(never)]
 fn hold_outcome<W: Sink>(
     held: &mut HeldLines,
@@ -148,7 +152,9 @@ fn hold_outcome<W: Sink>(
     held.hold(outcome_line(half, seen, words).as_slice(), writer)
 }
 
-/// Writes what is still held, and then gives this answer, or that the write failed.
+/// Writes the buffered lines and returns the result `answer`.
+///
+/// Errors: U5 if the write fails.
 fn write_rest<W: Sink>(
     held: &mut HeldLines,
     writer: &mut W,

@@ -1,23 +1,23 @@
--- The command line that the program takes.
+-- The command line of the program.
 use Rattle.std.specs.Prelude.{true, Some, codes, pos}
 use Rattle.clap.specs.Words.{App, Rule, Text, new_app, new_rule, with_rule, with_subcommand}
 use Rattle.clap.specs.declared.builder.action.ArgAction.TheVariants.{Set, SetTrue}
 use Rattle.clap.specs.declared.builder.value_parser.ValueParser.TheVariants as values
 
--- `--words` and the like
+-- the rule of a flag such as `--words`
 abbrev pub flag_rule : Text → Rule
 flag_rule name = record (new_rule name) { long = Some name; action = Some SetTrue }
 
--- `--queue N` and the like, N from 0 to 255
+-- the rule of an option such as `--queue N`, with N from 0 to 255
 abbrev pub size_rule : Text → Rule
 size_rule name = record (new_rule name) { long = Some name; parser = Some (values.Signed (pos 0) (pos 255)) }
 
--- `--who W`, which has to be given
+-- the rule of the required option `--who W`
 abbrev pub who_rule : Rule
 who_rule =
     record (new_rule (codes "who")) { long = Some (codes "who"); required = true; action = Some Set; value_names = 1 }
 
--- `--cv N`, N from 1 to 1024, which has to be given
+-- the rule of the required option `--cv N`, with N from 1 to 1024
 abbrev pub cv_rule : Rule
 cv_rule =
     record (new_rule (codes "cv"))
@@ -26,13 +26,13 @@ cv_rule =
 abbrev pub show_app : App
 show_app = with_rule (new_app (codes "show")) (flag_rule (codes "words"))
 
--- `encode` has three flags
+-- the subcommand `encode` with its three flags
 abbrev pub encode_flags : App
 encode_flags =
     with_rule (with_rule (with_rule (new_app (codes "encode")) (flag_rule (codes "hex"))) (flag_rule (codes "service")))
     (flag_rule (codes "station"))
 
--- and three sizes
+-- the subcommand `encode` with its three flags and its three sizes
 abbrev pub encode_app : App
 encode_app =
     with_rule (with_rule (with_rule encode_flags (size_rule (codes "queue"))) (size_rule (codes "slots")))
@@ -50,7 +50,8 @@ readcv_app = with_rule (with_rule (new_app (codes "readcv")) cv_rule) (flag_rule
 abbrev pub timing_app : App
 timing_app = new_app (codes "timing")
 
--- the program alone: it has a version, and a subcommand has to be given, of which `help` is none
+-- the program `dcc` without its subcommands. It has a version and requires a subcommand, and `help`
+-- is no subcommand.
 abbrev pub top_app : App
 top_app =
     record {
@@ -60,7 +61,7 @@ top_app =
       subs = (new_app (codes "dcc")).subs;
     }
 
--- the program with its subcommands
+-- the program `dcc` with all its subcommands
 abbrev pub dcc_app : App
 dcc_app =
     with_subcommand

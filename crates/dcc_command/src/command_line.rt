@@ -1,15 +1,16 @@
-//! The command line: which words are taken.
+//! Functions that describe the command line of the program to clap.
 ghost use Rattle.std.specs.Prelude.{◌≡◌, IfOk, false, codes};
 ghost use Rattle.clap.specs.Words.{app_of, rule_of};
 ghost use Rattle.clap.specs.declared.builder.command.Command.TheViews.{out-Command as fields_of};
-ghost use Rattle.dcc_command.specs.CommandLine.{cv_rule, dcc_app, encode_app, encode_flags, flag_rule, readcv_app, run_app};
+ghost use Rattle.dcc_command.specs.CommandLine.{cv_rule, dcc_app, encode_app, encode_flags, flag_rule, readcv_app};
+ghost use Rattle.dcc_command.specs.CommandLine.{run_app};
 ghost use Rattle.dcc_command.specs.CommandLine.{same_app, show_app, size_rule, timing_app, top_app, who_rule};
 
 use crate::help_texts;
 use clap::{Arg, ArgAction, Command, value_parser};
 use std::alloc::{AllocError, Global};
 
-/// The program with its subcommands.
+/// Returns the description of the program with its subcommands.
 pub fn command<'a>(alloc: Global) -> Result<Command<'a>, AllocError>
     ensures { IfOk result (λ c. app_of c ≡ dcc_app) }
 {
@@ -22,12 +23,12 @@ pub fn command<'a>(alloc: Global) -> Result<Command<'a>, AllocError>
         .subcommand(timing(alloc))
 }
 
-/// The program alone.
+/// Returns the description of the program without its subcommands.
 fn top<'a>(alloc: Global) -> Command<'a>
     ensures { app_of result ≡ top_app }
 {
     Command::new(alloc, "dcc")
-        .about("Digital Command Control: captures, packets and halves")
+        .about("Digital Command Control: captures, packets and decoders")
         .version("0.1.0")
         .subcommand_required(true)
         .disable_help_subcommand(true)
@@ -38,33 +39,33 @@ fn show<'a>(alloc: Global) -> Result<Command<'a>, AllocError>
     ensures local { IfOk result (λ c. (fields_of c).has_globals ≡ false) }
 {
     Command::new(alloc, "show")
-        .about("Lists the packets and refusals of a capture")
+        .about("Lists the packets and the rejected packets of a capture")
         .after_help(help_texts::SHOW)
-        .arg(flag(alloc, "words", "Packets as lines, in place of their bytes"))
+        .arg(flag(alloc, "words", "Write packets as packet lines, not in hex"))
 }
 
-/// `encode` with its flags.
+/// Returns the subcommand `encode` with its flags.
 fn encode_flags<'a>(alloc: Global) -> Result<Command<'a>, AllocError>
     ensures app { IfOk result (λ c. app_of c ≡ encode_flags) }
     ensures local { IfOk result (λ c. (fields_of c).has_globals ≡ false) }
 {
     Command::new(alloc, "encode")
-        .about("Writes the halves that a station sends for packet lines")
+        .about("Writes the half-bits that a station sends for packet lines")
         .after_help(help_texts::ENCODE)
         .arg(flag(
             alloc,
             "hex",
-            "The bytes of each packet, in place of its halves",
+            "Write the bytes of each packet, not its half-bits",
         ))?
-        .arg(flag(alloc, "service", "The timing of service mode"))?
+        .arg(flag(alloc, "service", "Use the timing of service mode"))?
         .arg(flag(
             alloc,
             "station",
-            "A station sends the packets, as many as lines `send N` ask for",
+            "Use a station, which sends N packets for each line `send N`",
         ))
 }
 
-/// With its sizes.
+/// Returns the subcommand `encode` with its flags and the sizes of a station.
 fn encode<'a>(alloc: Global) -> Result<Command<'a>, AllocError>
     ensures app { IfOk result (λ c. app_of c ≡ encode_app) }
     ensures local { IfOk result (λ c. (fields_of c).has_globals ≡ false) }
@@ -73,17 +74,17 @@ fn encode<'a>(alloc: Global) -> Result<Command<'a>, AllocError>
         .arg(size(
             alloc,
             "queue",
-            "How many commands may wait, 16 if not given",
+            "Capacity of the queue of commands, 16 by default",
         ))?
         .arg(size(
             alloc,
             "slots",
-            "How many packets are refreshed, 32 if not given",
+            "Number of packets that are refreshed, 32 by default",
         ))?
         .arg(size(
             alloc,
             "repeats",
-            "How often a command is sent in a row, 2 if not given",
+            "Number of copies of a command in a row, 2 by default",
         ))
 }
 
@@ -92,9 +93,7 @@ fn run<'a>(alloc: Global) -> Command<'a>
     ensures local { (fields_of result).has_globals ≡ false }
 {
     Command::new(alloc, "run")
-        .about(
-            "Plays the capture behind a decoder text to its decoders, and writes them as they are then",
-        )
+        .about("Applies a capture to the decoders of a decoder text, and writes their state")
         .after_help(help_texts::RUN)
 }
 
@@ -103,7 +102,7 @@ fn same<'a>(alloc: Global) -> Result<Command<'a>, AllocError>
     ensures local { IfOk result (λ c. (fields_of c).has_globals ≡ false) }
 {
     Command::new(alloc, "same")
-        .about("Tells whether two captures, with a line --- between them, are alike for a decoder")
+        .about("Compares two captures, with a line --- between them, for a decoder")
         .after_help(help_texts::SAME)
         .arg(who(alloc))
 }
@@ -116,7 +115,11 @@ fn readcv<'a>(alloc: Global) -> Result<Command<'a>, AllocError>
         .about("Reads a CV of the first locomotive of a decoder text, on a programming track")
         .after_help(help_texts::READCV)
         .arg(cv(alloc))?
-        .arg(flag(alloc, "empty", "An empty track; no decoder text is read"))
+        .arg(flag(
+            alloc,
+            "empty",
+            "Use an empty track, and read no decoder text",
+        ))
 }
 
 fn timing<'a>(alloc: Global) -> Command<'a>
@@ -124,11 +127,11 @@ fn timing<'a>(alloc: Global) -> Command<'a>
     ensures local { (fields_of result).has_globals ≡ false }
 {
     Command::new(alloc, "timing")
-        .about("Tells how near the half-bits of a capture are to the limits")
+        .about("Writes figures that compare the half-bits of a capture with the limits")
         .after_help(help_texts::TIMING)
 }
 
-/// A flag of a subcommand.
+/// Returns a flag of a subcommand, which has no value.
 fn flag<'a>(alloc: Global, name: &'a str, help: &'a str) -> Arg<'a>
     ensures rule { rule_of result ≡ flag_rule name.entry.now }
     ensures local { result.global ≡ false }
@@ -139,7 +142,7 @@ fn flag<'a>(alloc: Global, name: &'a str, help: &'a str) -> Arg<'a>
         .help(help)
 }
 
-/// A size of a subcommand, 0 to 255.
+/// Returns an option of a subcommand with a value from 0 to 255.
 fn size<'a>(alloc: Global, name: &'a str, help: &'a str) -> Arg<'a>
     ensures rule { rule_of result ≡ size_rule name.entry.now }
     ensures local { result.global ≡ false }
@@ -150,7 +153,7 @@ fn size<'a>(alloc: Global, name: &'a str, help: &'a str) -> Arg<'a>
         .help(help)
 }
 
-/// The decoder for which captures are compared.
+/// Returns the option `--who`, which names the decoder for which captures are compared.
 fn who<'a>(alloc: Global) -> Arg<'a>
     ensures rule { rule_of result ≡ who_rule }
     ensures local { result.global ≡ false }
@@ -160,10 +163,10 @@ fn who<'a>(alloc: Global) -> Arg<'a>
         .value_name("W")
         .required(true)
         .action(ArgAction::Set)
-        .help("The decoder: s3 or l1000, none, or board b12")
+        .help("The decoder: s3, l1000, none or b12")
 }
 
-/// The CV that is read.
+/// Returns the option `--cv`, which is the number of the CV that is read.
 fn cv<'a>(alloc: Global) -> Arg<'a>
     ensures rule { rule_of result ≡ cv_rule }
     ensures local { result.global ≡ false }

@@ -1,4 +1,5 @@
-//! The command line of the program: which words it takes, and what is told where it takes none.
+//! The command line of the program: the arguments that the program accepts, and the texts for
+//! `--help`, `--version` and wrong arguments.
 #![tactic(auto)]
 
 mod command_line;
@@ -6,5 +7,5 @@ mod help_texts;
 mod telling;
 mod words;
 
-pub use telling::tell_words;
+pub use telling::print_clap_error;
 pub use words::taken;

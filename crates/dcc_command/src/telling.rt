@@ -1,4 +1,4 @@
-//! What is told of a command line that asks for no subcommand, and on which stream.
+//! A function that writes the text of clap for arguments that name no operation to execute.
 ghost use Rattle.std.specs.Prelude.{◌≡◌, ◌≢◌, ◌⊎◌, Ok, Err};
 ghost use Rattle.clap.specs.Words.{kind_of};
 
@@ -6,9 +6,12 @@ use clap::Error;
 use clap::error::ErrorKind;
 use dcc_io::{ToolFault, Usage};
 
-/// What comes of a command line that asks for no subcommand: clap's own text, which for `--help` and `--version` was
-/// asked for and goes to standard output. That fails only where the text cannot be written.
-pub fn tell_words<R: Print + Eprint>(rt: &R, error: &Error) -> Result<(), ToolFault>
+/// Writes the text of clap: to standard output for `--help` and `--version`, otherwise to standard
+/// error.
+///
+/// Errors: U1 for wrong arguments, U5 if the text for `--help` or `--version` cannot be written, U6
+/// if clap failed to allocate.
+pub fn print_clap_error<R: Print + Eprint>(rt: &R, error: &Error) -> Result<(), ToolFault>
     ensures no_memory { kind_of error.now ≡ ErrorKind.OutOfMemory → result ≡ Err ToolFault.NoMemory }
     ensures asked_for { (kind_of error.now ≡ ErrorKind.DisplayHelp) ⊎ (kind_of error.now ≡ ErrorKind.DisplayVersion)
         → (result ≡ Ok tt) ⊎ (result ≡ Err ToolFault.Write) }

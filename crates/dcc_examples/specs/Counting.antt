@@ -1,9 +1,9 @@
--- How many accesses to CVs a listener was told.
+-- The number of CV accesses of which a listener was notified.
 use Rattle.std.specs.Prelude.{ℕ, ◌+◌, ◌-◌, ◌^◌, nat_lt, if◌then◌else◌}
 use Rattle.dcc_regs.specs.Notes.{Note, IdleCall, ResetCall, SpeedCall, FunctionsCall, StateCall, CvAccessCall}
 use Rattle.dcc_regs.specs.Notes.{TurnoutCall, SignalCall, OtherCall}
 
--- the count after a call: an access counts, as far as 32 bits do
+-- the count `n` after a callback: a callback for a CV access adds one, up to 2^32 - 1
 abbrev pub counted_after : Note → ℕ → ℕ
 counted_after (CvAccessCall to what) n = if nat_lt n (2 ^ 32 - 1) then n + 1 else n
 counted_after IdleCall n = n

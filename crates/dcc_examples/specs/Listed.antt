@@ -1,4 +1,4 @@
--- The listing of what packet lines say.
+-- The listing of the packets of packet lines.
 use Rattle.std.specs.Prelude.{ℕ, ◌≤◌, ◌++◌, ◌∷◌, List, [], false, Some, length}
 use Rattle.dcc_wire.specs.Sending.{at_last_halves}
 use Rattle.dcc_tool.specs.EncodedShown.{halves_to_send, in_half_bits, to_send}
@@ -8,11 +8,12 @@ use Rattle.dcc_tool.specs.Items.{in_text}
 use Rattle.dcc_tool.specs.Listing.{IsListing}
 use Rattle.dcc_tool.specs.PacketLines.{packet_lines}
 
--- the frames that packet lines in memory say
+-- the frames that the packet lines `lines` mean, up to the first error
 abbrev pub frames_said : List ℕ → List (List ℕ)
 frames_said lines = (in_text packet_lines (fresh (Some lines) 0 16777216 67108864) (lines ++ 10 ∷ [])).said
 
--- within the limits of `show`, the listing has one line for each packet of these packet lines, at its last half-bit
+-- if the half-bits of the frames that `lines` mean are within the limits of `show`, `listing` has
+-- one line for each frame, at its last half-bit
 abbrev pub IsListingOf : List ℕ → List ℕ → Type 0
 IsListingOf lines listing = length (halves_to_send in_half_bits (frames_said lines)) ≤ 16777216
     → length (encoding in_half_bits (frames_said lines)) ≤ 67108864

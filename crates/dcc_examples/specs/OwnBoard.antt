@@ -1,4 +1,4 @@
--- What an accessory decoder of one's own holds.
+-- The registers of a custom accessory decoder.
 use Rattle.std.specs.Prelude.{false, slice_index, slice_index_or}
 use Rattle.dcc_regs.specs.Board.{BoardContent}
 use Rattle.dcc_examples.specs.declared.own_board.OwnBoard.{OwnBoard}

@@ -1,11 +1,12 @@
-//! A cab: it is told what its decoder hears, and prints it.
+//! A cab, which is a listener that prints the packets that its decoder hears.
 
 ghost use Rattle.std.specs.Prelude.{⊤};
 
 use dcc_packet::{Address, Board, GroupBits, OtherFrame, Output, SignalAddress, StateNumber, What};
 use dcc_regs::Notify;
 
-/// A listener: where it prints, another one would turn a motor or switch lamps.
+/// A listener that prints speeds and functions. A listener on real hardware would control a motor
+/// and lamps.
 #[derive(Drop)]
 pub struct Cab<'a, R>(pub &'a R);
 

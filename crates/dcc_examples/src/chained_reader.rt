@@ -1,10 +1,10 @@
-//! A reader of one's own that reads one text and then another, as a decoder text in front of a capture.
+//! A custom reader that reads two texts one after the other, such as a decoder text and a capture.
 
 ghost use Rattle.std.specs.Prelude.{◌≡◌, ◌≤◌, ◌<◌, ◌++◌, [], Some, length, take};
 
 use dcc_tool::{Failed, Source};
 
-/// Two texts in memory, one behind the other.
+/// A reader of two texts in memory, which it reads one after the other.
 #[derive(Drop)]
 pub struct ChainedReader<'a> {
     pub first: &'a [u8],
@@ -25,7 +25,7 @@ impl<'a> Source for ChainedReader<'a> {
 }
 
 impl<'a> ChainedReader<'a> {
-    /// Goes on to the second text where the first one has ended.
+    /// Continues with the second text if no byte of the first text is left.
     fn go_on(&mut self)
         ensures same { self.new.first.now ++ self.new.second.now ≡ self.old.first.now ++ self.old.second.now }
         ensures ended { length self.new.first.now ≡ 0 → self.new.second.now ≡ [] }
@@ -37,7 +37,8 @@ impl<'a> ChainedReader<'a> {
     }
 }
 
-/// Fills a buffer with the front of a text, and answers with how many bytes.
+/// Copies a prefix of `text` to the beginning of `buffer`, and returns the number of bytes. The
+/// prefix fills the buffer if the text is long enough.
 fn fill(buffer: &mut [u8], text: &[u8]) -> usize
     ensures of_text { result ≤ length text.now }
     ensures in_buffer { result ≤ length buffer.new }

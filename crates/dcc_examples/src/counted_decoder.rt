@@ -1,4 +1,5 @@
-//! A user's own decoder around any other decoder: it counts the packets that it is given. Each theorem on decoders holds of it.
+//! A custom decoder that wraps any other decoder and counts its packets. All theorems about
+//! decoders hold for this type.
 
 ghost use Rattle.std.specs.Prelude.{◌≡◌, ◌∷◌, [], IfOk};
 ghost use Rattle.dcc_wire.specs.Framing.{report_at, seen};
@@ -9,7 +10,8 @@ use dcc_regs::{Decoder, LocoDecoder, PackedLoco, Register, Value, Who};
 use dcc_wire::{Framer, Seen};
 use std::alloc::{AllocError, Global};
 
-/// A decoder, and how many packets it was given, at most 2^32 - 1.
+/// A decoder with the number of packets that were applied to it. The number of packets stops at
+/// 2^32 - 1.
 #[derive(Drop)]
 pub struct CountedDecoder<D: Decoder> {
     pub inner: D,
@@ -35,8 +37,9 @@ impl<D: Decoder> Decoder for CountedDecoder<D> {
     }
 }
 
-/// A counted decoder and a decoder of another type, each in a box, hear one half-bit of this many microseconds. Returns what the
-/// framer shows at it, which is what a list of this one half-bit shows.
+/// Lets a counted decoder and a decoder of another type, each in a box, hear one half-bit of `us`
+/// microseconds. Returns the outcome of the framer, which is the outcome of the list with only this
+/// half-bit.
 pub fn hear_in_boxes(alloc: Global, cvs: &[u8; 1024], us: u16) -> Result<Seen, AllocError>
     ensures { IfOk result (λ shown. seen (us ∷ []) ≡ report_at 0 shown) }
 {

@@ -1,4 +1,4 @@
-//! A listener of one's own: it counts the accesses to CVs that it is told.
+//! A custom listener that counts accesses to CVs.
 
 ghost use Rattle.std.specs.Prelude.{◌≡◌};
 ghost use Rattle.dcc_examples.specs.Counting.{counted_after};
@@ -6,7 +6,7 @@ ghost use Rattle.dcc_examples.specs.Counting.{counted_after};
 use dcc_packet::{Address, Board, GroupBits, OtherFrame, Output, SignalAddress, StateNumber, What};
 use dcc_regs::Notify;
 
-/// How many accesses to CVs it was told, at most 2^32 - 1.
+/// A listener with the number of accesses to CVs. The number of accesses stops at 2^32 - 1.
 #[derive(Drop)]
 pub struct Counter {
     pub accesses: u32,

@@ -1,4 +1,5 @@
-//! A decoder's loop: durations come in, a framer finds the packets, a locomotive decoder applies them, a listener is told.
+//! The loop of a decoder: a framer finds the packets in half-bits, a locomotive decoder applies
+//! these packets, and a listener is notified of them.
 
 ghost use Rattle.std.specs.Prelude.{List};
 ghost use Rattle.dcc_regs.specs.Cvs.{cv_in};
@@ -14,8 +15,11 @@ use dcc_packet::Packet;
 use dcc_regs::{Decoder, Notify, PackedLoco, apply_and_announce};
 use dcc_wire::{Framer, Seen};
 
-/// A decoder hears a track, half-bits in microseconds: it holds what the packets in them give, and a listener was told those
-/// that it hears, each by the call of its kind, and nothing else.
+/// Lets a decoder hear a track, which is a list of half-bits in microseconds. After the call the
+/// decoder has the result of the packets of the track.
+///
+/// The listener is notified of each packet that the decoder hears, by the callback for the kind of
+/// this packet, and of nothing else.
 pub fn hear_track<D: Decoder, N: Notify>(durations: &[u16], loco: &mut D, listener: &mut N)
     ensures heard { HasHeardHalves durations.now (D.who loco.old) (D.registers loco.old) (D.who loco.new)
         (D.registers loco.new) }
@@ -32,7 +36,8 @@ pub fn hear_track<D: Decoder, N: Notify>(durations: &[u16], loco: &mut D, listen
     }
 }
 
-/// A locomotive that is powered up with these configuration variables hears a track, and its cab prints what it is told.
+/// Creates a locomotive decoder with these CVs, which hears a track. The cab of the locomotive
+/// prints the notifications. Returns the decoder.
 pub fn run<R: Print>(rt: &R, cvs: &[u8; 1024], durations: &[u16]) -> PackedLoco
     ensures { HasHeardHalves durations.now (start_who (cv_in cvs.now)) (start_map (cv_in cvs.now))
         (⟦<PackedLoco as Decoder>⟧.who result) (⟦<PackedLoco as Decoder>⟧.registers result) }

@@ -1,4 +1,5 @@
-//! Packet lines are encoded into half-bits, and the half-bits are listed: one line for each packet.
+//! A function that encodes packet lines into half-bits, and lists these half-bits with one line for
+//! each packet.
 
 ghost use Rattle.std.specs.Prelude.{IfOk};
 ghost use Rattle.dcc_examples.specs.Listed.{IsListingOf};
@@ -6,8 +7,9 @@ ghost use Rattle.dcc_examples.specs.Listed.{IsListingOf};
 use dcc_tool::{Counted, Encode, Input, Limits, ToolFault, encode, laws, show};
 use std::alloc::Global;
 
-/// Encodes packet lines into half-bits and lists these half-bits. If they are within the limits, the listing has one line for each
-/// packet that the lines say, in order, at the number of its last half-bit, and no refusal.
+/// Encodes packet lines into half-bits and lists these half-bits. If the half-bits are within the
+/// limits, the listing has one line for each packet of the packet lines, in order, and no refusal.
+/// The line has the number of the last half-bit of the packet.
 pub fn encoded_and_listed(alloc: Global, lines: &[u8]) -> Result<Vec<u8>, ToolFault>
     ensures { IfOk result (λ listing. IsListingOf lines.now listing.items) }
 {
@@ -22,7 +24,7 @@ pub fn encoded_and_listed(alloc: Global, lines: &[u8]) -> Result<Vec<u8>, ToolFa
     Ok(inner)
 }
 
-/// Half-bits for the main track, without a station.
+/// The encoding as half-bits for the main track, without a station.
 const HALVES: Encode = Encode {
     hex: false,
     service: false,

@@ -1,4 +1,5 @@
-//! Two decoders of different types, powered up with the same CVs, are equal again behind two tracks that are alike for them.
+//! Two decoders of different types with equal CVs, which are equal again after two tracks that are
+//! alike for them.
 
 ghost use Rattle.std.specs.Prelude.{◌≡◌};
 ghost use Rattle.dcc_order.specs.Hearing.{HasHeardHalves, whole_track};
@@ -10,7 +11,7 @@ use crate::counted_decoder::CountedDecoder;
 use dcc_order::hear_two;
 use dcc_regs::{Decoder, LocoDecoder, PackedLoco};
 
-/// Two decoders with these CVs, once each has heard its track.
+/// Creates two decoders with these CVs, and lets each decoder hear its track. Returns the decoders.
 pub fn hear_alike(
     cvs: &[u8; 1024],
     pieces: &[&[u16]],

@@ -1,11 +1,12 @@
-//! The first call: the listing of a capture in memory, proved to be what one reads in the documents.
+//! A first call, which lists a capture in memory. The contract says that the result is the listing
+//! that the documents show.
 
 ghost use Rattle.std.specs.Prelude.{◌≡◌, IfOk, codes};
 
 use dcc_tool::{Counted, Input, Limits, ToolFault, laws, show};
 use std::alloc::Global;
 
-/// The listing of a speed packet in runs of half-bits.
+/// Returns the listing of a capture in runs. The capture has one packet, which sets a speed.
 pub fn listed(alloc: Global) -> Result<Vec<u8>, ToolFault>
     ensures { IfOk result (λ listing. listing.items ≡ codes "84 036261\n") }
 {

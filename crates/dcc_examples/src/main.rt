@@ -1,5 +1,6 @@
-//! How the libraries are used: a decoder's loop, which hears the capture on standard input, two boosters compared, a programmer that
-//! reads a variable, and a station that sends. What a user would copy stands in the modules.
+//! Examples of the libraries. A decoder hears the capture on standard input, two boosters are
+//! compared, a programmer reads a CV, a station sends packets, and two receivers measure or hear
+//! badly. Each module contains code that you can copy.
 #![tactic(auto)]
 
 mod cab;
@@ -11,12 +12,16 @@ mod decoder_loop;
 mod encoded_and_listed;
 mod equal_again;
 mod first_call;
+mod lost_contact;
+mod measured_track;
 mod own_board;
 mod own_streams;
+mod parked;
 mod played_lists;
 mod programmer;
 mod refreshed;
 mod sent_and_heard;
+mod sent_in_turn;
 mod station_sends;
 mod two_boosters;
 
@@ -25,32 +30,33 @@ use dcc_packet::{Address, CvNumber, Packet, PacketFault};
 use dcc_regs::Who;
 use dcc_service::ServiceDecoder;
 use dcc_station::{Refused, StationFault};
-use dcc_wire::{Framer, Seen};
+use dcc_wire::{Framer, Halves, Seen, Timing};
 use std::alloc::Global;
 use std::io;
 use thiserror::Error;
 
-/// Why an example stops.
+/// An error of an example.
 #[derive(Debug, Drop, Error)]
 pub enum Fault {
-    /// A line says no packet.
+    /// A line is no packet line.
     #[error("{0}")]
     Packet(#[from] PacketFault),
-    /// A station is not made.
+    /// A station cannot be created.
     #[error("{0}")]
     Station(#[from] StationFault),
-    /// A station refuses a command.
+    /// A station rejects a command.
     #[error("{0}")]
     Refused(#[from] Refused),
-    /// There is no memory for a comparison.
+    /// An allocation of a comparison failed.
     #[error("{0}")]
     NoMemory(#[from] NoMemory),
-    /// Standard input or output fails, or there is no memory for the half-bits.
+    /// Standard input or output failed, or the allocation of the half-bits failed.
     #[error("{0}")]
     Io(#[from] io::Error),
 }
 
-/// The half-bits of standard input, a number of microseconds each. Words that are no number are passed over.
+/// Returns the half-bits of standard input, which contains the duration of each half-bit in
+/// microseconds. The function skips words that are no numbers.
 fn durations<R: Input + Alloc>(rt: &R) -> io::Result<Vec<u16, R::A>> {
     let mut durations = Vec::new(rt.alloc());
     for line in rt.lines(rt.alloc()) {
@@ -63,7 +69,8 @@ fn durations<R: Input + Alloc>(rt: &R) -> io::Result<Vec<u16, R::A>> {
     Ok(durations)
 }
 
-/// What two boosters send is compared for locomotive 3: first tracks that are alike, then tracks that are not.
+/// Compares the packets of two boosters for locomotive 3. The first two tracks are alike, and the
+/// next two tracks are not.
 fn compare_boosters<R: Print>(rt: &R, alloc: Global) -> Result<(), Fault> {
     let who = Who::Loco(Some(Address::short(3)?));
     let slow = Packet::from_line("loco s3 speed28 f 4")?;
@@ -79,7 +86,8 @@ fn compare_boosters<R: Print>(rt: &R, alloc: Global) -> Result<(), Fault> {
     Ok(())
 }
 
-/// A station sends six packets: each of its two commands twice, then both again in turn.
+/// Sends six packets with a station. The station sends each of its two commands twice, and then
+/// refreshes each command once.
 fn send_six<R: Print>(rt: &R, alloc: Global) -> Result<(), Fault> {
     let mut station = station_sends::with_two_commands(alloc)?;
     let mut rails = Framer::new();
@@ -91,6 +99,47 @@ fn send_six<R: Print>(rt: &R, alloc: Global) -> Result<(), Fault> {
             println!(rt; "sent {sent}, heard {heard}")?;
         }
     }
+    Ok(())
+}
+
+/// Returns the half-bits of packets, one after the other.
+fn track_of(alloc: Global, packets: &[Packet]) -> io::Result<Vec<u16>> {
+    let mut track = Vec::new(alloc);
+    for packet in packets {
+        for us in Halves::new(packet.frame(), Timing::main()) {
+            track.push(us)?;
+        }
+    }
+    Ok(track)
+}
+
+/// Prints each packet that a framer hears in these half-bits.
+fn print_heard<R: Print>(rt: &R, halves: &[u16]) -> io::Result<()> {
+    let mut framer = Framer::new();
+    for us in halves {
+        if let Seen::Packet(frame) = framer.push(*us) {
+            let heard = Packet::read(&frame).to_line();
+            println!(rt; "heard {heard}")?;
+        }
+    }
+    Ok(())
+}
+
+/// Lets two receivers hear three packets: one with a slow clock, and one that loses contact
+/// during the error byte of the first packet.
+fn receive<R: Print>(rt: &R, alloc: Global) -> Result<(), Fault> {
+    let slow = Packet::from_line("loco s3 speed28 f 4")?;
+    let fast = Packet::from_line("loco s3 speed28 f 8")?;
+    let track = track_of(alloc, &[Packet::Idle, slow, fast])?;
+    println!(rt; "a receiver with a slow clock")?;
+    let measured = measured_track::measured(alloc, track.as_slice())?;
+    print_heard(rt, measured.as_slice())?;
+    println!(rt; "a locomotive that loses contact")?;
+    // The last 18 of 84 half-bits are missing, so the preamble of the second packet completes the
+    // first packet, and the second packet is lost.
+    let to = track.len().min(84);
+    let heard = lost_contact::with_gap(alloc, track.as_slice(), to.min(66), to)?;
+    print_heard(rt, heard.as_slice())?;
     Ok(())
 }
 
@@ -108,5 +157,6 @@ fn main(rt: HostRuntime) -> Result<(), Fault> {
     let value = programmer::read_cv(&mut ServiceDecoder::new(&cvs), CvNumber::new(29)?);
     println!(rt; "CV29 has {value:?}")?;
     println!(rt; "a station that sends")?;
-    send_six(&rt, rt.alloc())
+    send_six(&rt, rt.alloc())?;
+    receive(&rt, rt.alloc())
 }

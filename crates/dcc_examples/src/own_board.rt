@@ -1,4 +1,5 @@
-//! An accessory decoder written from nothing, over fields of its own. All that is proved of decoders holds of it.
+//! A custom accessory decoder with fields of its own. All theorems about decoders hold for this
+//! type.
 
 ghost use Rattle.std.specs.Prelude.{◌≡◌, ◌<◌, ℕ, nat_le, slice_index, true};
 ghost use Rattle.dcc_order.specs.Fleets.{EachHearsHalves};
@@ -8,7 +9,8 @@ use dcc_order::hear_track;
 use dcc_packet::{Address, Board, Packet, What};
 use dcc_regs::{Decoder, Register, Value, Who, hears, laws};
 
-/// Eight outputs, the sides of their four pairs, and the aspects of four signals.
+/// An accessory decoder. Element n of `sides` is true if output 2n + 1 was the last output of pair
+/// n that was turned on.
 #[derive(Drop)]
 pub struct OwnBoard {
     pub board: Board,
@@ -23,7 +25,8 @@ impl OwnBoard {
     ghost use Rattle.dcc_regs.specs.Board.{TakesPacket};
     ghost use Rattle.dcc_examples.specs.OwnBoard.{content};
 
-    /// Takes a packet that it hears. An output that is turned on is the side of its pair.
+    /// Applies a packet that the decoder hears. An output that is turned on sets the element of its
+    /// pair in `sides`.
     fn take(&mut self, packet: &Packet)
         ensures takes { TakesPacket packet.now (content self.old) (content self.new) }
         ensures same { self.new.board ≡ self.old.board }
@@ -83,7 +86,8 @@ impl Decoder for OwnBoard {
     }
 }
 
-/// A fleet of such boards hears a track, which may come in pieces: each holds what the packets in it give.
+/// Lets a fleet of these decoders hear a track, which can come in pieces. After the call each
+/// decoder has the result of the packets that it hears.
 pub fn hear(boards: &mut [OwnBoard], pieces: &[&[u16]])
     ensures { EachHearsHalves ⟦<OwnBoard as Decoder>⟧.who ⟦<OwnBoard as Decoder>⟧.registers (whole_track pieces.now)
         boards.old boards.new }

@@ -1,11 +1,12 @@
-//! A reader and a writer of one's own, as a test wants them: each fails once so many calls were made.
+//! A custom reader and a custom writer for tests. The reader and the writer fail after a number of
+//! calls.
 
 ghost use Rattle.std.specs.Prelude.{Some};
 ghost use Rattle.dcc_tool.specs.WriterState.{WriterState};
 
 use dcc_tool::{Failed, Sink, Source};
 
-/// A reader over bytes.
+/// A reader of bytes in memory, which fails after `calls_left` calls.
 #[derive(Drop)]
 pub struct FailingReader<'a> {
     pub bytes: &'a [u8],
@@ -31,7 +32,7 @@ impl<'a> Source for FailingReader<'a> {
     }
 }
 
-/// A writer over memory. Want of memory is a failure too.
+/// A writer into memory, which fails after `calls_left` calls, or if an allocation fails.
 #[derive(Drop)]
 pub struct FailingWriter {
     pub bytes: Vec<u8>,

@@ -1,4 +1,5 @@
-//! Two lists of packets are compared and then played to two equal decoders. If the lists are alike, the decoders are equal again.
+//! A function that compares two lists of packets, and applies each list to one of two equal
+//! decoders. If the lists are alike, the decoders are equal again.
 
 ghost use Rattle.std.specs.Prelude.{◌≡◌, ◌↔◌, ◌<◌, ◌^◌, length, true, Ok, OnOk, IfOk};
 ghost use Rattle.dcc_order.specs.AlikeLists.{AlikeFor};
@@ -10,7 +11,8 @@ use dcc_packet::Packet;
 use dcc_regs::{Decoder, apply_all};
 use std::alloc::Global;
 
-/// Plays two lists of packets to two decoders. Returns true if the lists are alike for these decoders.
+/// Applies each of two lists of packets to one of two decoders. Returns true if the lists are alike
+/// for these decoders.
 pub fn play_both<L: Decoder, R: Decoder>(
     alloc: Global,
     left: &mut L,
@@ -22,12 +24,14 @@ pub fn play_both<L: Decoder, R: Decoder>(
     requires right_fits { length others.now < 2 ^ 32 }
     requires same_who { L.who left.old ≡ R.who right.old }
     requires same_registers { L.registers left.old ≡ R.registers right.old }
-    // Each has heard its list,
-    ensures left { OnOk result (HasHeard packets.now (L.who left.old) (L.registers left.old) (L.who left.new) (L.registers left.new)) }
-    ensures right { OnOk result (HasHeard others.now (R.who right.old) (R.registers right.old) (R.who right.new) (R.registers right.new)) }
-    // the answer tells whether the lists are alike,
+    // Each decoder has heard its list.
+    ensures left { OnOk result (HasHeard packets.now (L.who left.old) (L.registers left.old) (L.who left.new)
+        (L.registers left.new)) }
+    ensures right { OnOk result (HasHeard others.now (R.who right.old) (R.registers right.old) (R.who right.new)
+        (R.registers right.new)) }
+    // The result is true if and only if the lists are alike.
     ensures alike { IfOk result (λ alike. (alike ≡ true) ↔ AlikeFor (L.who left.old) packets.now others.now) }
-    // and if they are, the decoders are equal again.
+    // If the lists are alike, the decoders are equal again.
     ensures equal { result ≡ Ok true → (r : Register) → L.registers left.new r ≡ R.registers right.new r }
 {
     let verdict = compare(alloc, left.who(), packets, others)?;

@@ -1,4 +1,4 @@
-//! A programmer of one's own: it reads a configuration variable by the questions of a reader, on a track of one's own.
+//! A custom programmer, which reads a CV with the questions of a `CvReader` on a custom track.
 
 ghost use Rattle.std.specs.Prelude.{◌≡◌, ℕ, List, Some};
 ghost use Rattle.dcc_service.specs.Cvs.{cv_in};
@@ -7,12 +7,12 @@ ghost use Rattle.dcc_service.specs.ReadingLaws.{IsPut};
 use dcc_packet::CvNumber;
 use dcc_service::{CvReader, Reading, ServiceDecoder, ServicePacket, ask, laws};
 
-/// A programming track with a decoder on it, as one's hardware has it.
+/// A programming track with a decoder, for example a track of real hardware.
 pub trait Track {
-    /// The CVs of the decoder.
+    /// The CVs of the decoder on the track.
     ghost cvs: { Self → List ℕ };
 
-    /// Puts a question to the decoder, and answers whether it was acknowledged.
+    /// Sends a question to the decoder. Returns true if the decoder acknowledges the question.
     fn put(&mut self, question: &ServicePacket) -> bool
         ensures { IsPut question.now (cvs self.old) (cvs self.new) result };
 }
@@ -25,7 +25,7 @@ impl Track for ServiceDecoder {
     }
 }
 
-/// Reads a CV: what is answered is its value, and no CV changes.
+/// Reads a CV and returns its value. No CV changes.
 pub fn read_cv<T: Track>(track: &mut T, cv: CvNumber) -> Option<u8>
     ensures value { result ≡ Some (cv_in (T.cvs track.old) cv.number) }
     ensures kept { T.cvs track.new ≡ T.cvs track.old }

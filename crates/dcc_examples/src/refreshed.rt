@@ -1,4 +1,5 @@
-//! A station sends a command as often as it has to, and a decoder hears each copy: it holds what the command asks for.
+//! A function that lets a decoder hear all copies of a command of a station. The decoder then has
+//! the result of the command.
 
 ghost use Rattle.std.specs.Prelude.{◌≡◌, ◌≢◌, ◌∷◌, [], Ok, true, IfOk};
 ghost use Rattle.dcc_regs.specs.Result.{result as after};
@@ -12,8 +13,9 @@ use dcc_regs::Decoder;
 use dcc_station::{Station, StationFault, laws};
 use std::alloc::Global;
 
-/// Gives one command to a new station, and lets a decoder hear what the station sends until nothing waits. Returns false if the
-/// station refuses the command, which it does if the command is not sendable.
+/// Gives one command to a new station, and lets a decoder hear the packets of the station until the
+/// queue is empty. Returns false if the station rejects the command, which means that a station
+/// does not send this packet.
 pub fn send_one<D: Decoder>(
     alloc: Global,
     decoder: &mut D,

@@ -1,4 +1,4 @@
-//! What is sent is what is heard: a packet goes out in any timing, and a decoder does what the packet says.
+//! A function that sends a packet in any timing to a decoder, which executes the packet.
 
 ghost use Rattle.std.specs.Prelude.{◌≡◌, IfOk, OnOk};
 ghost use Rattle.dcc_wire.specs.Sending.{sent};
@@ -10,7 +10,7 @@ use dcc_regs::Decoder;
 use dcc_wire::{Frame, Halves, Timing};
 use std::alloc::{AllocError, Global};
 
-/// A packet is sent in this timing, and a decoder hears its half-bits.
+/// Sends a packet in this timing, and lets a decoder hear the half-bits of the packet.
 pub fn transmit<D: Decoder>(
     alloc: Global,
     decoder: &mut D,
@@ -25,7 +25,7 @@ pub fn transmit<D: Decoder>(
     Ok(())
 }
 
-/// The half-bits of a frame, in memory.
+/// Returns the half-bits of a frame in this timing, as a vector.
 fn halves_of(alloc: Global, frame: Frame, timing: Timing) -> Result<Vec<u16>, AllocError>
     ensures { IfOk result (λ halves. halves.items ≡ sent frame timing) }
 {

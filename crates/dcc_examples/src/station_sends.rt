@@ -1,4 +1,5 @@
-//! A station that sends: commands wait in it, what it sends next becomes half-bits, and a framer hears the same packets.
+//! A station that sends: the next packet of the station becomes half-bits, and a framer finds the
+//! packet in them.
 
 ghost use Rattle.std.specs.Prelude.{◌≡◌, ◌++◌, ◌∷◌, [], List, IfOk, length};
 ghost use Rattle.dcc_wire.specs.Frames.{IsFrame};
@@ -17,12 +18,14 @@ use dcc_station::Station;
 use dcc_wire::{Framer, Halves, Seen, Timing};
 use std::alloc::Global;
 
-/// Sends the next packet of a station, half by half, and answers it with what a framer at the rails has seen of it.
+/// Sends the next packet of a station, half-bit by half-bit. Returns the packet, and the last
+/// outcome of a framer that hears the rails.
 pub fn send_next(station: &mut Station, rails: &mut Framer) -> (Packet, Seen)
     ensures next { Next station.old result.0 station.new }
-    // Where nothing but packets was sent so far, the framer sees just this packet,
+    // If the framer has heard only whole packets before, the outcome is this packet.
     ensures heard { (before : List Sent) → HasHeardAll before rails.old → result.1 ≡ Seen.Packet (spelling result.0) }
-    // and nothing but packets was sent then.
+    // If the framer has heard only whole packets before, it has heard only whole packets after the
+    // call.
     ensures rails { (before : List Sent) → HasHeardAll before rails.old
         → HasHeardAll (before ++ sent_as result.0 ∷ []) rails.new }
 {
@@ -30,7 +33,7 @@ pub fn send_next(station: &mut Station, rails: &mut Framer) -> (Packet, Seen)
     let packet = station.next();
     let mut heard = Seen::Nothing;
     for us in halves_of(&packet) {
-        // Here a booster would switch the rails over for so many microseconds.
+        // here a booster would change the polarity of the rails for `us` microseconds
         match rails.push(us) {
             Seen::Nothing => (),
             seen => heard = seen,
@@ -39,7 +42,7 @@ pub fn send_next(station: &mut Station, rails: &mut Framer) -> (Packet, Seen)
     (packet, heard)
 }
 
-/// The half-bits of a packet.
+/// Returns the half-bits of a packet in the timing of the main track.
 fn halves_of(packet: &Packet) -> Halves
     ensures frame { IsFrame (spelling packet.now) }
     ensures halves { halves_left result ≡ sent (spelling packet.now) main_timing }
@@ -49,7 +52,8 @@ fn halves_of(packet: &Packet) -> Halves
     Halves::new(frame, Timing::main())
 }
 
-/// A station with two commands. Four may wait in it, eight are refreshed, and each is sent twice before.
+/// Creates a station with two commands. The queue has capacity for four commands, the station
+/// refreshes up to eight entries, and it sends each command twice.
 pub fn with_two_commands(alloc: Global) -> Result<Station, Fault>
     ensures { IfOk result (λ station. length station.waiting ≡ 2) }
 {

@@ -1,4 +1,5 @@
-//! Two tracks behind two boosters, compared in step for a decoder: the comparer says which track it wants to be read next.
+//! Two tracks of two boosters, which are compared packet by packet for a decoder. The comparer says
+//! which track must be read next.
 
 ghost use Rattle.std.specs.Prelude.{◌≤◌, ◌<◌, ◌^◌, IfOk, length, take};
 ghost use Rattle.dcc_order.specs.InStep.{IsAt};
@@ -9,7 +10,8 @@ use dcc_packet::Packet;
 use dcc_regs::Who;
 use std::alloc::Global;
 
-/// Compares two tracks for a decoder, and reads no further than the verdict. The answer is it, and how many packets of each were read.
+/// Compares two tracks for a decoder, and stops at the verdict. Returns the verdict, and the number
+/// of packets of each track that were read.
 pub fn compare_in_step(
     alloc: Global,
     who: Who,
@@ -18,9 +20,9 @@ pub fn compare_in_step(
 ) -> Result<(Verdict, (u32, u32)), NoMemory>
     requires left_fits { length left.now < 2 ^ 32 }
     requires right_fits { length right.now < 2 ^ 32 }
-    // The verdict is that of the whole tracks,
+    // The verdict is the verdict on the whole tracks.
     ensures whole { IfOk result (λ found. IsVerdict who left.now right.now found.0) }
-    // and that of the packets that were read, alone.
+    // The verdict is also the verdict on the packets that were read.
     ensures read { IfOk result
         (λ found. IsVerdict who (take found.1.0 left.now) (take found.1.1 right.now) found.0) }
     ensures left_read { IfOk result (λ found. found.1.0 ≤ length left.now) }
@@ -37,14 +39,14 @@ pub fn compare_in_step(
     }
 }
 
-/// The next packet of the left track, none at its end. A framer behind the booster would give it.
+/// Returns the next packet of the first track. Returns `None` at the end of this track.
 fn next_left(comparer: &Comparer, track: &[Packet]) -> Option<Packet>
     ensures { IsAt track.now comparer.now.left_given result }
 {
     track.get(comparer.given().0 as usize).copied()
 }
 
-/// The next packet of the right track, none at its end.
+/// Returns the next packet of the second track. Returns `None` at the end of this track.
 fn next_right(comparer: &Comparer, track: &[Packet]) -> Option<Packet>
     ensures { IsAt track.now comparer.now.right_given result }
 {

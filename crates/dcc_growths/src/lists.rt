@@ -1,4 +1,5 @@
-//! A station, and lists that are compared. Each answers whether memory was wanted, and none where something is wrong.
+//! Tests of a station and of the comparison of lists. Each function returns true if an allocation
+//! failed, false if no allocation failed, and `None` if a result is wrong.
 
 use dcc_order::{Comparer, Verdict, Wants, compare};
 use dcc_packet::{Address, Packet};
@@ -6,10 +7,11 @@ use dcc_regs::Who;
 use dcc_station::Station;
 use std::alloc::Global;
 
-/// A speed.
+/// A packet that sets the speed of locomotive 3.
 const A: &str = "frame 036261";
 
-/// A speed, and writes of the bit by which it is read.
+/// A packet that sets the speed of locomotive 3. The next two packets write the bit of CV29 that
+/// selects the speed mode.
 const X: &str = "frame 037477";
 
 const C: &str = "frame 03e81cf106";
@@ -28,7 +30,8 @@ fn s3() -> Option<Who> {
     Some(Who::Loco(Some(Address::short(3).ok()?)))
 }
 
-/// A station is made, at the second call where memory was wanted at the first, and does as always.
+/// Creates a station, and creates it again if an allocation failed. The function then checks that
+/// the station works.
 pub fn station(alloc: Global) -> Option<bool> {
     let mut wanted = false;
     let made = match Station::new(alloc, 4, 4, 1) {
@@ -53,7 +56,8 @@ pub fn station(alloc: Global) -> Option<bool> {
     }
 }
 
-/// Lists are compared, at the second call where memory was wanted at the first.
+/// Compares two lists, and compares them again if an allocation failed. The function then checks
+/// the verdict.
 pub fn two_lists(alloc: Global) -> Option<bool> {
     let left = [
         packet(X)?,
@@ -88,7 +92,8 @@ pub fn two_lists(alloc: Global) -> Option<bool> {
     }
 }
 
-/// The next packet of a list, or its end.
+/// Returns the next packet of a list, or `Some(None)` at the end of the list. Returns `None` if a
+/// line is no packet line.
 fn next(lines: &[&str], at: u32) -> Option<Option<Packet>> {
     match lines.get(at as usize) {
         Some(line) => Some(Some(packet(line)?)),
@@ -96,7 +101,8 @@ fn next(lines: &[&str], at: u32) -> Option<Option<Packet>> {
     }
 }
 
-/// Lists are compared in step. Where memory was wanted nothing has changed, and the same packet is given again.
+/// Compares two lists packet by packet. If an allocation fails, the function checks that the
+/// comparer is unchanged, and gives the same packet again.
 pub fn in_step(alloc: Global) -> Option<bool> {
     let mut comparer = Comparer::new(alloc, s3()?);
     let mut wanted = false;

@@ -1,6 +1,9 @@
-//! Calls that may want memory, and calls that take none, each with its full answer or with want of memory and nothing
-//! changed. `tools/growths` runs the program with the first growth of memory refused, with the second, and so on;
-//! with a word behind its name it makes two calls on many packets, which run under a bound on bytes.
+//! Tests of failed allocations. Each call must return its full result, or report that an allocation
+//! failed and change nothing.
+//!
+//! `tools/growths` runs this program so that the first allocation fails, then the second, and so
+//! on. With an argument the program makes two calls with many packets. `tools/growths` runs these
+//! calls under a limit of memory.
 #![tactic(auto)]
 
 mod lists;
@@ -41,7 +44,7 @@ fn main(rt: HostRuntime) -> ExitCode {
     }
 }
 
-/// A line for each call, and the status 1 where one is wrong.
+/// Writes a line for each call. The exit status is 1 if a result is wrong, otherwise 0.
 fn tell(rt: &impl Print, rows: &[(&str, Option<bool>)]) -> ExitCode {
     let mut status = 0;
     for (name, came) in rows {

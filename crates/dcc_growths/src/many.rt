@@ -1,5 +1,5 @@
-//! Two captures of many packets each, which the program is asked for by a word: what `same` holds of them shows under
-//! a bound on bytes.
+//! Comparisons of two captures with many packets. `tools/growths` runs these comparisons under a
+//! limit of memory, which shows how many packets `same` stores.
 ghost use Rattle.std.specs.Prelude.{None};
 
 use crate::page::Page;
@@ -11,19 +11,21 @@ use dcc_regs::Who;
 use dcc_tool::{Input, Limits, same};
 use std::alloc::Global;
 
-/// A speed, a write of CV29, another speed and another write, for locomotive 3: two blocks.
+/// Packets for locomotive 3: a speed, a write of CV29, another speed, and another write of CV29.
+/// These packets form two blocks.
 const BLOCKS: &[u8] = b"58*28 100*14 58*4 100*4 58*4 100*6 58*2 100*6 58*4 100*8 58*4\n\
     58*28 100*14 58*4 100*2 58*6 100*2 58*2 100*14 58*6 100*6 58*8 100*6 58*2 100*12 58*4 100*2 58*2\n\
     58*28 100*14 58*4 100*4 58*14 100*4 58*10 100*4 58*2\n\
     58*28 100*14 58*4 100*2 58*6 100*2 58*2 100*14 58*6 100*6 58*10 100*4 58*2 100*10 58*6 100*2 58*2\n";
 
-/// The two speeds twice: no block ends.
+/// Two speeds for locomotive 3, each twice. A speed ends no block.
 const SPEEDS: &[u8] = b"58*28 100*14 58*4 100*4 58*4 100*6 58*2 100*6 58*4 100*8 58*4\n\
     58*28 100*14 58*4 100*4 58*14 100*4 58*10 100*4 58*2\n\
     58*28 100*14 58*4 100*4 58*4 100*6 58*2 100*6 58*4 100*8 58*4\n\
     58*28 100*14 58*4 100*4 58*14 100*4 58*10 100*4 58*2\n";
 
-/// A text, so many times more.
+/// A reader of a text that is repeated. The field `left` is the number of repetitions that are
+/// left.
 #[derive(Drop)]
 struct Repeated<'a> {
     text: &'a [u8],
@@ -52,7 +54,7 @@ impl<'a> Source for Repeated<'a> {
     }
 }
 
-/// Four thousand packets on each side that come as this text a thousand times.
+/// Compares two captures of 4,000 packets each. Each capture consists of 1,000 copies of `text`.
 fn captures(alloc: Global, text: &[u8]) -> Option<bool> {
     let s3 = Who::Loco(Some(Address::short(3).ok()?));
     let left = Repeated {
@@ -74,12 +76,14 @@ fn captures(alloc: Global, text: &[u8]) -> Option<bool> {
     all_or_nothing(answer.map(|v| v == Verdict::Alike), &page, b"alike\n")
 }
 
-/// Two thousand blocks, of which one of each side is held at a time.
+/// Compares two captures with 2,000 blocks each. The comparison stores at most one block of each
+/// capture.
 pub fn many_blocks(alloc: Global) -> Option<bool> {
     captures(alloc, BLOCKS)
 }
 
-/// One block of as many packets, all of which are held.
+/// Compares two captures with one block of 4,000 packets each. The comparison stores all these
+/// packets.
 pub fn one_block(alloc: Global) -> Option<bool> {
     captures(alloc, SPEEDS)
 }

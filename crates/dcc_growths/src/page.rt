@@ -1,9 +1,9 @@
-//! A writer that takes no memory.
+//! A writer that does not allocate.
 ghost use Rattle.std.specs.Prelude.{None};
 
 use dcc_io::{Failed, Sink};
 
-/// Keeps what is written in an array, and fails where that is full.
+/// A writer that writes to an array. A write returns 0 if the array is full.
 #[derive(Drop)]
 pub struct Page {
     bytes: [u8; 2048],
@@ -20,7 +20,7 @@ impl Page {
         }
     }
 
-    /// Whether just this was written.
+    /// Returns true if exactly the bytes `text` were written.
     pub fn is(&self, text: &[u8]) -> bool {
         match self.bytes.get(..self.len) {
             Some(written) => written == text,
@@ -28,7 +28,7 @@ impl Page {
         }
     }
 
-    /// What was written.
+    /// Returns the bytes that were written.
     pub fn text(&self) -> &[u8] {
         self.bytes.get(..self.len).unwrap_or(&[])
     }

@@ -1,5 +1,5 @@
-//! What the program does. Each answers whether memory was wanted, and then nothing was written; none where something
-//! is wrong.
+//! Tests of the operations of the program. Each function returns true if an allocation failed and
+//! nothing was written, false if no allocation failed, and `None` if a result is wrong.
 
 use crate::page::Page;
 use dcc_order::Verdict;
@@ -12,32 +12,33 @@ use dcc_tool::{
 };
 use std::alloc::Global;
 
-/// `03 62 61`.
+/// A capture of the packet `03 62 61`.
 const SLOW: &[u8] = b"58*28 100*14 58*4 100*4 58*4 100*6 58*2 100*6 58*4 100*8 58*4\n";
 
-/// An idle packet, `03 62 61`, and `03 62 60`, whose error byte is wrong.
+/// A capture of an idle packet, `03 62 61`, and `03 62 60`, whose error byte is wrong.
 const AMONG_OTHERS: &[u8] = b"58*28 100*2 58*16 100*20 58*18\n\
     58*28 100*14 58*4 100*4 58*4 100*6 58*2 100*6 58*4 100*8 58*4\n\
     58*28 100*14 58*4 100*4 58*4 100*6 58*2 100*6 58*4 100*10 58*2\n";
 
-/// Both in one input.
+/// The captures `SLOW` and `AMONG_OTHERS` in one input.
 const BOTH: &[u8] = b"58*28 100*14 58*4 100*4 58*4 100*6 58*2 100*6 58*4 100*8 58*4\n---\n\
     58*28 100*2 58*16 100*20 58*18\n\
     58*28 100*14 58*4 100*4 58*4 100*6 58*2 100*6 58*4 100*8 58*4\n\
     58*28 100*14 58*4 100*4 58*4 100*6 58*2 100*6 58*4 100*10 58*2\n";
 
-/// A locomotive decoder at short 3 and board 12, and `03 62 61`.
+/// The decoder text of a locomotive decoder at short address 3 and board 12, and a capture of `03
+/// 62 61`.
 const FLEET: &[u8] =
     b"dcc-decoders 2\nloco s3\nspeed stop f\non\nstates\npending none\ncv 1 3\ncv 29 2\n\
     board 12\nout\nposition 0 0 0 0\naspect 0 0 0 0\nend\n\
     58*28 100*14 58*4 100*4 58*4 100*6 58*2 100*6 58*4 100*8 58*4\n";
 
-/// The decoders when they have heard it.
+/// The decoder text of the decoders of `FLEET` after the packet `03 62 61`.
 const FLEET_AFTER: &[u8] =
     b"dcc-decoders 2\nloco s3\nspeed 28 1 f\non\nstates\npending none\ncv 1 3\ncv 29 2\n\
     board 12\nout\nposition 0 0 0 0\naspect 0 0 0 0\nend\n";
 
-/// The reading of a CV that is 0.
+/// The output of `readcv` for a CV with the value 0.
 const ZERO: &[u8] =
     b"7800e890 no\n7800e991 no\n7800ea92 no\n7800eb93 no\n7800ec94 no\n7800ed95 no\n\
     7800ee96 no\n7800ef97 no\n74000074 yes\nvalue 0\n";
@@ -46,7 +47,8 @@ fn input(text: &[u8]) -> Input<Counted<&[u8]>> {
     Input::new(Counted::new(text), Limits::full())
 }
 
-/// The full answer and text, or want of memory and no text.
+/// Returns false if the operation succeeded and wrote `text`, and true if an allocation failed and
+/// nothing was written. Returns `None` for any other result.
 pub fn all_or_nothing(answer: Result<bool, ToolFault>, page: &Page, text: &[u8]) -> Option<bool> {
     match answer {
         Ok(true) if page.is(text) => Some(false),
@@ -55,7 +57,8 @@ pub fn all_or_nothing(answer: Result<bool, ToolFault>, page: &Page, text: &[u8])
     }
 }
 
-/// The answer and text of a call that takes no memory.
+/// Returns false if `right` is true and an operation that does not allocate has written `text`.
+/// Returns `None` for any other result.
 fn all(right: bool, page: &Page, text: &[u8]) -> Option<bool> {
     if right && page.is(text) {
         Some(false)
@@ -64,7 +67,7 @@ fn all(right: bool, page: &Page, text: &[u8]) -> Option<bool> {
     }
 }
 
-/// A decoder text is read, its decoders are made, and hear the capture behind it.
+/// Reads a decoder text and creates its decoders, which hear the capture after the text.
 pub fn fleet(alloc: Global) -> Option<bool> {
     let mut input = input(FLEET);
     let mut page = Page::new();
@@ -72,11 +75,12 @@ pub fn fleet(alloc: Global) -> Option<bool> {
     all_or_nothing(answer, &page, FLEET_AFTER)
 }
 
-/// The locomotive decoder alone, when it has heard it.
+/// The decoder text of a locomotive decoder with CV1 = 3 and CV29 = 2 after the packet `03 62 61`.
 const LOCO_AFTER: &[u8] =
     b"dcc-decoders 2\nloco s3\nspeed 28 1 f\non\nstates\npending none\ncv 1 3\ncv 29 2\nend\n";
 
-/// A fleet that was made before hears a capture, and is written. Its box may want memory, and nothing behind that.
+/// Creates a fleet of one decoder in a box, which hears a capture. After the capture, the decoder
+/// text of the fleet is written. Only the creation of the box allocates.
 pub fn made_before(alloc: Global) -> Option<bool> {
     let mut cvs = [0; 1024];
     cvs[0] = 3;
@@ -118,7 +122,7 @@ pub fn both_captures(alloc: Global) -> Option<bool> {
     all_or_nothing(answer.map(|v| v == Verdict::Alike), &page, b"alike\n")
 }
 
-/// Neither an end nor a packet that is not heard takes memory.
+/// Compares two captures for a decoder that hears no packet. The comparison does not allocate.
 pub fn unheard(alloc: Global) -> Option<bool> {
     let b13 = Who::Board(Board::new(13).ok()?);
     let (mut first, mut second) = (input(SLOW), input(AMONG_OTHERS));

@@ -1,5 +1,6 @@
 -- The packet lines of a text say frames.
-use Rattle.std.proofs.Common.{◌≡◌, ℕ, ◌-◌, ◌||◌, Bool, true, false, not, List, [], ◌∷◌, ◌++◌, length, take, Option, Some, None}
+use Rattle.std.proofs.Common.{◌≡◌, ℕ, ◌-◌, ◌||◌, Bool, true, false, not, List, [], ◌∷◌, ◌++◌, length, take, Option}
+use Rattle.std.proofs.Common.{Some, None}
 use Rattle.std.proofs.Common.{Result, Ok, Err, if◌then◌else◌, refl, codes, nat_le, subst, zero, suc}
 use Rattle.std.specs.Prelude.{replicate}
 use Rattle.std.specs.List.{AllByRecursion}
@@ -9,6 +10,7 @@ use Rattle.dcc_packet.specs.declared.fault.PacketFault.TheVariants as faults
 use Rattle.dcc_packet.specs.Fields.{whole}
 use Rattle.dcc_packet.specs.Line.{frame_of_words}
 use Rattle.dcc_packet.specs.Words.{Word, is_word, words}
+use Rattle.dcc_packet.proofs.AllLemmas.{all_append}
 use Rattle.dcc_packet.proofs.LinesSayFrames.{lines_say_frames}
 use Rattle.dcc_io.specs.declared.fault.KeptFault.{KeptFault}
 use Rattle.dcc_io.specs.declared.fault.KeptFault.TheVariants as kept
@@ -17,13 +19,10 @@ use Rattle.dcc_io.specs.FramesSaid.{PacketLinesSayFrames, AsksForFrame, StationL
 use Rattle.dcc_io.specs.InputState.{InputState}
 use Rattle.dcc_io.specs.Items.{Items, only_fault}
 use Rattle.dcc_io.specs.NumberedLines.{NumberedLine, is_good, lines_from}
-use Rattle.dcc_io.specs.PacketLines.{Saying, behind_line, behind_words, is_skipped, items_in, items_of, open_line, packet_words}
-use Rattle.dcc_io.specs.StationLines.{Asked, Command, Next, command_of, packets_of, send_field, station_requests, station_words}
-
-all_of_both : {A : Type 0} (P : A → Type 0) (xs ys : List A) → AllByRecursion P xs → AllByRecursion P ys
-    → AllByRecursion P (xs ++ ys)
-all_of_both P [] ys all more = more
-all_of_both P (x ∷ xs) ys all more = (all.0, all_of_both P xs ys all.1 more)
+use Rattle.dcc_io.specs.PacketLines.{Saying, behind_line, behind_words, is_skipped, items_in, items_of, open_line}
+use Rattle.dcc_io.specs.PacketLines.{packet_words}
+use Rattle.dcc_io.specs.StationLines.{Asked, Command, Next, command_of, packets_of, send_field, station_requests}
+use Rattle.dcc_io.specs.StationLines.{station_words}
 
 module _ {A B : Type 0} (saying : Saying A B) (P : A → Type 0)
     (fact : (words : List Word) (says : B) → saying.said words ≡ Ok says → AllByRecursion P (saying.items says)) where
@@ -33,7 +32,7 @@ module _ {A B : Type 0} (saying : Saying A B) (P : A → Type 0)
     where
       go : (said : Result B PacketFault) → saying.said words ≡ said
           → AllByRecursion P (behind_words saying number said rest).said
-      go (Ok says) is = all_of_both P (saying.items says) rest.said (fact words says is) more
+      go (Ok says) is = all_append P (saying.items says) rest.said (fact words says is) more
       go (Err fault) is = tt
 
   line_is : (line : NumberedLine) (rest : Items A) → AllByRecursion P rest.said

@@ -12,9 +12,9 @@ use Rattle.std.specs.List.{list_all}
 use Rattle.std.specs.Char.{is_ascii_digit, is_ascii}
 use Rattle.dcc_io.specs.declared.word.FrontWord.{FrontWord}
 use Rattle.dcc_io.specs.TextPlace.{TextPlace, line_behind, lines_through}
-use Rattle.dcc_io.specs.Words.{Word, is_gap, comments, duration_of, Passes, count_of, run_with}
+use Rattle.dcc_io.specs.Words.{PlacedWord, is_gap, comments, duration_of, Passes, count_in_word, run_with}
 use Rattle.dcc_io.specs.Inner.FrontRuns.{SpellsNumber, IsFrontRun}
-use Rattle.dcc_io.specs.Inner.FrontWords.{BeginsWithWord, HasLineFeedAt, IsFrontWord, is_plain, EndNoLine}
+use Rattle.dcc_io.specs.Inner.FrontWords.{BeginsWithWord, HasLineFeedAt, IsFrontWord, is_word_byte, EndNoLine}
 use Rattle.dcc_io.specs.Inner.FrontWords.{is_within_line}
 use Rattle.dcc_io.specs.declared.fault.KeptFault.{KeptFault}
 use Rattle.dcc_io.specs.ReaderState.{ReaderState}
@@ -26,7 +26,7 @@ use Rattle.dcc_io.proofs.PassedLemmas.{some_bytes, ended-some}
 use Rattle.dcc_io.proofs.SpellsLemmas.{digit_value-digit, is_ascii_digit-digit, digits_value_after-push, behind_no_star}
 use Rattle.dcc_io.proofs.SpellsLemmas.{no_star_in}
 use Rattle.std.proofs.Math.Seq.{take-append-add, take-add}
-use Rattle.dcc_io.specs.NextLine.{has_line_feed, EndsLine}
+use Rattle.dcc_io.specs.NextLine.{has_line_feed, ReadsLine}
 use Rattle.dcc_io.specs.Inner.FrontLine.{BeginsWithLine, IsEndedLine}
 use Rattle.dcc_io.proofs.TookLemmas.{lines_with-some}
 
@@ -39,7 +39,7 @@ record IsPlain (byte : ℕ) : Type 0 where
   no_gap : is_gap byte ≡ false
   no_line : eqb byte 10 ≡ false
 
-plain_parts : (byte : ℕ) → is_plain byte ≡ true → IsPlain byte
+plain_parts : (byte : ℕ) → is_word_byte byte ≡ true → IsPlain byte
 unfolding comments
 plain_parts byte plain =
     let parts = or_parts _ _ (not-true _ plain) in
@@ -53,21 +53,21 @@ all_pass p q [] each all = refl
 all_pass p q (byte ∷ word) each all =
     let parts = and_parts (p byte) (list_all p word) all in rw (each byte parts.0, all_pass p q word each parts.1) refl
 
-plain_digit : (byte : ℕ) → is_ascii_digit byte ≡ true → is_plain byte ≡ true
+plain_digit : (byte : ℕ) → is_ascii_digit byte ≡ true → is_word_byte byte ≡ true
 unfolding is_gap
 plain_digit byte digit = let bounds = digit_bounds byte digit in grind (arith, nat_tests)
 
-pub plain_digits : (word : List ℕ) → list_all is_ascii_digit word ≡ true → list_all is_plain word ≡ true
-plain_digits word digits = all_pass is_ascii_digit is_plain word plain_digit digits
+pub plain_digits : (word : List ℕ) → list_all is_ascii_digit word ≡ true → list_all is_word_byte word ≡ true
+plain_digits word digits = all_pass is_ascii_digit is_word_byte word plain_digit digits
 
-plain_within : (word : List ℕ) → list_all is_plain word ≡ true → list_all is_within_line word ≡ true
-plain_within word plain = all_pass is_plain is_within_line word (λ byte is. rw (plain_parts byte is).no_line refl) plain
+plain_within : (word : List ℕ) → list_all is_word_byte word ≡ true → list_all is_within_line word ≡ true
+plain_within word plain = all_pass is_word_byte is_within_line word (λ byte is. rw (plain_parts byte is).no_line refl) plain
 
-opened-plain : (line : ℕ) (front word more : List ℕ) → list_all is_plain word ≡ true
+opened-plain : (line : ℕ) (front word more : List ℕ) → list_all is_word_byte word ≡ true
     → opened (outside line) front (word ++ more) ≡ opened (outside line) (front ++ word) more
 opened-plain line front [] more digits = rw (append-nil front) refl
 opened-plain line front (byte ∷ word) more digits =
-    let parts = and_parts (is_plain byte) (list_all is_plain word) digits in
+    let parts = and_parts (is_word_byte byte) (list_all is_word_byte word) digits in
     let plain = plain_parts byte parts.0 in
     let rest = rw append_assoc at (opened-plain line (front ++ byte ∷ []) word more parts.1) in
     opened-word (outside line) front byte (word ++ more) plain.no_comment plain.no_gap
@@ -82,7 +82,7 @@ abbrev comment_place : ℕ → TextPlace
 comment_place line = record { line = line; in_comment = true }
 
 -- a word and a gap hold one word
-pub passes_front : (line gap : ℕ) (word : List ℕ) → list_all is_plain word ≡ true → 0 < length word → is_gap gap ≡ true
+pub passes_front : (line gap : ℕ) (word : List ℕ) → list_all is_word_byte word ≡ true → 0 < length word → is_gap gap ≡ true
     → Passes (outside line) (word ++ gap ∷ []) (record { line = line; bytes = word } ∷ [])
     (outside (line_behind line gap))
 passes_front line gap word digits some is = λ more.
@@ -171,7 +171,7 @@ module _ {line lines halves : ℕ} {in_comment closed : Bool} {fault : Option Ke
     (bytes : ℕ) (at_end : closed ≡ true → source.ahead ≡ []) (none : fault ≡ None)
     (failures : later.failures ≡ source.failures) where
   -- so many of the bytes ahead were passed, which hold these words
-  passes_ahead : (n next : ℕ) (words : List Word) → 0 < n → n ≤ length source.ahead → n < bytes + closing closed
+  passes_ahead : (n next : ℕ) (words : List PlacedWord) → 0 < n → n ≤ length source.ahead → n < bytes + closing closed
       → Consumes source.text later.text (take n source.ahead)
       → ((byte : ℕ) (more : List ℕ)
       → lines_through line next (byte ∷ more) ≡ lines_through lines line (take n source.ahead ++ byte ∷ more))
@@ -291,7 +291,7 @@ pub takes_line_at : {line lines halves : ℕ} {in_comment closed : Bool} {fault 
     (source later : ReaderState) (bytes len : ℕ) (text : List ℕ) → (closed ≡ true → source.ahead ≡ []) → len < bytes
     → BeginsWithLine source.ahead text → length text ≡ len
     → Consumes source.text later.text (take (len + 1) source.ahead) → later.failures ≡ source.failures → fault ≡ None
-    → EndsLine (state_of source line lines in_comment closed halves bytes fault) line text
+    → ReadsLine (state_of source line lines in_comment closed halves bytes fault) line text
     (state_of later (line + 1) line in_comment closed halves (bytes - (len + 1)) fault)
 takes_line_at {line = line} {closed = closed} source later bytes len text at_end fits front count consumed failures none =
     let is_open = open_with closed source.ahead 0 at_end (rw front.whole (simp length-append (omega arith))) in
@@ -317,12 +317,12 @@ duration_is word number us spells some few is =
     rw (lt-ltb 0 (length word) some, le-leb (length word) 10 few, spells.digits, is, spells.value) refl
 
 count_is : (word : List ℕ) (n : ℕ) → SpellsNumber n word → 0 < length word → length word ≤ 8 → 0 < n
-    → count_of word ≡ Some n
+    → count_in_word word ≡ Some n
 count_is word n spells some few above =
     let small = le-leb n 16777216 (omega (arith, spells.small)) in
     rw (← spells.value, lt-ltb 0 (length word) some, le-leb (length word) 8 few, spells.digits, lt-ltb 0 n above, small) refl
 
-plain_star : is_plain 42 ≡ true
+plain_star : is_word_byte 42 ≡ true
 unfolding is_gap
 plain_star = refl
 
@@ -356,7 +356,7 @@ is_front_run bytes rest star count number us n behind inside duration some few i
       begins = record {
         inside = omega (arith, within, ap length behind, length-drop (star + 1) bytes);
         some = omega arith;
-        plain = rw (word, list_all-append is_plain front (42 ∷ tail), plain_digits front duration.digits, plain_star)
+        plain = rw (word, list_all-append is_word_byte front (42 ∷ tail), plain_digits front duration.digits, plain_star)
             (plain_digits tail counted.digits);
         gap = rw at gap;
         ends = rw at refl;

@@ -3,13 +3,13 @@ use Rattle.std.proofs.Common.{◌≡◌, ℕ, ◌<◌, List, [], ◌∷◌, ◌+
 use Rattle.std.proofs.Common.{refl, sym, ap, rules, arith, length-append}
 use Rattle.std.specs.Io.KnownBytes.{Keeps}
 use Rattle.dcc_io.specs.TextPlace.{lines_with}
-use Rattle.dcc_io.specs.ReaderState.{BeginsWith, IsAtEnd}
+use Rattle.dcc_io.specs.ReaderState.{StartsWithByte, IsAtEnd}
 use Rattle.dcc_io.specs.InputState.{closed_text}
 use Rattle.dcc_io.proofs.TookLemmas.{lines_with-some}
 
 -- at the end of what a reader has, the line feed is what is left
 pub begins_with_close : (closed : Bool) (old new : Option (List ℕ)) → closed ≡ false → IsAtEnd old → Keeps old new
-    → BeginsWith (closed_text closed old) 10 (closed_text true new)
+    → StartsWithByte (closed_text closed old) 10 (closed_text true new)
 begins_with_close closed (Some xs) (Some ys) is_open at_end kept = rw (is_open, at_end) refl
 begins_with_close closed old new is_open at_end kept = search rules
 

@@ -3,7 +3,8 @@ use Rattle.std.proofs.Common.{◌≡◌, ℕ, ◌+◌, ◌<◌, List, [], ◌∷
 use Rattle.std.proofs.Common.{false, eqb, Option, Some, Err, refl, sym, ap, ◌∙◌, arith, append_assoc}
 use Rattle.std.proofs.Common.{length-append, ◌&&◌, IfSome, IsSomeAnd, rules, ◌≤◌, ◌≢◌}
 use Rattle.std.proofs.Math.Dec.{leb}
-use Rattle.std.proofs.lemmas.Bool.{and_parts, and_from, or_parts, false_from_ne_true, both_ways, leb-true, le-leb, lt-ltb, ne_eqb}
+use Rattle.std.proofs.lemmas.Bool.{and_parts, and_from, or_parts, false_from_ne_true, both_ways, leb-true, le-leb}
+use Rattle.std.proofs.lemmas.Bool.{lt-ltb, ne_eqb}
 use Rattle.std.proofs.lemmas.List.{nil_from_length}
 use Rattle.std.proofs.lemmas.List.Folds.{list_all-append, list_any-append}
 use Rattle.std.specs.Char.{is_ascii}
@@ -16,11 +17,12 @@ use Rattle.dcc_io.specs.TextPlace.{TextPlace, lines_with, lines_through}
 use Rattle.dcc_io.specs.ReaderState.{IsAtEnd}
 use Rattle.dcc_io.specs.InputState.{InputState, TakesByte, AnswersByte}
 use Rattle.dcc_io.specs.NumberedLines.{is_good}
-use Rattle.dcc_io.specs.NextLine.{has_line_feed, lines_within, IsOneLine, EndsLine, IsBadAt}
+use Rattle.dcc_io.specs.NextLine.{has_line_feed, lines_within, IsOneLine, ReadsLine, IsBadAt}
 use Rattle.dcc_io.specs.NextLine.{MeetsBadLine, AnswersLine}
 use Rattle.dcc_io.specs.Took.{Uses, Took}
 use Rattle.dcc_io.proofs.PassedLemmas.{noted, took_byte}
-use Rattle.dcc_io.proofs.TookLemmas.{Both, if_some_map, if_some_both, lines_with-some, lines_with-same, told_behind, Took-join}
+use Rattle.dcc_io.proofs.TookLemmas.{Both, if_some_map, if_some_both, lines_with-some, lines_with-same, told_behind}
+use Rattle.dcc_io.proofs.TookLemmas.{Took-join}
 use Rattle.dcc_io.proofs.TookLemmas.{fails_to_read, has_too_many}
 
 no_feed-more : (line : List ℕ) (byte : ℕ) → has_line_feed line ≡ false → eqb byte 10 ≡ false
@@ -113,7 +115,7 @@ lines_of_line lines number (byte ∷ line) rest one =
 abbrev pub IsThrough : InputState → InputState → List ℕ → List ℕ → Type 0
 IsThrough old new line used = (used ≡ line ++ 10 ∷ []) × (0 < length line → new.lines + 1 ≡ new.place.line)
 
-pub took_line : (old new : InputState) (number : ℕ) (line : List ℕ) → EndsLine old number line new
+pub took_line : (old new : InputState) (number : ℕ) (line : List ℕ) → ReadsLine old number line new
     → Took (IsThrough old new line) old new
 took_line old new number line ends = record {
   text = go old.text new.text ends.text ends.lines ends.room;

@@ -7,7 +7,7 @@ use Rattle.std.specs.List.{list_all, flat_map, AllByRecursion}
 use Rattle.dcc_packet.proofs.WrittenWords.{test_from_digits}
 use Rattle.dcc_io.specs.Spaced.{behind_space}
 use Rattle.dcc_io.specs.TextPlace.{line_behind}
-use Rattle.dcc_io.specs.Words.{Word, is_gap, ended_words}
+use Rattle.dcc_io.specs.Words.{PlacedWord, is_gap, ended_words}
 use Rattle.dcc_io.proofs.HandLemmas.{outside}
 use Rattle.dcc_io.proofs.FrontLemmas.{plain_digits, passes_front, line_feed_passes}
 
@@ -16,7 +16,7 @@ abbrev pub IsSmall : ℕ → Type 0
 IsSmall n = n < 65536
 
 -- each of them as a word on this line
-abbrev pub number_words : ℕ → List ℕ → List Word
+abbrev pub number_words : ℕ → List ℕ → List PlacedWord
 number_words line [] = []
 number_words line (n ∷ ns) = record { line = line; bytes = decimal n } ∷ number_words line ns
 

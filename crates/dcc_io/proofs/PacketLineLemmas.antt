@@ -11,7 +11,7 @@ use Rattle.dcc_io.specs.declared.fault.KeptFault.TheVariants.{Line, Read, TooMuc
 use Rattle.dcc_io.specs.TextPlace.{TextPlace}
 use Rattle.dcc_io.specs.InputState.{InputState}
 use Rattle.dcc_io.specs.NumberedLines.{NumberedLine, lines_from, onto_first_line, is_good}
-use Rattle.dcc_io.specs.NextLine.{has_line_feed, IsOneLine, EndsLine, MeetsBadLine, AnswersLine}
+use Rattle.dcc_io.specs.NextLine.{has_line_feed, IsOneLine, ReadsLine, MeetsBadLine, AnswersLine}
 use Rattle.dcc_io.specs.Took.{Uses, LinesAt}
 use Rattle.dcc_io.specs.Items.{Items, items_behind, only_fault, Gave, StopsAt}
 use Rattle.dcc_io.specs.PacketLines.{is_skipped, Saying, behind_line, items_of, lines_by}
@@ -59,7 +59,7 @@ module _ {A B : Type 0} (saying : Saying A B) where
   items_of-bad line [] last bad = rw bad refl
   items_of-bad line (next ∷ others) last bad = rw bad refl
 
-  module _ {old mid : InputState} {number : ℕ} {line : List ℕ} (ends : EndsLine old number line mid) where
+  module _ {old mid : InputState} {number : ℕ} {line : List ℕ} (ends : ReadsLine old number line mid) where
     -- what an input says from a line on
     from_line : (more : List ℕ) (last : Option KeptFault)
         → lines_by saying old ((line ++ 10 ∷ []) ++ more) last ≡ behind_line saying (numbered old.place.line line)
@@ -134,14 +134,14 @@ module _ {A B C : Type 0} (saying : Saying A B) (as_said : C → B) where
 
   -- a line that says nothing was passed
   pub Gave-passed : {old now new : InputState} {number : ℕ} {line : List ℕ} → Gave (lines_by saying) old [] now
-      → EndsLine now number line new → is_skipped line ≡ true → Gave (lines_by saying) old [] new
+      → ReadsLine now number line new → is_skipped line ≡ true → Gave (lines_by saying) old [] new
   Gave-passed gave ends skipped =
       Gave-append (lines_by saying) _ _ _ [] [] gave (Gave-skipped saying ends skipped)
 
   -- a line with words was read
   pub answers_said : {old now mid : InputState} (new : InputState) (line : TextLine)
       (result : Result (Option C) KeptFault)
-      → Gave (lines_by saying) old [] now → EndsLine now line.number line.text.bytes mid
+      → Gave (lines_by saying) old [] now → ReadsLine now line.number line.text.bytes mid
       → is_skipped line.text.bytes ≡ false → ReadsSaid saying as_said mid line result new
       → AnswersSaid saying as_said old result new
   answers_said new line (Ok (Some says)) gave ends some reads =
@@ -156,7 +156,7 @@ module _ {A B C : Type 0} (saying : Saying A B) (as_said : C → B) where
       rw reads.1 (behind_said new (Line line.number reads.0) gave (stops_at_words saying ends some reads.2 reads.3))
 
   -- a line with words was taken
-  pub answers_line : {old new : InputState} {line : List ℕ} (says : C) → EndsLine old old.place.line line new
+  pub answers_line : {old new : InputState} {line : List ℕ} (says : C) → ReadsLine old old.place.line line new
       → is_skipped line ≡ false → saying.said (words line) ≡ Ok (as_said says)
       → AnswersSaid saying as_said old (Ok (Some says)) new
   answers_line says ends some is = (Gave-said saying ends (as_said says) some is, omega (arith, ends.bytes))

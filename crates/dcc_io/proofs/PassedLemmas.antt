@@ -9,16 +9,16 @@ use Rattle.dcc_io.specs.declared.word.RunWord.{RunWord}
 use Rattle.dcc_io.specs.declared.fault.KeptFault.{KeptFault}
 use Rattle.dcc_io.specs.declared.fault.KeptFault.TheVariants.{Read, TooMuch}
 use Rattle.dcc_io.specs.TextPlace.{lines_with}
-use Rattle.dcc_io.specs.ReaderState.{BeginsWith, IsAtEnd}
+use Rattle.dcc_io.specs.ReaderState.{StartsWithByte, IsAtEnd}
 use Rattle.dcc_io.specs.InputState.{InputState, TakesByte, AnswersByte}
-use Rattle.dcc_io.specs.Words.{Word, ended_words, is_some_byte, is_gap, comments}
+use Rattle.dcc_io.specs.Words.{PlacedWord, ended_words, is_some_byte, is_gap, comments}
 use Rattle.dcc_io.specs.SpelledWords.{Spells}
 use Rattle.dcc_io.specs.Took.{Uses, Took}
 use Rattle.dcc_io.specs.PassedWords.{Passed, EndsWord, AnswersWord}
 use Rattle.dcc_io.proofs.WordsLemmas.{eqb_line_feed, behind, opened, opened-none, opened-word, opened-gap, ended}
 use Rattle.dcc_io.proofs.TookLemmas.{Both, if_some_all, Took-map, Took-told, Took-join, told_behind, if_some_both}
 use Rattle.dcc_io.proofs.TookLemmas.{lines_with-some, lines_with-same, fails_to_read, has_too_many}
-use Rattle.dcc_io.specs.LineEnd.{EndsLine}
+use Rattle.dcc_io.specs.LineEnd.{SkipsToLineEnd}
 
 -- these bytes end in the front of a word
 abbrev pub IsOpenBehind : InputState → InputState → List ℕ → List ℕ → Type 0
@@ -58,7 +58,7 @@ took_byte {old = old} {mid = mid} {byte = byte} takes = record {
   failures = takes.failures;
 }
   where
-    go : (x y : Option (List ℕ)) → BeginsWith x byte y → IfSome y (λ rest. mid.lines ≡ lines_with old.lines old.place.line rest)
+    go : (x y : Option (List ℕ)) → StartsWithByte x byte y → IfSome y (λ rest. mid.lines ≡ lines_with old.lines old.place.line rest)
         → (mid.bytes ≡ 0 → IsAtEnd y)
         → Both x y (Uses (λ used. used ≡ byte ∷ []) old (noted mid byte))
     go (Some text) (Some rest) begins lines end = record {
@@ -113,7 +113,7 @@ Opens-none {new = new} {so_far = so_far} opens empty passed = record {
 
 module _ {old now new : InputState} {so_far : RunWord} {byte : ℕ} (opens : Opens old so_far now) where
   -- a byte behind the front of a word
-  took_more : {gap : Bool} → TakesNoted now byte gap new → (said : List ℕ → List Word)
+  took_more : {gap : Bool} → TakesNoted now byte gap new → (said : List ℕ → List PlacedWord)
       → ((more : List ℕ) → opened now.place opens.word (byte ∷ more) ≡ said more)
       → Took (λ used. (more : List ℕ) → ended_words old.place (used ++ more) ≡ said more) old new
   took_more takes said each =
@@ -205,7 +205,7 @@ open_word {some = some} opens told is = go (is_some_byte opens.word) some (sym (
     go a b same = cc
 
 -- these words were passed, and then those
-pub Passed-join : {old mid new : InputState} {front words : List Word} → Passed old front mid → Passed mid words new
+pub Passed-join : {old mid new : InputState} {front words : List PlacedWord} → Passed old front mid → Passed mid words new
     → Passed old (front ++ words) new
 Passed-join {new = new} {front = front} {words = words} first next = record {
   took = Took-join first.took next.took (λ used behind passes then more.
@@ -244,11 +244,11 @@ module _ {old now new : InputState} {so_far : RunWord} {byte : ℕ} (so : OpensH
         record { opens = Opens-gap so.opens takes empty; here = rw (takes.place, ne_eqb byte 10 other) so.here }
 
     -- the line feed behind no word
-    pub ends_here : is_some_byte so.opens.word ≡ false → byte ≡ 10 → EndsLine old (Ok true) new
+    pub ends_here : is_some_byte so.opens.word ≡ false → byte ≡ 10 → SkipsToLineEnd old (Ok true) new
     ends_here empty feed =
         let line : new.place.line ≡ old.place.line + 1 = rw (takes.place, feed, so.here) refl in
         (Passed-gap so.opens takes empty, if_some_all _ new.text (λ rest. inr (omega arith)))
 
-    pub ends_in_word : is_some_byte so.opens.word ≡ true → EndsLine old (Ok false) new
+    pub ends_in_word : is_some_byte so.opens.word ≡ true → SkipsToLineEnd old (Ok false) new
     ends_in_word some =
         let ends = rw so.here at (EndsWord-gap so.opens takes some) in (ends.word, ends.passed, ends.lines)

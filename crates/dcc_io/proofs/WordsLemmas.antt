@@ -5,32 +5,32 @@ use Rattle.std.proofs.lemmas.Bool.{cases_Bool}
 use Rattle.std.proofs.lemmas.List.{append-nil}
 use Rattle.std.proofs.lemmas.Bool.Decides.{nat_tests}
 use Rattle.dcc_io.specs.TextPlace.{TextPlace, line_behind}
-use Rattle.dcc_io.specs.Words.{Word, is_gap, comments, without_comments, onto_first, pieces, but_last, has_bytes}
+use Rattle.dcc_io.specs.Words.{PlacedWord, is_gap, comments, without_comments, onto_first, pieces, but_last, has_bytes}
 use Rattle.dcc_io.specs.Words.{ended_words}
 
 -- the place behind a byte
 abbrev pub behind : TextPlace → ℕ → TextPlace
 behind place byte = record { line = line_behind place.line byte; in_comment = comments place.in_comment byte }
 
-abbrev pub onto_front : List ℕ → List Word → List Word
+abbrev pub onto_front : List ℕ → List PlacedWord → List PlacedWord
 onto_front front [] = []
 onto_front front (word ∷ words) = record { line = word.line; bytes = front ++ word.bytes } ∷ words
 
 -- the ended words of a text that goes on a word
-abbrev pub opened : TextPlace → List ℕ → List ℕ → List Word
+abbrev pub opened : TextPlace → List ℕ → List ℕ → List PlacedWord
 opened place front text =
     filter has_bytes (but_last (onto_front front (pieces place.line (without_comments place.in_comment text))))
 
 -- a word that has ended, unless it is empty
-abbrev pub ended : ℕ → List ℕ → List Word
+abbrev pub ended : ℕ → List ℕ → List PlacedWord
 ended line [] = []
 ended line (byte ∷ word) = record { line = line; bytes = byte ∷ word } ∷ []
 
-onto_front-none : (words : List Word) → onto_front [] words ≡ words
+onto_front-none : (words : List PlacedWord) → onto_front [] words ≡ words
 onto_front-none [] = refl
 onto_front-none (word ∷ words) = refl
 
-onto_front-onto_first : (front : List ℕ) (byte : ℕ) (words : List Word)
+onto_front-onto_first : (front : List ℕ) (byte : ℕ) (words : List PlacedWord)
     → onto_front front (onto_first byte words) ≡ onto_front (front ++ byte ∷ []) words
 onto_front-onto_first front byte [] = refl
 onto_front-onto_first front byte (word ∷ words) =
@@ -52,7 +52,7 @@ opened-word place front byte text no_comment no_gap =
     rw (no_comment, no_gap, eqb_line_feed byte no_gap, onto_front-onto_first) refl
 
 -- some word is the first
-some_pieces : (line : ℕ) (text : List ℕ) → (word : Word) × (rest : List Word) × (pieces line text ≡ word ∷ rest)
+some_pieces : (line : ℕ) (text : List ℕ) → (word : PlacedWord) × (rest : List PlacedWord) × (pieces line text ≡ word ∷ rest)
 some_pieces line [] = (record { line = line; bytes = [] }, [], refl)
 some_pieces line (byte ∷ text) =
     let more = some_pieces (line_behind line byte) text in elim (cases_Bool (is_gap byte)) [

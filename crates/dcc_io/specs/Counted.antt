@@ -1,4 +1,4 @@
--- What was counted of the halves that may be taken of an input.
+-- Half-bits that are subtracted from the limit of an input.
 use Rattle.std.specs.Prelude.{◌≡◌, ℕ, ◌-◌, ◌<◌, ◌≤◌, ◌∷◌, List, [], Option, None, Some, Result, Ok, Err}
 use Rattle.dcc_io.specs.declared.fault.KeptFault.{KeptFault}
 use Rattle.dcc_io.specs.declared.fault.KeptFault.TheVariants.{TooMuch}
@@ -7,7 +7,8 @@ use Rattle.dcc_io.specs.InputState.{InputState}
 use Rattle.dcc_io.specs.Words.{duration_of, run_of}
 use Rattle.dcc_io.specs.PassedWords.{Passed}
 
--- the halves of a run count, unless fewer may be taken
+-- the half-bits of `run` were subtracted from the limit of half-bits, or the result is the error U7
+-- if the limit does not allow them
 abbrev pub CountsRun : InputState → Run → Result (Option Run) KeptFault → InputState → Type 0
 CountsRun old run (Ok (Some taken)) new =
     (taken ≡ run) × (run.n ≤ old.halves) × (new ≡ record old { halves = old.halves - run.n })
@@ -15,7 +16,8 @@ CountsRun old run (Ok None) new = ⊥
 CountsRun old run (Err fault) new =
     (fault ≡ TooMuch) × (old.halves < run.n) × (new ≡ record old { fault = Some TooMuch })
 
--- a word on the line of the input was passed, which is this duration alone, and one half counts
+-- the next word, on the current line of `old`, was removed. It is the duration `us`, and one
+-- half-bit was subtracted from the limit.
 pub record TakesHalf (old : InputState) (us : ℕ) (new : InputState) : Type 0 where
   pub word : List ℕ
   pub spells : duration_of word ≡ Some us
@@ -25,7 +27,8 @@ pub record TakesHalf (old : InputState) (us : ℕ) (new : InputState) : Type 0 w
   pub counted : new ≡ record mid { halves = mid.halves - 1 }
   pub fewer : new.bytes < old.bytes
 
--- a word on the line of the input was passed, which spells this run, and its halves count
+-- the next word, on the current line of `old`, was removed. It is `run`, and the half-bits of `run`
+-- were subtracted from the limit.
 pub record TakesRun (old : InputState) (run : Run) (new : InputState) : Type 0 where
   pub word : List ℕ
   pub spells : run_of word ≡ Some run

@@ -1,11 +1,12 @@
--- The numbers of the faults, those that an input keeps, and why a call gives up.
+-- The numbers of the error codes, the stored errors, and the statement that holds after each error
+-- of a function.
 use Rattle.std.specs.Prelude.{ℕ}
 use Rattle.dcc_io.specs.declared.fault.ToolFault.{ToolFault}
 use Rattle.dcc_io.specs.declared.fault.ToolFault.TheVariants.{Usage, Number, Line, Read, Write, NoMemory, TooMuch}
 use Rattle.dcc_io.specs.declared.fault.KeptFault.{KeptFault}
 use Rattle.dcc_io.specs.declared.fault.KeptFault.TheVariants as kept
 
--- the number behind the letter U
+-- the number of the error code U1 to U7 of an error, without the letter U
 abbrev pub tool_fault_number : ToolFault → ℕ
 tool_fault_number (Usage usage) = 1
 tool_fault_number (Number line) = 2
@@ -15,20 +16,21 @@ tool_fault_number Write = 5
 tool_fault_number NoMemory = 6
 tool_fault_number TooMuch = 7
 
--- a kept fault, as a call answers it
+-- the error that a function returns for a stored error of its input
 abbrev pub as_tool_fault : KeptFault → ToolFault
 as_tool_fault (kept.Number line) = Number line
 as_tool_fault (kept.Line line fault) = Line line fault
 as_tool_fault kept.Read = Read
 as_tool_fault kept.TooMuch = TooMuch
 
--- why a call gave up, by what stands then: at a fault that its input keeps, at a failed write, or for want of memory;
--- none gives up for its command line
-abbrev pub GivesUp : (KeptFault → Type 0) → Type 0 → Type 0 → ToolFault → Type 0
-GivesUp stopped unwritten no_memory (Number line) = stopped (kept.Number line)
-GivesUp stopped unwritten no_memory (Line line fault) = stopped (kept.Line line fault)
-GivesUp stopped unwritten no_memory Read = stopped kept.Read
-GivesUp stopped unwritten no_memory TooMuch = stopped kept.TooMuch
-GivesUp stopped unwritten no_memory Write = unwritten
-GivesUp stopped unwritten no_memory NoMemory = no_memory
-GivesUp stopped unwritten no_memory (Usage usage) = ⊥
+-- The statement that holds after an error of a function. It is `stopped` for a stored error of its
+-- input, `unwritten` for a failed write, and `no_memory` for a failed allocation. The function does
+-- not return U1.
+abbrev pub ErrorPost : (KeptFault → Type 0) → Type 0 → Type 0 → ToolFault → Type 0
+ErrorPost stopped unwritten no_memory (Number line) = stopped (kept.Number line)
+ErrorPost stopped unwritten no_memory (Line line fault) = stopped (kept.Line line fault)
+ErrorPost stopped unwritten no_memory Read = stopped kept.Read
+ErrorPost stopped unwritten no_memory TooMuch = stopped kept.TooMuch
+ErrorPost stopped unwritten no_memory Write = unwritten
+ErrorPost stopped unwritten no_memory NoMemory = no_memory
+ErrorPost stopped unwritten no_memory (Usage usage) = ⊥

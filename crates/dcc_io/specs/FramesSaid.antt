@@ -1,4 +1,4 @@
--- The packet lines of a text say frames.
+-- Theorems: packet lines mean frames.
 use Rattle.std.specs.Prelude.{ℕ, List}
 use Rattle.std.specs.List.{AllByRecursion}
 use Rattle.dcc_wire.specs.Frames.{IsFrame}
@@ -7,16 +7,17 @@ use Rattle.dcc_io.specs.Items.{in_text}
 use Rattle.dcc_io.specs.PacketLines.{packet_lines}
 use Rattle.dcc_io.specs.StationLines.{Asked, Command, Next, station_lines}
 
--- in an input with any text, each packet line before the first fault says a frame
+-- in each `text` of an input, each packet line before the first error means a frame
 abbrev pub PacketLinesSayFrames : Type 0
-PacketLinesSayFrames = (input : InputState) (text : List ℕ) → AllByRecursion IsFrame (in_text packet_lines input text).said
+PacketLinesSayFrames = (input : InputState) (text : List ℕ) → AllByRecursion IsFrame
+    (in_text packet_lines input text).said
 
--- if an item is a command to a station, the bytes of the command are a frame
+-- the bytes of the request are a frame, if it is a command
 abbrev pub AsksForFrame : Asked → Type 0
 AsksForFrame (Command frame) = IsFrame frame
 AsksForFrame Next = Unit {0}
 
--- in an input with any text, each command to a station before the first fault is a frame
+-- in each `text` of an input, each command to a station before the first error means a frame
 abbrev pub StationLinesSayFrames : Type 0
 StationLinesSayFrames =
     (input : InputState) (text : List ℕ) → AllByRecursion AsksForFrame (in_text station_lines input text).said

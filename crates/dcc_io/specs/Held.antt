@@ -1,4 +1,4 @@
--- What is held of the bytes that were to be written.
+-- Buffered output.
 use Rattle.std.specs.Prelude.{◌≡◌, ℕ, ◌++◌, List, Result, Ok, Err}
 use Rattle.std.specs.Io.KnownBytes.{Appends}
 use Rattle.dcc_io.specs.declared.stream.Failed.{Failed}
@@ -6,13 +6,15 @@ use Rattle.dcc_io.specs.Failures.{HasRisen}
 use Rattle.dcc_io.specs.WriterState.{WriterState}
 use Rattle.dcc_io.specs.WrittenBytes.{AppendsFront}
 
--- these bytes were written, but for the last of them, which are held
+-- from `old` to `new`, the writer has written `bytes` except for their suffix `held`, which is
+-- buffered
 pub record Holds (old new : WriterState) (bytes held : List ℕ) : Type 0 where
   pub written : List ℕ
   pub whole : bytes ≡ written ++ held
   pub appended : Appends old.contents new.contents written
 
--- each of these bytes was written or is held, or a write failed or took no byte
+-- if the result is Ok, the writer has written `bytes` except for `held`, which is buffered. If it
+-- is an error, a write failed or wrote no byte, and some prefix of `bytes` was written.
 abbrev pub HoldsOrFails : WriterState → List ℕ → Result (Unit {0}) Failed → List ℕ → WriterState → Type 0
 HoldsOrFails old bytes (Ok done) held new = Holds old new bytes held × (new.failures ≡ old.failures)
 HoldsOrFails old bytes (Err failed) held new = AppendsFront old new bytes × HasRisen old.failures new.failures

@@ -1,4 +1,4 @@
--- What is known of an input.
+-- The state of an input.
 use Rattle.std.specs.Prelude.{◌≡◌, ℕ, ◌+◌, ◌<◌, ◌≤◌, ◌∷◌, ◌++◌, List, [], Bool, false, Option, None, Some, Result, Ok}
 use Rattle.std.specs.Prelude.{Err, length, IfSome, if◌then◌else◌}
 use Rattle.std.specs.Option.{option_map}
@@ -7,35 +7,41 @@ use Rattle.dcc_io.specs.declared.fault.KeptFault.{KeptFault}
 use Rattle.dcc_io.specs.declared.fault.KeptFault.TheVariants.{Number, Line, Read, TooMuch}
 use Rattle.dcc_io.specs.TextPlace.{TextPlace, line_behind, lines_with, lines_through}
 use Rattle.dcc_io.specs.Failures.{one_more}
-use Rattle.dcc_io.specs.ReaderState.{BeginsWith, IsAtEnd}
+use Rattle.dcc_io.specs.ReaderState.{StartsWithByte, IsAtEnd}
 
--- what is still to come of an input
+-- the state of an input
 pub record InputState : Type 0 where
-  -- the bytes, where the reader tells them, with the line feed that closes them
+  -- the bytes that are still to be read and the line feed that closes them, or `None` if the reader
+  -- does not reveal them
   pub text : Option (List ℕ)
-  -- the first of them, which were read and are not yet used
+  -- the buffered bytes, which are the first bytes of `text`
   pub ahead : List ℕ
   pub place : TextPlace
-  -- how many lines were used, one that has begun too; the line feed that closes the text stands on none
+  -- the number of lines used, which includes a line that was read in part. The line feed that
+  -- closes the text is on no line.
   pub lines : ℕ
-  -- how many halves may still be taken
+  -- the number of half-bits that the limit still allows
   pub halves : ℕ
-  -- how many bytes may still be taken, that line feed included
+  -- the number of bytes that the limit still allows, plus one for the line feed that closes the
+  -- text
   pub bytes : ℕ
-  -- the fault that every call answers
+  -- the stored error
   pub fault : Option KeptFault
-  -- how many reads have failed
+  -- the number of failed reads
   pub failures : ℕ
 
--- how many line feeds still close the text
+-- the number of line feeds that the input still has to append to its text: 0 if `closed` is true,
+-- otherwise 1
 abbrev pub closing : Bool → ℕ
 closing closed = if closed then 0 else 1
 
--- what the reader has left, and the line feed at its end unless that is taken
+-- the bytes `coming` of the reader, followed by the line feed that closes them; no bytes if this
+-- line feed was already read
 abbrev pub closed_text : Bool → Option (List ℕ) → Option (List ℕ)
 closed_text closed coming = option_map (λ bytes. if closed then [] else bytes ++ 10 ∷ []) coming
 
--- an input of which nothing was read
+-- the state of an input from which no byte was read. The reader has the bytes `remaining` and its
+-- count of failures; `halves` and `bytes` are the limits.
 abbrev pub fresh : Option (List ℕ) → ℕ → ℕ → ℕ → InputState
 fresh remaining failures halves bytes = record {
   text = closed_text false remaining;
@@ -48,38 +54,38 @@ fresh remaining failures halves bytes = record {
   failures = failures;
 }
 
--- how many lines an input has given once all of this text, which is still to come, is used
+-- the number of lines used after all bytes of `text` were read from `input`
 abbrev pub all_lines : InputState → List ℕ → ℕ
 all_lines input text = lines_through input.lines input.place.line text
 
--- how many lines an input has given once these bytes are used, behind which more is to come: as many as if its text ended
--- there
+-- the number of lines used after the bytes `used` were read from `input`, if more bytes follow them
 abbrev pub lines_up_to : InputState → List ℕ → ℕ
 lines_up_to input used = all_lines input (used ++ 10 ∷ [])
 
--- each line of the text that was to come is used
+-- `new` has used all lines of the text of `old`
 abbrev pub UsesAllLines : InputState → InputState → Type 0
 UsesAllLines old new = IfSome old.text (λ text. new.lines ≡ all_lines old text)
 
--- a failed read is kept only where a read has failed
-abbrev pub HasCause : Option KeptFault → ℕ → Type 0
-HasCause fault failures = fault ≡ Some Read → 0 < failures
+-- if the stored error is U4, the count of failed reads is above 0
+abbrev pub ReadHasFailure : Option KeptFault → ℕ → Type 0
+ReadHasFailure fault failures = fault ≡ Some Read → 0 < failures
 
--- the next byte was taken
+-- the next byte of the input, which is `byte`, was removed
 pub record TakesByte (old : InputState) (byte : ℕ) (new : InputState) : Type 0 where
-  pub text : BeginsWith old.text byte new.text
+  pub text : StartsWithByte old.text byte new.text
   pub line : new.place.line ≡ line_behind old.place.line byte
   pub in_comment : new.place.in_comment ≡ old.place.in_comment
   pub lines : IfSome new.text (λ rest. new.lines ≡ lines_with old.lines old.place.line rest)
   pub halves : new.halves ≡ old.halves
   pub bytes : new.bytes + 1 ≡ old.bytes
   pub room : new.bytes ≡ 0 → IsAtEnd new.text
-  -- the last byte is the line feed that closes the text
+  -- if no byte is left, `byte` is the line feed that closes the text
   pub last : IfSome new.text (λ rest. rest ≡ [] → byte ≡ 10)
   pub fault : new.fault ≡ None
   pub failures : new.failures ≡ old.failures
 
--- a read failed behind all the bytes that had come, and took nothing; the line feed that closes the text is still to come
+-- a read failed, and the buffer is empty. The failed read removed no byte, and the line feed that
+-- closes the text is still to come.
 pub record FailsToRead (old new : InputState) : Type 0 where
   pub text : Keeps old.text new.text
   pub more : IfSome old.text (λ text. 0 < length text)
@@ -89,7 +95,7 @@ pub record FailsToRead (old new : InputState) : Type 0 where
   pub fault : new.fault ≡ Some Read
   pub failures : new.failures ≡ one_more old.failures
 
--- there are more bytes than may be taken
+-- the limit of `old` allows no further byte, but its text has further bytes
 pub record HasMoreBytes (old new : InputState) : Type 0 where
   pub text : IfSome old.text (λ text. old.bytes < length text)
   pub bytes : old.bytes ≤ 1

@@ -1,4 +1,4 @@
--- What was read of an input's lines.
+-- The reading of the lines of an input.
 use Rattle.std.specs.Prelude.{◌≡◌, ℕ, ◌+◌, ◌<◌, ◌∷◌, ◌++◌, ◌==◌, List, [], Bool, true, false, Option, None}
 use Rattle.std.specs.Prelude.{Some, Result, Ok, Err, length, IfSome, IsSomeAnd}
 use Rattle.std.specs.List.{list_any}
@@ -12,22 +12,24 @@ use Rattle.dcc_io.specs.InputState.{InputState}
 use Rattle.dcc_io.specs.Took.{Took, FailsBehind, OverflowsBehind, LinesAt}
 use Rattle.dcc_io.specs.NumberedLines.{is_good}
 
--- whether there is a line feed
+-- true if `bytes` contain a line feed
 abbrev pub has_line_feed : List ℕ → Bool
 has_line_feed bytes = list_any (λ byte. byte == 10) bytes
 
--- the bytes of one good line, which may not have ended
+-- `line` is a valid line or a prefix of one, without a line feed
 pub record IsOneLine (line : List ℕ) : Type 0 where
   pub good : is_good line ≡ true
   pub one : has_line_feed line ≡ false
 
--- how many lines were used once the front of a line is, the line feed that ends it aside
+-- the number of lines used after some bytes of line `line` were read, without the line feed that
+-- ends it. It stays `lines` if no byte was read.
 abbrev pub lines_within : ℕ → ℕ → List ℕ → ℕ
 lines_within lines line [] = lines
 lines_within lines line (byte ∷ front) = line
 
--- this line was read, and the line feed that ends it
-pub record EndsLine (old : InputState) (number : ℕ) (line : List ℕ) (new : InputState) : Type 0 where
+-- the line `line` with the number `number`, and the line feed that ends it, were read from `old` to
+-- `new`
+pub record ReadsLine (old : InputState) (number : ℕ) (line : List ℕ) (new : InputState) : Type 0 where
   pub at : number ≡ old.place.line
   pub is_line : IsOneLine line
   pub text : IfSome old.text (λ text. IsSomeAnd new.text (λ rest. text ≡ line ++ 10 ∷ rest))
@@ -41,7 +43,7 @@ pub record EndsLine (old : InputState) (number : ℕ) (line : List ℕ) (new : I
   pub fault : new.fault ≡ None
   pub failures : new.failures ≡ old.failures
 
--- there is no line more, none within a line either
+-- the text of `old` has ended, and no line has begun
 pub record EndsText (old new : InputState) : Type 0 where
   pub text : IfSome old.text (λ text. IsSomeAnd new.text (λ rest. (text ≡ []) × (rest ≡ [])))
   pub at_end : IsAtEnd new.text
@@ -49,7 +51,7 @@ pub record EndsText (old new : InputState) : Type 0 where
   pub place : new.place ≡ old.place
   pub halves : new.halves ≡ old.halves
 
--- the next line is bad at the last of these bytes, all of which may be taken
+-- `text` begins with bytes of one line that are invalid, and the limit of `old` allows these bytes
 pub record IsBadAt (old : InputState) (text : List ℕ) : Type 0 where
   pub line : List ℕ
   pub rest : List ℕ
@@ -65,16 +67,16 @@ pub record MeetsBadLine (old : InputState) (number : ℕ) (new : InputState) : T
   pub fault : new.fault ≡ Some (Line number faults.Word)
   pub failures : new.failures ≡ old.failures
 
--- a read failed behind bytes of one line
+-- a read failed after bytes of one valid line
 abbrev pub FailsInLine : InputState → InputState → Type 0
 FailsInLine old new = FailsBehind IsOneLine old new × (new.fault ≡ Some Read) × LinesAt old Read new
 
--- no line has ended in the bytes that may be taken
+-- no line ends in the bytes that the limit of `old` allows, and the text has more bytes
 abbrev pub OverflowsInLine : InputState → InputState → Type 0
 OverflowsInLine old new = OverflowsBehind IsOneLine old new × (new.fault ≡ Some TooMuch) × LinesAt old TooMuch new
 
 abbrev pub AnswersLine : InputState → Result (Option TextLine) KeptFault → InputState → Type 0
-AnswersLine old (Ok (Some line)) new = EndsLine old line.number line.text.bytes new
+AnswersLine old (Ok (Some line)) new = ReadsLine old line.number line.text.bytes new
 AnswersLine old (Ok None) new = EndsText old new
 AnswersLine old (Err (Line number fault)) new = (fault ≡ faults.Word) × MeetsBadLine old number new
 AnswersLine old (Err Read) new = FailsInLine old new

@@ -1,4 +1,4 @@
--- The lines of a text and the items that they say, and its packet lines, which say frames.
+-- The items of the lines of a text. The items of packet lines are frames.
 use Rattle.std.specs.Prelude.{ℕ, ◌∷◌, ◌==◌, ◌||◌, List, [], Bool, false, not, Option, Some, Result, Ok, Err}
 use Rattle.std.specs.Prelude.{if◌then◌else◌}
 use Rattle.dcc_packet.specs.declared.fault.PacketFault.{PacketFault}
@@ -12,56 +12,59 @@ use Rattle.dcc_io.specs.InputState.{InputState}
 use Rattle.dcc_io.specs.NumberedLines.{NumberedLine, lines_from, is_good}
 use Rattle.dcc_io.specs.Items.{Items, Grammar, in_text, only_fault, items_behind}
 
--- a line whose first character is #
+-- true if the first byte of the line is `#`
 abbrev pub is_comment_line : List ℕ → Bool
 is_comment_line [] = false
 is_comment_line (byte ∷ line) = byte == 35
 
--- a line that says nothing: a comment, or a blank one, which has nothing but spaces, tabs and CR
+-- true if `line` is a comment or blank. A blank line consists of spaces, tabs and carriage returns.
 abbrev pub is_skipped : List ℕ → Bool
 is_skipped line = is_comment_line line || list_all is_separator line
 
--- how the words of a line are read: what they say, and the items that it stands for
+-- the meaning of lines: `said` gives the value of the words of a line, and `items` gives the items
+-- of this value
 pub record Saying (A B : Type 0) : Type 0 where
   pub said : List Word → Result B PacketFault
   pub items : B → List A
 
--- what a line's words say, and what comes behind the line
+-- the items of the value of line `number`, followed by the items `rest`; or the error of this line
 abbrev pub behind_words : {A B : Type 0} → Saying A B → ℕ → Result B PacketFault → Items A → Items A
 behind_words saying number (Ok says) rest = items_behind (saying.items says) rest
 behind_words saying number (Err fault) rest = only_fault (Some (kept.Line number fault))
 
--- a line that has ended, and what comes behind it
+-- the items of the ended line `line`, followed by the items `rest`; or the error of this line
 abbrev pub behind_line : {A B : Type 0} → Saying A B → NumberedLine → Items A → Items A
 behind_line saying line rest =
     if not (is_good line.bytes) then only_fault (Some (kept.Line line.number faults.Word))
     else if is_skipped line.bytes then rest
     else behind_words saying line.number (saying.said (words line.bytes)) rest
 
--- a line that has not ended, before this fault or none, is either bad or says nothing yet
+-- the error after `line`, which has not ended: P10 if the line is invalid, otherwise `last`. A line
+-- that has not ended has no items.
 abbrev pub open_line : {A : Type 0} → NumberedLine → Option KeptFault → Items A
 open_line line last =
     if is_good line.bytes then only_fault last else only_fault (Some (kept.Line line.number faults.Word))
 
--- the items of these lines, the last of which has not ended, before this fault or none
+-- the items of a list of lines up to the first error. The last line has not ended. If no line has
+-- an error, the error is `last`.
 abbrev pub items_of : {A B : Type 0} → Saying A B → List NumberedLine → Option KeptFault → Items A
 items_of saying [] last = only_fault last
 items_of saying (line ∷ []) last = open_line line last
 items_of saying (line ∷ next ∷ lines) last = behind_line saying line (items_of saying (next ∷ lines) last)
 
--- lines whose words are read so
+-- the grammar of lines with the meaning `saying`
 abbrev pub lines_by : {A B : Type 0} → Saying A B → Grammar A
 lines_by saying input bytes last = items_of saying (lines_from input.place.line bytes) last
 
--- the items in an input with this text
+-- the items of lines with the meaning `saying` in an `input` whose text is `text`
 abbrev pub items_in : {A B : Type 0} → Saying A B → InputState → List ℕ → Items A
 items_in saying input text = in_text (lines_by saying) input text
 
--- the words of a packet line say one frame
+-- the meaning of packet lines: the words of a line mean one frame, which is its item
 abbrev pub packet_words : Saying (List ℕ) (List ℕ)
 packet_words = record { said = frame_of_words; items = λ frame. frame ∷ [] }
 
--- the frames in an input with this text
+-- the frames of the packet lines in an `input` whose text is `text`
 abbrev pub frames_in : InputState → List ℕ → Items (List ℕ)
 frames_in input text = items_in packet_words input text
 

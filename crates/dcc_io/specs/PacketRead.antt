@@ -1,4 +1,4 @@
--- What was read of an input's lines that say something.
+-- The reading of the parsed lines of an input.
 use Rattle.std.specs.Prelude.{◌≡◌, ◌<◌, [], Option, None, Some, Result, Ok, Err, IfSome}
 use Rattle.dcc_packet.specs.declared.fault.PacketFault.{PacketFault}
 use Rattle.dcc_packet.specs.Words.{words}
@@ -11,12 +11,13 @@ use Rattle.dcc_io.specs.Took.{LinesAt}
 use Rattle.dcc_io.specs.Items.{Gave, StopsAt, only_fault}
 use Rattle.dcc_io.specs.PacketLines.{Saying, lines_by, items_in}
 
--- what the words of a line say where this comes of them, or their fault
-abbrev pub said_or_fault : {B C : Type 0} → (C → B) → Result C PacketFault → Result B PacketFault
-said_or_fault as_said (Ok says) = Ok (as_said says)
-said_or_fault as_said (Err fault) = Err fault
+-- the value that `as_said` gives for a parsed line, or the error of the line
+abbrev pub map_parsed : {B C : Type 0} → (C → B) → Result C PacketFault → Result B PacketFault
+map_parsed as_said (Ok says) = Ok (as_said says)
+map_parsed as_said (Err fault) = Err fault
 
--- what the next line says that says anything
+-- the result is the value of the next line that is neither blank nor a comment, `None` after the
+-- last such line, or the first error
 abbrev pub AnswersSaid : {A B C : Type 0} → Saying A B → (C → B) → InputState → Result (Option C) KeptFault → InputState
     → Type 0
 AnswersSaid saying as_said old (Ok (Some says)) new =
@@ -28,7 +29,7 @@ AnswersSaid saying as_said old (Err (kept.Number line)) new = ⊥
 AnswersSaid saying as_said old (Err fault) new =
     StopsAt (lines_by saying) old fault new × (new.fault ≡ Some fault) × LinesAt old fault new
 
--- a line's words say this, or have a fault, which is kept
+-- the result is the value of the words of `line`, or their error, which is stored
 abbrev pub ReadsSaid : {A B C : Type 0} → Saying A B → (C → B) → InputState → TextLine → Result (Option C) KeptFault
     → InputState → Type 0
 ReadsSaid saying as_said old line (Ok (Some says)) new =

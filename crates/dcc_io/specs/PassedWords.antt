@@ -1,25 +1,26 @@
--- What was read of an input's words.
+-- The reading of the words of an input.
 use Rattle.std.specs.Prelude.{◌≡◌, ℕ, ◌<◌, ◌≤◌, ◌∷◌, List, [], Option, None, Some, Result, Ok, Err, IfSome}
 use Rattle.dcc_io.specs.declared.fault.KeptFault.{KeptFault}
 use Rattle.dcc_io.specs.declared.fault.KeptFault.TheVariants.{Number, Line, Read, TooMuch}
 use Rattle.dcc_io.specs.declared.word.RunWord.{RunWord}
 use Rattle.dcc_io.specs.ReaderState.{IsAtEnd}
 use Rattle.dcc_io.specs.InputState.{InputState}
-use Rattle.dcc_io.specs.Words.{Word, ended_words, Passes}
+use Rattle.dcc_io.specs.Words.{PlacedWord, ended_words, Passes}
 use Rattle.dcc_io.specs.SpelledWords.{Spells}
 use Rattle.dcc_io.specs.Took.{Took, FailsBehind, OverflowsBehind, LinesAt}
 
--- these words were read, and nothing went wrong
-pub record Passed (old : InputState) (words : List Word) (new : InputState) : Type 0 where
+-- `words` were read from `old` to `new` without an error
+pub record Passed (old : InputState) (words : List PlacedWord) (new : InputState) : Type 0 where
   pub took : Took (λ used. Passes old.place used words new.place) old new
   pub open took use *
   pub halves : new.halves ≡ old.halves
 
--- no word of an input has ended in these bytes
+-- no word of the input has ended in `bytes`
 abbrev pub IsBeforeWord : InputState → List ℕ → Type 0
 IsBeforeWord input bytes = ended_words input.place bytes ≡ []
 
--- a word that has ended, with its line, which is the last that was used
+-- the next word has ended. It is on line `line`, which is the last line used, and `so_far` is its
+-- stored form.
 pub record EndsWord (old : InputState) (line : ℕ) (so_far : RunWord) (new : InputState) : Type 0 where
   pub word : List ℕ
   pub spelled : Spells so_far word

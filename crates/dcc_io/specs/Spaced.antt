@@ -1,6 +1,6 @@
--- Numbers in a row.
+-- Numbers with spaces between them.
 use Rattle.std.specs.Prelude.{ℕ, ◌++◌, List, codes, decimal}
 
--- a space, and a number in decimal behind it
+-- a space followed by the number `n` in decimal digits
 abbrev pub behind_space : ℕ → List ℕ
 behind_space n = codes " " ++ decimal n

@@ -1,4 +1,4 @@
--- The lines that `encode` reads for a station, and what they ask of it.
+-- The lines that `encode` reads for a station, and their requests.
 use Rattle.std.specs.Prelude.{◌≡◌, ℕ, ◌&&◌, nat_le, Bool, true, List, [], ◌∷◌, replicate, codes, Result, Ok, Err}
 use Rattle.std.specs.Prelude.{if◌then◌else◌}
 use Rattle.std.specs.Fmt.{decimal}
@@ -15,12 +15,13 @@ use Rattle.dcc_io.specs.declared.station_line.StationLine.TheVariants as lines
 use Rattle.dcc_io.specs.Items.{Grammar}
 use Rattle.dcc_io.specs.PacketLines.{Saying, lines_by}
 
--- what a line asks of a station: to take the command with this frame, or to hand out one packet
+-- a request to a station: a command with a frame, which the station accepts, or a request for its
+-- next packet
 pub data Asked : Type 0 where
   Command : List ℕ → Asked
   Next : Asked
 
--- 1 to 1000
+-- true if `n` is from 1 to 1000
 abbrev pub is_send_count : ℕ → Bool
 is_send_count n = nat_le 1 n && nat_le n 1000
 
@@ -29,7 +30,7 @@ send_count word = do
   n ← number word
   if is_send_count n then Ok (record { count = n }) else Err faults.Number
 
--- N of `send N`
+-- the field N of the line `send N`
 abbrev pub send_field : FieldOf SendCount
 send_field =
     record {
@@ -38,17 +39,17 @@ send_field =
       written = λ send. decimal send.count ∷ [];
     }
 
--- a packet line is one command
+-- the request of a packet line, which is one command with its frame, or the error of the line
 abbrev pub command_of : Result (List ℕ) PacketFault → Result (List Asked) PacketFault
 command_of (Ok frame) = Ok (Command frame ∷ [])
 command_of (Err fault) = Err fault
 
--- `send` asks for so many packets
+-- the N requests of the line `send N`, each for one packet, or the error of the line
 abbrev pub packets_of : Result SendCount PacketFault → Result (List Asked) PacketFault
 packets_of (Ok send) = Ok (replicate send.count Next)
 packets_of (Err fault) = Err fault
 
--- what a line's words ask for: `send N`, or a packet line
+-- the requests of the words of a line, which is `send N` or a packet line, or the error of the line
 unfoldable pub station_requests : List Word → Result (List Asked) PacketFault
 station_requests [] = command_of (frame_of_words [])
 station_requests (word ∷ rest) =
@@ -60,7 +61,7 @@ station_words = record { said = station_requests; items = λ items. items }
 abbrev pub station_lines : Grammar Asked
 station_lines = lines_by station_words
 
--- what a line that was read asks for
+-- the requests of a parsed line of `encode` with a station
 abbrev pub asked_by : StationLine → List Asked
 asked_by (lines.Command packet) = Command (spelling packet) ∷ []
 asked_by (lines.Send n) = replicate n Next

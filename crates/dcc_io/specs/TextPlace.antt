@@ -1,21 +1,23 @@
 use Rattle.std.specs.Prelude.{ℕ, ◌+◌, ◌∷◌, List, [], Bool, ◌==◌, if◌then◌else◌}
 
--- where a reader stands in a text: the line, from 1, and whether in a comment
+-- a position in a text: the number of its line, which begins at 1, and whether the position is in a
+-- comment
 pub record TextPlace : Type 0 where
   pub line : ℕ
   pub in_comment : Bool
 
--- the line of the byte that follows this one
+-- the line of the byte after `byte`, if `byte` is on line `line`
 abbrev pub line_behind : ℕ → ℕ → ℕ
 line_behind line byte = if byte == 10 then line + 1 else line
 
--- how many lines are used with a byte that stands on this line, where this rest is behind it: the last byte of a
--- text is the line feed that closes it, and stands on none
+-- the number of lines used after a byte on line `line`. It stays `lines` if no byte follows, since
+-- the last byte of a text is the line feed that closes it, which is on no line.
 abbrev pub lines_with : ℕ → ℕ → List ℕ → ℕ
 lines_with lines line [] = lines
 lines_with lines line (byte ∷ rest) = line
 
--- how many lines are used with all of a text, which begins on this line
+-- the number of lines used after all bytes of a text that begins on line `line`, if `lines` were
+-- used before
 abbrev pub lines_through : ℕ → ℕ → List ℕ → ℕ
 lines_through lines line [] = lines
 lines_through lines line (byte ∷ rest) = lines_through (lines_with lines line rest) (line_behind line byte) rest

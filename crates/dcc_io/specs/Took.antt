@@ -1,4 +1,4 @@
--- What was read of an input, whatever is said of it.
+-- The reading of a prefix of an input that has a property.
 use Rattle.std.specs.Prelude.{◌≡◌, ℕ, ◌+◌, ◌-◌, ◌<◌, ◌≤◌, nat_le, ◌∷◌, ◌++◌, List, [], Option, None, Some, length, take}
 use Rattle.std.specs.Prelude.{IfSome, IsSomeAnd, if◌then◌else◌}
 use Rattle.dcc_packet.specs.declared.fault.PacketFault.TheVariants as faults
@@ -7,11 +7,14 @@ use Rattle.dcc_io.specs.declared.fault.KeptFault.TheVariants.{Number, Line, Read
 use Rattle.dcc_io.specs.Failures.{one_more}
 use Rattle.dcc_io.specs.InputState.{InputState, all_lines, lines_up_to}
 
--- these bytes lead from one count of lines to the other, whatever follows them
+-- at the end of any further bytes, `new` has used as many lines as `old` after `used` and the
+-- further bytes
 abbrev pub CountsLines : InputState → List ℕ → InputState → Type 0
-CountsLines old used new = (next : ℕ) (more : List ℕ) → all_lines new (next ∷ more) ≡ all_lines old (used ++ next ∷ more)
+CountsLines old used new = (next : ℕ) (more : List ℕ) → all_lines new (next ∷ more) ≡ all_lines old (used
+    ++ next ∷ more)
 
--- bytes were used, of which this fact holds, and this is the rest
+-- `text` consists of a prefix and of `rest`, and `fact` holds for the prefix. From `old` to `new`
+-- the input has used the prefix and its lines.
 pub record Uses (fact : List ℕ → Type 0) (old new : InputState) (text rest : List ℕ) : Type 0 where
   pub used : List ℕ
   pub whole : text ≡ used ++ rest
@@ -21,51 +24,55 @@ pub record Uses (fact : List ℕ → Type 0) (old new : InputState) (text rest :
   pub lines : all_lines new rest ≡ all_lines old text
   pub counts : 0 < length rest → CountsLines old used new
 
--- bytes were read, of which this fact holds, and nothing went wrong
+-- a prefix of the input for which `fact` holds was read from `old` to `new` without an error
 pub record Took (fact : List ℕ → Type 0) (old new : InputState) : Type 0 where
   pub text : IfSome old.text (λ text. IsSomeAnd new.text (λ rest. Uses fact old new text rest))
   pub bytes : new.bytes ≤ old.bytes
   pub fault : new.fault ≡ None
   pub failures : new.failures ≡ old.failures
 
--- what is said of an input with this text, from its bytes up to the limit and the fault behind them or none
+-- the value of `said` for `text` without an error, if the limit of `input` allows `text`; otherwise
+-- the value of `said` for the allowed bytes and U7
 abbrev pub within_limit : {A : Type 0} → (List ℕ → Option KeptFault → A) → InputState → List ℕ → A
 within_limit said input text =
     if nat_le (length text) input.bytes then said text None else said (take (input.bytes - 1) text) (Some TooMuch)
 
--- why a text is cut off that ends too early: by this fault, or else it lacks the line behind its last
+-- the error of a text that ends too early: `fault` if the input has an error, otherwise P10 on line
+-- `line`
 abbrev pub fault_at_end : ℕ → Option KeptFault → KeptFault
 fault_at_end line None = Line line faults.Word
 fault_at_end line (Some fault) = fault
 
--- this fact holds of the bytes before the rest
+-- `fact` holds for the bytes that were removed between `old` and `new`
 abbrev pub StandsBehind : (List ℕ → Type 0) → InputState → InputState → Type 0
 StandsBehind fact old new =
     IfSome old.text (λ text. IsSomeAnd new.text (λ rest. (used : List ℕ) × (text ≡ used ++ rest) × fact used))
 
--- a read failed behind bytes of which this fact holds
+-- a read failed after bytes for which `fact` holds
 abbrev pub FailsBehind : (List ℕ → Type 0) → InputState → InputState → Type 0
 FailsBehind fact old new = (new.failures ≡ one_more old.failures) × (new.ahead ≡ []) × StandsBehind fact old new
 
--- there are more bytes than may be taken, and this fact holds of those that may
+-- the text of `old` has more bytes than its limit allows, and `fact` holds for the allowed bytes
 abbrev pub OverflowsBehind : (List ℕ → Type 0) → InputState → InputState → Type 0
 OverflowsBehind fact old new = (new.failures ≡ old.failures)
     × IfSome old.text (λ text. (old.bytes < length text) × fact (take (old.bytes - 1) text))
 
--- a read failed behind bytes of which the first fact holds, or the second holds of the text
+-- for the error U4, a read failed after bytes for which `fails` holds. For any other error, `says`
+-- holds for the text of `old`.
 abbrev pub Stops : (List ℕ → Type 0) → (List ℕ → Type 0) → InputState → KeptFault → InputState → Type 0
 Stops fails says old Read new = FailsBehind fails old new
 Stops fails says old fault new = (new.failures ≡ old.failures) × IfSome old.text says
 
--- bytes were used, behind which this rest is still to come, and with them their lines
+-- `text` consists of a prefix and of `rest`, and `new` has used the lines of this prefix
 pub record UsesLines (old new : InputState) (text rest : List ℕ) : Type 0 where
   pub used : List ℕ
   pub whole : text ≡ used ++ rest
   pub more : 0 < length rest
   pub lines : new.lines ≡ lines_up_to old used
 
--- How many lines were used when this fault came: those up to the line that it names, those of the bytes that had come before
--- a read failed, or those of the bytes that may be taken, where there are more.
+-- `new` has used the lines up to an error. For U2 and U3 these are the lines up to the line that
+-- the error names. For U4 these are the lines of the bytes before the failed read, and for U7 the
+-- lines of the bytes that the limit allows.
 abbrev pub LinesAt : InputState → KeptFault → InputState → Type 0
 LinesAt old (Number line) new = IfSome old.text (λ text. new.lines ≡ line)
 LinesAt old (Line line fault) new = IfSome old.text (λ text. new.lines ≡ line)

@@ -1,9 +1,9 @@
--- What is known of a writer.
+-- The state of a writer.
 use Rattle.std.specs.Prelude.{ℕ, List, Option}
 
--- what was written so far
+-- the state of a writer, as plain data
 pub record WriterState : Type 0 where
-  -- the bytes, where the writer tells them
+  -- the bytes that were written, or `None` if the writer does not reveal them
   pub contents : Option (List ℕ)
-  -- how many writes have failed, or taken none of the bytes that they were handed
+  -- the number of writes that failed, or that had bytes to write and wrote no byte
   pub failures : ℕ

@@ -1,14 +1,14 @@
-//! A reader whose bytes are taken one at a time.
+//! A reader with a buffer, which returns single bytes.
 ghost use Rattle.std.specs.Prelude.{◌≡◌, ◌≤◌, ◌↔◌, ℕ, IsTrue, List, [], length, take, drop, slice_range};
 ghost use Rattle.std.specs.Io.KnownBytes.{prepend_known, Consumes};
-ghost use Rattle.dcc_io.specs.ReaderState.{ReaderState, IsFront, AnswersNext, Fills, TakesFirst};
+ghost use Rattle.dcc_io.specs.ReaderState.{ReaderState, StartsWithBytes, AnswersNext, Fills, TakesFirst};
 
 use crate::stream::{Failed, Source};
 use std::marker::Model;
 
 const SIZE: usize = 4096;
 
-/// A reader, read by 4096 bytes at a time.
+/// A reader with a buffer of 4096 bytes. The reader fills the buffer only when it is empty.
 #[derive(Drop)]
 pub struct Buffered<R: Source> {
     reader: R,
@@ -47,16 +47,16 @@ impl<R: Source> Buffered<R> {
         }
     }
 
-    /// The bytes that were read and not yet used.
+    /// Returns the buffered bytes, which were read and are not used yet.
     #[inline(always)]
     pub fn ahead(&self) -> &[u8]
         ensures bytes { result.now ≡ self.now.ahead }
-        ensures front { IsFront self.now.ahead self.now.text }
+        ensures front { StartsWithBytes self.now.ahead self.now.text }
     {
         &self.buffer[self.start..self.end]
     }
 
-    /// Passes over bytes that were read.
+    /// Removes the first `count` buffered bytes.
     #[inline(always)]
     pub fn skip(&mut self, count: usize)
         requires { count ≤ length self.old.ahead }
@@ -68,7 +68,8 @@ impl<R: Source> Buffered<R> {
         self.start += count;
     }
 
-    /// Returns the next byte, or none at the end. The reader is read at most once, and only if no byte is ahead.
+    /// Returns the next byte. Returns `None` at the end of the bytes of the reader. The function
+    /// reads only if the buffer is empty, and then once.
     #[inline(always)]
     pub fn next(&mut self) -> Result<Option<u8>, Failed>
         ensures { AnswersNext self.old result self.new }
@@ -79,7 +80,7 @@ impl<R: Source> Buffered<R> {
         Ok(self.take_first())
     }
 
-    /// Whether no byte is ahead.
+    /// Returns true if the buffer is empty.
     #[inline(always)]
     fn is_used_up(&self) -> bool
         ensures { IsTrue result ↔ (self.now.ahead ≡ []) }
@@ -87,7 +88,7 @@ impl<R: Source> Buffered<R> {
         self.ahead().is_empty()
     }
 
-    /// Reads once, where no byte is ahead.
+    /// Reads once from the reader into the empty buffer.
     #[inline(never)]
     fn fill(&mut self) -> Result<(), Failed>
         requires { self.old.ahead ≡ [] }
@@ -99,7 +100,7 @@ impl<R: Source> Buffered<R> {
         Ok(())
     }
 
-    /// The first byte ahead, if there is one.
+    /// Removes and returns the first buffered byte. Returns `None` if the buffer is empty.
     #[inline(always)]
     fn take_first(&mut self) -> Option<u8>
         ensures { TakesFirst self.old result self.new }

@@ -1,19 +1,19 @@
-//! A number of a capture, taken byte by byte.
+//! The type of a number in a capture, which is read byte by byte.
 ghost use Rattle.std.specs.Prelude.{◌≡◌, ◌<◌, ◌≤◌, ◌+◌, ◌*◌, min, ℕ, List, [], ◌∷◌, ◌++◌, length};
-ghost use Rattle.dcc_io.specs.Words.{count_of, duration_of};
+ghost use Rattle.dcc_io.specs.Words.{count_in_word, duration_of};
 ghost use Rattle.dcc_io.specs.SpelledWords.{AreDigits};
 
 const LONGEST_DURATION: u8 = 10;
 
 const LONGEST_COUNT: u8 = 8;
 
-/// The greatest count: as many halves as one input has at most.
+/// The greatest count of a run, which is the limit of half-bits for one input.
 const MOST_HALVES: u32 = 16_777_216;
 
-/// What a number counts as at most: more than any number that tells two words apart.
+/// The greatest value that is stored. The limits of a duration and of a count are smaller.
 const CAP: u64 = 100_000_000;
 
-/// The bytes of a number so far.
+/// The value and the number of the bytes of a number that were read so far.
 #[derive(Clone, Copy, Debug)]
 pub struct Digits {
     len: u8,
@@ -32,7 +32,7 @@ impl Digits {
         }
     }
 
-    /// Adds a byte.
+    /// Appends the byte `byte` to the number.
     #[inline(always)]
     pub fn push(&mut self, byte: u8)
         ensures { (bytes : List ℕ) → AreDigits self.old bytes → AreDigits self.new (bytes ++ byte ∷ []) }
@@ -44,7 +44,7 @@ impl Digits {
         }
     }
 
-    /// How many bytes there are; 11 where there are more.
+    /// Returns the number of bytes. Returns 11 if there are more than 11 bytes.
     #[inline(always)]
     pub fn len(&self) -> u8
         ensures { (bytes : List ℕ) → AreDigits self.now bytes → result ≡ min (length bytes) 11 }
@@ -52,7 +52,8 @@ impl Digits {
         self.len
     }
 
-    /// The duration, unless the bytes spell none. One above 65535 counts as that.
+    /// Returns the duration that these bytes give, at most 65535. Returns `None` if the bytes are
+    /// no duration.
     pub fn duration(&self) -> Option<u16>
         ensures { (bytes : List ℕ) → AreDigits self.now bytes → result ≡ duration_of bytes }
     {
@@ -63,9 +64,10 @@ impl Digits {
         }
     }
 
-    /// The count of halves, unless the bytes spell none.
+    /// Returns the count of half-bits that these bytes give. Returns `None` if the bytes are no
+    /// count.
     pub fn count(&self) -> Option<u32>
-        ensures { (bytes : List ℕ) → AreDigits self.now bytes → result ≡ count_of bytes }
+        ensures { (bytes : List ℕ) → AreDigits self.now bytes → result ≡ count_in_word bytes }
     {
         if 0 < self.len
             && self.len <= LONGEST_COUNT
@@ -80,7 +82,7 @@ impl Digits {
     }
 }
 
-/// The number with one more digit, at most the cap.
+/// Returns `number` with one more digit at its end, or the greatest stored value if this is less.
 #[inline(always)]
 fn capped_with(number: u32, digit: u8) -> u32
     requires { digit < 10 }

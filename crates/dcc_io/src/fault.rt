@@ -1,4 +1,4 @@
-//! Why a call of the program gave up.
+//! The types of the errors of operations.
 ghost use Rattle.std.specs.Prelude.{◌≡◌};
 ghost use Rattle.dcc_io.specs.Faults.{tool_fault_number, as_tool_fault};
 ghost use Rattle.dcc_io.specs.declared.fault.ToolFault.TheVariants.{Write, NoMemory};
@@ -8,34 +8,35 @@ use dcc_packet::PacketFault;
 use std::alloc::AllocError;
 use thiserror::Error;
 
-/// What is wrong with a command line.
+/// An error of a command line.
 #[derive(Clone, Copy, Debug, PartialEq, Eq, Error)]
 pub enum Usage {
-    /// The words of the command line itself.
+    /// The arguments have a wrong form.
     #[error("bad command line")]
     Words,
 
-    /// The word that names a decoder.
+    /// The argument that names a decoder is wrong.
     #[error("bad who")]
     BadWho,
 
-    /// The words that describe a station.
+    /// The arguments that describe a station are out of the limits of a station.
     #[error("bad station")]
     BadStation,
 }
 
-/// Why a call of the program gave up. Its text is the line that standard error shows.
+/// An error of an operation. The text of an error is the line on standard error.
 #[derive(Clone, Copy, Debug, PartialEq, Eq, Error)]
 pub enum ToolFault {
-    /// U1: a wrong command line.
+    /// U1: the command line is wrong.
     #[error("dcc: U1 {0}")]
     Usage(Usage),
 
-    /// U2: a word on this line, from 1, is no duration.
+    /// U2: a word on the line `line` is no duration and no run, or follows `---`. Lines count from
+    /// 1.
     #[error("dcc: U2 line {line}: bad number")]
     Number { line: u64 },
 
-    /// U3: this line, from 1, is refused for this.
+    /// U3: the line `line` has the error `fault`. Lines count from 1.
     #[error("dcc: U3 line {line}: P{}", .fault.number())]
     Line { line: u64, fault: PacketFault },
 
@@ -43,21 +44,21 @@ pub enum ToolFault {
     #[error("dcc: U4 read failed")]
     Read,
 
-    /// U5: a write failed, or took no byte.
+    /// U5: a write failed, or wrote no byte.
     #[error("dcc: U5 write failed")]
     Write,
 
-    /// U6: there was no memory.
+    /// U6: an allocation failed.
     #[error("dcc: U6 out of memory")]
     NoMemory,
 
-    /// U7: there are more halves, bytes or decoders than may be taken.
+    /// U7: the input has more half-bits, bytes or decoders than the limits allow.
     #[error("dcc: U7 input too long")]
     TooMuch,
 }
 
 impl ToolFault {
-    /// The number behind the letter U: 1 for a wrong command line, to 7 for too much.
+    /// Returns the number of the error code, from 1 for U1 to 7 for U7.
     pub fn number(&self) -> u8
         ensures { result ≡ tool_fault_number self.now }
     {
@@ -73,22 +74,22 @@ impl ToolFault {
     }
 }
 
-/// A fault that an input keeps, and answers to every later call.
+/// An error that an input stores and returns from each later call.
 ///
-/// A type of its own, so that no input can keep a fault that is not its own, as a failed write.
+/// An error that an input cannot have, such as a failed write, is not a value of this type.
 #[derive(Clone, Copy, Debug, PartialEq, Eq)]
 pub enum KeptFault {
-    /// U2: a word on this line is no duration and no run.
+    /// U2: a word on the line `line` is no duration and no run, or follows `---`.
     Number { line: u64 },
-    /// U3: this line is refused for this.
+    /// U3: the line `line` has the error `fault`.
     Line { line: u64, fault: PacketFault },
     /// U4: a read failed.
     Read,
-    /// U7: there are more halves, bytes or decoders than may be taken.
+    /// U7: the input has more half-bits, bytes or decoders than the limits allow.
     TooMuch,
 }
 
-// The same fault, as a call answers it.
+// converts a stored error of an input to the error of an operation
 impl From<KeptFault> for ToolFault {
     ghost from_gives = { λ kept fault. fault ≡ as_tool_fault kept };
 
@@ -102,7 +103,7 @@ impl From<KeptFault> for ToolFault {
     }
 }
 
-// A write that failed, as a call answers it.
+// converts a failed write to the error U5 of an operation
 impl From<Failed> for ToolFault {
     ghost from_gives = { λ failed fault. fault ≡ Write };
 
@@ -111,7 +112,7 @@ impl From<Failed> for ToolFault {
     }
 }
 
-// Want of memory, as a call answers it.
+// converts a failed allocation to the error U6 of an operation
 impl From<AllocError> for ToolFault {
     ghost from_gives = { λ want fault. fault ≡ NoMemory };
 

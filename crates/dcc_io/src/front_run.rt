@@ -1,23 +1,24 @@
-//! A run at the front of some bytes, as `58*28` spells it.
+//! Functions that read a run, such as `58*28`, at the beginning of buffered bytes.
 ghost use Rattle.std.specs.Prelude.{◌≡◌, ◌<◌, ◌≤◌, IfSome, IsTrue, length, take};
 ghost use Rattle.dcc_io.specs.Inner.FrontRuns.{IsFrontRun, SpellsNumber};
 
 use crate::word::{Run, is_digit, is_gap};
 
-/// A run at the front of some bytes, and the gap behind it.
+/// A word that is a run, at the beginning of a list of bytes, with a gap after the word.
 #[derive(Clone, Copy, Debug)]
 pub struct FrontRun {
-    /// The run that the word spells.
+    /// The run that the word gives.
     pub run: Run,
 
-    /// How many bytes the word has.
+    /// The number of bytes of the word.
     pub len: usize,
 
-    /// Whether the gap is a line feed.
+    /// True if the byte after the word is a line feed.
     pub ends_line: bool,
 }
 
-/// The run at the front of these bytes, if it is spelled with `*`, its count is below 100000, and a gap ends it there. Most runs are such.
+/// Returns the run at the beginning of these bytes, if it has a `*`, a count below 100000, and a
+/// gap after it. Most runs have a `*` and a count below 100000. Returns `None` for other bytes.
 #[inline(always)]
 pub fn front_run(bytes: &[u8]) -> Option<FrontRun>
     ensures { IfSome result (λ front. IsFrontRun bytes.now front) }
@@ -41,8 +42,8 @@ pub fn front_run(bytes: &[u8]) -> Option<FrontRun>
     })
 }
 
-/// The number that the digits at the front of these bytes spell, and how many digits they are, if another byte stands behind them. It
-/// takes no further digit behind a number of five.
+/// Returns the number at the beginning of these bytes and its count of digits, at most five.
+/// Returns `None` if no other byte follows.
 #[inline(always)]
 fn front_number(bytes: &[u8]) -> Option<(u32, usize)>
     ensures { IfSome result (λ front. (front.1 < length bytes.now) × SpellsNumber front.0 (take front.1 bytes.now)) }
@@ -53,7 +54,8 @@ fn front_number(bytes: &[u8]) -> Option<(u32, usize)>
     }
 }
 
-/// The same, if they are one to three digits, as most are.
+/// Returns the number at the beginning of these bytes and its count of digits, if the number has
+/// one to three digits. Most numbers have one to three digits. Returns `None` for other bytes.
 #[inline(always)]
 fn short_number(bytes: &[u8]) -> Option<(u32, usize)>
     ensures { IfSome result (λ front. (front.1 < length bytes.now) × SpellsNumber front.0 (take front.1 bytes.now)) }
@@ -76,7 +78,8 @@ fn short_number(bytes: &[u8]) -> Option<(u32, usize)>
     Some((three, 3))
 }
 
-/// The same, digit by digit.
+/// Returns the number at the beginning of these bytes and its count of digits, and reads digit by
+/// digit. Returns `None` if no other byte follows.
 #[inline(never)]
 fn long_number(bytes: &[u8]) -> Option<(u32, usize)>
     ensures { IfSome result (λ front. (front.1 < length bytes.now) × SpellsNumber front.0 (take front.1 bytes.now)) }

@@ -1,4 +1,4 @@
-//! Lines that are finished and not yet written.
+//! A buffer that stores output lines until they are written.
 ghost use Rattle.std.specs.Prelude.{◌≡◌, ◌≤◌, ◌++◌, [], ◌↔◌, IsTrue, OnOk, length};
 ghost use Rattle.dcc_io.specs.WrittenBytes.{Writes};
 ghost use Rattle.dcc_io.specs.Held.{HoldsOrFails};
@@ -8,9 +8,10 @@ use crate::writing::write_all;
 use arrayvec::ArrayVec;
 use std::marker::Model;
 
-/// Finished lines, which one call of the writer is to take together: 4096 bytes at most.
+/// Complete lines, at most 4096 bytes, that one call of the writer will write.
 ///
-/// Whoever holds lines writes them out before he reads more, so that nobody waits for a finished line.
+/// The owner writes all buffered lines before it reads more input. So a complete line never waits
+/// for input.
 #[derive(Drop)]
 pub struct HeldLines {
     lines: ArrayVec<u8, 4096>,
@@ -25,7 +26,7 @@ impl Model for HeldLines {
 }
 
 impl HeldLines {
-    /// No lines.
+    /// Creates an empty buffer.
     pub fn new() -> HeldLines
         ensures { result ≡ [] }
     {
@@ -34,15 +35,17 @@ impl HeldLines {
         }
     }
 
-    /// Whether nothing is held.
+    /// Returns true if the buffer is empty.
     pub fn is_empty(&self) -> bool
         ensures { IsTrue result ↔ (self.now ≡ []) }
     {
         self.lines.is_empty()
     }
 
-    /// Holds a line of at most 4096 bytes. Where there is no room for it, what was held is written first; where that fails, the
-    /// line is not held.
+    /// Appends a line of at most 4096 bytes. If the buffer has no capacity for the line, the
+    /// function first writes the buffered lines.
+    ///
+    /// Errors: Failed if a write fails. After a failed write the line is not appended.
     pub fn hold<W: Sink>(&mut self, line: &[u8], writer: &mut W) -> Result<(), Failed>
         requires { length line.now ≤ 4096 }
         ensures { HoldsOrFails (W.state writer.old) (self.old ++ line.now) result self.new
@@ -55,7 +58,10 @@ impl HeldLines {
         Ok(())
     }
 
-    /// Writes all that is held, and then holds nothing. Where a write fails, a front of it was written.
+    /// Writes all buffered lines, and clears the buffer.
+    ///
+    /// Errors: Failed if a write fails. After a failed write, a prefix of the buffered bytes was
+    /// written.
     pub fn write_out<W: Sink>(&mut self, writer: &mut W) -> Result<(), Failed>
         ensures writes { Writes (W.state writer.old) self.old result (W.state writer.new) }
         ensures empty { OnOk result (self.new ≡ []) }

@@ -1,15 +1,15 @@
-//! What a call of the program reads from.
+//! The type of the input of an operation, and the functions that read it.
 ghost use Rattle.std.specs.Prelude.{◌≡◌, ◌≢◌, ◌+◌, ◌<◌, ◌≤◌, ◌^◌, ◌∷◌, ℕ, List, [], length, take, drop, None, Some};
 ghost use Rattle.std.specs.Prelude.{true, false, IsTrue, IfSome, IfNone, if◌then◌else◌, ◌||◌};
-ghost use Rattle.dcc_io.specs.ReaderState.{IsFront};
+ghost use Rattle.dcc_io.specs.ReaderState.{StartsWithBytes};
 ghost use Rattle.dcc_io.specs.Words.{comments, is_gap, ended_words};
 ghost use Rattle.dcc_io.specs.Inner.FrontWords.{BeginsWithWord, HasLineFeedAt, IsFrontWord};
 ghost use Rattle.dcc_io.specs.PassedWords.{AnswersWord, EndsWord, Passed};
 ghost use Rattle.dcc_io.specs.KeptAnswers.{AnswersKept};
-ghost use Rattle.dcc_io.specs.NextLine.{AnswersLine, EndsLine};
+ghost use Rattle.dcc_io.specs.NextLine.{AnswersLine, ReadsLine};
 ghost use Rattle.dcc_io.specs.Inner.FrontLine.{BeginsWithLine, IsFrontLine, SkipsLine};
 ghost use Rattle.dcc_io.specs.Counted.{CountsRun, TakesHalf, TakesRun};
-ghost use Rattle.dcc_io.specs.InputState.{InputState, closed_text, closing, AnswersByte, HasCause, fresh};
+ghost use Rattle.dcc_io.specs.InputState.{InputState, closed_text, closing, AnswersByte, ReadHasFailure, fresh};
 
 use crate::buffered::Buffered;
 use crate::fault::KeptFault;
@@ -23,18 +23,18 @@ use crate::word::{
 use dcc_packet::PacketFault;
 use std::marker::Model;
 
-/// How much of one input is taken at most. What would pass a limit is U7.
+/// The limits of one input. An input that exceeds a limit has the error U7.
 #[derive(Clone, Copy, Debug, PartialEq, Eq)]
 pub struct Limits {
-    /// How many halves; a word of a capture is one or more.
+    /// The greatest number of half-bits.
     pub halves: u32,
 
-    /// How many bytes, gaps and comments too.
+    /// The greatest number of bytes, which includes gaps and comments.
     pub bytes: u32,
 }
 
 impl Limits {
-    /// 2^24 halves and 2^26 bytes.
+    /// Creates the full limits: 2^24 half-bits and 2^26 bytes.
     pub fn full() -> Limits
         ensures { result ≡ record { halves = 16777216; bytes = 67108864 } }
     {
@@ -45,10 +45,10 @@ impl Limits {
     }
 }
 
-/// A reader, what was taken from it, and how much may still be taken.
+/// A reader with its position in the text and with the limits that are left.
 ///
-/// It keeps its first U2, U3, U4 or U7 and answers it to every later call that would read it. A reader
-/// that has answered its end is not read again.
+/// An input stores its first error U2, U3, U4 or U7. Each later call that would read returns this
+/// error. After the end of the reader was reached, the input does not read from it again.
 #[derive(Drop)]
 pub struct Input<R: Source> {
     source: Buffered<R>,
@@ -75,14 +75,15 @@ impl<R: Source> Model for Input<R> {
       failures = i.source.failures;
     } };
 
-    // The lines fit a number, a failed read is kept only where one has failed, and a reader at its
-    // end has nothing ahead.
-    ghost invariant = { λ i. (i.line + (i.bytes_left + closing i.closed) ≤ 2 ^ 32 + 1) × HasCause i.fault i.source.failures
+    // Invariant: the number of lines fits its type. A stored error U4 implies that a read failed.
+    // An input at the end of its reader has no buffered byte.
+    ghost invariant = { λ i. (i.line + (i.bytes_left + closing i.closed) ≤ 2 ^ 32 + 1)
+        × ReadHasFailure i.fault i.source.failures
         × (i.closed ≡ true → i.source.ahead ≡ []) };
 }
 
 impl<R: Source> Input<R> {
-    /// An input of which nothing was read.
+    /// Creates an input from which nothing was read.
     pub fn new(reader: R, limits: Limits) -> Input<R>
         ensures { result ≡ fresh (R.remaining reader) (R.failures reader) limits.halves limits.bytes }
     {
@@ -99,7 +100,8 @@ impl<R: Source> Input<R> {
     }
 
     #[tactic(auto, using(crate::proofs::InputLemmas::more_behind, crate::proofs::InputLemmas::line_of_byte, crate::proofs::InputLemmas::more_to_come))]
-    /// The next byte. A line feed closes the input at its end, and then there is none.
+    /// Returns the next byte. The input appends a line feed to the text. Returns `None` after this
+    /// line feed.
     #[inline(always)]
     pub(crate) fn next_byte(&mut self) -> Result<Option<u8>, KeptFault>
         requires { self.old.fault ≡ None }
@@ -133,40 +135,45 @@ impl<R: Source> Input<R> {
         }
     }
 
-    /// How many lines were used so far: those that have begun, so a last one that no line feed ends is
-    /// one of them. The line behind the last is one more. Behind a fault they tell where it is: up to the line
-    /// of U2 or U3, of the last byte before a failed read or a limit, or of the word of a half too many.
+    /// Returns the number of lines that were used, including a line of which only a part was used.
+    ///
+    /// After U2 or U3 the result is the line of the error, or the last line if the error is on the
+    /// line after the last. After U4, or U7 for bytes, the result is the line of the last byte that
+    /// was used. After U7 for half-bits, the result is the line of the word with too many
+    /// half-bits.
     pub fn lines(&self) -> u32
         ensures { result ≡ self.now.lines }
     {
         self.lines
     }
 
-    /// The fault that every call answers.
+    /// Returns the stored error. Returns `None` if no error is stored.
     pub fn fault(&self) -> Option<KeptFault>
         ensures fault { result ≡ self.now.fault }
-        ensures cause { HasCause self.now.fault self.now.failures }
+        ensures cause { ReadHasFailure self.now.fault self.now.failures }
     {
         self.fault
     }
 
-    /// How many halves may still be taken.
+    /// Returns the number of half-bits that the limit still allows.
     pub fn halves_left(&self) -> u32
         ensures { result ≡ self.now.halves }
     {
         self.halves_left
     }
 
-    /// Whether the bytes that were read hold a whole word, so that the next half takes no read.
-    pub fn has_word_at_hand(&self) -> bool
+    /// Returns true if the buffer contains a complete word, so that the next half-bit needs no
+    /// read.
+    pub fn has_buffered_word(&self) -> bool
         ensures word { IsTrue result → ended_words self.now.place self.now.ahead ≢ [] }
-        ensures front { IsFront self.now.ahead self.now.text }
+        ensures front { StartsWithBytes self.now.ahead self.now.text }
     {
         let ahead = self.source.ahead();
         has_ended_word(self.in_comment, ahead)
     }
 
-    /// Whether the byte counts as a gap between words, as each byte of a comment does.
+    /// Returns true if `byte` separates words: it is a gap, or it is in a comment. The position of
+    /// the input moves past the byte.
     #[inline(always)]
     pub(crate) fn passes_gap(&mut self, byte: u8) -> bool
         ensures gap { result ≡ (comments self.old.place.in_comment byte || is_gap byte) }
@@ -182,10 +189,10 @@ impl<R: Source> Input<R> {
         comment || is_gap(byte)
     }
 
-    /// The next word and its line, where the bytes at hand begin with it and hold it whole. The line feed of a CR LF is left unless it
-    /// is asked for.
+    /// Removes and returns the next word with its line. Returns `None` if the buffer does not begin
+    /// with a complete word. The line feed of a CR LF is removed only if `with_line_feed` is true.
     #[inline(always)]
-    fn word_at_hand(&mut self, with_line_feed: bool) -> Option<(u64, RunWord)>
+    fn take_buffered_word(&mut self, with_line_feed: bool) -> Option<(u64, RunWord)>
         requires { self.old.fault ≡ None }
         ensures some { IfSome result (λ word. EndsWord self.old word.0 word.1 self.new) }
         ensures none { IfNone result (self.new ≡ self.old) }
@@ -194,7 +201,7 @@ impl<R: Source> Input<R> {
             return None;
         }
         let front = whole_word(self.source.ahead())?;
-        // (the word, its gap, and a line feed behind that)
+        // the word, its gap, and perhaps a line feed after the gap
         if self.bytes_left as usize <= front.len + 2 {
             return None;
         }
@@ -203,7 +210,8 @@ impl<R: Source> Input<R> {
         Some((line, front.word))
     }
 
-    /// Takes the word of so many bytes at the front of those at hand, and the gap behind it.
+    /// Removes the word of `word_len` bytes at the beginning of the buffer, and the gap after this
+    /// word.
     #[inline(always)]
     fn pass_word(&mut self, word_len: usize, ends_line: bool)
         requires fault { self.old.fault ≡ None }
@@ -228,8 +236,10 @@ impl<R: Source> Input<R> {
         }
     }
 
-    /// The same, and with the line feed behind that gap, where it is asked for and stands there, as in CR LF. That of another line
-    /// is left, so that the line of the word is the last that was used.
+    /// Removes the word of `word_len` bytes at the beginning of the buffer, and the gap after this
+    /// word. If `with_line_feed` is true, the function also removes the line feed of a CR LF. If
+    /// `with_line_feed` is false, the line feed stays, so that the line of the word is the last
+    /// line that was used.
     #[inline(always)]
     fn pass_word_and_gap(&mut self, word_len: usize, ends_line: bool, with_line_feed: bool)
         requires fault { self.old.fault ≡ None }
@@ -248,7 +258,7 @@ impl<R: Source> Input<R> {
         }
     }
 
-    /// Takes the line feed at the front of the bytes at hand.
+    /// Removes the line feed at the beginning of the buffer.
     #[inline(always)]
     fn pass_line_feed(&mut self)
         requires fault { self.old.fault ≡ None }
@@ -267,7 +277,7 @@ impl<R: Source> Input<R> {
         self.source.skip(1);
     }
 
-    /// Passes those bytes of a comment that are at hand, but for the line feed that ends it.
+    /// Skips the buffered bytes of a comment, up to the line feed at the end of the comment.
     fn pass_comment(&mut self)
         requires { self.old.fault ≡ None }
         ensures { Passed self.old [] self.new }
@@ -285,7 +295,8 @@ impl<R: Source> Input<R> {
         self.lines = at as u32;
     }
 
-    /// The next word and its line, taken byte by byte up to where it stands whole among the bytes at hand.
+    /// Returns the next word and its line. The function reads byte by byte until the buffer
+    /// contains a complete word.
     fn read_word(&mut self) -> Result<Option<(u64, RunWord)>, KeptFault>
         requires { self.old.fault ≡ None }
         ensures { AnswersWord self.old result self.new }
@@ -301,7 +312,7 @@ impl<R: Source> Input<R> {
                         return Ok(Some((line, word)));
                     } else {
                         self.pass_comment();
-                        if let Some(found) = self.word_at_hand(true) {
+                        if let Some(found) = self.take_buffered_word(true) {
                             return Ok(Some(found));
                         }
                     }
@@ -311,9 +322,10 @@ impl<R: Source> Input<R> {
         }
     }
 
-    /// The same for words of any length and any gap, CR LF too.
+    /// Removes the next word and returns its duration, for words of any length and any gap. Returns
+    /// `None` if the buffer does not begin with a complete word that is a duration.
     #[inline(never)]
-    fn any_half_at_hand(&mut self) -> Option<u16>
+    fn take_any_buffered_half(&mut self) -> Option<u16>
         requires fault { self.old.fault ≡ None }
         requires no_comment { self.old.place.in_comment ≡ false }
         requires left { 0 < self.old.halves }
@@ -324,7 +336,9 @@ impl<R: Source> Input<R> {
         self.take_front(front, true)
     }
 
-    /// Takes the half of the word at the front, unless its bytes are too many. The line feed of a CR LF is left unless it is asked for.
+    /// Removes the word at the beginning of the buffer and returns its duration. Returns `None` if
+    /// the limit of bytes is exceeded. The line feed of a CR LF is removed only if `with_line_feed`
+    /// is true.
     #[inline(always)]
     fn take_front(&mut self, front: FrontWord, with_line_feed: bool) -> Option<u16>
         requires fault { self.old.fault ≡ None }
@@ -334,7 +348,7 @@ impl<R: Source> Input<R> {
         ensures some { IfSome result (λ us. TakesHalf self.old us self.new) }
         ensures none { IfNone result (self.new ≡ self.old) }
     {
-        // (the word, its gap, and a line feed behind that)
+        // the word, its gap, and perhaps a line feed after the gap
         if self.bytes_left as usize <= front.len + 2 {
             return None;
         }
@@ -343,7 +357,8 @@ impl<R: Source> Input<R> {
         Some(front.us)
     }
 
-    /// The next line and its number, or none at the end. A fault is kept.
+    /// Returns the next line and its number. Returns `None` at the end of the input. If the
+    /// function returns an error, the input stores this error.
     pub(crate) fn next_line(&mut self) -> Result<Option<TextLine>, KeptFault>
         requires { self.old.fault ≡ None }
         ensures { AnswersLine self.old result self.new }
@@ -368,14 +383,17 @@ impl<R: Source> Input<R> {
         }
     }
 
-    /// The next line, if it stands whole in the bytes that were read, is good and says something.
+    /// Returns the next line, if the buffer contains the complete line and the line is valid.
+    /// Returns `None` for a line that is blank or a comment.
     pub(crate) fn whole_line(&self) -> Option<&[u8]>
         ensures { IfSome result (λ line. IsFrontLine self.now.ahead line.now) }
     {
         front_line(self.source.ahead())
     }
 
-    /// Takes the next line, if it stands whole in the bytes that were read, is good and says nothing.
+    /// Removes the next line and returns true, if the buffer contains the complete line, the line
+    /// is valid, and it is blank or a comment. Returns false, and removes nothing, for any other
+    /// line.
     pub(crate) fn take_skipped_line(&mut self) -> bool
         requires { self.old.fault ≡ None }
         ensures taken { IsTrue result → SkipsLine self.old self.new }
@@ -387,12 +405,13 @@ impl<R: Source> Input<R> {
         }
     }
 
-    /// Takes the line of so many bytes at the front, unless its bytes are too many.
+    /// Removes the line of `len` bytes at the beginning of the buffer and returns true. Returns
+    /// false, and removes nothing, if the limit of bytes is exceeded.
     pub(crate) fn take_line(&mut self, len: usize) -> bool
         requires fault { self.old.fault ≡ None }
         requires begins { (line : List ℕ) × BeginsWithLine self.old.ahead line × (length line ≡ len) }
         ensures taken { IsTrue result → (line : List ℕ) → BeginsWithLine self.old.ahead line → length line ≡ len
-            → EndsLine self.old self.old.place.line line self.new }
+            → ReadsLine self.old self.old.place.line line self.new }
         ensures left { result ≡ false → self.new ≡ self.old }
     {
         if self.bytes_left as usize <= len {
@@ -406,7 +425,7 @@ impl<R: Source> Input<R> {
         true
     }
 
-    /// Keeps the fault, for this call and every later one.
+    /// Stores the error, and returns it. Each later call returns this error too.
     pub(crate) fn refuse(&mut self, fault: KeptFault) -> KeptFault
         requires { fault ≢ KeptFault.Read }
         ensures answer { result ≡ fault }
@@ -417,7 +436,8 @@ impl<R: Source> Input<R> {
     }
 }
 
-/// The next word and its line, or none at the end. A fault is kept.
+/// Returns the next word and its line. Returns `None` at the end of the input. If the function
+/// returns an error, the input stores this error.
 #[inline(always)]
 pub fn next_word<R: Source>(input: &mut Input<R>) -> Result<Option<(u64, RunWord)>, KeptFault>
     ensures kept { AnswersKept input.old result input.new }
@@ -426,16 +446,17 @@ pub fn next_word<R: Source>(input: &mut Input<R>) -> Result<Option<(u64, RunWord
     if let Some(fault) = input.fault() {
         return Err(fault);
     }
-    match input.word_at_hand(false) {
+    match input.take_buffered_word(false) {
         Some(word) => Ok(Some(word)),
         None => input.read_word(),
     }
 }
 
-/// The duration of the next word, where that word is a duration alone which stands at the front of the bytes that were read and
-/// has ended. Its one half counts. So most halves cost one look at each byte.
+/// Removes the next word and returns its duration. Returns `None` if the buffer does not begin with
+/// a complete word that is a duration. The half-bit counts against the limit. The function reads
+/// most half-bits of a capture, and reads each byte once.
 #[inline(always)]
-pub fn half_at_hand<R: Source>(input: &mut Input<R>) -> Option<u16>
+pub fn take_buffered_half<R: Source>(input: &mut Input<R>) -> Option<u16>
     requires { input.old.fault ≡ None }
     ensures some { IfSome result (λ us. TakesHalf input.old us input.new) }
     ensures none { IfNone result (input.new ≡ input.old) }
@@ -446,13 +467,14 @@ pub fn half_at_hand<R: Source>(input: &mut Input<R>) -> Option<u16>
     match short_front_word(input.source.ahead()) {
         Some(front) => input.take_front(front, false),
         None if begins_with_run(input.source.ahead()) => None,
-        None => input.any_half_at_hand(),
+        None => input.take_any_buffered_half(),
     }
 }
 
-/// The run of the next word, where that word has a `*`, stands at the front of the bytes that were read and has ended, and its halves are
-/// not too many. They count.
-pub fn run_at_hand<R: Source>(input: &mut Input<R>) -> Option<Run>
+/// Removes the next word and returns its run. Returns `None` if the buffer does not begin with a
+/// complete word that has a `*`. Returns `None` if the limit does not allow all half-bits of the
+/// run. The half-bits count against the limit.
+pub fn take_buffered_run<R: Source>(input: &mut Input<R>) -> Option<Run>
     requires { input.old.fault ≡ None }
     ensures some { IfSome result (λ run. TakesRun input.old run input.new) }
     ensures none { IfNone result (input.new ≡ input.old) }
@@ -461,7 +483,7 @@ pub fn run_at_hand<R: Source>(input: &mut Input<R>) -> Option<Run>
         return None;
     }
     let front = front_run(input.source.ahead())?;
-    // (the word, its gap, and a line feed behind that)
+    // the word, its gap, and perhaps a line feed after the gap
     if input.bytes_left as usize <= front.len + 2 || input.halves_left < front.run.n {
         return None;
     }
@@ -470,7 +492,10 @@ pub fn run_at_hand<R: Source>(input: &mut Input<R>) -> Option<Run>
     Some(front.run)
 }
 
-/// Takes the halves of a run, unless they are too many: then none of them counts, and the input keeps U7.
+/// Subtracts the half-bits of a run from the limit, and returns the run.
+///
+/// Errors: U7 if the limit does not allow all half-bits of the run. After U7 the limit is
+/// unchanged, and the input stores the error.
 #[inline(always)]
 pub fn count_run<R: Source>(input: &mut Input<R>, run: Run) -> Result<Option<Run>, KeptFault>
     requires { input.old.fault ≡ None }
@@ -483,14 +508,15 @@ pub fn count_run<R: Source>(input: &mut Input<R>, run: Run) -> Result<Option<Run
     Ok(Some(run))
 }
 
-/// The line of the next byte, from 1: behind a line that was read, the one after it.
+/// Returns the number of the line of the next byte. Lines count from 1.
 pub fn line_of_next_byte<R: Source>(input: &Input<R>) -> u64
     ensures { result ≡ input.now.place.line }
 {
     input.line
 }
 
-/// Whether a word has ended in these bytes, the first of which stand in a comment or not.
+/// Returns true if the end of a word is in these bytes. The parameter `in_comment` is true if the
+/// bytes begin in a comment.
 fn has_ended_word(in_comment: bool, bytes: &[u8]) -> bool
     ensures { (line : ℕ) → IsTrue result
         → ended_words (record { line = line; in_comment = in_comment }) bytes.now ≢ [] }
@@ -509,7 +535,8 @@ fn has_ended_word(in_comment: bool, bytes: &[u8]) -> bool
     false
 }
 
-/// Whether a byte ends the word before it, which stands in a comment or not.
+/// Returns true if a byte ends the word before this byte. The parameter `comment` is true if the
+/// byte is in a comment.
 #[inline(always)]
 fn ends_word(comment: bool, byte: u8) -> bool
     ensures { result ≡ (comment || is_gap byte) }

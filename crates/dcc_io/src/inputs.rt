@@ -1,20 +1,23 @@
-//! What the crates above take of an input, item by item: words and their halves, lines, and what a line says. Who calls the
-//! program's calls has no need of it, and `dcc_tool` does not give it out.
+//! Functions that read an input item by item: words and their half-bits, lines, and the values of
+//! lines. The crates that depend on this crate use these functions. `dcc_tool` does not re-export
+//! these functions.
 ghost use Rattle.std.specs.Prelude.{◌≡◌, ◌≢◌, None, IfSome};
 ghost use Rattle.dcc_io.specs.KeptAnswers.{AnswersKept, KeepsFault};
-ghost use Rattle.dcc_io.specs.LineEnd.{EndsLine};
+ghost use Rattle.dcc_io.specs.LineEnd.{SkipsToLineEnd};
 ghost use Rattle.dcc_io.specs.NextLine.{AnswersLine};
 
 use crate::fault::KeptFault;
 use crate::input::Input;
-pub use crate::input::{count_run, half_at_hand, line_of_next_byte, next_word, run_at_hand};
-pub use crate::said_line::{SaidLine, next_said, said_at_hand};
+pub use crate::input::{
+    count_run, line_of_next_byte, next_word, take_buffered_half, take_buffered_run,
+};
+pub use crate::said_line::{ParsedLine, next_item, take_buffered_item};
 use crate::stream::Source;
 use crate::text_line::TextLine;
 use dcc_packet::PacketFault;
 
-/// Refuses the word on this line, which is no number: the input keeps U2, and reads no more. A fault that it keeps already is answered
-/// again.
+/// Stores and returns the error U2 for the line `line`, which has a wrong word. After the call the
+/// input is not read further. If an error is stored already, the function returns this error.
 pub fn refuse_number<R: Source>(input: &mut Input<R>, line: u64) -> KeptFault
     ensures kept { IfSome input.old.fault (λ kept. (result ≡ kept) × (input.new ≡ input.old)) }
     ensures refuses { input.old.fault ≡ None → KeepsFault input.old (KeptFault.Number line) result input.new }
@@ -22,10 +25,11 @@ pub fn refuse_number<R: Source>(input: &mut Input<R>, line: u64) -> KeptFault
     keep(input, KeptFault::Number { line })
 }
 
-/// Reads up to the end of the line, or of a word before that: whether the line ends without a word. A fault is kept.
+/// Skips to the end of the line, or to the end of the next word. Returns true if no word follows on
+/// the line. If the function returns an error, `input` stores this error.
 pub fn ends_line<R: Source>(input: &mut Input<R>) -> Result<bool, KeptFault>
     ensures kept { AnswersKept input.old result input.new }
-    ensures reads { input.old.fault ≡ None → EndsLine input.old result input.new }
+    ensures reads { input.old.fault ≡ None → SkipsToLineEnd input.old result input.new }
 {
     match input.fault() {
         Some(fault) => Err(fault),
@@ -33,8 +37,10 @@ pub fn ends_line<R: Source>(input: &mut Input<R>) -> Result<bool, KeptFault>
     }
 }
 
-/// The next line of a text with its number, from 1, or none at the end. A line of more than 512 bytes or with a byte past ASCII is U3
-/// P10. A fault is kept.
+/// Returns the next line of a text with its number, which counts from 1. Returns `None` at the end
+/// of the input. If the function returns an error, `input` stores this error.
+///
+/// Errors: U3 with P10 if the line has more than 512 bytes, or a byte that is not ASCII.
 pub fn next_line<R: Source>(input: &mut Input<R>) -> Result<Option<TextLine>, KeptFault>
     ensures kept { AnswersKept input.old result input.new }
     ensures reads { input.old.fault ≡ None → AnswersLine input.old result input.new }
@@ -45,7 +51,8 @@ pub fn next_line<R: Source>(input: &mut Input<R>) -> Result<Option<TextLine>, Ke
     }
 }
 
-/// Refuses a line for this: the input keeps U3, and reads no more. A fault that it keeps already is answered again.
+/// Stores and returns the error U3 with `fault` for the line `line`. After the call the input is
+/// not read further. If an error is stored already, the function returns this error.
 pub fn refuse_line<R: Source>(input: &mut Input<R>, line: u64, fault: PacketFault) -> KeptFault
     ensures kept { IfSome input.old.fault (λ kept. (result ≡ kept) × (input.new ≡ input.old)) }
     ensures refuses { input.old.fault ≡ None → KeepsFault input.old (KeptFault.Line line fault) result input.new }
@@ -53,7 +60,8 @@ pub fn refuse_line<R: Source>(input: &mut Input<R>, line: u64, fault: PacketFaul
     keep(input, KeptFault::Line { line, fault })
 }
 
-/// Refuses what is still to come as too much: the input keeps U7, and reads no more. A fault that it keeps already is answered again.
+/// Stores and returns the error U7. After the call the input is not read further. If an error is
+/// stored already, the function returns this error.
 pub fn refuse_too_much<R: Source>(input: &mut Input<R>) -> KeptFault
     ensures kept { IfSome input.old.fault (λ kept. (result ≡ kept) × (input.new ≡ input.old)) }
     ensures refuses { input.old.fault ≡ None → KeepsFault input.old KeptFault.TooMuch result input.new }
@@ -61,7 +69,7 @@ pub fn refuse_too_much<R: Source>(input: &mut Input<R>) -> KeptFault
     keep(input, KeptFault::TooMuch)
 }
 
-/// Keeps this fault, unless one is kept already.
+/// Stores `fault`, unless an error is stored already. Returns the stored error.
 fn keep<R: Source>(input: &mut Input<R>, fault: KeptFault) -> KeptFault
     requires { fault ≢ KeptFault.Read }
     ensures kept { IfSome input.old.fault (λ kept. (result ≡ kept) × (input.new ≡ input.old)) }

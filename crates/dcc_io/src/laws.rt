@@ -1,14 +1,16 @@
-//! Laws of lines.
+//! Theorems about the lines of an input.
 
 ghost use Rattle.dcc_io.specs.FramesSaid.{PacketLinesSayFrames, StationLinesSayFrames};
 ghost use Rattle.dcc_io.specs.LineCount.{LinesAreCounted};
 
-/// An input that is used up has given a line for each line feed, and one for what stands behind the last.
+/// Theorem: after the whole text was read, the number of used lines is the number of line feeds. If
+/// bytes follow the last line feed, the number of used lines is one more.
 pub fn lines_are_counted_by_line_feeds()
     ensures { LinesAreCounted }
 {}
 
-/// The packet lines of every text say frames, 3 to 6 bytes whose exclusive or is zero, and so do the commands to a station.
+/// Theorem: the value of each packet line of a text is a frame, and so is each command to a
+/// station. A frame has 3 to 6 bytes whose exclusive or is zero.
 pub fn lines_say_frames()
     ensures packets { PacketLinesSayFrames }
     ensures commands { StationLinesSayFrames }

@@ -1,5 +1,5 @@
-//! What the calls of the program `dcc` read and write: readers and writers, and what an input gives, be it
-//! words, lines, or packets.
+//! Input and output of the operations: readers and writers, and the words, lines and packets of an
+//! input.
 #![tactic(auto)]
 
 mod buffered;

@@ -1,6 +1,6 @@
-//! How the rest of a line is passed.
+//! A function that skips the rest of a line.
 ghost use Rattle.std.specs.Prelude.{◌≡◌, None};
-ghost use Rattle.dcc_io.specs.LineEnd.{EndsLine};
+ghost use Rattle.dcc_io.specs.LineEnd.{SkipsToLineEnd};
 
 use crate::fault::KeptFault;
 use crate::input::Input;
@@ -8,10 +8,11 @@ use crate::stream::Source;
 use crate::word::RunWord;
 
 impl<R: Source> Input<R> {
-    /// Reads up to the end of the line, or of a word before that: whether the line ends without a word.
+    /// Skips to the end of the line, or to the end of the next word. Returns true if no word
+    /// follows on the line.
     pub(crate) fn ends_line(&mut self) -> Result<bool, KeptFault>
         requires { self.old.fault ≡ None }
-        ensures { EndsLine self.old result self.new }
+        ensures { SkipsToLineEnd self.old result self.new }
     {
         let mut word = RunWord::new();
         'bytes: loop {

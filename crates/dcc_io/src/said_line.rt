@@ -1,10 +1,10 @@
-//! Lines that say something, of whatever kind.
+//! The trait of the values that a line of text can have.
 ghost use Rattle.std.specs.Prelude.{◌≡◌, ℕ, List, None, Ok, Some, IfSome, IfNone};
 ghost use Rattle.dcc_packet.specs.Spelling.{spelling};
 ghost use Rattle.dcc_packet.specs.Words.{words};
 ghost use Rattle.dcc_io.specs.PacketLines.{Saying, packet_words};
 ghost use Rattle.dcc_io.specs.KeptAnswers.{AnswersKept};
-ghost use Rattle.dcc_io.specs.PacketRead.{AnswersSaid, ReadsSaid, said_or_fault};
+ghost use Rattle.dcc_io.specs.PacketRead.{AnswersSaid, ReadsSaid, map_parsed};
 
 use crate::fault::KeptFault;
 use crate::input::Input;
@@ -12,26 +12,26 @@ use crate::stream::Source;
 use crate::text_line::TextLine;
 use dcc_packet::{Packet, PacketFault};
 
-/// What a line of a text says.
-pub trait SaidLine: Drop {
-    // What a line of the text stands for.
+/// The value of a line of text.
+pub trait ParsedLine: Drop {
+    // an item of a text for which a line stands
     ghost Item: { Type 0 };
 
-    // What the words of a line say.
+    // the value that the words of a line have
     ghost Said: { Type 0 };
 
-    // How the words of a line are read, and for which items it stands.
+    // the definition of how words are parsed as a value, and of the items for which the line stands
     ghost saying: { Saying Item Said };
 
-    // What the words of the line have said of which this comes.
+    // the value of the words from which this Rust value was parsed
     ghost as_said: { Self → Said };
 
-    /// What the words of a line say, or their first fault.
+    /// Returns the value of the words of a line, or the first error of these words.
     fn from_line(line: &[u8]) -> Result<Self, PacketFault>
-        ensures { said_or_fault as_said result ≡ saying.said (words line.now) };
+        ensures { map_parsed as_said result ≡ saying.said (words line.now) };
 }
 
-impl SaidLine for Packet {
+impl ParsedLine for Packet {
     ghost Item = { List ℕ };
 
     ghost Said = { List ℕ };
@@ -45,8 +45,9 @@ impl SaidLine for Packet {
     }
 }
 
-/// What the next line says that says anything, or none at the end. A fault is kept.
-pub fn next_said<R: Source, L: SaidLine>(input: &mut Input<R>) -> Result<Option<L>, KeptFault>
+/// Returns the value of the next line that is neither blank nor a comment. Returns `None` at the
+/// end of the input. If the function returns an error, `input` stores this error.
+pub fn next_item<R: Source, L: ParsedLine>(input: &mut Input<R>) -> Result<Option<L>, KeptFault>
     ensures kept { AnswersKept input.old result input.new }
     ensures reads { input.old.fault ≡ None → AnswersSaid L.saying L.as_said input.old result input.new }
 {
@@ -56,10 +57,13 @@ pub fn next_said<R: Source, L: SaidLine>(input: &mut Input<R>) -> Result<Option<
     }
 }
 
-/// What the next line says, if it stands whole in the bytes that were read and says anything. So most lines take no
-/// read, and no copy of them is made. Any other line is left to `next_said`, a skipped or a bad one too, and so is each
-/// where a fault is kept.
-pub fn said_at_hand<R: Source, L: SaidLine>(input: &mut Input<R>) -> Option<L>
+/// Removes the next line and returns its value, if the buffer contains the complete line and the
+/// line is neither blank nor a comment. The function returns most lines of an input, without a read
+/// of the reader and without a copy.
+///
+/// Returns `None`, and removes nothing, for any other line. The caller then calls [`next_item`],
+/// which handles comments, errors and incomplete lines.
+pub fn take_buffered_item<R: Source, L: ParsedLine>(input: &mut Input<R>) -> Option<L>
     ensures some { IfSome result (λ says. AnswersSaid L.saying L.as_said input.old (Ok (Some says)) input.new) }
     ensures none { IfNone result (input.new ≡ input.old) }
     ensures kept { IfSome input.old.fault (λ fault. result ≡ None) }
@@ -75,8 +79,9 @@ pub fn said_at_hand<R: Source, L: SaidLine>(input: &mut Input<R>) -> Option<L>
     }
 }
 
-/// What the next line says that says anything, or none at the end.
-fn read_lines<R: Source, L: SaidLine>(input: &mut Input<R>) -> Result<Option<L>, KeptFault>
+/// Returns the value of the next line that is neither blank nor a comment. Returns `None` at the
+/// end of the input.
+fn read_lines<R: Source, L: ParsedLine>(input: &mut Input<R>) -> Result<Option<L>, KeptFault>
     requires { input.old.fault ≡ None }
     ensures { AnswersSaid L.saying L.as_said input.old result input.new }
 {
@@ -87,7 +92,7 @@ fn read_lines<R: Source, L: SaidLine>(input: &mut Input<R>) -> Result<Option<L>,
         match input.next_line()? {
             Some(line) => {
                 if !line.is_skipped() {
-                    return read_said(input, &line);
+                    return read_item(input, &line);
                 }
             }
             None => return Ok(None),
@@ -95,8 +100,9 @@ fn read_lines<R: Source, L: SaidLine>(input: &mut Input<R>) -> Result<Option<L>,
     }
 }
 
-/// What the words of a line say, or the fault, which is kept.
-fn read_said<R: Source, L: SaidLine>(
+/// Returns the value of the words of a line. If the words have an error, the function stores and
+/// returns this error.
+fn read_item<R: Source, L: ParsedLine>(
     input: &mut Input<R>,
     line: &TextLine,
 ) -> Result<Option<L>, KeptFault>

@@ -1,22 +1,22 @@
-//! The lines that a station is driven by.
+//! The type of a line with a request to a station.
 ghost use Rattle.std.specs.Prelude.{List};
 ghost use Rattle.dcc_io.specs.StationLines.{Asked, asked_by, send_field, station_words};
 
-use crate::said_line::SaidLine;
+use crate::said_line::ParsedLine;
 use dcc_packet::field::{Field, Line};
 use dcc_packet::words::Words;
 use dcc_packet::{Packet, PacketFault};
 
-/// What a line asks of a station.
+/// A request to a station.
 #[derive(Clone, Copy)]
 pub enum StationLine {
-    /// To take this command.
+    /// The station must accept this command.
     Command(Packet),
-    /// To send so many packets.
+    /// The station must send this number of packets.
     Send(u16),
 }
 
-impl SaidLine for StationLine {
+impl ParsedLine for StationLine {
     ghost Item = { Asked };
 
     ghost Said = { List Asked };
@@ -25,8 +25,10 @@ impl SaidLine for StationLine {
 
     ghost as_said = { asked_by };
 
-    /// `send N` with N from 1 to 1000, or a packet line. The first fault of the words from left to right decides: P11
-    /// for a wrong N, P10 for a word too many.
+    /// Returns the request of the line `send N`, with N from 1 to 1000, or of a packet line.
+    ///
+    /// Errors: the first error of the words from left to right. P11 if N is wrong, P10 if a word is
+    /// left, or the error of the packet line.
     #[tactic(auto, unfolding(crate::specs::StationLines::station_requests))]
     fn from_line(line: &[u8]) -> Result<StationLine, PacketFault> {
         let mut words = Words::new(line);
@@ -43,10 +45,10 @@ impl SaidLine for StationLine {
     }
 }
 
-/// How many packets a line asks a station to send.
+/// The number of packets that a `send` line requests.
 #[derive(Clone, Copy)]
 pub struct SendCount {
-    /// The number, 1 to 1000.
+    /// The number of packets, 1 to 1000.
     pub count: u16,
 }
 
@@ -69,5 +71,5 @@ impl Field for SendCount {
     }
 
     #[tactic(auto, using(crate::proofs::SendBack::send_is_back))]
-    fn is_read_back() {}
+    fn lemma_read_back() {}
 }

@@ -1,4 +1,4 @@
-//! Readers and writers whose failures are counted.
+//! Readers and writers that count how often they failed.
 ghost use Rattle.std.specs.Prelude.{◌≡◌, ◌≤◌, ◌+◌, ℕ, List, Option, IfOk, length};
 ghost use Rattle.std.specs.Io.KnownBytes.{ReadConsumes, WriteAppends};
 ghost use Rattle.dcc_io.specs.Failures.{one_more, after_read, after_write};
@@ -6,22 +6,23 @@ ghost use Rattle.dcc_io.specs.WriterState.{WriterState};
 
 use std::io;
 
-/// A read or a write failed.
+/// The error of a failed read or a failed write.
 #[derive(Clone, Copy, Debug, PartialEq, Eq)]
 pub struct Failed;
 
-/// What a call of the program reads its bytes from.
+/// A source of bytes.
 pub trait Source {
-    // The bytes that reads will give from here on, where they are told.
+    // the bytes that later reads will return, or `None` if the source does not define them
     ghost remaining: { Self → Option (List ℕ) };
 
-    // How many reads have failed.
+    // the number of reads that have failed
     ghost failures: { Self → ℕ };
 
-    // How many reads were made, if the source counts them. A source that does not count its reads leaves this member out.
+    // the number of reads, if the source counts them; a source without a count uses the default
     ghost reads: { Self → ℕ } = { λ _. 0 };
 
-    /// Puts bytes at the front of the buffer, and answers how many; 0 at the end.
+    /// Writes bytes to the beginning of `buffer` and returns their number. Returns 0 at the end of
+    /// the source.
     fn read(&mut self, buffer: &mut [u8]) -> Result<usize, Failed>
         ensures bound { IfOk result (λ n. n ≤ length buffer.new) }
         ensures bytes { ReadConsumes (remaining self.old) (remaining self.new) result buffer.new }
@@ -29,35 +30,36 @@ pub trait Source {
         ensures reads { reads self.new ≤ reads self.old + 1 };
 }
 
-/// What a call of the program writes its bytes to.
+/// A destination of bytes.
 ///
-/// Nobody flushes it: a byte that a write takes is to be on its way.
+/// No operation flushes a destination. So `write` must pass on each byte that it accepts.
 pub trait Sink {
-    // What is known of it: the bytes that were written, and how many writes have failed or taken no byte.
+    // the bytes that were written, and the number of writes that failed or wrote no byte
     ghost state: { Self → WriterState };
 
-    /// Takes bytes from the front, and answers how many.
+    /// Writes a prefix of `bytes` and returns the length of this prefix.
     fn write(&mut self, bytes: &[u8]) -> Result<usize, Failed>
         ensures bound { IfOk result (λ n. n ≤ length bytes.now) }
         ensures bytes { WriteAppends (state self.old).contents (state self.new).contents result bytes.now }
         ensures failures { (state self.new).failures ≡ after_write (state self.old).failures result bytes.now };
 }
 
-/// A reader or writer of the standard library, with a count of its failures.
+/// A reader or writer of the standard library that counts how often it failed.
 ///
-/// A read or write that was interrupted counts as failed. A writer that holds bytes back, as a
-/// `BufWriter`, is not for it: what fails behind the last write would not be told.
+/// An interrupted read or write counts as failed. A writer with a buffer of its own, such as
+/// `BufWriter`, must not be used, since an error after the last write would be lost.
 #[derive(Debug, Drop)]
 pub struct Counted<T> {
-    /// The reader or writer itself.
+    /// The reader or writer that is wrapped.
     pub inner: T,
 
-    /// How many calls have failed or, of a write, taken none of some bytes. At its last value it stays.
+    /// The number of calls that failed, and of writes that wrote none of the given bytes. The
+    /// number of failures stops at its greatest value.
     pub failures: u64,
 }
 
 impl<T> Counted<T> {
-    /// The reader or writer, of which no call has failed.
+    /// Wraps a reader or writer, and sets the number of failures to 0.
     pub fn new(inner: T) -> Counted<T>
         ensures inner { result.inner ≡ inner }
         ensures none_failed { result.failures ≡ 0 }
@@ -89,8 +91,8 @@ impl<R: io::Read> Source for Counted<R> {
     }
 }
 
-// Standard output holds nothing back, since each write of it is one of the system. So there is
-// nothing to flush, and no loss that comes to light behind the last write.
+// Standard output has no buffer here, since each write is a system call. So a flush is not needed,
+// and no error can occur after the last write.
 impl<W: io::Write> Sink for Counted<W> {
     ghost state = { λ counted. record { contents = W.contents counted.inner; failures = counted.failures } };
 

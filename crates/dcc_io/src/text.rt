@@ -1,14 +1,14 @@
-//! Bytes of text, put together in an array.
+//! Functions that write text to arrays of fixed capacity.
 ghost use Rattle.std.specs.Prelude.{◌≡◌, ◌+◌, ◌*◌, ◌≤◌, ◌++◌, length, decimal};
 ghost use Rattle.arrayvec.specs.ArrayVec.{array_vec_len};
 ghost use Rattle.hex.specs.Hex.{encode_lower};
 
 use arrayvec::ArrayVec;
 
-/// Room for a number, a space, a packet line of 40 bytes and the line feed.
+/// A line with capacity for a number, a space, a packet line of 40 bytes, and a line feed.
 pub type Line = ArrayVec<u8, 64>;
 
-/// Adds bytes.
+/// Appends the bytes `bytes` to `line`.
 pub fn append<const N: usize>(line: &mut ArrayVec<u8, N>, bytes: &[u8])
     requires { array_vec_len line.old + length bytes.now ≤ N }
     ensures items { line.new.items ≡ line.old.items ++ bytes.now }
@@ -18,7 +18,7 @@ pub fn append<const N: usize>(line: &mut ArrayVec<u8, N>, bytes: &[u8])
 }
 
 #[tactic(auto, using(crate::proofs::DecimalLemmas::decimal_is_short))]
-/// Adds a number in decimal digits.
+/// Appends the decimal digits of `number` to `line`.
 pub fn append_decimal<const N: usize>(line: &mut ArrayVec<u8, N>, number: u32)
     requires { array_vec_len line.old + length (decimal number) ≤ N }
     ensures items { line.new.items ≡ line.old.items ++ decimal number }
@@ -44,7 +44,7 @@ fn put_digits(digits: &mut DecimalDigits, number: u32)
     digits.push(b'0' + (number % 10) as u8);
 }
 
-/// Adds up to six bytes in hex digits.
+/// Appends up to six bytes to `line`, as hex digits.
 pub fn append_hex<const N: usize>(line: &mut ArrayVec<u8, N>, bytes: &[u8])
     requires room { array_vec_len line.old + 12 ≤ N }
     requires few { length bytes.now ≤ 6 }

@@ -1,4 +1,4 @@
-//! A line of a text.
+//! The type of a line of a text, and functions that find lines in bytes.
 ghost use Rattle.std.specs.Prelude.{◌≡◌, ◌<◌, ◌&&◌, ◌∷◌, ◌++◌, [], nat_lt, true, IfSome};
 ghost use Rattle.std.specs.Char.{is_ascii};
 ghost use Rattle.std.specs.List.{list_all};
@@ -10,17 +10,17 @@ ghost use Rattle.dcc_io.specs.Inner.FrontLine.{IsFrontLine, IsEndedLine, IsSkipp
 use arrayvec::ArrayString;
 use memchr::memchr;
 
-/// A line with its number, from 1, without the line feed that ends it.
+/// A line of a text with its number, without the line feed at its end.
 #[derive(Drop)]
 pub struct TextLine {
-    /// Its number, from 1.
+    /// The number of the line. Lines count from 1.
     pub number: u64,
-    /// Its bytes, all ASCII.
+    /// The bytes of the line, all of which are ASCII.
     pub text: ArrayString<512>,
 }
 
 impl TextLine {
-    /// A line of no bytes.
+    /// Creates an empty line with this number.
     pub(crate) fn new(number: u64) -> TextLine
         ensures number { result.number ≡ number }
         ensures text { result.text.bytes ≡ [] }
@@ -31,14 +31,15 @@ impl TextLine {
         }
     }
 
-    /// Whether the line stays good with this byte.
+    /// Returns true if the line is still valid after `byte` is appended: at most 512 bytes, all
+    /// ASCII.
     pub(crate) fn has_room_for(&self, byte: u8) -> bool
         ensures { result ≡ (nat_lt (array_string_len self.now.text) 512 && is_ascii byte) }
     {
         self.text.len() < 512 && byte.is_ascii()
     }
 
-    /// Adds a byte with which the line stays good.
+    /// Appends a byte that leaves the line valid.
     pub(crate) fn push(&mut self, byte: u8)
         requires { (nat_lt (array_string_len self.old.text) 512 && is_ascii byte) ≡ true }
         ensures number { self.new.number ≡ self.old.number }
@@ -47,7 +48,7 @@ impl TextLine {
         self.text.push(char::from(byte));
     }
 
-    /// Whether the line says nothing: a blank one, or one that begins with `#`.
+    /// Returns true if the line is blank, or if it is a comment, which begins with `#`.
     pub(crate) fn is_skipped(&self) -> bool
         ensures { result ≡ is_skipped self.now.text.bytes }
     {
@@ -55,7 +56,8 @@ impl TextLine {
     }
 }
 
-/// The line at the front of these bytes, if it has ended, is good and says something.
+/// Returns the line at the beginning of these bytes, if a line feed ends the line and the line is
+/// valid. Returns `None` for a line that is blank or a comment.
 pub fn front_line(bytes: &[u8]) -> Option<&[u8]>
     ensures { IfSome result (λ line. IsFrontLine bytes.now line.now) }
 {
@@ -67,7 +69,8 @@ pub fn front_line(bytes: &[u8]) -> Option<&[u8]>
     Some(line)
 }
 
-/// How many bytes the line at the front of these bytes has, if it has ended, is good and says nothing.
+/// Returns the number of bytes of the line at the beginning of these bytes, if a line feed ends the
+/// line and the line is valid. Returns `None` for a line that is neither blank nor a comment.
 pub fn skipped_line_len(bytes: &[u8]) -> Option<usize>
     ensures { IfSome result (λ len. IsSkippedLine bytes.now len) }
 {
@@ -79,7 +82,8 @@ pub fn skipped_line_len(bytes: &[u8]) -> Option<usize>
     }
 }
 
-/// How many bytes the line at the front of these bytes has, if it has ended and is good.
+/// Returns the number of bytes of the line at the beginning of these bytes, if a line feed ends the
+/// line and the line is valid. Returns `None` for other bytes.
 fn ended_line_len(bytes: &[u8]) -> Option<usize>
     ensures { IfSome result (λ len. IsEndedLine bytes.now len) }
 {

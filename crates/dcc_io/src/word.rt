@@ -1,4 +1,4 @@
-//! A word of a capture, taken byte by byte.
+//! The types of words of a capture, and functions that find words in bytes.
 ghost use Rattle.std.specs.Prelude.{◌≡◌, ◌↔◌, ◌<◌, ◌≤◌, min, ℕ, List, [], ◌∷◌, ◌++◌, not, true, ◌==◌, ◌&&◌, IfSome};
 ghost use Rattle.std.specs.Prelude.{IsTrue, ◌||◌, length, nat_lt, slice_index};
 ghost use Rattle.dcc_io.specs.Words.{is_gap, is_mark, is_some_byte, run_of};
@@ -7,23 +7,23 @@ ghost use Rattle.dcc_io.specs.Inner.FrontWords.{EndNoLine, HasLineFeedAt, IsFron
 use crate::digits::Digits;
 use memchr::memchr;
 
-/// Halves of one duration, as a word of a capture spells them.
+/// A run, which is a number of equal half-bits in a row.
 #[derive(Clone, Copy, Debug, PartialEq, Eq)]
 pub struct Run {
-    /// The duration of each half, in microseconds.
+    /// The duration of each half-bit, in microseconds.
     pub us: u16,
 
-    /// How many halves.
+    /// The number of half-bits.
     pub n: u32,
 }
 
-/// The run that a word spells so far.
+/// The bytes of a word that were read so far.
 #[derive(Clone, Copy, Debug)]
 pub struct RunWord {
     /// The bytes before the first `*`.
     duration: Digits,
 
-    /// The bytes behind it, where there is one.
+    /// The bytes after the first `*`, or `None` if the word has no `*`.
     count: Option<Digits>,
 
     all_dashes: bool,
@@ -32,7 +32,7 @@ pub struct RunWord {
 impl RunWord {
     ghost use Rattle.dcc_io.specs.SpelledWords.{Spells};
 
-    /// A word of no bytes.
+    /// Creates an empty word.
     pub(crate) fn new() -> RunWord
         ensures { Spells result [] }
     {
@@ -43,7 +43,7 @@ impl RunWord {
         }
     }
 
-    /// Adds a byte.
+    /// Appends a byte to the word.
     #[inline(always)]
     pub(crate) fn push(&mut self, byte: u8)
         ensures { (word : List ℕ) → Spells self.old word → Spells self.new (word ++ byte ∷ []) }
@@ -64,7 +64,7 @@ impl RunWord {
         }
     }
 
-    /// Whether it has no bytes.
+    /// Returns true if the word is empty.
     #[inline(always)]
     pub(crate) fn is_empty(&self) -> bool
         ensures { (word : List ℕ) → Spells self.now word → result ≡ not (is_some_byte word) }
@@ -72,14 +72,14 @@ impl RunWord {
         self.duration.len() == 0 && self.count.is_none()
     }
 
-    /// Whether this is the word `---`.
+    /// Returns true if the word is `---`, which separates two captures.
     pub fn is_mark(&self) -> bool
         ensures { (word : List ℕ) → Spells self.now word → result ≡ is_mark word }
     {
         self.all_dashes && self.duration.len() == 3
     }
 
-    /// The run, unless the word spells none.
+    /// Returns the run that the word gives. Returns `None` if the word is no run.
     pub fn run(&self) -> Option<Run>
         ensures { (word : List ℕ) → Spells self.now word → result ≡ run_of word }
     {
@@ -92,20 +92,22 @@ impl RunWord {
     }
 }
 
-/// A word at the front of some bytes, and the gap behind it.
+/// A word that is a duration, at the beginning of a list of bytes, with a gap after the word.
 #[derive(Clone, Copy, Debug)]
 pub struct FrontWord {
-    /// The duration that the word spells.
+    /// The duration that the word gives, in microseconds.
     pub us: u16,
 
-    /// How many bytes the word has.
+    /// The number of bytes of the word.
     pub len: usize,
 
-    /// Whether the gap is a line feed.
+    /// True if the byte after the word is a line feed.
     pub ends_line: bool,
 }
 
-/// The word at the front of these bytes, if it has two or three digits and a space or a line feed ends it. Most words are such.
+/// Returns the word at the beginning of these bytes, if it has two or three digits and a space or a
+/// line feed ends it. Most words of a capture have two or three digits. Returns `None` for other
+/// bytes.
 #[inline(always)]
 pub fn short_front_word(bytes: &[u8]) -> Option<FrontWord>
     ensures { IfSome result (λ front. IsFrontWord bytes.now front) }
@@ -131,7 +133,7 @@ pub fn short_front_word(bytes: &[u8]) -> Option<FrontWord>
     None
 }
 
-/// Whether a byte is a decimal digit.
+/// Returns true if a byte is a decimal digit.
 #[inline(always)]
 pub fn is_digit(byte: u8) -> bool
     ensures { IsTrue result ↔ ((48 ≤ byte) × (byte ≤ 57)) }
@@ -139,7 +141,7 @@ pub fn is_digit(byte: u8) -> bool
     b'0' <= byte && byte <= b'9'
 }
 
-/// Whether a byte is a space or a line feed.
+/// Returns true if a byte is a space or a line feed.
 #[inline(always)]
 #[tactic(auto, unfolding(crate::specs::Words::is_gap))]
 fn ends_most_words(byte: u8) -> bool
@@ -148,7 +150,8 @@ fn ends_most_words(byte: u8) -> bool
     byte == b' ' || byte == b'\n'
 }
 
-/// The word at the front of these bytes, if it spells a duration and a gap ends it there.
+/// Returns the word at the beginning of these bytes, if it is a duration and a gap ends it. Returns
+/// `None` for other bytes.
 pub fn front_word(bytes: &[u8]) -> Option<FrontWord>
     ensures { IfSome result (λ front. IsFrontWord bytes.now front) }
 {
@@ -163,7 +166,8 @@ pub fn front_word(bytes: &[u8]) -> Option<FrontWord>
     None
 }
 
-/// The word of so many digits that spell this number, if the byte behind them is a gap.
+/// Returns the word of `len` digits with the value `number`, if the byte after these digits is a
+/// gap. Returns `None` for other bytes.
 fn ended_word(number: u32, len: usize, behind: u8) -> Option<FrontWord>
     ensures { IfSome result (λ front. EndedWord number len behind front) }
 {
@@ -177,19 +181,20 @@ fn ended_word(number: u32, len: usize, behind: u8) -> Option<FrontWord>
     })
 }
 
-/// A word of any kind at the front of some bytes, and the gap behind it.
+/// A word of any kind at the beginning of a list of bytes, with a gap after the word.
 #[derive(Clone, Copy, Debug)]
 pub struct WholeWord {
     pub word: RunWord,
 
-    /// How many bytes the word has.
+    /// The number of bytes of the word.
     pub len: usize,
 
-    /// Whether the gap is a line feed.
+    /// True if the byte after the word is a line feed.
     pub ends_line: bool,
 }
 
-/// The word at the front of these bytes, if a gap ends it there.
+/// Returns the word at the beginning of these bytes, if a gap ends it. Returns `None` for other
+/// bytes.
 pub fn whole_word(bytes: &[u8]) -> Option<WholeWord>
     ensures { IfSome result (λ front. IsWholeWord bytes.now front) }
 {
@@ -214,7 +219,8 @@ pub fn whole_word(bytes: &[u8]) -> Option<WholeWord>
     None
 }
 
-/// How many bytes stand before the first line feed.
+/// Returns the number of bytes before the first line feed, or of all bytes if there is no line
+/// feed.
 pub fn len_of_line(bytes: &[u8]) -> usize
     ensures { EndNoLine bytes.now result }
 {
@@ -224,7 +230,7 @@ pub fn len_of_line(bytes: &[u8]) -> usize
     }
 }
 
-/// Whether a `*` stands behind two or three bytes, as in most words that spell a run.
+/// Returns true if the third or fourth byte is `*`. In most runs the third or fourth byte is `*`.
 #[inline(always)]
 pub fn begins_with_run(bytes: &[u8]) -> bool
     ensures { result ≡ (nat_lt 3 (length bytes.now)
@@ -233,7 +239,7 @@ pub fn begins_with_run(bytes: &[u8]) -> bool
     bytes.len() > 3 && (bytes[2] == b'*' || bytes[3] == b'*')
 }
 
-/// Whether these bytes begin with a line feed.
+/// Returns true if these bytes begin with a line feed.
 #[inline(always)]
 pub fn begins_with_line_feed(bytes: &[u8]) -> bool
     ensures { IsTrue result → HasLineFeedAt bytes.now 0 }
@@ -241,7 +247,7 @@ pub fn begins_with_line_feed(bytes: &[u8]) -> bool
     !bytes.is_empty() && bytes[0] == b'\n'
 }
 
-/// Whether a byte is a gap between words: a space, a tab, CR or LF.
+/// Returns true if a byte separates words: a space, a tab, CR or LF.
 #[tactic(auto, unfolding(crate::specs::Words::is_gap))]
 #[inline(always)]
 pub fn is_gap(byte: u8) -> bool
@@ -250,7 +256,7 @@ pub fn is_gap(byte: u8) -> bool
     byte == b' ' || byte == b'\t' || byte == b'\r' || byte == b'\n'
 }
 
-/// Whether bytes that were all dashes, or not, are so with one more.
+/// Returns true if `all_dashes` is true and the byte is a dash.
 #[inline(always)]
 fn still_dashes(all_dashes: bool, byte: u8) -> bool
     ensures { result ≡ (all_dashes && byte == 45) }

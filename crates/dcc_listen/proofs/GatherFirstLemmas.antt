@@ -19,10 +19,10 @@ use Rattle.dcc_io.specs.Failures.{one_more, HasRisen}
 use Rattle.dcc_io.specs.InputState.{InputState, all_lines}
 use Rattle.dcc_io.specs.Words.{ended_words}
 use Rattle.dcc_io.specs.Items.{EndsWith, ReadsUpTo}
-use Rattle.dcc_capture.specs.Capture.{captures, halves_of, capture_in, capture_before_failure, CaptureLinesAt}
+use Rattle.dcc_capture.specs.Capture.{captures, halves_of_words, capture_in, capture_before_failure, CaptureLinesAt}
 use Rattle.dcc_listen.specs.Gathered.{Gathered, GatherFails, StopsGathering}
 use Rattle.dcc_capture.specs.BothCaptures.{Both, Said, fault_alone, in_front, only_second, both_from, in_limit}
-use Rattle.dcc_capture.specs.FirstRead.{LeadsIn, Leads, first_so_far, first_is, FirstLinesAt, StopsBoth, AnswersFirst}
+use Rattle.dcc_capture.specs.FirstRead.{LeadsIn, LeadsTo, first_so_far, first_is, FirstLinesAt, StopsBoth, AnswersFirst}
 use Rattle.dcc_listen.specs.GatheredBoth.{both_in, both_before_failure, GatheredFirst, HoldBoth, GatheredBoth}
 use Rattle.dcc_listen.specs.GatheredBoth.{ReadsBothUpTo, BothLinesAt, StopsBothAt, BothFail}
 use Rattle.dcc_capture.proofs.ShowLemmas.{Answers}
@@ -35,7 +35,7 @@ use Rattle.dcc_capture.proofs.BothLemmas.{Leads-start, Leads-join, in_limit_of, 
 -- so far these halves of the first capture were read, the last of them on this line, and their packets are held
 pub record GatheringFirst (start now : InputState) (before : ℕ) (framer : Framer) (packets : List Packet) : Type 0 where
   pub halves : List ℕ
-  pub leads : Leads 0 start now (first_so_far halves before now)
+  pub leads : LeadsTo 0 start now (first_so_far halves before now)
   pub left : now.halves + length halves ≡ start.halves
   pub stands : StandsFor framer halves
   pub hold : ArePackets packets halves
@@ -211,8 +211,8 @@ module _ (old mid : InputState) (packets : List Packet) (first : GatheredFirst o
           (said (all_lines mid rest + 1) (take (mid.bytes - 1) rest) (Some TooMuch))
           ≡ in_front first.halves
           (only_second
-          (cond within (halves_of mid.halves (ended_words mid.place rest) None)
-          (halves_of mid.halves (ended_words mid.place (take (mid.bytes - 1) rest)) (Some TooMuch))))
+          (cond within (halves_of_words mid.halves (ended_words mid.place rest) None)
+          (halves_of_words mid.halves (ended_words mid.place (take (mid.bytes - 1) rest)) (Some TooMuch))))
       go true =
           ap (in_front first.halves)
           (second_behind first.ends.line mid.halves mid.place rest rest None behind (λ none. none))

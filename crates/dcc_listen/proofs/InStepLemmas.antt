@@ -9,7 +9,7 @@ use Rattle.dcc_wire.specs.declared.framer.Framer.{Framer}
 use Rattle.dcc_order.specs.declared.comparer.Comparer.{Comparer}
 use Rattle.dcc_order.specs.declared.verdict.Verdict.{Verdict}
 use Rattle.dcc_order.specs.declared.wants.Wants.TheVariants.{Left, Right}
-use Rattle.dcc_order.specs.Comparisons.{StandsFor}
+use Rattle.dcc_order.specs.Comparisons.{ComparerRepresents}
 use Rattle.dcc_order.specs.GivenLists.{MayFollow, with_item}
 use Rattle.dcc_order.specs.Laws.{AlikeIsTheVerdict, AlikeListsLeaveTheSame}
 use Rattle.dcc_order.specs.Verdicts.{IsVerdict}
@@ -89,7 +89,7 @@ pub left_given : (who : Who) (Took Took' OtherTook : List Packet → Progress �
     → next.ended ≡ is_none item → TakenInStep who Took' OtherTook next other new
 left_given who Took Took' OtherTook progress next other c new None s is going given took ended = record {
   lists = with_item Left None s.lists;
-  stands = subst (λ w. StandsFor new (with_item w None s.lists)) is (given.stands s.lists s.stands);
+  stands = subst (λ w. ComparerRepresents new (with_item w None s.lists)) is (given.stands s.lists s.stands);
   who_is = given.who ∙ s.who_is;
   left = subst (λ l. Took' l next) (append-nil s.lists.left) took;
   right = s.right;
@@ -98,7 +98,7 @@ left_given who Took Took' OtherTook progress next other c new None s is going gi
 }
 left_given who Took Took' OtherTook progress next other c new (Some p) s is going given took ended = record {
   lists = with_item Left (Some p) s.lists;
-  stands = subst (λ w. StandsFor new (with_item w (Some p) s.lists)) is (given.stands s.lists s.stands);
+  stands = subst (λ w. ComparerRepresents new (with_item w (Some p) s.lists)) is (given.stands s.lists s.stands);
   who_is = given.who ∙ s.who_is;
   left = took;
   right = s.right;
@@ -114,7 +114,7 @@ pub right_given : (who : Who) (Took OtherTook OtherTook' : List Packet → Progr
     → TakenInStep who Took OtherTook' progress next new
 right_given who Took OtherTook OtherTook' progress other next c new None s is going given took ended = record {
   lists = with_item Right None s.lists;
-  stands = subst (λ w. StandsFor new (with_item w None s.lists)) is (given.stands s.lists s.stands);
+  stands = subst (λ w. ComparerRepresents new (with_item w None s.lists)) is (given.stands s.lists s.stands);
   who_is = given.who ∙ s.who_is;
   left = s.left;
   right = subst (λ l. OtherTook' l next) (append-nil s.lists.right) took;
@@ -123,7 +123,7 @@ right_given who Took OtherTook OtherTook' progress other next c new None s is go
 }
 right_given who Took OtherTook OtherTook' progress other next c new (Some p) s is going given took ended = record {
   lists = with_item Right (Some p) s.lists;
-  stands = subst (λ w. StandsFor new (with_item w (Some p) s.lists)) is (given.stands s.lists s.stands);
+  stands = subst (λ w. ComparerRepresents new (with_item w (Some p) s.lists)) is (given.stands s.lists s.stands);
   who_is = given.who ∙ s.who_is;
   left = s.left;
   right = took;

@@ -1,4 +1,4 @@
--- What `same` reads and writes.
+-- The result of `same`.
 use Rattle.std.specs.Prelude.{◌≡◌, ◌⊎◌, ◌↔◌, List, Result}
 use Rattle.std.specs.Io.KnownBytes.{Appends}
 use Rattle.dcc_packet.specs.declared.packet.Packet.{Packet}
@@ -10,7 +10,7 @@ use Rattle.dcc_order.specs.Laws.{LeaveTheSame}
 use Rattle.dcc_order.specs.Verdicts.{IsVerdict}
 use Rattle.dcc_io.specs.declared.fault.ToolFault.{ToolFault}
 use Rattle.dcc_io.specs.declared.fault.ToolFault.TheVariants.{NoMemory}
-use Rattle.dcc_io.specs.Calls.{EndsCall}
+use Rattle.dcc_io.specs.Calls.{CallPost}
 use Rattle.dcc_io.specs.Faults.{as_tool_fault}
 use Rattle.dcc_listen.specs.Gathered.{Gathered, GatherFails}
 use Rattle.dcc_listen.specs.Taking.{ReadsOn}
@@ -19,8 +19,9 @@ use Rattle.dcc_listen.specs.VerdictLine.{verdict_line}
 use Rattle.dcc_io.specs.WriterState.{WriterState}
 use Rattle.dcc_io.specs.WrittenBytes.{AppendsFront}
 
--- two captures were read to their ends, and this is the verdict on their packets. Where it is Alike, and only there,
--- they are alike for the decoder, and then they leave it the same in each register, whatever it held at the start
+-- two captures were read to their ends, and `verdict` is the verdict on their packets. It is
+-- `Alike` if and only if these packets are alike for decoder `who`. If so, both captures lead the
+-- decoder to the same registers, from all registers at the start.
 pub record Compared (who : Who) (left right left' right' : InputState) (verdict : Verdict) : Type 0 where
   pub packets : List Packet
   pub others : List Packet
@@ -30,20 +31,22 @@ pub record Compared (who : Who) (left right left' right' : InputState) (verdict 
   pub alike_is : (verdict ≡ Alike) ↔ AlikeFor who packets others
   pub alike : verdict ≡ Alike → LeaveTheSame who packets others
 
--- of a capture nothing was read, or some of it and no fault was met
+-- nothing or a part of the capture was read, without an error
 abbrev pub ReadsSome : InputState → InputState → Type 0
 ReadsSome old new = (new ≡ old) ⊎ ReadsOn old new
 
--- one of two captures could not be read, and of the other no fault was met
+-- one of the two captures has the error `fault`, and the other one was read without an error
 abbrev pub OneFails : InputState → InputState → ToolFault → InputState → InputState → Type 0
 OneFails left right fault left' right' =
     (GatherFails left fault left' × ReadsSome right right') ⊎ (ReadsSome left left' × GatherFails right fault right')
 
--- Both captures are read to their ends before anything is written. A fault comes only where its cause stands.
+-- `same` reads both captures to their ends before it writes. If the result is a verdict, its line
+-- was written. After an error of a capture or a failed allocation, nothing was written. After a
+-- failed write, a prefix of the line was written.
 abbrev pub Compares : Who → InputState → InputState → WriterState → Result Verdict ToolFault → InputState → InputState
     → WriterState → Type 0
 Compares who left right before result left' right' after =
-    EndsCall
+    CallPost
     (λ verdict. Compared who left right left' right' verdict
     × Appends before.contents after.contents (verdict_line verdict))
     (λ fault. OneFails left right (as_tool_fault fault) left' right' × (after ≡ before))

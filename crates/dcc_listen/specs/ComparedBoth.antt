@@ -1,4 +1,4 @@
--- What `same_input` reads and writes.
+-- The result of `same_input`.
 use Rattle.std.specs.Prelude.{◌≡◌, ◌↔◌, List, Result}
 use Rattle.std.specs.Io.KnownBytes.{Appends}
 use Rattle.dcc_packet.specs.declared.packet.Packet.{Packet}
@@ -10,7 +10,7 @@ use Rattle.dcc_order.specs.Laws.{LeaveTheSame}
 use Rattle.dcc_order.specs.Verdicts.{IsVerdict}
 use Rattle.dcc_io.specs.declared.fault.ToolFault.{ToolFault}
 use Rattle.dcc_io.specs.declared.fault.ToolFault.TheVariants.{NoMemory}
-use Rattle.dcc_io.specs.Calls.{EndsCall}
+use Rattle.dcc_io.specs.Calls.{CallPost}
 use Rattle.dcc_io.specs.Faults.{as_tool_fault}
 use Rattle.dcc_listen.specs.GatheredBoth.{GatheredBoth, BothFail}
 use Rattle.dcc_io.specs.InputState.{InputState}
@@ -18,9 +18,9 @@ use Rattle.dcc_listen.specs.VerdictLine.{verdict_line}
 use Rattle.dcc_io.specs.WriterState.{WriterState}
 use Rattle.dcc_io.specs.WrittenBytes.{AppendsFront}
 
--- both captures of an input were read to their ends, and this is the verdict on their packets. Where it is Alike, and
--- only there, they are alike for the decoder, and then they leave it the same in each register, whatever it held at the
--- start
+-- both captures of an input were read to their ends, and `verdict` is the verdict on their packets.
+-- It is `Alike` if and only if these packets are alike for decoder `who`. If so, both captures lead
+-- the decoder to the same registers, from all registers at the start.
 pub record ComparedBoth (who : Who) (input input' : InputState) (verdict : Verdict) : Type 0 where
   pub packets : List Packet
   pub others : List Packet
@@ -29,10 +29,12 @@ pub record ComparedBoth (who : Who) (input input' : InputState) (verdict : Verdi
   pub alike_is : (verdict ≡ Alike) ↔ AlikeFor who packets others
   pub alike : verdict ≡ Alike → LeaveTheSame who packets others
 
--- Both captures are read to their ends before anything is written. A fault comes only where its cause stands.
+-- `same_input` reads both captures to their ends before it writes. If the result is a verdict, its
+-- line was written. After an error of the input or a failed allocation, nothing was written. After
+-- a failed write, a prefix of the line was written.
 abbrev pub ComparesBoth : Who → InputState → WriterState → Result Verdict ToolFault → InputState → WriterState → Type 0
 ComparesBoth who input before result input' after =
-    EndsCall
+    CallPost
     (λ verdict. ComparedBoth who input input' verdict × Appends before.contents after.contents (verdict_line verdict))
     (λ fault. BothFail input (as_tool_fault fault) input' × (after ≡ before))
     ((verdict : Verdict) × ComparedBoth who input input' verdict × AppendsFront before after (verdict_line verdict))

@@ -1,16 +1,17 @@
--- The packets of a capture, all read.
+-- The reading of all packets of a capture.
 use Rattle.std.specs.Prelude.{◌≡◌, ◌⊎◌, List, None, Some}
 use Rattle.dcc_packet.specs.declared.packet.Packet.{Packet}
 use Rattle.dcc_order.specs.Hearing.{ArePackets}
 use Rattle.dcc_io.specs.declared.fault.KeptFault.{KeptFault}
 use Rattle.dcc_io.specs.declared.fault.ToolFault.{ToolFault}
-use Rattle.dcc_io.specs.Faults.{GivesUp}
+use Rattle.dcc_io.specs.Faults.{ErrorPost}
 use Rattle.dcc_io.specs.ReaderState.{IsAtEnd}
-use Rattle.dcc_io.specs.InputState.{InputState, UsesAllLines, HasCause}
+use Rattle.dcc_io.specs.InputState.{InputState, UsesAllLines, ReadHasFailure}
 use Rattle.dcc_io.specs.Items.{ReadsUpTo}
 use Rattle.dcc_capture.specs.Capture.{captures, CaptureLinesAt}
 
--- the capture of an input was read to its end without a fault, and its halves hold these packets
+-- the capture was read from `old` to its end without an error, and `packets` are the packets in its
+-- half-bits
 pub record Gathered (old : InputState) (packets : List Packet) (new : InputState) : Type 0 where
   pub none_kept : old.fault ≡ None
   pub hold : ReadsUpTo captures old None new (λ halves. ArePackets packets halves)
@@ -18,14 +19,15 @@ pub record Gathered (old : InputState) (packets : List Packet) (new : InputState
   pub lines : UsesAllLines old new
   pub fault : new.fault ≡ None
 
--- the input keeps this fault already, whose cause stands, or it was read up to it and keeps it now
+-- `old` has stored the error `fault`, or the capture was read up to this error, which `new` stores
 abbrev pub StopsGathering : InputState → KeptFault → InputState → Type 0
 StopsGathering old fault new =
-    ((old.fault ≡ Some fault) × HasCause old.fault old.failures × (new ≡ old))
+    ((old.fault ≡ Some fault) × ReadHasFailure old.fault old.failures × (new ≡ old))
     ⊎ ((old.fault ≡ None) × (new.fault ≡ Some fault) × ReadsUpTo captures old (Some fault) new (λ halves. Unit {0})
     × CaptureLinesAt old fault new)
 
--- why the packets of a capture were not read: its fault, or want of memory
+-- the packets of the capture were not read: it has an error, which is `fault`, or `fault` is U6 and
+-- an allocation failed
 abbrev pub GatherFails : InputState → ToolFault → InputState → Type 0
 GatherFails old fault new =
-    GivesUp (λ kept. StopsGathering old kept new) ⊥ ((old.fault ≡ None) × (new.fault ≡ None)) fault
+    ErrorPost (λ kept. StopsGathering old kept new) ⊥ ((old.fault ≡ None) × (new.fault ≡ None)) fault

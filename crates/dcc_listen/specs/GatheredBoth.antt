@@ -1,39 +1,42 @@
--- The packets of the two captures of one input, all read.
+-- The reading of all packets of the two captures of an input.
 use Rattle.std.specs.Prelude.{◌≡◌, ◌⊎◌, ℕ, List, [], ◌++◌, None, Some, IfSome, IsSomeAnd}
 use Rattle.dcc_packet.specs.declared.packet.Packet.{Packet}
 use Rattle.dcc_order.specs.Hearing.{ArePackets}
 use Rattle.dcc_io.specs.declared.fault.KeptFault.{KeptFault}
 use Rattle.dcc_io.specs.declared.fault.KeptFault.TheVariants as kept
 use Rattle.dcc_io.specs.declared.fault.ToolFault.{ToolFault}
-use Rattle.dcc_io.specs.Faults.{GivesUp}
+use Rattle.dcc_io.specs.Faults.{ErrorPost}
 use Rattle.dcc_io.specs.Failures.{HasRisen}
 use Rattle.dcc_io.specs.ReaderState.{IsAtEnd}
-use Rattle.dcc_io.specs.InputState.{InputState, UsesAllLines, HasCause}
+use Rattle.dcc_io.specs.InputState.{InputState, UsesAllLines, ReadHasFailure}
 use Rattle.dcc_capture.specs.Capture.{RunsOver}
 use Rattle.dcc_capture.specs.BothCaptures.{Both, both_from, in_limit}
 use Rattle.dcc_capture.specs.FirstRead.{EndsFirst, FirstLinesAt}
 
--- both captures of an input with this text, and of one whose reader fails behind these bytes
+-- both captures of an `input` whose text is `text`, up to its limits
 abbrev pub both_in : InputState → List ℕ → Both
 both_in input text = in_limit (both_from 0 input) input text
 
 abbrev pub both_before_failure : InputState → List ℕ → Both
 both_before_failure input used = both_from 0 input 0 used (Some kept.Read)
 
--- the first capture was read to the end of the line `---` without a fault, and its halves hold these packets
+-- the first capture was read from `old` to the end of the line `---` without an error, and
+-- `packets` are the packets in its half-bits
 pub record GatheredFirst (old : InputState) (packets : List Packet) (new : InputState) : Type 0 where
   pub none_kept : old.fault ≡ None
   pub halves : List ℕ
   pub hold : ArePackets packets halves
   pub ends : EndsFirst 0 old halves new
 
--- there is no fault, and the halves of the two captures hold these packets
+-- the two captures `both` have no error, and `packets` and `others` are the packets in their
+-- half-bits
 pub record HoldBoth (packets others : List Packet) (both : Both) : Type 0 where
   pub none : both.fault ≡ None
   pub first : ArePackets packets both.first
   pub second : ArePackets others both.second
 
--- both captures were read to their ends without a fault, and their halves hold these packets
+-- both captures were read from `old` to their ends without an error, and `packets` and `others` are
+-- the packets in their half-bits
 pub record GatheredBoth (old : InputState) (packets others : List Packet) (new : InputState) : Type 0 where
   pub none_kept : old.fault ≡ None
   pub hold : IfSome old.text (λ text. HoldBoth packets others (both_in old text))
@@ -42,7 +45,8 @@ pub record GatheredBoth (old : InputState) (packets others : List Packet) (new :
   pub lines : UsesAllLines old new
   pub fault : new.fault ≡ None
 
--- the input was read up to this fault, whose cause stands
+-- both captures were read from `old` up to a given error: their text has this error, or it is U4
+-- and a read failed
 abbrev pub ReadsBothUpTo : InputState → KeptFault → InputState → Type 0
 ReadsBothUpTo old kept.Read new = HasRisen old.failures new.failures × (new.ahead ≡ [])
     × IfSome old.text
@@ -55,26 +59,29 @@ ReadsBothUpTo old (kept.Line line fault) new =
 ReadsBothUpTo old kept.TooMuch new =
     (new.failures ≡ old.failures) × IfSome old.text (λ text. (both_in old text).fault ≡ Some kept.TooMuch)
 
--- the first capture was read to the end of the line `---`, and in the second a word spells a run of more halves than are
--- left
+-- the first capture was read to the end of the line `---`, and a run of the second capture has more
+-- half-bits than the remaining limit allows
 pub record SecondRunsOver (old new : InputState) : Type 0 where
   pub halves : List ℕ
   pub mid : InputState
   pub ends : EndsFirst 0 old halves mid
   pub over : RunsOver mid new
 
--- how many lines were used when one of both captures met this fault
+-- `new` has used the lines up to an error of one of the two captures, as `FirstLinesAt` says. If a
+-- run of the second capture exceeds the limit, these are the lines up to this run.
 abbrev pub BothLinesAt : InputState → KeptFault → InputState → Type 0
 BothLinesAt old kept.TooMuch new = FirstLinesAt 0 old kept.TooMuch new ⊎ SecondRunsOver old new
 BothLinesAt old fault new = FirstLinesAt 0 old fault new
 
--- the input keeps this fault already, whose cause stands, or it was read up to it and keeps it now
+-- `old` has stored the error `fault`, or both captures were read up to this error, which `new`
+-- stores
 abbrev pub StopsBothAt : InputState → KeptFault → InputState → Type 0
 StopsBothAt old fault new =
-    ((old.fault ≡ Some fault) × HasCause old.fault old.failures × (new ≡ old))
+    ((old.fault ≡ Some fault) × ReadHasFailure old.fault old.failures × (new ≡ old))
     ⊎ ((old.fault ≡ None) × (new.fault ≡ Some fault) × ReadsBothUpTo old fault new × BothLinesAt old fault new)
 
--- why the packets of both captures were not read: a fault, or want of memory
+-- the packets of both captures were not read: a capture has an error, which is `fault`, or `fault`
+-- is U6 and an allocation failed
 abbrev pub BothFail : InputState → ToolFault → InputState → Type 0
 BothFail old fault new =
-    GivesUp (λ kept. StopsBothAt old kept new) ⊥ ((old.fault ≡ None) × (new.fault ≡ None)) fault
+    ErrorPost (λ kept. StopsBothAt old kept new) ⊥ ((old.fault ≡ None) × (new.fault ≡ None)) fault

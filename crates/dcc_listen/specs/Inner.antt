@@ -1,4 +1,4 @@
--- What the contracts of private functions cite, and no public one.
+-- Definitions that only contracts of private functions use.
 pub mod InStep
 pub mod Sides
 pub mod Pushing

@@ -1,4 +1,4 @@
--- The packets of a capture, taken one by one.
+-- The packets of a capture, which are read one after the other.
 use Rattle.std.specs.Prelude.{◌≡◌, ◌≤◌, ◌++◌, ◌∷◌, [], ℕ, List, Option, Some, None, Result, Ok, Err, length}
 use Rattle.dcc_wire.specs.declared.framer.Framer.{Framer}
 use Rattle.dcc_wire.specs.Framing.{StandsFor}
@@ -10,7 +10,8 @@ use Rattle.dcc_io.specs.Faults.{as_tool_fault}
 use Rattle.dcc_io.specs.InputState.{InputState}
 use Rattle.dcc_listen.specs.Gathered.{Gathered, GatherFails}
 
--- so far halves were read that hold these packets
+-- half-bits were read from `start` to `now`, `packets` are the packets in them, and `framer`
+-- represents them
 pub record Gathering (start now : InputState) (framer : Framer) (packets : List Packet) : Type 0 where
   pub halves : List ℕ
   pub gave : GaveHalves start halves now
@@ -18,13 +19,14 @@ pub record Gathering (start now : InputState) (framer : Framer) (packets : List 
   pub hold : ArePackets packets halves
   pub few : length packets ≤ length halves
 
--- the next packet of a capture was taken, or its end was met, or a fault
-abbrev pub TakesPacket : InputState → List Packet → Result (Option Packet) KeptFault → InputState → Framer → Type 0
-TakesPacket start packets (Ok (Some p)) now framer = Gathering start now framer (packets ++ p ∷ [])
-TakesPacket start packets (Ok None) now framer = Gathered start packets now
-TakesPacket start packets (Err fault) now framer = GatherFails start (as_tool_fault fault) now
+-- the result is the next packet of the capture after `packets`, `None` at the end of the capture,
+-- or its error
+abbrev pub ReadsPacket : InputState → List Packet → Result (Option Packet) KeptFault → InputState → Framer → Type 0
+ReadsPacket start packets (Ok (Some p)) now framer = Gathering start now framer (packets ++ p ∷ [])
+ReadsPacket start packets (Ok None) now framer = Gathered start packets now
+ReadsPacket start packets (Err fault) now framer = GatherFails start (as_tool_fault fault) now
 
--- some of a capture was read, or all of it, and no fault was met
+-- a part of the capture, or the whole capture, was read from `old` to `new` without an error
 pub record ReadsOn (old new : InputState) : Type 0 where
   pub none_kept : old.fault ≡ None
   pub fault : new.fault ≡ None

@@ -4,7 +4,7 @@ use Rattle.std.specs.Fmt.{decimal}
 use Rattle.dcc_order.specs.declared.verdict.Verdict.{Verdict}
 use Rattle.dcc_order.specs.declared.verdict.Verdict.TheVariants.{Alike, Writes, Members, Order}
 
--- a word, and for a block its number, with the line feed
+-- the line of a verdict: its word, and the number of the block if the verdict has one
 abbrev pub verdict_line : Verdict → List ℕ
 verdict_line Alike = codes "alike\n"
 verdict_line Writes = codes "writes\n"

@@ -1,17 +1,17 @@
-//! The packets of the first of two captures in one input, all held.
+//! Functions that read the packets of the first of two captures in one input.
 ghost use Rattle.std.specs.Prelude.{◌≡◌, ◌<◌, ◌^◌, None, IfOk, IfErr, length};
 ghost use Rattle.dcc_listen.specs.GatheredBoth.{BothFail, GatheredFirst};
 ghost use Rattle.dcc_listen.specs.Inner.Pushing.{PushesFirst};
 
 use crate::gathering::hold_seen;
 use dcc_capture::next_of_first;
-use dcc_io::inputs::{half_at_hand, line_of_next_byte};
+use dcc_io::inputs::{line_of_next_byte, take_buffered_half};
 use dcc_io::{Input, KeptFault, Source, ToolFault};
 use dcc_packet::Packet;
 use dcc_wire::{Framer, Seen};
 use std::alloc::Global;
 
-/// Reads the first of two captures up to the end of the line `---` behind it, and holds its packets.
+/// Reads the first of two captures, up to the end of the line `---`, and returns its packets.
 pub fn gather_first<R: Source>(
     alloc: Global,
     input: &mut Input<R>,
@@ -38,7 +38,8 @@ pub fn gather_first<R: Source>(
     }
 }
 
-/// Pushes the next run of the first capture, most often a half that stands whole among the bytes at hand, and tells its line.
+/// Pushes the next run of the first capture to the framer, and returns the line of this run with
+/// the outcome. Most runs are single half-bits that the buffer contains completely.
 #[inline(always)]
 fn push_first<R: Source>(
     input: &mut Input<R>,
@@ -49,7 +50,7 @@ fn push_first<R: Source>(
     ensures { PushesFirst before input.old framer.old result input.new framer.new }
 {
     let line = line_of_next_byte(input);
-    if let Some(us) = half_at_hand(input) {
+    if let Some(us) = take_buffered_half(input) {
         return Ok(Some((line, framer.push(us))));
     }
     match next_of_first(input, before)? {

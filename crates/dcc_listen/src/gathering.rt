@@ -1,4 +1,4 @@
-//! The packets of a capture, held.
+//! A function that collects the packets of a capture.
 ghost use Rattle.std.specs.Prelude.{◌≡◌, ◌≤◌, ◌++◌, List, OnOk, length};
 ghost use Rattle.dcc_packet.specs.declared.packet.Packet.{Packet};
 ghost use Rattle.dcc_order.specs.Hearing.{AreSpelled, frames_of};
@@ -7,7 +7,8 @@ use dcc_packet::Packet;
 use dcc_wire::Seen;
 use std::alloc::AllocError;
 
-/// Holds the packet that some halves showed, if they showed one.
+/// Appends the packet of the outcome `seen` to `packets`. If the outcome is no packet, nothing is
+/// appended.
 #[inline(always)]
 pub(crate) fn hold_seen(packets: &mut Vec<Packet>, seen: &Seen) -> Result<(), AllocError>
     ensures { OnOk result

@@ -1,6 +1,7 @@
-//! Two sides, compared while they are taken.
+//! Comparison of two sides, which are read in turn. A side is a capture or a list of packets.
 
-// (want of memory is handed on by `match`: it is the comparison's own fault, whose crate knows none of the program's)
+// A failed allocation is returned by `match`: it is an error of the comparison, whose crate has no
+// conversion to the errors of operations.
 ghost use Rattle.std.specs.Prelude.{◌≡◌, ◌≤◌, ◌+◌, ◌++◌, ◌⊎◌, List, Option, IfOk, IfErr, OnOk, false, length, is_none};
 ghost use Rattle.std.specs.Option.{option_to_list};
 ghost use Rattle.dcc_packet.specs.declared.packet.Packet.{Packet as PacketOf};
@@ -14,8 +15,9 @@ use dcc_order::{Comparer, Verdict, Wants};
 use dcc_regs::Who;
 use std::alloc::Global;
 
-/// Takes two sides to their ends, and answers the verdict on their packets. Packets are taken of the side that is wanted, and
-/// one block of each is held at most; what comes behind the verdict is taken for its faults.
+/// Reads two sides to their ends, and returns the verdict on their packets. The function reads the
+/// next packet from the side that the comparer wants, and stores at most one block of each side.
+/// After the verdict it reads both sides to their ends to find errors.
 pub(crate) fn compare_in_step<L: Side, R: Side>(
     alloc: Global,
     left: &mut L,
@@ -46,7 +48,7 @@ pub(crate) fn compare_in_step<L: Side, R: Side>(
     }
 }
 
-/// Gives the next packet of the side that is wanted, or its end.
+/// Reads the next packet of a side, and gives this packet, or the end of the side, to the comparer.
 fn give_next<S: Side>(
     comparer: &mut Comparer,
     side: &mut S,

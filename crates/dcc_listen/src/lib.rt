@@ -1,5 +1,6 @@
-//! The calls of the program on captures other than `show`: figures of half-bits (`timing`), a fleet that hears a capture (`run`), and
-//! whether two captures are alike for a decoder (`same`, `same_input`).
+//! The operations on captures, except `show`. The operation `timing` writes the statistics of a
+//! capture, and `run` lets a fleet hear a capture. The operations `same` and `same_input` compare
+//! two captures for a decoder.
 #![tactic(auto)]
 
 mod first_capture;

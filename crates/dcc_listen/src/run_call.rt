@@ -1,34 +1,39 @@
-//! A fleet that hears a capture.
+//! The operation `run`, in which a fleet hears a capture.
 ghost use Rattle.std.specs.Prelude.{◌≡◌, None, IfSome, map};
 ghost use Rattle.dcc_io.specs.Faults.{as_tool_fault};
 ghost use Rattle.dcc_listen.specs.FleetRun.{Runs};
-ghost use Rattle.dcc_io.specs.InputState.{HasCause};
+ghost use Rattle.dcc_io.specs.InputState.{ReadHasFailure};
 
 use dcc_capture::read_run;
-use dcc_io::inputs::half_at_hand;
+use dcc_io::inputs::take_buffered_half;
 use dcc_io::{Input, Sink, Source, ToolFault};
 use dcc_order::{hear_half, hear_half_run};
 use dcc_regs::Decoder;
 use dcc_saved::write_fleet;
 use dcc_wire::Framer;
 
-/// Plays a capture to a fleet, and writes the decoder text of the fleet afterwards.
+/// Applies a capture to a fleet, and then writes the decoder text of the fleet.
 ///
-/// Each decoder hears each packet of the capture (NMRA S-9.2, RCN-211). The text is written once the
-/// whole capture was heard: at U2, U4 and U7 the packets before the fault were heard, nothing is
-/// written, and the input keeps the fault. At U5 a front of the text is written.
+/// Each decoder hears each packet of the capture (NMRA S-9.2, RCN-211). The text is written after
+/// the fleet has heard the whole capture.
+///
+/// Errors: U2 at a word that is no run. U4 if a read fails. U7 if the input exceeds a limit. U5 if
+/// a write fails. After U2, U4 or U7 the decoders have heard the packets before the error, nothing
+/// was written, and `input` stores the error. After U5 a prefix of the text was written.
 pub fn run<R: Source, W: Sink>(
     decoders: &mut [Box<dyn Decoder>],
     input: &mut Input<R>,
     writer: &mut W,
 ) -> Result<(), ToolFault>
-    // A fault that the input keeps is answered again: nothing is read, heard or written.
+    // If an error is stored, the function returns this error, and no packet is read, heard or
+    // written.
     ensures kept { IfSome input.old.fault
         (λ fault. (result ≡ Err (as_tool_fault fault)) × (input.new ≡ input.old) × (decoders.new ≡ decoders.old)
         × (writer.new ≡ writer.old)) }
-    ensures cause { HasCause input.old.fault input.old.failures }
+    ensures cause { ReadHasFailure input.old.fault input.old.failures }
 
-    // Else the fleet hears the capture, up to the first fault, and its text is written if there is none.
+    // If no error is stored, the fleet hears the capture up to the first error. If there is no
+    // error, the decoder text of the fleet is written.
     ensures runs { input.old.fault ≡ None
         → Runs (map (λ decoder. (who decoder, registers decoder)) decoders.old) input.old (W.state writer.old) result
         (map (λ decoder. (who decoder, registers decoder)) decoders.new) input.new (W.state writer.new) }
@@ -39,19 +44,20 @@ pub fn run<R: Source, W: Sink>(
     play(decoders, input, writer)
 }
 
-/// Plays the capture, and writes the text.
+/// Applies the capture to the fleet, and writes the decoder text of the fleet.
 fn play<R: Source, W: Sink>(
     decoders: &mut [Box<dyn Decoder>],
     input: &mut Input<R>,
     writer: &mut W,
 ) -> Result<(), ToolFault>
     requires { input.old.fault ≡ None }
-    ensures { Runs (map (λ decoder. (who decoder, registers decoder)) decoders.old) input.old (W.state writer.old) result
+    ensures { Runs (map (λ decoder. (who decoder, registers decoder)) decoders.old) input.old
+        (W.state writer.old) result
         (map (λ decoder. (who decoder, registers decoder)) decoders.new) input.new (W.state writer.new) }
 {
     let mut framer = Framer::new();
     'runs: loop {
-        match half_at_hand(input) {
+        match take_buffered_half(input) {
             Some(us) => {
                 let _ = hear_half(decoders, &mut framer, us);
             }

@@ -1,7 +1,7 @@
-//! Whether two captures hold packets that are alike for a decoder.
+//! The operation `same`, which compares two captures for a decoder.
 ghost use Rattle.std.specs.Prelude.{◌≡◌, None, IfSome};
 ghost use Rattle.dcc_io.specs.Faults.{as_tool_fault};
-ghost use Rattle.dcc_io.specs.InputState.{HasCause};
+ghost use Rattle.dcc_io.specs.InputState.{ReadHasFailure};
 ghost use Rattle.dcc_listen.specs.Compared.{Compares};
 ghost use Rattle.dcc_listen.specs.VerdictLine.{verdict_line as line_of};
 ghost use Rattle.dcc_io.specs.WrittenBytes.{Writes};
@@ -14,12 +14,16 @@ use dcc_order::laws::{alike_is_the_verdict, alike_lists_leave_the_same};
 use dcc_regs::Who;
 use std::alloc::Global;
 
-/// Reads two captures to their ends, and writes and answers the first difference of their packets for a decoder:
-/// `alike`, `writes`, `members k` or `order k`.
+/// Reads two captures to their ends, and writes the first difference of their packets for a
+/// decoder: `alike`, `writes`, `members k` or `order k`. The function also returns the verdict.
 ///
-/// The two are read in step: of the side that is wanted next, up to the verdict, and then both on to their ends, so that a
-/// fault behind the first difference is still answered: U2, U4 or U7 of either capture, of one of them where both have one.
-/// Nothing is written before. One block of each capture is held at most; U6 where there is no memory for it.
+/// Up to the verdict, the function reads the next packet from the capture that the comparer wants.
+/// After the verdict, the function reads both captures to their ends. At most one block of each
+/// capture is stored. Nothing is written before both captures have ended.
+///
+/// Errors: U2, U4 or U7 if a capture has an error, even after the first difference. If both
+/// captures have an error, `same` returns one of the two errors. U5 if a write fails. U6 if an
+/// allocation fails.
 pub fn same<L: Source, R: Source, W: Sink>(
     alloc: Global,
     left: &mut Input<L>,
@@ -27,15 +31,18 @@ pub fn same<L: Source, R: Source, W: Sink>(
     writer: &mut W,
     who: Who,
 ) -> Result<Verdict, ToolFault>
-    // A fault that the first input keeps is answered again, else one that the second keeps, and nothing is read or written.
+    // If the first input stores an error, the function returns this error. Otherwise, if the second
+    // input stores an error, the function returns the error of the second input. If an input stores
+    // an error, nothing is read or written.
     ensures kept { IfSome left.old.fault (λ fault. (result ≡ Err (as_tool_fault fault))
         × (left.new ≡ left.old) × (right.new ≡ right.old) × (writer.new ≡ writer.old)) }
     ensures kept_second { left.old.fault ≡ None → IfSome right.old.fault (λ fault. (result ≡ Err (as_tool_fault fault))
         × (left.new ≡ left.old) × (right.new ≡ right.old) × (writer.new ≡ writer.old)) }
-    ensures cause { HasCause left.old.fault left.old.failures }
-    ensures cause_second { HasCause right.old.fault right.old.failures }
+    ensures cause { ReadHasFailure left.old.fault left.old.failures }
+    ensures cause_second { ReadHasFailure right.old.fault right.old.failures }
 
-    // Else both captures are read, up to the first fault, and the verdict is written if there is none.
+    // If no error is stored, both captures are read up to the first error. If there is no error,
+    // the verdict is written.
     ensures compares { Compares who left.old right.old (W.state writer.old) result
         left.new right.new (W.state writer.new) }
 {
@@ -47,7 +54,7 @@ pub fn same<L: Source, R: Source, W: Sink>(
     if let Some(fault) = right_fault {
         return Err(ToolFault::from(fault));
     }
-    // (what Alike says of two lists)
+    // these theorems say what Alike means for two lists
     alike_is_the_verdict();
     alike_lists_leave_the_same();
     let verdict = compare_in_step(alloc, left, right, who)?;
@@ -55,7 +62,7 @@ pub fn same<L: Source, R: Source, W: Sink>(
     Ok(verdict)
 }
 
-/// Writes the line of a verdict.
+/// Writes the line of a verdict, such as `members 2`.
 pub(crate) fn write_verdict<W: Sink>(writer: &mut W, verdict: Verdict) -> Result<(), Failed>
     ensures { Writes (W.state writer.old) (line_of verdict) result (W.state writer.new) }
 {

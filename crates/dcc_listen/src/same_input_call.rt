@@ -1,7 +1,7 @@
-//! Whether the two captures of one input hold packets that are alike for a decoder.
+//! The operation `same_input`, which compares the two captures of one input for a decoder.
 ghost use Rattle.std.specs.Prelude.{◌≡◌, List, IfOk, IfErr, IfSome};
 ghost use Rattle.dcc_io.specs.Faults.{as_tool_fault};
-ghost use Rattle.dcc_io.specs.InputState.{HasCause};
+ghost use Rattle.dcc_io.specs.InputState.{ReadHasFailure};
 ghost use Rattle.dcc_packet.specs.declared.packet.Packet.{Packet};
 ghost use Rattle.dcc_order.specs.Verdicts.{IsVerdict};
 ghost use Rattle.dcc_listen.specs.ComparedBoth.{ComparesBoth};
@@ -16,31 +16,34 @@ use dcc_order::laws::{alike_is_the_verdict, alike_lists_leave_the_same};
 use dcc_regs::Who;
 use std::alloc::Global;
 
-/// Reads two captures, with a line of the one word `---` between them, to their ends, and writes and answers the
-/// first difference of their packets for a decoder: `alike`, `writes`, `members k` or `order k`.
+/// Reads two captures to their ends. A line with the only word `---` separates the captures. Writes
+/// the first difference of their packets for a decoder: `alike`, `writes`, `members k` or `order
+/// k`. The function also returns the verdict. Nothing is written before both captures have ended.
 ///
-/// Both are read before anything is written, so that a fault behind the first difference is still answered: U2, U4
-/// or U7 of either; U3 with P10 at the line behind the last where there is no line `---`. U2 too at a word beside
-/// `---`, told at the later of the two. U6 where there is no memory for the packets.
+/// Errors: U2, U4 or U7 if a capture has an error, even after the first difference. U3 with P10 on
+/// the line after the last line, if there is no line `---`. U2 if another word is on the line of
+/// `---`: the line of the error is the line of the later word. U5 if a write fails. U6 if an
+/// allocation fails.
 pub fn same_input<R: Source, W: Sink>(
     alloc: Global,
     input: &mut Input<R>,
     writer: &mut W,
     who: Who,
 ) -> Result<Verdict, ToolFault>
-    // A fault that the input keeps is answered again, and nothing is read or written.
+    // If an error is stored, the function returns this error, and reads and writes nothing.
     ensures kept { IfSome input.old.fault
         (λ fault. (result ≡ Err (as_tool_fault fault)) × (input.new ≡ input.old) × (writer.new ≡ writer.old)) }
-    ensures cause { HasCause input.old.fault input.old.failures }
+    ensures cause { ReadHasFailure input.old.fault input.old.failures }
 
-    // Else both captures are read, up to the first fault, and the verdict is written if there is none.
+    // If no error is stored, both captures are read up to the first error. If there is no error,
+    // the verdict is written.
     ensures compares { ComparesBoth who input.old (W.state writer.old) result
         input.new (W.state writer.new) }
 {
     if let Some(fault) = input.fault() {
         return Err(ToolFault::from(fault));
     }
-    // (what Alike says of two lists)
+    // these theorems say what Alike means for two lists
     alike_is_the_verdict();
     alike_lists_leave_the_same();
     let verdict = compare_both(alloc, input, who)?;
@@ -48,8 +51,8 @@ pub fn same_input<R: Source, W: Sink>(
     Ok(verdict)
 }
 
-/// Reads both captures to their ends, and answers the verdict on their packets. Those of the first are held, since it comes
-/// before the second.
+/// Reads both captures to their ends, and returns the verdict on their packets. The packets of the
+/// first capture are stored, because this capture comes before the second in the input.
 fn compare_both<R: Source>(
     alloc: Global,
     input: &mut Input<R>,

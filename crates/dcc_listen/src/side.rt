@@ -1,5 +1,6 @@
-//! One of two sides that are compared: a capture that is read, or packets that are held.
-ghost use Rattle.std.specs.Prelude.{◌≡◌, ◌≤◌, ◌<◌, ◌+◌, ◌-◌, ◌^◌, ◌++◌, ℕ, List, [], None, false, true, IfOk, IfErr, IfSome};
+//! The two sides of a comparison, each of which is a capture or a list of stored packets.
+ghost use Rattle.std.specs.Prelude.{◌≡◌, ◌≤◌, ◌<◌, ◌+◌, ◌-◌, ◌^◌, ◌++◌, ℕ, List, [], None, false, true, IfOk, IfErr};
+ghost use Rattle.std.specs.Prelude.{IfSome};
 ghost use Rattle.std.specs.Prelude.{is_none, length};
 ghost use Rattle.std.specs.Option.{option_to_list};
 ghost use Rattle.dcc_packet.specs.declared.packet.Packet.{Packet as PacketOf};
@@ -15,37 +16,37 @@ use dcc_wire::Framer;
 use std::alloc::Global;
 use std::vec::IntoIter;
 
-/// How far a side was taken.
+/// The state of a side that is being read.
 #[derive(Drop)]
 pub(crate) struct Progress {
-    /// The framer of its halves.
+    /// The framer that has taken the half-bits of the side.
     pub(crate) framer: Framer,
 
-    /// Whether its end was met.
+    /// True if the end of the side was read.
     pub(crate) ended: bool,
 }
 
-/// What gives packets to a comparison.
+/// A side of a comparison, which returns packets one by one.
 pub(crate) trait Side {
-    // It keeps no fault, and has no more packets than a comparison counts.
+    // the side stores no error, and a comparison can count its packets
     ghost is_open: { Self → Type 0 };
 
-    // From one place to another these packets were taken.
+    // these packets were read between two states of the side
     ghost took: { Self → Self → List PacketOf → ProgressOf → Type 0 };
 
-    // Behind a place this fault was met, at another.
+    // this error occurred between two states of the side
     ghost fails: { Self → Self → ToolFaultOf → Type 0 };
 
-    // A number that each packet lessens.
+    // termination measure, which decreases with each packet
     ghost left: { Self → ℕ };
 
-    /// A side of which nothing was taken.
+    /// Returns the state of the side before its first packet.
     fn begin(&self) -> Progress
         requires { is_open self.now }
         ensures took { took self.now self.now [] result }
         ensures going { result.ended ≡ false };
 
-    /// Takes the next packet, or meets the end.
+    /// Returns the next packet. Returns `None` at the end of the side.
     fn take_next(&mut self, progress: &mut Progress) -> Result<Option<Packet>, KeptFault>
         requires open { is_open self.old }
         requires going { progress.old.ended ≡ false }
@@ -74,7 +75,7 @@ impl<R: Source> Side for Input<R> {
     ghost left = { λ input. input.bytes };
 
     fn begin(&self) -> Progress {
-        // Each packet takes some of these halves, so there are fewer than 2^32.
+        // each packet takes some of these half-bits, so there are fewer than 2^32 packets
         let most = self.halves_left();
         Progress {
             framer: Framer::new(),
@@ -95,7 +96,8 @@ impl Side for IntoIter<Packet, Global> {
 
     ghost is_open = { λ packets. length (into_iter_items packets) < 2 ^ 32 };
 
-    ghost took = { λ start now packets progress. HeldTook (into_iter_items start) (into_iter_items now) packets progress.ended };
+    ghost took = { λ start now packets progress. HeldTook (into_iter_items start)
+        (into_iter_items now) packets progress.ended };
 
     ghost fails = { λ start now fault. ⊥ };
 
@@ -115,7 +117,7 @@ impl Side for IntoIter<Packet, Global> {
     }
 }
 
-/// Takes the rest of a side.
+/// Reads a side to its end, and ignores the packets.
 pub(crate) fn pass_rest<S: Side>(side: &mut S, progress: &mut Progress) -> Result<(), KeptFault>
     requires { S.is_open side.old }
     ensures rest { IfOk result (λ _. (start : S) (packets : List PacketOf) → S.took start side.old packets progress.old

@@ -1,26 +1,26 @@
-//! The packets of a capture, taken one by one.
+//! Functions that read the packets of a capture one by one.
 ghost use Rattle.std.specs.Prelude.{◌≡◌, ◌<◌, ◌≤◌, ◌+◌, List, None, IfOk, length};
 ghost use Rattle.std.specs.Option.{option_to_list};
 ghost use Rattle.dcc_packet.specs.declared.packet.Packet.{Packet};
 ghost use Rattle.dcc_order.specs.Hearing.{AreSpelled, frames_of};
 ghost use Rattle.dcc_io.specs.InputState.{InputState};
-ghost use Rattle.dcc_listen.specs.Taking.{Gathering, TakesPacket};
+ghost use Rattle.dcc_listen.specs.Taking.{Gathering, ReadsPacket};
 ghost use Rattle.dcc_listen.specs.Inner.Pushing.{PushesNext};
 
 use dcc_capture::read_run;
-use dcc_io::inputs::half_at_hand;
+use dcc_io::inputs::take_buffered_half;
 use dcc_io::{Input, KeptFault, Source};
 use dcc_packet::Packet;
 use dcc_wire::{Framer, Seen};
 
-/// Reads on up to the next packet, or to the end.
+/// Returns the next packet of the capture. Returns `None` at the end of the capture.
 pub(crate) fn next_packet<R: Source>(
     input: &mut Input<R>,
     framer: &mut Framer,
 ) -> Result<Option<Packet>, KeptFault>
     requires { input.old.fault ≡ None }
     ensures takes { (start : InputState) (packets : List Packet) → start.fault ≡ None
-        → Gathering start input.old framer.old packets → TakesPacket start packets result input.new framer.new }
+        → Gathering start input.old framer.old packets → ReadsPacket start packets result input.new framer.new }
     ensures fault { IfOk result (λ _. input.new.fault ≡ None) }
     ensures bytes { IfOk result (λ item. input.new.bytes + length (option_to_list item) ≤ input.old.bytes) }
 {
@@ -35,7 +35,8 @@ pub(crate) fn next_packet<R: Source>(
     }
 }
 
-/// Pushes the next run of a capture, most often a half that stands whole among the bytes at hand.
+/// Pushes the next run of a capture to the framer, and returns the outcome. Most runs are single
+/// half-bits that the buffer contains completely.
 #[inline(always)]
 fn push_next<R: Source>(
     input: &mut Input<R>,
@@ -44,7 +45,7 @@ fn push_next<R: Source>(
     requires { input.old.fault ≡ None }
     ensures { PushesNext input.old framer.old result input.new framer.new }
 {
-    if let Some(us) = half_at_hand(input) {
+    if let Some(us) = take_buffered_half(input) {
         return Ok(Some(framer.push(us)));
     }
     match read_run(input)? {
@@ -53,7 +54,7 @@ fn push_next<R: Source>(
     }
 }
 
-/// The packet that some halves showed, if they showed one.
+/// Returns the packet of the outcome `seen`. Returns `None` if the outcome is no packet.
 fn packet_in(seen: &Seen) -> Option<Packet>
     ensures { AreSpelled (option_to_list result) (frames_of seen.now) }
 {

@@ -1,7 +1,7 @@
-//! The figures of a capture.
+//! The operation `timing`, which writes the statistics of a capture.
 ghost use Rattle.std.specs.Prelude.{◌≡◌, None, IfSome};
 ghost use Rattle.dcc_io.specs.Faults.{as_tool_fault};
-ghost use Rattle.dcc_io.specs.InputState.{HasCause};
+ghost use Rattle.dcc_io.specs.InputState.{ReadHasFailure};
 ghost use Rattle.dcc_listen.specs.Timed.{MeasuresCapture, Times};
 
 use crate::timing_text::timing_text;
@@ -9,17 +9,22 @@ use dcc_capture::next_run;
 use dcc_io::{Input, KeptFault, Sink, Source, ToolFault, write_all};
 use dcc_timing::Timings;
 
-/// Writes the figures of a capture, one a line: how near its half-bits are to the limits of NMRA S-9.1.
+/// Writes the statistics of a capture, with one number on each line. The lines also have the limits
+/// of NMRA S-9.1 for half-bits.
 ///
-/// They are those of all halves, and so they are written once the whole capture was read: at U2, U4 and U7 nothing is
-/// written, and the input keeps the fault. At U5 a front of the text is written.
+/// The statistics cover all half-bits, so they are written after the whole capture was read.
+///
+/// Errors: U2 at a word that is no run. U4 if a read fails. U7 if the input exceeds a limit. U5 if
+/// a write fails. After U2, U4 or U7 nothing was written, and `input` stores the error. After U5 a
+/// prefix of the text was written.
 pub fn timing<R: Source, W: Sink>(input: &mut Input<R>, writer: &mut W) -> Result<(), ToolFault>
-    // A fault that the input keeps is answered again, and nothing is read or written.
+    // If an error is stored, the function returns this error, and reads and writes nothing.
     ensures kept { IfSome input.old.fault
         (λ fault. (result ≡ Err (as_tool_fault fault)) × (input.new ≡ input.old) × (writer.new ≡ writer.old)) }
-    ensures cause { HasCause input.old.fault input.old.failures }
+    ensures cause { ReadHasFailure input.old.fault input.old.failures }
 
-    // Else the figures of the capture are written, or it has a fault.
+    // If no error is stored, the function writes the statistics of the capture, or returns the
+    // first error of the capture.
     ensures times { input.old.fault ≡ None
         → Times input.old (W.state writer.old) result input.new (W.state writer.new) }
 {
@@ -30,12 +35,12 @@ pub fn timing<R: Source, W: Sink>(input: &mut Input<R>, writer: &mut W) -> Resul
     Ok(write_all(writer, timing_text(&timings).as_slice())?)
 }
 
-/// Reads a capture to its end, and answers its figures.
+/// Reads a capture to its end, and returns its statistics.
 fn measure<R: Source>(input: &mut Input<R>) -> Result<Timings, KeptFault>
     requires { input.old.fault ≡ None }
     ensures { MeasuresCapture input.old result input.new }
 {
-    // (fewer than 2^32 halves may be taken)
+    // the limit allows fewer than 2^32 half-bits
     let most = input.halves_left();
     let mut timings = Timings::new();
     'runs: loop {

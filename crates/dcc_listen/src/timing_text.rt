@@ -1,4 +1,4 @@
-//! The text of the figures of a capture: one a line.
+//! The text of the statistics of a capture, with one number on each line.
 ghost use Rattle.std.specs.Prelude.{◌≡◌, ◌<◌, ◌≤◌, ◌+◌, ◌++◌, ℕ, List, IfSome, length, codes};
 ghost use Rattle.std.specs.Fmt.{decimal};
 ghost use Rattle.arrayvec.specs.ArrayVec.{array_vec_len};
@@ -15,10 +15,10 @@ use arrayvec::ArrayVec;
 use dcc_io::append;
 use dcc_timing::{Bits, Classes, Mean, Outcomes, Tally, Timings};
 
-/// Room for all lines.
+/// A text with capacity for all lines of the statistics.
 pub(crate) type Text = ArrayVec<u8, 2048>;
 
-/// The lines of all figures.
+/// Returns the lines of all statistics.
 pub(crate) fn timing_text(timings: &Timings) -> Text
     ensures { (halves : List ℕ) → Measures timings.now halves → result.items ≡ timing_text halves }
 {
@@ -37,10 +37,11 @@ pub(crate) fn timing_text(timings: &Timings) -> Text
     text
 }
 
-/// Adds how many packets there are, and how many refusals of each cause.
+/// Appends the lines with the number of packets, and with the number of refusals for each error.
 fn add_outcomes(text: &mut Text, outcomes: &Outcomes)
     requires { array_vec_len text.old + 240 ≤ 2048 }
-    ensures items { (seen : List (ℕ × Seen)) → AreOutcomes outcomes.now seen → text.new.items ≡ text.old.items ++ outcome_lines seen }
+    ensures items { (seen : List (ℕ × Seen)) → AreOutcomes outcomes.now seen
+        → text.new.items ≡ text.old.items ++ outcome_lines seen }
     ensures len { array_vec_len text.new ≤ array_vec_len text.old + 240 }
 {
     add_figure(text, b"packets", b" ", Some(u64::from(outcomes.packets)));
@@ -76,7 +77,8 @@ fn add_outcomes(text: &mut Text, outcomes: &Outcomes)
     );
 }
 
-/// Adds the ones and the zeros, with what NMRA S-9.1 asks of a station and of a decoder.
+/// Appends the lines about ones and zeros, with the limits of NMRA S-9.1 for a station and for a
+/// decoder.
 fn add_bits(text: &mut Text, classes: &Classes, bits: &Bits)
     requires { array_vec_len text.old + 800 ≤ 2048 }
     ensures items { (halves : List ℕ) (pairs : List (ℕ × ℕ)) → AreClasses classes.now halves → AreBits bits.now pairs
@@ -93,21 +95,23 @@ fn add_bits(text: &mut Text, classes: &Classes, bits: &Bits)
     append(text, b"sums station 12000\n");
 }
 
-/// Adds the other halves.
+/// Appends the lines about half-bits of neither a one nor a zero.
 fn add_others(text: &mut Text, classes: &Classes)
     requires { array_vec_len text.old + 480 ≤ 2048 }
-    ensures { (halves : List ℕ) → AreClasses classes.now halves → text.new.items ≡ text.old.items ++ other_lines halves }
+    ensures { (halves : List ℕ) → AreClasses classes.now halves
+        → text.new.items ≡ text.old.items ++ other_lines halves }
 {
     add_tally(text, b"below", &classes.below);
     add_tally(text, b"between", &classes.between);
     add_tally(text, b"above", &classes.above);
 }
 
-/// Adds the figures of a list of numbers.
+/// Appends the lines with the count, the least, the greatest and the mean of a list of numbers.
 fn add_tally(text: &mut Text, name: &[u8], tally: &Tally)
     requires room { array_vec_len text.old + 160 ≤ 2048 }
     requires short { length name.now ≤ 11 }
-    ensures items { (numbers : List ℕ) → IsTally tally.now numbers → text.new.items ≡ text.old.items ++ tally_lines name.now numbers }
+    ensures items { (numbers : List ℕ) → IsTally tally.now numbers
+        → text.new.items ≡ text.old.items ++ tally_lines name.now numbers }
     ensures len { array_vec_len text.new ≤ array_vec_len text.old + 160 }
 {
     add_figure(text, name, b" count ", Some(tally.count()));
@@ -116,7 +120,7 @@ fn add_tally(text: &mut Text, name: &[u8], tally: &Tally)
     add_mean(text, name, tally.mean());
 }
 
-/// Adds the line of a figure, `none` where there is no number.
+/// Appends the line with one number of the statistics, or with `none` if there is no number.
 #[tactic(auto, unfolding(crate::specs::TimingText::figure_line))]
 fn add_figure(text: &mut Text, name: &[u8], word: &[u8], number: Option<u64>)
     requires { array_vec_len text.old + length name.now + length word.now + 21 ≤ 2048 }
@@ -129,7 +133,7 @@ fn add_figure(text: &mut Text, name: &[u8], word: &[u8], number: Option<u64>)
     append(text, b"\n");
 }
 
-/// Adds a number, or `none`.
+/// Appends the digits of a number, or `none` if there is no number.
 #[tactic(auto, using(crate::proofs::TimingTextLemmas::decimal_is_short))]
 fn add_number_or_none(text: &mut Text, number: Option<u64>)
     requires { array_vec_len text.old + 20 ≤ 2048 }
@@ -142,7 +146,7 @@ fn add_number_or_none(text: &mut Text, number: Option<u64>)
     }
 }
 
-/// Adds the line of a mean, `none` where there is none.
+/// Appends the line of a mean, or of `none` if there is no mean.
 #[tactic(auto, unfolding(crate::specs::TimingText::mean_line))]
 fn add_mean(text: &mut Text, name: &[u8], mean: Option<Mean>)
     requires room { array_vec_len text.old + length name.now + 30 ≤ 2048 }
@@ -156,7 +160,7 @@ fn add_mean(text: &mut Text, name: &[u8], mean: Option<Mean>)
     append(text, b"\n");
 }
 
-/// Adds a mean with two digits of hundredths, or `none`.
+/// Appends a mean with two digits for the hundredths, or `none` if there is no mean.
 #[tactic(auto, using(crate::proofs::TimingTextLemmas::decimal_is_short))]
 fn add_mean_or_none(text: &mut Text, mean: Option<Mean>)
     requires room { array_vec_len text.old + 23 ≤ 2048 }
@@ -175,7 +179,7 @@ fn add_mean_or_none(text: &mut Text, mean: Option<Mean>)
     }
 }
 
-/// Adds a number in decimal digits, of which it has 20 at most.
+/// Appends the decimal digits of a number, of which there are at most 20.
 fn add_number(text: &mut Text, number: u64)
     requires { array_vec_len text.old + length (decimal number) ≤ 2048 }
     ensures items { text.new.items ≡ text.old.items ++ decimal number }

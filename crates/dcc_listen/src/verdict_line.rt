@@ -1,11 +1,11 @@
-//! The line of a verdict.
+//! A function that returns the line of a verdict.
 ghost use Rattle.std.specs.Prelude.{◌≡◌};
 ghost use Rattle.dcc_listen.specs.VerdictLine.{verdict_line};
 
 use dcc_io::{Line, append, append_decimal};
 use dcc_order::Verdict;
 
-/// `alike`, `writes`, `members k` or `order k`.
+/// Returns the line of a verdict: `alike`, `writes`, `members k` or `order k`, and a line feed.
 #[tactic(auto, using(dcc_io::proofs::DecimalLemmas::decimal_is_short))]
 pub(crate) fn verdict_line(verdict: Verdict) -> Line
     ensures { result.items ≡ verdict_line verdict }

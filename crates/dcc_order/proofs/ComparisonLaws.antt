@@ -22,7 +22,8 @@ use Rattle.dcc_order.specs.AlikeLists.{begins_with_two, Cut, LastBlock, Block, w
 use Rattle.dcc_order.specs.AlikeLists.{AlikeBlocks}
 use Rattle.dcc_order.specs.OneMore.{ends_with_two, cut_more}
 use Rattle.dcc_order.specs.GivenLists.{Lists, with_item, IsVerdictOfAll, writes_in, open_blocks_len, most_held}
-use Rattle.dcc_order.specs.Comparisons.{StandsFor, GoesOn, WantsLeft, WantsRight, Settled, Stage, AlikeUpTo, open_cut}
+use Rattle.dcc_order.specs.Comparisons.{ComparerRepresents, GoesOn, WantsLeft, WantsRight, Settled, Stage, AlikeUpTo}
+use Rattle.dcc_order.specs.Comparisons.{open_cut}
 use Rattle.dcc_order.specs.Comparisons.{EndAlike, IsVerdictAtEnds, last_heard, heard_next, nothing_heard}
 use Rattle.dcc_order.specs.Inner.ComparisonSteps.{heard_left, heard_right, joined_left, closed_left, begun_block}
 use Rattle.dcc_order.proofs.AlikeBlocks.{same_tells}
@@ -110,7 +111,7 @@ settled_for who lists k u w v up s = λ lefts rights f g.
     (cut_for who (lists.left ++ lefts)) (cut_for who (lists.right ++ rights))
     (continues who lists.left_ended lists.left lefts f) (continues who lists.right_ended lists.right rights g)
 
-pub stage_of : {w : Wants} {c : Comparison} {lists : Lists} → StandsFor c lists → c.wants ≡ w → Stage w c lists
+pub stage_of : {w : Wants} {c : Comparison} {lists : Lists} → ComparerRepresents c lists → c.wants ≡ w → Stage w c lists
 stage_of {c = c} {lists = lists} s e = subst (λ w. Stage w c lists) e s.stage
 
 -- a verdict is settled where both blocks have ended, the right one so
@@ -131,7 +132,7 @@ module _ {c : Comparison} {lists : Lists} (w : WantsRight c lists) where
         (w.left_end ∙ ap is_none ends.0, f ends.1);
   }
 
-module _ {c : Comparison} {lists : Lists} (s : StandsFor c lists) (p : Packet) (hear : hears c.who p ≡ true) where
+module _ {c : Comparison} {lists : Lists} (s : ComparerRepresents c lists) (p : Packet) (hear : hears c.who p ≡ true) where
   -- while the left side is wanted
   left_next : c.wants ≡ Left → (third : Bool) → (is_own_write p && is_third c.left_heard p) ≡ third
       → (heard_next c.left_heard p ≡ last_heard (heard c.who (lists.left ++ p ∷ [])))
@@ -145,7 +146,7 @@ module _ {c : Comparison} {lists : Lists} (s : StandsFor c lists) (p : Packet) (
 
   -- the packet is left out, ends the block or joins it
   pub left_given : c.wants ≡ Left → (own third : Bool) → is_own_write p ≡ own → is_third c.left_heard p ≡ third
-      → StandsFor (cond own (cond third (heard_left c p) (closed_left c p)) (joined_left c p))
+      → ComparerRepresents (cond own (cond third (heard_left c p) (closed_left c p)) (joined_left c p))
       (with_item Left (Some p) lists)
   left_given e true true own twice =
       rw e (search (arith, s, stage_of s e, left_next e true (rw (own, twice)), length-append))
@@ -167,20 +168,20 @@ module _ {c : Comparison} {lists : Lists} (s : StandsFor c lists) (p : Packet) (
       (open_cut c.held.first c.left_end) (LastBlock c.held.second) w.up_to in (next.0, rw next.1 up.1)
 
   pub right_left_out : c.wants ≡ Right → is_own_write p ≡ true → is_third c.right_heard p ≡ true
-      → StandsFor (heard_right c p) (with_item Right (Some p) lists)
+      → ComparerRepresents (heard_right c p) (with_item Right (Some p) lists)
   right_left_out e own twice =
       let next = right_next e true (rw (own, twice)) in
       rw e (search (arith, s, stage_of s e, next, length-append))
 
   pub right_joined : c.wants ≡ Right → is_own_write p ≡ false →
-      StandsFor (heard_right (record c { held = record c.held { second = c.held.second ++ p ∷ [] } }) p)
+      ComparerRepresents (heard_right (record c { held = record c.held { second = c.held.second ++ p ∷ [] } }) p)
       (with_item Right (Some p) lists)
   right_joined e own =
       let next = rw own at (right_next e false (rw own)) in
       rw e (search (arith, s, stage_of s e, next, length-append))
 
   pub right_foreign : c.wants ≡ Right → is_own_write p ≡ false → (Contains c.held.first p → ⊥) →
-      StandsFor (heard_right (record c { wants = Done (Members c.block) }) p) (with_item Right (Some p) lists)
+      ComparerRepresents (heard_right (record c { wants = Done (Members c.block) }) p) (with_item Right (Some p) lists)
   right_foreign e own none =
       let w = stage_of s e in
       let all = settled_for c.who (with_item Right (Some p) lists) c.block (open_cut c.held.first c.left_end)
@@ -192,7 +193,7 @@ module _ {c : Comparison} {lists : Lists} (s : StandsFor c lists) (p : Packet) (
 
   pub right_settled : (v : Verdict) → c.wants ≡ Right → is_own_write p ≡ true → is_third c.right_heard p ≡ false →
       IsVerdictAtEnds c.block c.held.first c.left_end c.held.second (Some p) v
-      → StandsFor (heard_right (record c { wants = Done v }) p) (with_item Right (Some p) lists)
+      → ComparerRepresents (heard_right (record c { wants = Done v }) p) (with_item Right (Some p) lists)
   right_settled v e own apart verdict =
       let up = (rw own at (right_next e false (rw (own, apart)))).1 in
       let done = settled (stage_of s e) (lists.right ++ p ∷ []) lists.right_ended (Some p) v verdict (λ e. cc) up in
@@ -200,7 +201,7 @@ module _ {c : Comparison} {lists : Lists} (s : StandsFor c lists) (p : Packet) (
 
   pub right_begun : c.wants ≡ Right → is_own_write p ≡ true → is_third c.right_heard p ≡ false →
       AlikeBlocks c.held.first c.held.second → EndAlike c.left_end (Some p)
-      → StandsFor (heard_right (begun_block c) p) (with_item Right (Some p) lists)
+      → ComparerRepresents (heard_right (begun_block c) p) (with_item Right (Some p) lists)
   right_begun e own apart alike ends =
       let w = stage_of s e in
       let next = rw own at (right_next e false (rw (own, apart))) in
@@ -209,7 +210,7 @@ module _ {c : Comparison} {lists : Lists} (s : StandsFor c lists) (p : Packet) (
       search (arith, s, w, next, rw (← add-one c.block) at begun.1, w.left_end ∙ begun.0, length-append)
 
 -- the number of a block is no larger than the number of packets
-pub block_given : {c : Comparison} {lists : Lists} → StandsFor c lists → c.wants ≡ Right → c.block ≤ c.right_given
+pub block_given : {c : Comparison} {lists : Lists} → ComparerRepresents c lists → c.wants ≡ Right → c.block ≤ c.right_given
 block_given {c = c} {lists = lists} s e =
     let heard_here = heard c.who lists.right in
     let whole = ap length (flat-cut (without_third_copies heard_here)) in
@@ -230,14 +231,14 @@ as_ended : {c : Comparison} {lists : Lists} → WantsLeft c lists
 as_ended w = rw w.none_yet w.up_to
 
 -- the end of the left list
-pub left_ends : (c : Comparison) (lists : Lists) → c.wants ≡ Left → StandsFor c lists
-    → StandsFor (record c { left_end = None; wants = Right }) (with_item Left None lists)
+pub left_ends : (c : Comparison) (lists : Lists) → c.wants ≡ Left → ComparerRepresents c lists
+    → ComparerRepresents (record c { left_end = None; wants = Right }) (with_item Left None lists)
 left_ends c lists e s = let w = stage_of s e in search (s, w, as_ended w)
 
 -- the end of the right list, which settles the verdict
 pub right_ends : (c : Comparison) (lists : Lists) (v : Verdict) → c.wants ≡ Right
-    → IsVerdictAtEnds c.block c.held.first c.left_end c.held.second None v → StandsFor c lists →
-    StandsFor (record c { wants = Done v }) (with_item Right None lists)
+    → IsVerdictAtEnds c.block c.held.first c.left_end c.held.second None v → ComparerRepresents c lists →
+    ComparerRepresents (record c { wants = Done v }) (with_item Right None lists)
 right_ends c lists v e verdict s =
     let w = stage_of s e in search (s, settled w lists.right true None v verdict (λ e. refl) w.up_to)
 
@@ -247,7 +248,7 @@ HeldFits c lists = (length c.held.first + length c.held.second < 2 ^ 64)
     × (length c.held.first + length c.held.second ≡ most_held c.who lists)
 
 pub held_fits : (c : Comparison) (lists : Lists) → ((v : Verdict) → c.wants ≡ Done v → ⊥) → c.left_given < 2 ^ 32
-    → c.right_given < 2 ^ 32 → StandsFor c lists → HeldFits c lists
+    → c.right_given < 2 ^ 32 → ComparerRepresents c lists → HeldFits c lists
 held_fits c lists going left right s = by_wants c.wants s.stage going
   where
     held : (end : Option Packet) → length c.held.first + length c.held.second

@@ -11,15 +11,15 @@ use Rattle.dcc_packet.proofs.OneSpelling as one
 use Rattle.dcc_regs.specs.declared.register.Who.{Who}
 use Rattle.dcc_regs.specs.Result.{RegisterMap, HasHeard}
 use Rattle.dcc_regs.proofs.InParts.{heard_nothing, heard_more}
-use Rattle.dcc_order.specs.Hearing.{frames_of, frames_in, AreSpelled, ArePackets, HasHeardHalves}
+use Rattle.dcc_order.specs.Hearing.{frames_of, frames_among, AreSpelled, ArePackets, HasHeardHalves}
 use Rattle.dcc_order.specs.HearingLaws.{NoHalvesHeard, OneListOfPackets}
 
-frames_in-append : (a b : List (ℕ × Seen)) → frames_in (a ++ b) ≡ frames_in a ++ frames_in b
+pub frames_in-append : (a b : List (ℕ × Seen)) → frames_among (a ++ b) ≡ frames_among a ++ frames_among b
 frames_in-append [] b = refl
 frames_in-append (at ∷ later) b =
-    rw (frames_in-append later b) (sym (append_assoc (frames_of at.1) (frames_in later) (frames_in b)))
+    rw (frames_in-append later b) (sym (append_assoc (frames_of at.1) (frames_among later) (frames_among b)))
 
-frames_in-reported : (place : ℕ) (answer : Seen) → frames_in (report_at place answer) ≡ frames_of answer
+frames_in-reported : (place : ℕ) (answer : Seen) → frames_among (report_at place answer) ≡ frames_of answer
 unfolding report_at
 frames_in-reported place (PacketSeen frame) = refl
 frames_in-reported place answer = refl
@@ -41,7 +41,7 @@ heard_half halves more answer place shown e spelled before now = record {
   heard = heard_more before.heard now;
 }
 
-same_packets : (ps qs : List Packet) → map spelling ps ≡ map spelling qs → ps ≡ qs
+pub same_packets : (ps qs : List Packet) → map spelling ps ≡ map spelling qs → ps ≡ qs
 same_packets [] [] e = refl
 same_packets (p ∷ ps) (q ∷ qs) e = rw (one.one_packet p q (cc), same_packets ps qs (cc)) refl
 same_packets ps qs e = absurd (cc)
@@ -59,7 +59,7 @@ one_list_of_packets halves ps qs e f = same_packets ps qs (e ∙ sym f)
 
 -- no halves hold no packets
 pub no_packets : ArePackets [] []
-no_packets = ap frames_in (sym seen-none)
+no_packets = ap frames_among (sym seen-none)
 
 pub no_halves_heard : NoHalvesHeard
 no_halves_heard who start = record { packets = []; seen = no_packets; heard = heard_nothing who start }

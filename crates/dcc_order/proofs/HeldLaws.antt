@@ -23,7 +23,8 @@ use Rattle.dcc_order.specs.declared.places.Place.{Place}
 use Rattle.dcc_order.specs.AlikeLists.{SameMembers, SameOrder, SameTurns, without_repeats}
 use Rattle.dcc_order.specs.FrameNumbers.{frame_number, IsIndex}
 use Rattle.dcc_order.specs.Held.{Held}
-use Rattle.dcc_order.specs.HeldPlaces.{AreHeld, held_at, members_at, numbers_at, packets_of, Numbered, NumberedAlike}
+use Rattle.dcc_order.specs.HeldPlaces.{AreHeld, held_at, members_at, numbers_in_slots, packets_numbered, Numbered}
+use Rattle.dcc_order.specs.HeldPlaces.{NumberedAlike}
 use Rattle.dcc_order.specs.Members.{member_number, EachOnce}
 use Rattle.dcc_order.specs.Turns.{turns_of}
 use Rattle.dcc_order.proofs.Contained.{contains_all, contains_map}
@@ -42,11 +43,11 @@ module _ {members more : List Packet} {n : ℕ} {x : Packet} (g : Grows members 
   numbered_more [] all = tt
   numbered_more (m ∷ ns) all = ((g.kept m Idle all.0).0, numbered_more ns all.1)
 
-  packets_more : (ns : List ℕ) → Numbered members ns → packets_of more ns ≡ packets_of members ns
+  packets_more : (ns : List ℕ) → Numbered members ns → packets_numbered more ns ≡ packets_numbered members ns
   packets_more [] all = refl
   packets_more (m ∷ ns) all = rw ((g.kept m Idle all.0).1, packets_more ns all.1) refl
 
-  packets_push : (ns : List ℕ) → Numbered members ns → packets_of more (ns ++ n ∷ []) ≡ packets_of members ns ++ x ∷ []
+  packets_push : (ns : List ℕ) → Numbered members ns → packets_numbered more (ns ++ n ∷ []) ≡ packets_numbered members ns ++ x ∷ []
   packets_push ns all =
       map-append (λ n. get_or more n Idle) ns (n ∷ [])
       ∙ rw (packets_more ns all, stands_at more x Idle (rw g.number g.inside), g.number) refl
@@ -97,15 +98,15 @@ module _ {places : List Place} {count : ℕ} {others : List ℕ} {before : Held}
   module _ (then_found : ℕ → Option ℕ)
       (put : (q : ℕ) → then_found q ≡ cond (is_at (nat_cmp key) q) (Some number) (found q)) where
     pushed : (now : List Place) (n : ℕ) → Grows members (members_at now n) number x
-        → numbers_at now ≡ numbers_at places ++ number ∷ [] → n ≤ length now
+        → numbers_in_slots now ≡ numbers_in_slots places ++ number ∷ [] → n ≤ length now
         → Pushed before others x then_found now n
     pushed now n g ns within =
-        let push = packets_push g (numbers_at places) held.first_numbered in record {
+        let push = packets_push g (numbers_in_slots places) held.first_numbered in record {
           held = record {
             within = within;
-            members = rw (ns, push) (g.are (packets_of members (numbers_at places)) held.members);
-            first_numbered = rw ns (numbered_push (members_at now n) (numbers_at places) number
-                (numbered_more g (numbers_at places) held.first_numbered) g.inside);
+            members = rw (ns, push) (g.are (packets_numbered members (numbers_in_slots places)) held.members);
+            first_numbered = rw ns (numbered_push (members_at now n) (numbers_in_slots places) number
+                (numbered_more g (numbers_in_slots places) held.first_numbered) g.inside);
             second_numbered = numbered_more g others held.second_numbered;
           };
           index = index_more found members x key number index frame is then_found g put;
@@ -118,7 +119,7 @@ module _ {places : List Place} {count : ℕ} {others : List ℕ} {before : Held}
     front : (n : ℕ) → n ≤ length places → take n longer ≡ take n places
     front n inside = rw take-append-le
 
-    numbers : numbers_at longer ≡ numbers_at places ++ number ∷ []
+    numbers : numbers_in_slots longer ≡ numbers_in_slots places ++ number ∷ []
     numbers = map-append (λ place. place.number) places (record { number = number; member = x } ∷ [])
 
     pub push_known : (number ≡ count → ⊥) → Pushed before others x then_found longer count
@@ -140,7 +141,7 @@ module _ {places : List Place} {count : ℕ} {others : List ℕ} {before : Held}
         (rw (length-set longer number put_there) (omega (arith, here)))
 
 numbers_back : (members : List Packet) → EachOnce members → (ns : List ℕ) → Numbered members ns
-    → map (member_number members) (packets_of members ns) ≡ ns
+    → map (member_number members) (packets_numbered members ns) ≡ ns
 numbers_back _ _ [] _ = refl
 numbers_back members once (n ∷ ns) all = rw (once n Idle all.0, numbers_back members once ns all.1) refl
 
@@ -158,10 +159,10 @@ module _ {places : List Place} {count : ℕ} {others : List ℕ} (held : AreHeld
   at k = get_or ms k Idle
 
   abbrev first : List Packet
-  first = packets_of ms (numbers_at places)
+  first = packets_numbered ms (numbers_in_slots places)
 
   abbrev second : List Packet
-  second = packets_of ms others
+  second = packets_numbered ms others
 
   within : (k : ℕ) → k < count → k < length ms
   within k below = omega (arith, below, count_of places count held.within)
@@ -202,9 +203,9 @@ module _ {places : List Place} {count : ℕ} {others : List ℕ} (held : AreHeld
 
   told : (own rival : ℕ) → own < count → rival < own → Conflict (at own) (at rival)
       → SameTurns first second (at own) (at rival)
-      ↔ (turns_of own rival (numbers_at places) ≡ turns_of own rival others)
+      ↔ (turns_of own rival (numbers_in_slots places) ≡ turns_of own rival others)
   told own rival own_in before clash =
-      rw (numbers_back ms held.members.once (numbers_at places) held.first_numbered, its_numbers) at
+      rw (numbers_back ms held.members.once (numbers_in_slots places) held.first_numbered, its_numbers) at
       (same_turns_counted ms held.members.once own rival (within own own_in) (within rival (omega (arith, before, own_in)))
       (λ e. clash.apart (cc)) first second)
 

@@ -10,10 +10,10 @@ use Rattle.dcc_regs.specs.declared.register.Who.{Who}
 use Rattle.dcc_order.specs.declared.comparison.Comparison.{Comparison}
 use Rattle.dcc_order.specs.declared.wants.Wants.{Wants}
 use Rattle.dcc_order.specs.declared.wants.Wants.TheVariants.{Left, Right, Done}
-use Rattle.dcc_order.specs.Comparisons.{StandsFor}
+use Rattle.dcc_order.specs.Comparisons.{ComparerRepresents}
 use Rattle.dcc_order.specs.GivenLists.{Lists, no_lists, with_item, MayFollow, IsVerdictOfAll}
-use Rattle.dcc_order.specs.InStep.{IsFront, IsInStep, ends_wanted, BecomesBy, NothingGivenYet, OneMoreOfLeft}
-use Rattle.dcc_order.specs.InStep.{OneMoreOfRight, LessIsWantedBehindLeft, LessIsWantedBehindRight, PlacesAreCounted}
+use Rattle.dcc_order.specs.InStep.{IsGivenPrefix, IsInStep, ends_wanted, BecomesBy, NothingGivenYet, OneMoreOfLeft}
+use Rattle.dcc_order.specs.InStep.{OneMoreOfRight, FewerRequestsAfterLeft, FewerRequestsAfterRight, PlacesAreCounted}
 use Rattle.dcc_order.specs.InStep.{VerdictIsOfBoth, VerdictIsOfTheGiven, NoMoreIsGiven}
 use Rattle.dcc_order.specs.declared.verdict.Verdict.{Verdict}
 use Rattle.dcc_order.specs.Verdicts.{IsVerdict}
@@ -33,9 +33,9 @@ is_given_more Right None lists = rw append-nil refl
 is_given_more w item lists = refl
 
 stands_more : {w : Wants} {c next : Comparison} {item : Option Packet} {lists : Lists} → w ≡ c.wants
-    → BecomesBy c item next → StandsFor c lists → StandsFor next (given_more w item lists)
+    → BecomesBy c item next → ComparerRepresents c lists → ComparerRepresents next (given_more w item lists)
 stands_more {w = w} {next = next} {item = item} {lists = lists} is becomes stands =
-    subst (StandsFor next) (is_given_more w item lists) (rw (← is) at (becomes.stands lists stands))
+    subst (ComparerRepresents next) (is_given_more w item lists) (rw (← is) at (becomes.stands lists stands))
 
 -- what stands behind the front
 behind : (given rest : List Packet) → slice_get (given ++ rest) (length given) ≡ slice_get rest 0
@@ -43,14 +43,14 @@ behind [] rest = refl
 behind (p ∷ given) rest = behind given rest
 
 front_at : (given rest : List Packet)
-    → IsFront (given ++ rest) (given ++ option_to_list (slice_get rest 0)) (is_none (slice_get rest 0) || false)
+    → IsGivenPrefix (given ++ rest) (given ++ option_to_list (slice_get rest 0)) (is_none (slice_get rest 0) || false)
 front_at given [] = record { rest = []; parts = sym (append-nil (given ++ [])); may = refl }
 front_at given (p ∷ later) = record { rest = later; parts = sym (append_assoc given (p ∷ []) later); may = tt }
 
 -- a front with the next packet, or with the end
-front_more : {whole given : List Packet} {ended : Bool} (item : Option Packet) → IsFront whole given ended
+front_more : {whole given : List Packet} {ended : Bool} (item : Option Packet) → IsGivenPrefix whole given ended
     → ended ≡ false → item ≡ slice_get whole (length given)
-    → IsFront whole (given ++ option_to_list item) (is_none item || ended)
+    → IsGivenPrefix whole (given ++ option_to_list item) (is_none item || ended)
 front_more {given = given} item front going is =
     rw (going, is, front.parts, behind given front.rest) (front_at given front.rest)
 
@@ -88,7 +88,7 @@ one_more_of_right who left right c next item s is at becomes = record {
       (at.is ∙ ap (slice_get right) s.stands.right_given);
 }
 
-few : {whole given : List Packet} {ended : Bool} (n : ℕ) → IsFront whole given ended → n ≡ length given
+few : {whole given : List Packet} {ended : Bool} (n : ℕ) → IsGivenPrefix whole given ended → n ≡ length given
     → n ≤ length whole
 few {given = given} n f is = omega (arith, ap length f.parts, length-append given f.rest)
 
@@ -98,14 +98,14 @@ no_more_is_given who left right c s =
     (few c.left_given s.left_front s.stands.left_given, few c.right_given s.right_front s.stands.right_given)
 
 -- no side is wanted whose end was given
-fewer_ends : (w v : Wants) (item : Option Packet) {c : Comparison} (lists : Lists) → StandsFor c (given_more w item lists)
+fewer_ends : (w v : Wants) (item : Option Packet) {c : Comparison} (lists : Lists) → ComparerRepresents c (given_more w item lists)
     → c.wants ≡ v → 0 < ends_wanted w → ends_wanted v < ends_wanted w + 2 * length (option_to_list item)
 fewer_ends Left Left None lists s is some = let going = (stage_of s is).left_open in absurd (cc)
 fewer_ends Right Left None lists s is some = let going = (stage_of s is).right_open in absurd (cc)
 fewer_ends Right Right None lists s is some = let going = (stage_of s is).right_open in absurd (cc)
 fewer_ends w v item lists s is some = omega arith
 
-pub less_is_wanted_behind_left : LessIsWantedBehindLeft
+pub less_is_wanted_behind_left : FewerRequestsAfterLeft
 unfolding IsInStep
 less_is_wanted_behind_left who left right c next item s is at becomes =
     let then = stands_more is becomes s.stands in
@@ -113,7 +113,7 @@ less_is_wanted_behind_left who left right c next item s is at becomes =
     let ends = fewer_ends Left next.wants item s.lists then refl (omega arith) in
     omega (arith, ends, ap ends_wanted is, length-append s.lists.left (option_to_list item))
 
-pub less_is_wanted_behind_right : LessIsWantedBehindRight
+pub less_is_wanted_behind_right : FewerRequestsAfterRight
 unfolding IsInStep
 less_is_wanted_behind_right who left right c next item s is at becomes =
     let then = stands_more is becomes s.stands in
@@ -136,7 +136,7 @@ nothing_follows true = refl
 nothing_follows false = tt
 
 -- what was given of a list, and nothing behind it
-taken : {whole given : List Packet} {ended : Bool} (n : ℕ) → IsFront whole given ended → n ≡ length given
+taken : {whole given : List Packet} {ended : Bool} (n : ℕ) → IsGivenPrefix whole given ended → n ≡ length given
     → take n whole ≡ given ++ []
 taken n f is = rw (is, f.parts) (grind (arith, common_steps))
 
@@ -153,7 +153,7 @@ verdict_is_of_the_given who left right c verdict given s is counted =
 -- both lists, as far as they were given: what is left of each, and whether its end was given
 pub record Giving (who : Who) (left right left_rest right_rest : List Packet) (left_ended right_ended : Bool)
     (c : Comparison) (lists : Lists) : Type 0 where
-  pub stands : StandsFor c lists
+  pub stands : ComparerRepresents c lists
   pub who_is : c.who ≡ who
   pub left_parts : left ≡ lists.left ++ left_rest
   pub right_parts : right ≡ lists.right ++ right_rest

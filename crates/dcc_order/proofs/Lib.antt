@@ -14,3 +14,7 @@ pub mod ComparisonLaws
 pub mod AlikeVerdicts
 pub mod InStepLaws
 pub mod ToldTrackLaws
+pub mod SafeTrackLaws
+pub mod FramesArePackets
+pub mod SomePackets
+pub mod NoisyTrackLaws

@@ -10,7 +10,7 @@ use Rattle.dcc_wire.specs.Framing.{Rest, seen, report_at}
 use Rattle.dcc_wire.specs.Frames.{IsFrame}
 use Rattle.dcc_packet.specs.Spelling.{spelling}
 use Rattle.dcc_packet.proofs.FrameSpellings as frames
-use Rattle.dcc_order.specs.Hearing.{frames_in, ArePackets}
+use Rattle.dcc_order.specs.Hearing.{frames_among, ArePackets}
 use Rattle.dcc_order.specs.SendingLaws.{SentPacket, spelled_out, SentPacketsAreHeard, NothingElseIsSeen}
 use Rattle.dcc_order.specs.SendingLaws.{SentPacketIsDone}
 use Rattle.dcc_order.specs.OneMoreHalf.{StandsForOneMore, ShowsAtOneMore}
@@ -18,7 +18,7 @@ use Rattle.dcc_order.specs.SentHalves.{last_seen, HasComeBehind, HasHeardAll, Is
 use Rattle.dcc_order.specs.SentHalves.{SomethingIsSeen, FrameIsSeen, FramesAreHeard}
 use Rattle.dcc_order.proofs.AlikeCuts.{holds}
 
-all_frames : (sent : List SentPacket) → AllFrames (map spelled_out sent)
+pub all_frames : (sent : List SentPacket) → AllFrames (map spelled_out sent)
 unfolding AllFrames
 all_frames [] = tt
 all_frames (one ∷ more) = (frames.spellings_are_frames one.packet one.fits, all_frames more)
@@ -26,15 +26,15 @@ all_frames (one ∷ more) = (frames.spellings_are_frames one.packet one.fits, al
 pub nothing_else_is_seen : NothingElseIsSeen
 nothing_else_is_seen sent = seen-sent_all (map spelled_out sent) (all_frames sent)
 
-frames_at_last_halves : (place : ℕ) (all : List SentPacket)
-    → map spelling (map (λ (one : SentPacket). one.packet) all) ≡ frames_in (at_last_halves place (map spelled_out all))
+pub frames_at_last_halves : (place : ℕ) (all : List SentPacket)
+    → map spelling (map (λ (one : SentPacket). one.packet) all) ≡ frames_among (at_last_halves place (map spelled_out all))
 unfolding at_last_halves
 frames_at_last_halves place [] = refl
 frames_at_last_halves place (one ∷ more) =
     rw (frames_at_last_halves (place + length (sent (spelling one.packet) one.timing)) more) refl
 
 pub sent_packets_are_heard : SentPacketsAreHeard
-sent_packets_are_heard all = frames_at_last_halves 0 all ∙ sym (ap frames_in (nothing_else_is_seen all))
+sent_packets_are_heard all = frames_at_last_halves 0 all ∙ sym (ap frames_among (nothing_else_is_seen all))
 
 -- one packet that is sent is sent alone
 alone : (one : Sent) → sent_all (one ∷ []) ≡ sent one.bytes one.timing ++ []

@@ -1,5 +1,5 @@
--- The bytes of a frame as one number, by which a packet is found among others. This is how code looks, and no
--- definition to believe.
+-- Frames as numbers. The code uses them to find a packet in a list of packets. No main definition
+-- depends on this file.
 use Rattle.std.specs.Prelude.{ℕ, ◌+◌, ◌*◌, ◌≡◌, Option, List, [], ◌∷◌}
 use Rattle.std.specs.List.{position}
 use Rattle.dcc_wire.specs.Frames.{IsFrame}
@@ -7,12 +7,14 @@ use Rattle.dcc_packet.specs.declared.packet.Packet.{Packet}
 use Rattle.dcc_packet.specs.SamePacket.{same}
 use Rattle.dcc_packet.specs.Spelling.{spelling}
 
--- the first byte is the lowest, and a one stands above the last
+-- the number of a frame: its first byte is the lowest byte of the number, and a 1 is above its last
+-- byte
 abbrev pub frame_number : List ℕ → ℕ
 frame_number [] = 1
 frame_number (byte ∷ bytes) = byte + 256 * frame_number bytes
 
--- the place of each packet among members is found by the number of its frame
+-- for the number of the frame of a packet, `found` returns the place of this packet in `members`,
+-- or `None` if `members` does not contain it
 abbrev pub IsIndex : (ℕ → Option ℕ) → List Packet → Type 0
 IsIndex found members =
     (p : Packet) → IsFrame (spelling p) → found (frame_number (spelling p)) ≡ position (same p) members

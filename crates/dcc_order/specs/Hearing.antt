@@ -1,4 +1,4 @@
--- The packets that halves show, and decoders that hear them.
+-- The packets in half-bits, and decoders that hear them.
 use Rattle.std.specs.Prelude.{◌≡◌, ℕ, List, [], ◌∷◌, ◌++◌, map}
 use Rattle.std.specs.List.{concat}
 use denote.Bor.{Bor}
@@ -10,32 +10,32 @@ use Rattle.dcc_packet.specs.Spelling.{spelling}
 use Rattle.dcc_regs.specs.declared.register.Who.{Who}
 use Rattle.dcc_regs.specs.Result.{RegisterMap, HasHeard}
 
--- the frame that a half showed, if it showed one
+-- the frame of an outcome as a list with one frame, or an empty list if the outcome is no packet
 abbrev pub frames_of : Seen → List (List ℕ)
 frames_of Nothing = []
 frames_of (PacketSeen frame) = frame ∷ []
 frames_of (Refused fault) = []
 
--- the frames among what was seen
-abbrev pub frames_in : List (ℕ × Seen) → List (List ℕ)
-frames_in [] = []
-frames_in (at ∷ later) = frames_of at.1 ++ frames_in later
+-- the frames of the packets in a list of outcomes
+abbrev pub frames_among : List (ℕ × Seen) → List (List ℕ)
+frames_among [] = []
+frames_among (at ∷ later) = frames_of at.1 ++ frames_among later
 
--- these packets are what the frames spell
+-- `frames` are the frames of `packets`, in the same order
 abbrev pub AreSpelled : List Packet → List (List ℕ) → Type 0
 AreSpelled packets frames = map spelling packets ≡ frames
 
--- these are the packets that a list of halves holds
+-- `packets` are the packets in the half-bits `halves`
 abbrev pub ArePackets : List Packet → List ℕ → Type 0
-ArePackets packets halves = AreSpelled packets (frames_in (seen halves))
+ArePackets packets halves = AreSpelled packets (frames_among (seen halves))
 
--- a decoder has heard a list of halves: it has heard the packets in them
+-- a decoder has heard the half-bits `halves`: it has heard the packets in them
 pub record HasHeardHalves (halves : List ℕ) (who : Who) (start : RegisterMap) (who' : Who) (now : RegisterMap) : Type 0
   where
     pub packets : List Packet
     pub seen : ArePackets packets halves
     pub heard : HasHeard packets who start who' now
 
--- the halves of a track that comes in pieces
+-- all half-bits of a track that is given in `pieces`, as one list
 abbrev pub whole_track : List (Bor (List ℕ)) → List ℕ
 whole_track pieces = concat (map (λ piece. piece.now) pieces)

@@ -1,4 +1,4 @@
--- Laws of the packets in halves.
+-- Theorems about the packets in half-bits.
 use Rattle.std.specs.Prelude.{◌≡◌, ℕ, List, []}
 use Rattle.dcc_packet.specs.declared.packet.Packet.{Packet}
 use Rattle.dcc_regs.specs.declared.register.Who.{Who}
@@ -6,16 +6,22 @@ use Rattle.dcc_regs.specs.Result.{RegisterMap}
 use Rattle.dcc_order.specs.AlikeLists.{AlikeFor}
 use Rattle.dcc_order.specs.Hearing.{ArePackets, HasHeardHalves}
 
--- a list of halves holds one list of packets
+-- a list of half-bits determines the packets in it: two lists of packets in the same `halves` are
+-- equal
 abbrev pub OneListOfPackets : Type 0
 OneListOfPackets =
     (halves : List ℕ) (one other : List Packet) → ArePackets one halves → ArePackets other halves → one ≡ other
 
--- a decoder that has heard no half is as it was
+-- each list of half-bits contains a list of packets
+abbrev pub SomeListOfPackets : Type 0
+SomeListOfPackets = (halves : List ℕ) → (packets : List Packet) × ArePackets packets halves
+
+-- a decoder has heard the empty list of half-bits if its identity and its registers are unchanged
 abbrev pub NoHalvesHeard : Type 0
 NoHalvesHeard = (who : Who) (start : RegisterMap) → HasHeardHalves [] who start who start
 
--- two lists of halves hold packets that are alike for a decoder
+-- the packets in the half-bits `left` and the packets in the half-bits `right` are alike for
+-- decoder `who`
 pub record AlikeHalves (who : Who) (left right : List ℕ) : Type 0 where
   pub packets : List Packet
   pub others : List Packet
@@ -23,7 +29,8 @@ pub record AlikeHalves (who : Who) (left right : List ℕ) : Type 0 where
   pub others_seen : ArePackets others right
   pub alike : AlikeFor who packets others
 
--- decoders that are equal at the start and hear such halves, each in its own way, hold the same in each register
+-- if the packets in `left` and `right` are alike for a decoder, both lead it from the registers
+-- `start` to equal registers
 abbrev pub AlikeHalvesLeaveTheSame : Type 0
 AlikeHalvesLeaveTheSame = (who : Who) (start : RegisterMap) (left right : List ℕ) → AlikeHalves who left right →
     (one other : Who) (now after : RegisterMap) → HasHeardHalves left who start one now

@@ -1,4 +1,4 @@
--- Two blocks that are held.
+-- The two blocks that a comparer stores.
 use Rattle.std.specs.Prelude.{List, []}
 use Rattle.dcc_packet.specs.declared.packet.Packet.{Packet}
 

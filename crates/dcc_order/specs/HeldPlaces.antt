@@ -1,4 +1,5 @@
--- How two blocks are held: by the numbers of their packets among the different packets of the first.
+-- The representation of two blocks by numbers. Each packet of a block has a number: its place in
+-- the list of the different packets of the first block.
 use Rattle.std.specs.Prelude.{ℕ, ◌≡◌, ◌≤◌, ◌<◌, List, length, map, take, slice_index_or}
 use Rattle.std.specs.List.{AllByRecursion}
 use Rattle.dcc_packet.specs.declared.packet.Packet.{Packet}
@@ -9,38 +10,40 @@ use Rattle.dcc_order.specs.Members.{AreMembers}
 use Rattle.dcc_order.specs.Turns.{turns_of}
 use Rattle.dcc_regs.specs.Conflict.{Conflict}
 
--- the different packets stand at the first places
+-- the different packets of the first block, which are in the first `count` slots of `places`
 abbrev pub members_at : List Place → ℕ → List Packet
 members_at places count = map (λ place. place.member) (take count places)
 
--- the numbers of the packets of the first block
-abbrev pub numbers_at : List Place → List ℕ
-numbers_at places = map (λ place. place.number) places
+-- the numbers of the packets of the first block, which are also in the slots `places`
+abbrev pub numbers_in_slots : List Place → List ℕ
+numbers_in_slots places = map (λ place. place.number) places
 
--- the packets of these numbers
-abbrev pub packets_of : List Packet → List ℕ → List Packet
-packets_of members numbers = map (λ n. slice_index_or members n Idle) numbers
+-- the packets of `members` at the places `numbers`
+abbrev pub packets_numbered : List Packet → List ℕ → List Packet
+packets_numbered members numbers = map (λ n. slice_index_or members n Idle) numbers
 
 abbrev pub held_at : List Place → ℕ → List ℕ → Held
 held_at places count others = record {
-  first = packets_of (members_at places count) (numbers_at places);
-  second = packets_of (members_at places count) others;
+  first = packets_numbered (members_at places count) (numbers_in_slots places);
+  second = packets_numbered (members_at places count) others;
 }
 
--- these are numbers of members
+-- each number of `numbers` is below the number of packets in `members`
 abbrev pub Numbered : List Packet → List ℕ → Type 0
 Numbered members numbers = AllByRecursion (λ n. n < length members) numbers
 
--- the members are those of the first block, each once, and all numbers are theirs
+-- the first `count` slots of `places` hold the different packets of the first block, each once. All
+-- numbers in the slots and in `others` are numbers of these packets.
 pub record AreHeld (places : List Place) (count : ℕ) (others : List ℕ) : Type 0 where
   pub within : count ≤ length places
-  pub members : AreMembers (members_at places count) (packets_of (members_at places count) (numbers_at places))
-  pub first_numbered : Numbered (members_at places count) (numbers_at places)
+  pub members : AreMembers (members_at places count) (packets_numbered (members_at places count) (numbers_in_slots places))
+  pub first_numbered : Numbered (members_at places count) (numbers_in_slots places)
   pub second_numbered : Numbered (members_at places count) others
 
--- a member takes the same turns, by its number, with each member before it that it conflicts with
+-- packet number `own` and each packet before it that conflicts with it alternate in the same way in
+-- both blocks
 abbrev pub NumberedAlike : List Place → List ℕ → ℕ → Type 0
 NumberedAlike places others own =
     (rival : ℕ) (d e : Place) → rival < own
     → Conflict (slice_index_or places own d).member (slice_index_or places rival e).member →
-    turns_of own rival (numbers_at places) ≡ turns_of own rival others
+    turns_of own rival (numbers_in_slots places) ≡ turns_of own rival others

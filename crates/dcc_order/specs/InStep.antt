@@ -1,97 +1,104 @@
--- Two lists that are given to a comparer as it wants them.
-use Rattle.std.specs.Prelude.{ℕ, ◌+◌, ◌-◌, ◌*◌, ◌^◌, ◌≡◌, ◌≤◌, ◌<◌, Bool, List, ◌++◌, Option, IfSome, length, take, slice_get}
+-- Two lists whose packets are given to a comparer in the order that it wants.
+use Rattle.std.specs.Prelude.{ℕ, ◌+◌, ◌-◌, ◌*◌, ◌^◌, ◌≡◌, ◌≤◌, ◌<◌, Bool, List, ◌++◌, Option, IfSome, length, take}
+use Rattle.std.specs.Prelude.{slice_get}
 use Rattle.dcc_packet.specs.declared.packet.Packet.{Packet}
 use Rattle.dcc_regs.specs.declared.register.Who.{Who}
 use Rattle.dcc_order.specs.declared.comparison.Comparison.{Comparison}
 use Rattle.dcc_order.specs.declared.verdict.Verdict.{Verdict}
 use Rattle.dcc_order.specs.declared.wants.Wants.{Wants}
 use Rattle.dcc_order.specs.declared.wants.Wants.TheVariants.{Left, Right, Done}
-use Rattle.dcc_order.specs.Comparisons.{StandsFor}
+use Rattle.dcc_order.specs.Comparisons.{ComparerRepresents}
 use Rattle.dcc_order.specs.GivenLists.{Lists, no_lists, with_item, MayFollow}
 use Rattle.dcc_order.specs.Verdicts.{IsVerdict}
 
--- so much of a list was given, and all of it where its end was
-pub record IsFront (whole given : List Packet) (ended : Bool) : Type 0 where
+-- `given` is a prefix of the list `whole`; it is the whole list if `ended` is true
+pub record IsGivenPrefix (whole given : List Packet) (ended : Bool) : Type 0 where
   pub rest : List Packet
   pub parts : whole ≡ given ++ rest
   pub may : MayFollow ended rest
 
--- a comparer for this decoder was given the fronts of two lists
+-- the comparer `c` for decoder `who` was given prefixes of the lists `left` and `right`
 pub record WasGivenFronts (who : Who) (left right : List Packet) (c : Comparison) : Type 0 where
   pub lists : Lists
-  pub stands : StandsFor c lists
+  pub stands : ComparerRepresents c lists
   pub who_is : c.who ≡ who
-  pub left_front : IsFront left lists.left lists.left_ended
-  pub right_front : IsFront right lists.right lists.right_ended
+  pub left_front : IsGivenPrefix left lists.left lists.left_ended
+  pub right_front : IsGivenPrefix right lists.right lists.right_ended
 
--- the same in one word, which only the laws below look into
+-- the comparer `c` for decoder `who` is in step: it was given prefixes of the lists `left` and
+-- `right`. Clients use this definition only through the theorems below.
 unfoldable pub IsInStep : Who → List Packet → List Packet → Comparison → Type 0
 IsInStep who left right c = WasGivenFronts who left right c
 
--- the left end comes before the right one, and that before the verdict
+-- the rank of the request of a comparer, which falls when the end of a list is given. It is 2 for a
+-- packet of the left list, 1 for a packet of the right list, and 0 for a verdict.
 abbrev pub ends_wanted : Wants → ℕ
 ends_wanted Left = 2
 ends_wanted Right = 1
 ends_wanted (Done verdict) = 0
 
--- how often a comparer may still want something of two lists, at most
-abbrev pub most_wanted : List Packet → List Packet → Comparison → ℕ
-most_wanted left right c = 2 * (length left - c.left_given + (length right - c.right_given)) + ends_wanted c.wants
+-- an upper bound of the number of requests that comparer `c` still makes for the lists `left` and
+-- `right`
+abbrev pub requests_bound : List Packet → List Packet → Comparison → ℕ
+requests_bound left right c = 2 * (length left - c.left_given + (length right - c.right_given)) + ends_wanted c.wants
 
--- this packet stands at a place of a list, or none behind its last one
+-- `item` is the packet at `place` of the list `packets`, or `None` if the list has no such place
 pub record IsAt (packets : List Packet) (place : ℕ) (item : Option Packet) : Type 0 where
   pub is : item ≡ slice_get packets place
 
--- a comparer becomes this one by an item that it is given
+-- a comparer in state `c` that is given `item` is in state `next` after it
 pub record BecomesBy (c : Comparison) (item : Option Packet) (next : Comparison) : Type 0 where
   pub same_who : next.who ≡ c.who
-  pub stands : (lists : Lists) → StandsFor c lists → StandsFor next (with_item c.wants item lists)
+  pub stands : (lists : Lists) → ComparerRepresents c lists → ComparerRepresents next (with_item c.wants item lists)
 
--- where nothing was given yet
+-- a new comparer, which was given no packet, is in step with any two lists
 abbrev pub NothingGivenYet : Type 0
-NothingGivenYet = (who : Who) (left right : List Packet) (c : Comparison) → StandsFor c no_lists → c.who ≡ who
+NothingGivenYet = (who : Who) (left right : List Packet) (c : Comparison) → ComparerRepresents c no_lists → c.who ≡ who
     → IsInStep who left right c
 
--- the next packet of the left list, or its end: the lists stay in step
+-- a comparer in step that is given the next packet of the left list, or its end, stays in step
 abbrev pub OneMoreOfLeft : Type 0
 OneMoreOfLeft = (who : Who) (left right : List Packet) (c next : Comparison) (item : Option Packet)
     → IsInStep who left right c → Left ≡ c.wants → IsAt left c.left_given item → BecomesBy c item next
     → IsInStep who left right next
 
--- likewise of the right one
+-- a comparer in step that is given the next packet of the right list, or its end, stays in step
 abbrev pub OneMoreOfRight : Type 0
 OneMoreOfRight = (who : Who) (left right : List Packet) (c next : Comparison) (item : Option Packet)
     → IsInStep who left right c → Right ≡ c.wants → IsAt right c.right_given item → BecomesBy c item next
     → IsInStep who left right next
 
--- and less is wanted then
-abbrev pub LessIsWantedBehindLeft : Type 0
-LessIsWantedBehindLeft = (who : Who) (left right : List Packet) (c next : Comparison) (item : Option Packet)
+-- the bound of the remaining requests falls if a comparer in step is given the next packet of the
+-- left list, or its end
+abbrev pub FewerRequestsAfterLeft : Type 0
+FewerRequestsAfterLeft = (who : Who) (left right : List Packet) (c next : Comparison) (item : Option Packet)
     → IsInStep who left right c → Left ≡ c.wants → IsAt left c.left_given item → BecomesBy c item next
-    → most_wanted left right next < most_wanted left right c
+    → requests_bound left right next < requests_bound left right c
 
-abbrev pub LessIsWantedBehindRight : Type 0
-LessIsWantedBehindRight = (who : Who) (left right : List Packet) (c next : Comparison) (item : Option Packet)
+abbrev pub FewerRequestsAfterRight : Type 0
+FewerRequestsAfterRight = (who : Who) (left right : List Packet) (c next : Comparison) (item : Option Packet)
     → IsInStep who left right c → Right ≡ c.wants → IsAt right c.right_given item → BecomesBy c item next
-    → most_wanted left right next < most_wanted left right c
+    → requests_bound left right next < requests_bound left right c
 
--- a packet of a list has a place that a comparer can count
+-- in a list of fewer than 2^32 packets, the place of each packet is below 2^32 - 1, so that a
+-- comparer can count it
 abbrev pub PlacesAreCounted : Type 0
 PlacesAreCounted = (packets : List Packet) (place : ℕ) (item : Option Packet) → IsAt packets place item
     → length packets < 2 ^ 32 → IfSome item (λ _. place < 2 ^ 32 - 1)
 
--- the verdict is that of the two lists
+-- the verdict of a comparer in step is the verdict on the lists `left` and `right`
 abbrev pub VerdictIsOfBoth : Type 0
 VerdictIsOfBoth = (who : Who) (left right : List Packet) (c : Comparison) (verdict : Verdict)
     → IsInStep who left right c → Done verdict ≡ c.wants → IsVerdict who left right verdict
 
--- and that of what was given of them alone
+-- the verdict of a comparer in step is also the verdict on the prefixes of `left` and `right` that
+-- it was given
 abbrev pub VerdictIsOfTheGiven : Type 0
 VerdictIsOfTheGiven = (who : Who) (left right : List Packet) (c : Comparison) (verdict : Verdict) (given : ℕ × ℕ)
     → IsInStep who left right c → Done verdict ≡ c.wants → given ≡ (c.left_given, c.right_given)
     → IsVerdict who (take given.0 left) (take given.1 right) verdict
 
--- no more was given than there is
+-- a comparer in step was given at most as many packets of each list as the list has
 abbrev pub NoMoreIsGiven : Type 0
 NoMoreIsGiven = (who : Who) (left right : List Packet) (c : Comparison) → IsInStep who left right c
     → (c.left_given ≤ length left) × (c.right_given ≤ length right)

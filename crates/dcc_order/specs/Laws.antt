@@ -1,4 +1,4 @@
--- What lists that are alike for a decoder have in common.
+-- Theorems about lists that are alike for a decoder.
 use Rattle.std.specs.Prelude.{ℕ, ◌≡◌, ◌↔◌, List, ◌++◌, ◌∷◌}
 use Rattle.std.proofs.Common.{zero, suc}
 use Rattle.dcc_packet.specs.declared.packet.Packet.{Packet}
@@ -11,29 +11,33 @@ use Rattle.dcc_order.specs.declared.verdict.Verdict.TheVariants.{Alike}
 use Rattle.dcc_order.specs.Verdicts.{IsVerdict}
 use Rattle.dcc_order.specs.AlikeLists.{Cut, LastBlock, Block, cut_for, AlikeFor}
 
--- whatever the registers are at the start, the two lists leave the same in each
+-- the lists `left` and `right` lead decoder `who` to the same value in each register, from all
+-- registers at the start
 abbrev pub LeaveTheSame : Who → List Packet → List Packet → Type 0
 LeaveTheSame who left right =
     (start : RegisterMap) (register : Register) → result who start left register ≡ result who start right register
 
--- lists that are alike for a decoder leave the same in each of its registers: the plain ones, the CV bits and Pending
+-- if two lists are alike for a decoder, they lead it to the same value in each register: the plain
+-- registers, the CV bits and Pending
 abbrev pub AlikeListsLeaveTheSame : Type 0
 AlikeListsLeaveTheSame = (who : Who) (left right : List Packet) → AlikeFor who left right → LeaveTheSame who left right
 
--- the packets of a cut list up to the end of block k
+-- the packets of a cut list from its start to the end of block `k`, with the own writes between the
+-- blocks. If there is no block `k`, these are all packets.
 abbrev pub through_block : ℕ → Cut → List Packet
 through_block k (LastBlock block) = block
 through_block zero (Block block write rest) = block
 through_block (suc k) (Block block write rest) = block ++ write ∷ through_block k rest
 
--- lists that are alike for a decoder have left the same CV bits after each block
+-- if two lists are alike for a decoder, the CV bits of the decoder are equal after block `k` of
+-- both lists, for each `k`
 abbrev pub AlikeListsAgreeAfterEachBlock : Type 0
 AlikeListsAgreeAfterEachBlock = (who : Who) (left right : List Packet) → AlikeFor who left right →
     (k : ℕ) (start : RegisterMap) (cv place : ℕ) →
     result_of_heard start (through_block k (cut_for who left)) (CvBit cv place) ≡ result_of_heard start
     (through_block k (cut_for who right)) (CvBit cv place)
 
--- the verdict on two lists is Alike exactly where they are alike for the decoder
+-- the verdict on two lists is `Alike` if and only if the lists are alike for the decoder
 abbrev pub AlikeIsTheVerdict : Type 0
 AlikeIsTheVerdict =
     (who : Who) (left right : List Packet) (verdict : Verdict) → IsVerdict who left right verdict

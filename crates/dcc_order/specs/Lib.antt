@@ -13,12 +13,14 @@ pub mod GivenLists
 pub mod InStep
 pub mod ToldTracks
 pub mod SentHalves
+pub mod SafeTracks
+pub mod NoisyTracks
 pub mod Held
 pub mod HeldPlaces
 pub mod Comparisons
 pub mod FrameNumbers
 pub mod Inner
--- what the clauses of this crate cite from below
+-- Definitions of lower crates that the contracts of this crate use.
 pub use Rattle.dcc_wire.specs.Framing
 pub use Rattle.dcc_wire.specs.Half
 pub use Rattle.dcc_wire.specs.Outcomes

@@ -5,15 +5,16 @@ use Rattle.dcc_packet.specs.declared.packet.Packet.{Packet}
 use Rattle.dcc_packet.specs.SamePacket.{same}
 use Rattle.dcc_order.specs.AlikeLists.{SameMembers}
 
--- the number of a packet among members: its place, or their count where it is none of them
+-- the number of packet `p` in the list `members` of different packets: its place, or the length of
+-- the list if `p` is not in it
 abbrev pub member_number : List Packet → Packet → ℕ
 member_number members p = position_or_len (same p) members
 
--- no packet stands twice: each is found at its own place
+-- no packet is twice in `members`: the first occurrence of the packet at place `k` is at `k`
 abbrev pub EachOnce : List Packet → Type 0
 EachOnce members = (k : ℕ) (d : Packet) → k < length members → member_number members (slice_index_or members k d) ≡ k
 
--- the packets of a block, each once
+-- `members` contains each packet of `block` exactly once, and no other packet
 pub record AreMembers (members block : List Packet) : Type 0 where
   pub same_set : SameMembers members block
   pub once : EachOnce members

@@ -1,4 +1,4 @@
--- What one more packet does to a cut list.
+-- The effect of one more packet on a cut list.
 use Rattle.std.specs.Prelude.{◌≡◌, ◌&&◌, Bool, false, List, [], ◌∷◌, ◌++◌, if◌then◌else◌}
 use Rattle.dcc_packet.specs.declared.packet.Packet.{Packet}
 use Rattle.dcc_regs.specs.declared.register.Who.{Who}
@@ -7,20 +7,22 @@ use Rattle.dcc_regs.specs.Writes.{is_own_write}
 use Rattle.dcc_regs.specs.Heard.{hears, heard}
 use Rattle.dcc_order.specs.AlikeLists.{Cut, LastBlock, Block, cut_for}
 
--- whether a list ends with two copies of a packet
+-- true if the last two packets of the list both equal `p`
 abbrev pub ends_with_two : List Packet → Packet → Bool
 ends_with_two [] p = false
 ends_with_two (q ∷ []) p = false
 ends_with_two (q ∷ r ∷ []) p = same p q && same p r
 ends_with_two (q ∷ r ∷ s ∷ later) p = ends_with_two (r ∷ s ∷ later) p
 
--- a cut list with one more packet: an own write ends the last block, another packet joins it
+-- a cut list after one more packet `p`: an own write ends the last block, and any other packet is
+-- added to the last block
 abbrev pub cut_more : Cut → Packet → Cut
 cut_more (LastBlock block) p = if is_own_write p then Block block p (LastBlock []) else LastBlock (block ++ p ∷ [])
 cut_more (Block block write rest) p = Block block write (cut_more rest p)
 
--- a packet that is not heard changes nothing, nor does an own write behind two copies of it; any other ends the last
--- block or joins it
+-- A packet `p` that decoder `who` does not hear leaves the cut list unchanged. An own write
+-- directly after two copies of itself also leaves the cut list unchanged. Any other own write ends
+-- the last block, and any other packet is added to it.
 abbrev pub OneMorePacket : Type 0
 OneMorePacket = (who : Who) (packets : List Packet) (p : Packet) →
     cut_for who (packets ++ p ∷ []) ≡
@@ -29,8 +31,8 @@ OneMorePacket = (who : Who) (packets : List Packet) (p : Packet) →
     (cut_for who packets) p)
     else cut_for who packets)
 
--- a cut list goes on as another: its finished blocks and their writes are the same there, and its last block begins one
--- there
+-- The second cut list begins like the first: it has all blocks and writes of the first in the same
+-- order. Only the last block of the first can be longer in the second.
 abbrev pub GoesOnAs : Cut → Cut → Type 0
 GoesOnAs (LastBlock block) (LastBlock longer) = (more : List Packet) × (longer ≡ block ++ more)
 GoesOnAs (LastBlock block) (Block longer write rest) = (more : List Packet) × (longer ≡ block ++ more)
@@ -38,7 +40,7 @@ GoesOnAs (Block block write rest) (Block same_block same_write further) =
     (same_block ≡ block) × (same_write ≡ write) × GoesOnAs rest further
 GoesOnAs (Block block write rest) (LastBlock longer) = ⊥
 
--- whatever packets follow, the blocks that a write has ended stay as they are
+-- the blocks of `packets` that a write has ended do not change if `further` packets follow
 abbrev pub FinishedBlocksStay : Type 0
 FinishedBlocksStay =
     (who : Who) (packets further : List Packet) → GoesOnAs (cut_for who packets) (cut_for who (packets ++ further))

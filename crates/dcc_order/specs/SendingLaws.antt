@@ -1,4 +1,4 @@
--- Laws of packets that are sent and heard.
+-- Theorems about packets that are sent and heard.
 use Rattle.std.specs.Prelude.{◌≡◌, ℕ, List, [], ◌++◌, map}
 use Rattle.dcc_wire.specs.declared.timing.Timing.{Timing}
 use Rattle.dcc_wire.specs.Framing.{seen}
@@ -9,27 +9,30 @@ use Rattle.dcc_regs.specs.declared.register.Who.{Who}
 use Rattle.dcc_regs.specs.Result.{RegisterMap, step}
 use Rattle.dcc_order.specs.Hearing.{ArePackets, HasHeardHalves}
 
--- a packet to send, with its timing; its bytes fit, as those of every packet of a program do
+-- a packet to send, with its timing. Its bytes are below 256, as in every `Packet` of a program.
 pub record SentPacket : Type 0 where
   pub packet : Packet
   pub fits : BytesFit packet
   pub timing : Timing
 
--- its frame with its timing
+-- the frame of the packet of `one`, with its timing
 abbrev pub spelled_out : SentPacket → Sent
 spelled_out one = record { bytes = spelling one.packet; timing = one.timing }
 
--- the halves of such packets that are sent one after the other hold these packets, in order
+-- the half-bits of packets that are sent one after the other contain exactly these packets, in the
+-- same order
 abbrev pub SentPacketsAreHeard : Type 0
 SentPacketsAreHeard =
     (sent : List SentPacket) → ArePackets (map (λ one. one.packet) sent) (sent_all (map spelled_out sent))
 
--- their frames are seen in them, each at its last half, and nothing else is: no refusal either
+-- the outcomes in the half-bits of packets that are sent one after the other are the frames of
+-- these packets, each at its last half-bit
 abbrev pub NothingElseIsSeen : Type 0
 NothingElseIsSeen =
     (sent : List SentPacket) → seen (sent_all (map spelled_out sent)) ≡ at_last_halves 0 (map spelled_out sent)
 
--- a decoder that has heard the halves of one packet, sent with any timing as a track of one piece, has done what it says
+-- a decoder that has heard the half-bits of one packet `p`, sent with any timing, has the registers
+-- after `p`
 abbrev pub SentPacketIsDone : Type 0
 SentPacketIsDone =
     (p : Packet) (timing : Timing) (halves : List ℕ) (who who' : Who) (start now : RegisterMap) → BytesFit p

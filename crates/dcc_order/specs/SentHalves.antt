@@ -1,4 +1,4 @@
--- A frame that is sent to a framer at the rails, half by half.
+-- The half-bits of a frame that is sent to a framer, one half-bit after the other.
 use Rattle.std.specs.Prelude.{ℕ, ◌≡◌, List, [], ◌∷◌, ◌++◌}
 use Rattle.dcc_wire.specs.declared.seen.Seen.{Seen}
 use Rattle.dcc_wire.specs.declared.seen.Seen.TheVariants.{Nothing, Packet as PacketSeen}
@@ -7,16 +7,18 @@ use Rattle.dcc_wire.specs.Frames.{IsFrame}
 use Rattle.dcc_wire.specs.Sending.{Sent, sent, sent_all, AllFrames}
 use Rattle.dcc_order.specs.OneMoreHalf.{StandsForOneMore, ShowsAtOneMore}
 
--- a framer has heard the halves of frames that were sent one after the other, and no others
+-- `framer` has heard the half-bits of `frames`, sent one after the other, and no other half-bits.
+-- Each of `frames` is a frame.
 unfoldable pub HasHeardAll : List Sent → Rest → Type 0
 HasHeardAll frames framer = AllFrames frames × StandsFor framer (sent_all frames)
 
--- the last of what was seen, or what was seen before
+-- the last outcome of a list, or the earlier outcome `before` if the list is empty
 abbrev pub last_seen : Seen → List (ℕ × Seen) → Seen
 last_seen before [] = before
 last_seen before (at ∷ later) = last_seen at.1 later
 
--- so much of some halves has come behind a track, and the last that was seen in them was kept
+-- after the half-bits `track`, all half-bits of `halves` except `left` have come to `framer`. The
+-- last outcome in them is `kept`, or `Nothing` if they have no outcome.
 pub record HasComeBehind (track halves left : List ℕ) (framer : Rest) (kept : Seen) : Type 0 where
   pub come : List ℕ
   pub parts : come ++ left ≡ halves
@@ -25,38 +27,43 @@ pub record HasComeBehind (track halves left : List ℕ) (framer : Rest) (kept : 
   pub sees : seen (track ++ come) ≡ seen track ++ more
   pub last : kept ≡ last_seen Nothing more
 
--- a frame is being sent to a framer that was so: this is left of it, and this was the last that was seen in it
+-- the frame of `one` is being sent to a framer that was in state `start` before it. The state of
+-- the framer is now `framer`, the half-bits `left` are still to be sent, and `kept` is the last
+-- outcome so far.
 unfoldable pub IsBeingSent : Rest → Sent → List ℕ → Rest → Seen → Type 0
 IsBeingSent start one left framer kept =
     (track : List ℕ) → StandsFor start track → HasComeBehind track (sent one.bytes one.timing) left framer kept
 
--- where all is left
+-- before the first half-bit of a frame, all its half-bits are still to be sent, and there is no
+-- outcome
 abbrev pub SendingBegins : Type 0
 SendingBegins = (start : Rest) (one : Sent) (left : List ℕ) → left ≡ sent one.bytes one.timing
     → IsBeingSent start one left start Nothing
 
--- behind a half that shows nothing
+-- after a half-bit without an outcome, the last outcome is unchanged
 abbrev pub NothingIsSeen : Type 0
 NothingIsSeen =
     (start framer next : Rest) (one : Sent) (left later : List ℕ) (us : ℕ) (answer kept : Seen)
     → IsBeingSent start one left framer kept → left ≡ us ∷ later → answer ≡ Nothing → StandsForOneMore framer us next
     → ShowsAtOneMore framer us answer → IsBeingSent start one later next kept
 
--- behind one that shows something, which is kept
+-- after a half-bit with an outcome, this outcome is the last outcome
 abbrev pub SomethingIsSeen : Type 0
 SomethingIsSeen =
     (start framer next : Rest) (one : Sent) (left later : List ℕ) (us : ℕ) (answer kept : Seen)
     → IsBeingSent start one left framer kept → left ≡ us ∷ later → StandsForOneMore framer us next
     → ShowsAtOneMore framer us answer → (answer ≡ Nothing → ⊥) → IsBeingSent start one later next answer
 
--- at the end, the frame itself was the last that was seen, where the framer has heard whole frames alone
+-- after the last half-bit of a frame, the frame is the last outcome, if the framer had heard only
+-- whole frames before
 abbrev pub FrameIsSeen : Type 0
 FrameIsSeen =
     (start framer : Rest) (one : Sent) (left : List ℕ) (kept : Seen) (before : List Sent)
     → IsBeingSent start one left framer kept → left ≡ [] → IsFrame one.bytes → HasHeardAll before start
     → kept ≡ PacketSeen one.bytes
 
--- and whole frames alone it has heard then
+-- after the last half-bit of a frame, the framer has heard the whole frames before it and then this
+-- frame
 abbrev pub FramesAreHeard : Type 0
 FramesAreHeard =
     (start framer : Rest) (one : Sent) (left : List ℕ) (kept : Seen) (before : List Sent)

@@ -1,4 +1,5 @@
--- A track that comes half by half: a decoder hears it, and a listener is told what the decoder hears.
+-- A track whose half-bits come one after the other. A decoder hears the track, and a listener is
+-- notified of the packets that the decoder hears.
 use Rattle.std.specs.Prelude.{ℕ, ◌+◌, ◌≡◌, ◌<◌, ◌≤◌, Bool, true, false, List, [], ◌∷◌, length, take, slice_index_or}
 use Rattle.dcc_wire.specs.Framing.{Rest, StandsFor}
 use Rattle.dcc_wire.specs.declared.seen.Seen.{Seen}
@@ -13,12 +14,14 @@ use Rattle.dcc_regs.specs.Result.{RegisterMap, HasHeard, step}
 use Rattle.dcc_order.specs.Hearing.{ArePackets, HasHeardHalves}
 use Rattle.dcc_order.specs.OneMoreHalf.{StandsForOneMore, ShowsAtOneMore}
 
--- a listener was told these packets, one after the other, each by the call of its kind
+-- the listener was notified of the packets of a list, one after the other, each by the callback of
+-- its kind. The callbacks changed the listener from `old` to `now`.
 abbrev pub IsTold : {L : Type 0} → (L → Note → L → Type 0) → List Packet → L → L → Type 0
 IsTold told [] old now = now ≡ old
 IsTold {L} told (p ∷ later) old now = (between : L) × told old (note_of p) between × IsTold told later between now
 
--- these halves have come to a framer, a decoder has heard their packets, and a listener was told those that it hears
+-- the half-bits `halves` have come to a framer, and the decoder has heard the packets in them. The
+-- listener was notified of the packets that the decoder hears.
 pub record WereHeardAndTold {L : Type 0} (told : L → Note → L → Type 0) (halves : List ℕ) (framer : Rest) (who : Who)
     (start : RegisterMap) (who' : Who) (now : RegisterMap) (listener listener' : L) : Type 0 where
   pub stands : StandsFor framer halves
@@ -27,18 +30,20 @@ pub record WereHeardAndTold {L : Type 0} (told : L → Note → L → Type 0) (h
   pub heard_all : HasHeard packets who start who' now
   pub told_all : IsTold told (heard who packets) listener listener'
 
--- the same in one word, which only the laws below look into
+-- the half-bits `halves` have come to a framer, a decoder and a listener. Clients use this
+-- definition only through the theorems below.
 unfoldable pub HaveCome : {L : Type 0} → (L → Note → L → Type 0) → List ℕ → Rest → Who → RegisterMap → Who → RegisterMap
     → L → L → Type 0
 HaveCome told halves framer who start who' now listener listener' =
     WereHeardAndTold told halves framer who start who' now listener listener'
 
--- before the first half
+-- if the framer represents no half-bits, the empty list of half-bits has come to the framer, to any
+-- decoder and to any listener
 abbrev pub NoHalfHasCome : {L : Type 0} → (L → Note → L → Type 0) → Type 0
 NoHalfHasCome {L} told = (framer : Rest) (who : Who) (start : RegisterMap) (listener : L) → StandsFor framer []
     → HaveCome told [] framer who start who start listener listener
 
--- behind a half that shows no packet
+-- after a half-bit that completes no packet, the decoder and the listener are unchanged
 abbrev pub NoPacketHasCome : {L : Type 0} → (L → Note → L → Type 0) → Type 0
 NoPacketHasCome {L} told =
     (track : List ℕ) (n : ℕ) (framer next : Rest) (answer : Seen) (who who' : Who) (start now : RegisterMap)
@@ -48,10 +53,12 @@ NoPacketHasCome {L} told =
     → ((frame : Frame) → answer ≡ PacketSeen frame → ⊥)
     → HaveCome told (take (n + 1) track) next who start who' now listener listener'
 
--- behind one that shows a packet, which the decoder hears: the listener is told it
+-- after a half-bit that completes a packet that the decoder hears, the decoder has heard the packet
+-- and the listener was notified of it
 abbrev pub PacketIsTold : {L : Type 0} → (L → Note → L → Type 0) → Type 0
 PacketIsTold {L} told =
-    (track : List ℕ) (n : ℕ) (framer next : Rest) (answer : Seen) (frame : Frame) (p : Packet) (who who' who'' asked : Who)
+    (track : List ℕ) (n : ℕ) (framer next : Rest) (answer : Seen) (frame : Frame) (p : Packet)
+    (who who' who'' asked : Who)
     (start now after : RegisterMap) (is_heard : Bool) (listener listener' listener'' : L)
     → HaveCome told (take n track) framer who start who' now listener listener'
     → n < length track → StandsForOneMore framer (slice_index_or track n 0) next
@@ -60,10 +67,12 @@ PacketIsTold {L} told =
     → is_heard ≡ true → told listener' (note_of p) listener''
     → HaveCome told (take (n + 1) track) next who start who'' after listener listener''
 
--- behind one that shows a packet, which the decoder does not hear
+-- after a half-bit that completes a packet that the decoder does not hear, the listener is
+-- unchanged
 abbrev pub PacketIsPassedOver : {L : Type 0} → (L → Note → L → Type 0) → Type 0
 PacketIsPassedOver {L} told =
-    (track : List ℕ) (n : ℕ) (framer next : Rest) (answer : Seen) (frame : Frame) (p : Packet) (who who' who'' asked : Who)
+    (track : List ℕ) (n : ℕ) (framer next : Rest) (answer : Seen) (frame : Frame) (p : Packet)
+    (who who' who'' asked : Who)
     (start now after : RegisterMap) (is_heard : Bool) (listener listener' : L)
     → HaveCome told (take n track) framer who start who' now listener listener'
     → n < length track → StandsForOneMore framer (slice_index_or track n 0) next
@@ -72,7 +81,8 @@ PacketIsPassedOver {L} told =
     → is_heard ≡ false
     → HaveCome told (take (n + 1) track) next who start who'' after listener listener'
 
--- both at once, where the decoder and its listener take the packet
+-- after a half-bit that completes a packet, one call can both apply the packet to the decoder and
+-- notify the listener
 abbrev pub PacketIsHeardAndTold : {L : Type 0} → (L → Note → L → Type 0) → Type 0
 PacketIsHeardAndTold {L} told =
     (track : List ℕ) (n : ℕ) (framer next : Rest) (answer : Seen) (p : Packet) (who who' who'' : Who)
@@ -82,16 +92,18 @@ PacketIsHeardAndTold {L} told =
     → StandsForOneMore framer (slice_index_or track n 0) next → ShowsAtOneMore framer (slice_index_or track n 0) answer
     → n < length track → HaveCome told (take (n + 1) track) next who start who'' after listener listener''
 
--- at the end the decoder has heard the track
+-- after all half-bits of `track`, the decoder has heard `track`
 abbrev pub TrackIsHeard : {L : Type 0} → (L → Note → L → Type 0) → Type 0
 TrackIsHeard {L} told =
     (track : List ℕ) (n : ℕ) (framer : Rest) (who who' : Who) (start now : RegisterMap) (listener listener' : L)
     → HaveCome told (take n track) framer who start who' now listener listener' → length track ≤ n
     → HasHeardHalves track who start who' now
 
--- and the listener was told the packets of the track that the decoder hears
+-- after all half-bits of `track`, the listener was notified of the packets in `track` that the
+-- decoder hears
 abbrev pub TrackIsTold : {L : Type 0} → (L → Note → L → Type 0) → Type 0
 TrackIsTold {L} told =
     (track : List ℕ) (n : ℕ) (framer : Rest) (who who' : Who) (start now : RegisterMap) (listener listener' : L)
-    (packets : List Packet) → HaveCome told (take n track) framer who start who' now listener listener' → length track ≤ n
+    (packets : List Packet) → HaveCome told (take n track) framer who start who' now listener listener'
+    → length track ≤ n
     → ArePackets packets track → IsTold told (heard who packets) listener listener'

@@ -1,44 +1,49 @@
--- How two packets take turns in a block, in short: how many turns they take, and which has the last.
+-- The alternation of a packet and its rival in a block as two values: the number of its turns, and
+-- whether the rival took the last turn. A turn is a row of occurrences of one of the two packets.
 use Rattle.std.specs.Prelude.{ℕ, ◌+◌, ◌≡◌, ◌<◌, slice_index_or, ◌||◌, ◌==◌, true, false, List, [], ◌∷◌, Option, Some}
 use Rattle.std.specs.Prelude.{fold, length, if◌then◌else◌}
 use Rattle.dcc_packet.specs.declared.packet.Packet.{Packet}
 use Rattle.dcc_order.specs.declared.turns.Turns.{Turns}
 
--- the last packet of a list, or, where the list is empty, the one before it
+-- the last packet of a list, or `before` if the list is empty
 abbrev pub last_behind : Option Packet → List Packet → Option Packet
 last_behind before [] = before
 last_behind before (p ∷ later) = last_behind (Some p) later
 
--- before any turn
+-- the alternation before the first turn
 abbrev pub no_turns : Turns
 no_turns = record { count = 0; rival_last = false }
 
--- the packet itself comes: it takes a turn unless it had the last one
+-- the alternation `taken` after an occurrence of the packet itself. This is a new turn if it is the
+-- first turn, or if the rival took the last turn.
 abbrev pub own_turn : Turns → Turns
 own_turn taken =
     if taken.rival_last || taken.count == 0 then record { count = taken.count + 1; rival_last = false } else taken
 
--- its rival comes
+-- the alternation `taken` after an occurrence of the rival. This is a new turn unless the rival
+-- took the last turn.
 abbrev pub rival_turn : Turns → Turns
 rival_turn taken = if taken.rival_last then taken else record { count = taken.count + 1; rival_last = true }
 
--- the packet of this number comes, where packet and rival have the first two numbers
+-- the alternation `taken` of packets number `own` and `rival` after an occurrence of packet
+-- `number`
 abbrev pub with_turn : ℕ → ℕ → Turns → ℕ → Turns
 with_turn own rival taken number =
     if number == own then own_turn taken
     else if number == rival then rival_turn taken
     else taken
 
--- the packets of these numbers come in turn
+-- the alternation of packets number `own` and `rival` in a block of the packets `numbers`
 abbrev pub turns_of : ℕ → ℕ → List ℕ → Turns
 turns_of own rival numbers = fold (with_turn own rival) no_turns numbers
 
--- one entry for each rival, before any turn
+-- `turns` has `count` entries, one for each rival, and each of them has no turns
 pub record Started (turns : List Turns) (count : ℕ) : Type 0 where
   pub each : length turns ≡ count
   pub none : (rival : ℕ) (d : Turns) → rival < length turns → slice_index_or turns rival d ≡ no_turns
 
--- one entry for each rival, with the turns of these numbers
+-- `turns` has `count` entries, one for each rival: entry `rival` is the alternation of packets
+-- `own` and `rival` in a block of the packets `numbers`
 pub record Counted (turns : List Turns) (own count : ℕ) (numbers : List ℕ) : Type 0 where
   pub each : length turns ≡ count
   pub told : (rival : ℕ) (d : Turns) → rival < length turns → slice_index_or turns rival d ≡ turns_of own rival numbers

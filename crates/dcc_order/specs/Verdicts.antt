@@ -6,14 +6,15 @@ use Rattle.dcc_order.specs.declared.verdict.Verdict.{Verdict}
 use Rattle.dcc_order.specs.declared.verdict.Verdict.TheVariants.{Alike, Writes, Members, Order}
 use Rattle.dcc_order.specs.AlikeLists.{Cut, LastBlock, Block, cut_for, SameMembers, SameOrder}
 
--- the verdict where the blocks of number k differ. Where they do not, it is as `further` says
+-- `verdict` names the difference of blocks `left` and `right` with number `k`; if they do not
+-- differ, `further` holds
 abbrev pub BlocksVerdict : ℕ → List Packet → List Packet → Verdict → Type 0 → Type 0
 BlocksVerdict k left right verdict further =
     (¬ SameMembers left right × (verdict ≡ Members k))
     ⊎ ((SameMembers left right × ¬ SameOrder left right × (verdict ≡ Order k))
     ⊎ (SameMembers left right × SameOrder left right × further))
 
--- the verdict on two cut lists whose first blocks have number k
+-- `verdict` is the verdict on two cut lists whose first blocks have number `k`
 abbrev pub IsVerdictFrom : ℕ → Cut → Cut → Verdict → Type 0
 IsVerdictFrom k (LastBlock left) (LastBlock right) verdict = BlocksVerdict k left right verdict (verdict ≡ Alike)
 IsVerdictFrom k (Block left write lefts) (Block right other rights) verdict =
@@ -24,6 +25,6 @@ IsVerdictFrom k (LastBlock left) (Block right other rights) verdict =
 IsVerdictFrom k (Block left write lefts) (LastBlock right) verdict =
     BlocksVerdict k left right verdict (verdict ≡ Writes)
 
--- the verdict on two lists of packets for a decoder
+-- `verdict` is the verdict on the lists `left` and `right` for decoder `who`
 abbrev pub IsVerdict : Who → List Packet → List Packet → Verdict → Type 0
 IsVerdict who left right verdict = IsVerdictFrom 0 (cut_for who left) (cut_for who right) verdict

@@ -1,5 +1,5 @@
-//! The headline: decoders that start equal and hear two tracks that are alike for them end equal. Each track comes whole,
-//! through a new framer.
+//! The headline theorem: decoders that start equal and hear two tracks that are alike for them end
+//! equal. Each track is heard from its first half-bit on, through a new framer.
 
 ghost use Rattle.std.specs.List.{AllZip};
 ghost use Rattle.std.specs.Prelude.{◌≡◌};
@@ -11,19 +11,23 @@ use crate::hearing::hear_piece;
 use dcc_regs::Decoder;
 use dcc_wire::Framer;
 
-/// Two fleets hear two tracks, each through a new framer and in pieces of any length. Where their members were equal, one
-/// by one and of whatever types, and the packets of the two tracks are alike for them, they are equal again.
+/// Two fleets hear two tracks, each through a new framer and in pieces of any length.
+///
+/// Let the decoders of each pair be equal before, and let the packets of the two tracks be alike
+/// for them. Then the decoders of each pair are equal again. The two decoders of a pair can have
+/// different types.
 pub fn hear_two_tracks<L: Decoder, R: Decoder>(
     left: &mut [L],
     right: &mut [R],
     pieces: &[&[u16]],
     others: &[&[u16]],
 )
-    // Each member has heard the track of its fleet.
+    // Each decoder has heard the track of its fleet.
     ensures left { EachHearsHalves L.who L.registers (whole_track pieces.now) left.old left.new }
     ensures right { EachHearsHalves R.who R.registers (whole_track others.now) right.old right.new }
 
-    // So equal members, for whom the tracks are alike, are equal again.
+    // Two decoders that were equal before the call are equal again, if the tracks are alike for
+    // them.
     ensures alike { AllZip
         (λ one other. (L.who one ≡ R.who other) × (L.registers one ≡ R.registers other)
         × AlikeHalves (L.who one) (whole_track pieces.now) (whole_track others.now))
@@ -34,7 +38,7 @@ pub fn hear_two_tracks<L: Decoder, R: Decoder>(
     hear_track(right, others);
 }
 
-/// A fleet hears a track through a new framer. The track may come in pieces of any length.
+/// A fleet hears a track through a new framer. The track can come in pieces of any length.
 pub fn hear_track<D: Decoder>(decoders: &mut [D], pieces: &[&[u16]])
     ensures { EachHearsHalves D.who D.registers (whole_track pieces.now) decoders.old decoders.new }
 {

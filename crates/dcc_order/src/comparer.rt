@@ -1,4 +1,4 @@
-//! Two lists of packets, compared while they are given.
+//! The type `Comparer`, which compares two lists of packets, packet by packet.
 
 ghost use Rattle.std.specs.Prelude.{◌≡◌, ◌<◌, ◌≤◌, ◌-◌, ◌^◌, true, false, Some, None, OnOk, OnErr, IfSome, IsTrue};
 ghost use Rattle.std.specs.Prelude.{length};
@@ -14,8 +14,9 @@ use dcc_regs::Who;
 use std::alloc::Global;
 use std::marker::Model;
 
-/// Compares two lists of packets for a decoder while they are given, packet by packet. It says which side it wants next, and
-/// holds at most one block of each list; the verdict is there as soon as two blocks that have ended settle it.
+/// Compares two lists of packets for a decoder, packet by packet. The comparer says which list must
+/// give the next packet, and holds at most one block of each list. The comparer returns the verdict
+/// as soon as two finished blocks decide the verdict.
 #[derive(Drop)]
 pub struct Comparer {
     comparison: Comparison,
@@ -27,22 +28,22 @@ impl Model for Comparer {
     ghost Value = { Comparison };
 
     ghost use Rattle.dcc_order.specs.GivenLists.{Lists};
-    ghost use Rattle.dcc_order.specs.Comparisons.{StandsFor};
+    ghost use Rattle.dcc_order.specs.Comparisons.{ComparerRepresents};
 
     ghost view = { λ c. c.comparison };
 
-    // Some two lists have led to what a comparer keeps.
-    ghost invariant = { λ c. (lists : Lists) × StandsFor c.comparison lists };
+    // Invariant: some pair of lists leads to this state.
+    ghost invariant = { λ c. (lists : Lists) × ComparerRepresents c.comparison lists };
 }
 
 impl Comparer {
     ghost use Rattle.dcc_order.specs.GivenLists.{Lists, no_lists, with_item, IsVerdictOfAll, most_held};
-    ghost use Rattle.dcc_order.specs.Comparisons.{StandsFor};
+    ghost use Rattle.dcc_order.specs.Comparisons.{ComparerRepresents};
     ghost use Rattle.dcc_order.specs.InStep.{BecomesBy};
 
-    /// A comparer that was given nothing. It takes no memory.
+    /// Creates a comparer for the decoder `who`. The function does not allocate.
     pub fn new(alloc: Global, who: Who) -> Comparer
-        ensures stands { StandsFor result no_lists }
+        ensures stands { ComparerRepresents result no_lists }
         ensures who { result.who ≡ who }
     {
         Comparer {
@@ -50,37 +51,45 @@ impl Comparer {
         }
     }
 
-    /// The side whose next packet, or whose end, is wanted, or the verdict. It is Done once both ends were given at the
-    /// latest.
+    /// Returns the list that must give its next packet or its end, or the verdict. The result is
+    /// `Done` at the latest after the ends of both lists were given.
     pub fn wants(&self) -> Wants
         ensures is { result ≡ self.now.wants }
 
-        // No side is wanted whose end was given,
-        ensures left { result ≡ Wants.Left → (lists : Lists) → StandsFor self.now lists → lists.left_ended ≡ false }
-        ensures right { result ≡ Wants.Right → (lists : Lists) → StandsFor self.now lists → lists.right_ended ≡ false }
-        // and where both were given, the verdict is there.
-        ensures ends { (lists : Lists) → StandsFor self.now lists → lists.left_ended ≡ true → lists.right_ended ≡ true
+        // The result does not name a list whose end was given.
+        ensures left { result ≡ Wants.Left → (lists : Lists) → ComparerRepresents self.now lists
+            → lists.left_ended ≡ false }
+        ensures right { result ≡ Wants.Right → (lists : Lists) → ComparerRepresents self.now lists
+            → lists.right_ended ≡ false }
+        // If the ends of both lists were given, the result is a verdict.
+        ensures ends { (lists : Lists) → ComparerRepresents self.now lists → lists.left_ended ≡ true
+            → lists.right_ended ≡ true
             → (v : VerdictOf) × (result ≡ Wants.Done v) }
 
-        // The verdict is that of all lists that continue those that were given,
-        ensures done { (v : VerdictOf) → result ≡ Wants.Done v → (lists : Lists) → StandsFor self.now lists
+        // The verdict holds for each pair of lists that begin with the given lists.
+        ensures done { (v : VerdictOf) → result ≡ Wants.Done v → (lists : Lists) → ComparerRepresents self.now lists
             → IsVerdictOfAll self.now.who lists v }
-        // and is Alike only once both have ended.
-        ensures alike { result ≡ Wants.Done Verdict.Alike → (lists : Lists) → StandsFor self.now lists
+        // The verdict is `Alike` only if the ends of both lists were given.
+        ensures alike { result ≡ Wants.Done Verdict.Alike → (lists : Lists) → ComparerRepresents self.now lists
             → (lists.left_ended ≡ true) × (lists.right_ended ≡ true) }
     {
         self.comparison.wants
     }
 
-    /// The next packet of the side that is wanted, or None for its end. After NoMemory nothing has changed, and the same may
-    /// be given again. An end and a packet that is not heard take no memory. Once the verdict is there nothing changes.
+    /// Gives the next packet, or `None` for the end, of the list that [`wants`](Self::wants)
+    /// returns. After the verdict is decided, the function changes nothing.
+    ///
+    /// Errors: NoMemory if an allocation fails. If an allocation fails, the comparer is unchanged,
+    /// and the caller can give the item again. The function does not allocate for an end, or for a
+    /// packet that the decoder does not hear.
     pub fn give(&mut self, item: Option<Packet>) -> Result<(), NoMemory>
         requires left { self.old.wants ≡ Wants.Left → IfSome item (λ _. self.old.left_given < 2 ^ 32 - 1) }
         requires right { self.old.wants ≡ Wants.Right → IfSome item (λ _. self.old.right_given < 2 ^ 32 - 1) }
         ensures stands { OnOk result
-            ((lists : Lists) → StandsFor self.old lists → StandsFor self.new (with_item self.old.wants item lists)) }
+            ((lists : Lists) → ComparerRepresents self.old lists
+            → ComparerRepresents self.new (with_item self.old.wants item lists)) }
         ensures who { self.new.who ≡ self.old.who }
-        // (In one word, for a loop of one's own: see `laws::lists_in_step`.)
+        // a caller with its own loop uses this clause with `laws::lists_in_step`
         ensures becomes { OnOk result (BecomesBy self.old item self.new) }
         ensures unchanged { OnErr result (self.new ≡ self.old) }
         ensures end { item ≡ None → result ≡ Ok tt }
@@ -90,18 +99,21 @@ impl Comparer {
         Ok(self.comparison.give(item)?)
     }
 
-    /// How many packets of each side were given.
+    /// Returns the number of packets of the first list and of the second list that were given.
     pub fn given(&self) -> (u32, u32)
         ensures is { result ≡ (self.now.left_given, self.now.right_given) }
-        ensures given { (lists : Lists) → StandsFor self.now lists → result ≡ (length lists.left, length lists.right) }
+        ensures given { (lists : Lists) → ComparerRepresents self.now lists
+            → result ≡ (length lists.left, length lists.right) }
     {
         (self.comparison.left_given, self.comparison.right_given)
     }
 
-    /// How many packets are held: until the verdict is there, those of the two open blocks, whose number is the smaller of the
-    /// two numbers of writes.
+    /// Returns the number of packets that the comparer holds. Until the verdict is decided, the
+    /// comparer holds the packets of block n of both lists. The number n is the smaller of the
+    /// numbers of writes that cut the two lists.
     pub fn held(&self) -> u64
-        ensures { (lists : Lists) → StandsFor self.now lists → ((v : VerdictOf) → ¬ (self.now.wants ≡ Wants.Done v))
+        ensures { (lists : Lists) → ComparerRepresents self.now lists → ((v : VerdictOf)
+            → ¬ (self.now.wants ≡ Wants.Done v))
             → result ≡ most_held self.now.who lists }
     {
         self.comparison.held_len()

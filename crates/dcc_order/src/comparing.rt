@@ -1,4 +1,4 @@
-//! Two lists of packets, compared.
+//! A function that compares two lists of packets.
 
 ghost use Rattle.std.specs.Prelude.{◌≡◌, ◌↔◌, ◌<◌, ◌^◌, IfOk, length};
 ghost use Rattle.dcc_order.specs.AlikeLists.{AlikeFor};
@@ -13,11 +13,14 @@ use dcc_packet::Packet;
 use dcc_regs::Who;
 use std::alloc::Global;
 
-/// The first difference of two lists of packets for a decoder. Where there is none, both leave the decoder the same in
-/// each register, whatever it held at the start.
+/// Returns the first difference of two lists of packets for the decoder `who`, or `Alike`. Lists
+/// that are alike leave the decoder with equal registers, for any registers at the start.
 ///
-/// It takes time in proportion to the number of packets times the number of different ones in a block that set something
-/// in the decoder, and memory for one block of each list.
+/// The time is proportional to the number of packets times the number of different packets of a
+/// block that set a register of the decoder. The function allocates memory for one block of each
+/// list.
+///
+/// Errors: NoMemory if an allocation fails.
 pub fn compare(
     alloc: Global,
     who: Who,

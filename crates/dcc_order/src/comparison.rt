@@ -1,10 +1,10 @@
-//! Two lists that are compared as they are given.
+//! The state of a comparison of two lists.
 
 ghost use Rattle.std.specs.Prelude.{◌≡◌, ◌<◌, ◌+◌, ◌-◌, ◌^◌, ◌++◌, ◌∷◌, [], true, false, None, OnOk, OnErr, IfSome};
 ghost use Rattle.std.specs.Prelude.{IfNone, MatchOption};
 ghost use Rattle.dcc_regs.specs.Heard.{hears as is_heard_by};
 ghost use Rattle.dcc_order.specs.AlikeLists.{AlikeBlocks};
-ghost use Rattle.dcc_order.specs.Comparisons.{StandsFor, heard_next, BlocksDiffer, EndAlike, IsVerdictAtEnds};
+ghost use Rattle.dcc_order.specs.Comparisons.{ComparerRepresents, heard_next, BlocksDiffer, EndAlike, IsVerdictAtEnds};
 ghost use Rattle.dcc_order.specs.Inner.ComparisonSteps.{begun_block, closed_left, joined_left, ClosesRight, JoinsRight};
 ghost use Rattle.dcc_order.specs.declared.verdict.Verdict.{Verdict as VerdictOf};
 ghost use Rattle.dcc_order.specs.GivenLists.{Lists, no_lists, with_item, most_held};
@@ -17,8 +17,9 @@ use dcc_packet::Packet;
 use dcc_regs::{Who, hears, is_own_write};
 use std::alloc::{AllocError, Global};
 
-/// What a comparison keeps: one block of each list at most. The left list is read up to the end of a block, then the
-/// right one up to the end of its block of the same number; the two are compared there and let go.
+/// The state of a comparison, which holds at most one block of each list. The left list is read to
+/// the end of a block. After the left list, the right list is read to the end of its block with the
+/// same number. After both lists were read, the two blocks are compared and cleared.
 #[derive(Drop)]
 pub struct Comparison {
     pub who: Who,
@@ -28,15 +29,16 @@ pub struct Comparison {
     pub right_given: u32,
     pub left_heard: LastHeard,
     pub right_heard: LastHeard,
-    /// The write that ended the left block. While the right side is wanted, none says that the left list has ended.
+    /// The write that ended the left block. If the right list is wanted, `None` means that the left
+    /// list has ended.
     pub left_end: Option<Packet>,
     pub held: HeldBlocks,
 }
 
 impl Comparison {
-    /// Of two empty lists.
+    /// Creates the comparison of two empty lists.
     pub fn new(alloc: Global, who: Who) -> Comparison
-        ensures stands { StandsFor result no_lists }
+        ensures stands { ComparerRepresents result no_lists }
         ensures who { result.who ≡ who }
     {
         Comparison {
@@ -52,13 +54,17 @@ impl Comparison {
         }
     }
 
-    /// The next packet of the side that is wanted, or its end.
+    /// Gives the next packet, or `None` for the end, of the list that `wants` names.
+    ///
+    /// Errors: AllocError if an allocation fails. If an allocation fails, the comparison is
+    /// unchanged.
     pub fn give(&mut self, item: Option<Packet>) -> Result<(), AllocError>
-        requires reached { (lists : Lists) × StandsFor self.old lists }
+        requires reached { (lists : Lists) × ComparerRepresents self.old lists }
         requires left { self.old.wants ≡ Wants.Left → IfSome item (λ _. self.old.left_given < 2 ^ 32 - 1) }
         requires right { self.old.wants ≡ Wants.Right → IfSome item (λ _. self.old.right_given < 2 ^ 32 - 1) }
         ensures stands { OnOk result
-            ((lists : Lists) → StandsFor self.old lists → StandsFor self.new (with_item self.old.wants item lists)) }
+            ((lists : Lists) → ComparerRepresents self.old lists
+            → ComparerRepresents self.new (with_item self.old.wants item lists)) }
         ensures who { self.new.who ≡ self.old.who }
         ensures unchanged { OnErr result (self.new ≡ self.old) }
         ensures end { item ≡ None → result ≡ Ok tt }
@@ -75,35 +81,36 @@ impl Comparison {
         Ok(())
     }
 
-    /// How many packets are held.
+    /// Returns the number of packets in the two open blocks.
     pub fn held_len(&self) -> u64
-        ensures { (lists : Lists) → StandsFor self.now lists → ((v : VerdictOf) → ¬ (self.now.wants ≡ Wants.Done v))
+        ensures { (lists : Lists) → ComparerRepresents self.now lists → ((v : VerdictOf)
+            → ¬ (self.now.wants ≡ Wants.Done v))
             → result ≡ most_held self.now.who lists }
     {
-        // No block is longer than its list, so what is read here bounds them.
+        // no block is longer than its list, so these two numbers bound the lengths of the blocks
         let _left = self.left_given;
         let _right = self.right_given;
         self.held.len()
     }
 
-    /// The left list ends.
+    /// Ends the left list, and requests the right list.
     fn end_left(&mut self)
         requires { self.old.wants ≡ Wants.Left }
-        ensures stands { (lists : Lists) → StandsFor self.old lists
-            → StandsFor self.new (record lists { left_ended = true }) }
+        ensures stands { (lists : Lists) → ComparerRepresents self.old lists
+            → ComparerRepresents self.new (record lists { left_ended = true }) }
         ensures who { self.new.who ≡ self.old.who }
     {
         self.left_end = None;
         self.wants = Wants::Right;
     }
 
-    /// The next packet of the left list.
+    /// Takes the next packet of the left list.
     fn give_left(&mut self, packet: &Packet) -> Result<(), AllocError>
         requires wants { self.old.wants ≡ Wants.Left }
         requires few { self.old.left_given < 2 ^ 32 - 1 }
         ensures stands { OnOk result
-            ((lists : Lists) → StandsFor self.old lists
-            → StandsFor self.new (record lists { left = lists.left ++ packet.now ∷ [] })) }
+            ((lists : Lists) → ComparerRepresents self.old lists
+            → ComparerRepresents self.new (record lists { left = lists.left ++ packet.now ∷ [] })) }
         ensures err { OnErr result (self.new ≡ self.old) }
         ensures unheard { is_heard_by self.old.who packet.now ≡ false → result ≡ Ok tt }
         ensures who { self.new.who ≡ self.old.who }
@@ -124,7 +131,7 @@ impl Comparison {
         Ok(())
     }
 
-    /// A packet that is not heard.
+    /// Counts a packet of the left list that the decoder does not hear.
     fn pass_left(&mut self)
         requires { self.old.left_given < 2 ^ 32 - 1 }
         ensures { self.new ≡ record self.old { left_given = self.old.left_given + 1 } }
@@ -132,7 +139,7 @@ impl Comparison {
         self.left_given += 1;
     }
 
-    /// A write behind two copies of it.
+    /// Counts a write of the left list that follows two copies of itself.
     fn leave_out_left(&mut self, packet: &Packet)
         requires { self.old.left_given < 2 ^ 32 - 1 }
         ensures { self.new ≡ record self.old
@@ -142,7 +149,7 @@ impl Comparison {
         self.left_given += 1;
     }
 
-    /// A packet of the left block.
+    /// Adds a packet to the left block.
     fn join_left(&mut self, packet: &Packet) -> Result<(), AllocError>
         requires { self.old.left_given < 2 ^ 32 - 1 }
         ensures ok { OnOk result (self.new ≡ joined_left self.old packet.now) }
@@ -153,7 +160,7 @@ impl Comparison {
         Ok(())
     }
 
-    /// A write that ends the left block.
+    /// Ends the left block with a write, and requests the right list.
     fn close_left(&mut self, packet: &Packet)
         requires { self.old.left_given < 2 ^ 32 - 1 }
         ensures { self.new ≡ closed_left self.old packet.now }
@@ -163,11 +170,11 @@ impl Comparison {
         self.leave_out_left(packet);
     }
 
-    /// The right list ends.
+    /// Ends the right list, which decides the verdict.
     fn end_right(&mut self)
         requires { self.old.wants ≡ Wants.Right }
-        ensures stands { (lists : Lists) → StandsFor self.old lists
-            → StandsFor self.new (record lists { right_ended = true }) }
+        ensures stands { (lists : Lists) → ComparerRepresents self.old lists
+            → ComparerRepresents self.new (record lists { right_ended = true }) }
         ensures who { self.new.who ≡ self.old.who }
     {
         if let Some(verdict) = self.verdict_at(&None) {
@@ -175,14 +182,14 @@ impl Comparison {
         }
     }
 
-    /// The next packet of the right list.
+    /// Takes the next packet of the right list.
     fn give_right(&mut self, packet: &Packet) -> Result<(), AllocError>
         requires wants { self.old.wants ≡ Wants.Right }
         requires few { self.old.right_given < 2 ^ 32 - 1 }
         requires numbered { self.old.block < 2 ^ 32 - 1 }
         ensures stands { OnOk result
-            ((lists : Lists) → StandsFor self.old lists
-            → StandsFor self.new (record lists { right = lists.right ++ packet.now ∷ [] })) }
+            ((lists : Lists) → ComparerRepresents self.old lists
+            → ComparerRepresents self.new (record lists { right = lists.right ++ packet.now ∷ [] })) }
         ensures err { OnErr result (self.new ≡ self.old) }
         ensures unheard { is_heard_by self.old.who packet.now ≡ false → result ≡ Ok tt }
         ensures who { self.new.who ≡ self.old.who }
@@ -203,7 +210,7 @@ impl Comparison {
         Ok(())
     }
 
-    /// A packet that is not heard.
+    /// Counts a packet of the right list that the decoder does not hear.
     fn pass_right(&mut self)
         requires { self.old.right_given < 2 ^ 32 - 1 }
         ensures { self.new ≡ record self.old { right_given = self.old.right_given + 1 } }
@@ -211,7 +218,7 @@ impl Comparison {
         self.right_given += 1;
     }
 
-    /// A write behind two copies of it.
+    /// Counts a write of the right list that follows two copies of itself.
     fn leave_out_right(&mut self, packet: &Packet)
         requires { self.old.right_given < 2 ^ 32 - 1 }
         ensures { self.new ≡ record self.old
@@ -221,7 +228,8 @@ impl Comparison {
         self.right_given += 1;
     }
 
-    /// A packet of the right block. Where the left block lacks it, the blocks differ, whatever follows.
+    /// Adds a packet to the right block. If the left block does not contain the packet, the verdict
+    /// is `Members`, for any further packets.
     fn join_right(&mut self, packet: &Packet) -> Result<(), AllocError>
         requires { self.old.right_given < 2 ^ 32 - 1 }
         ensures ok { OnOk result (JoinsRight self.old packet.now self.new) }
@@ -235,7 +243,7 @@ impl Comparison {
         Ok(())
     }
 
-    /// A write that ends the right block.
+    /// Ends the right block with a write, and compares the two blocks.
     fn close_right(&mut self, packet: &Packet)
         requires few { self.old.right_given < 2 ^ 32 - 1 }
         requires numbered { self.old.block < 2 ^ 32 - 1 }
@@ -248,7 +256,7 @@ impl Comparison {
         self.leave_out_right(packet);
     }
 
-    /// The next block of both lists begins.
+    /// Begins the next block of both lists.
     fn begin_block(&mut self)
         requires { self.old.block < 2 ^ 32 - 1 }
         ensures { self.new ≡ begun_block self.old }
@@ -259,7 +267,8 @@ impl Comparison {
         self.wants = Wants::Left;
     }
 
-    /// The verdict where both blocks have ended, the right one so. None where the next blocks decide.
+    /// Returns the verdict after the right block ended with `right_end`, which is `None` at the end
+    /// of the right list. Returns `None` if later blocks decide the verdict.
     fn verdict_at(&mut self, right_end: &Option<Packet>) -> Option<Verdict>
         ensures some { IfSome result
             (λ v. IsVerdictAtEnds self.old.block self.old.held.first self.old.left_end self.old.held.second
@@ -285,7 +294,7 @@ impl Comparison {
         }
     }
 
-    /// The difference of the two blocks.
+    /// Returns the difference of the two blocks. Returns `None` if the blocks are alike.
     fn difference(&mut self) -> Option<Verdict>
         ensures found { MatchOption result (AlikeBlocks self.old.held.first self.old.held.second)
             (λ v. BlocksDiffer self.old.block self.old.held.first self.old.held.second v) }

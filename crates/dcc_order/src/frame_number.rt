@@ -1,4 +1,4 @@
-//! The bytes of a frame as one number.
+//! Functions that return a frame as a number.
 
 ghost use Rattle.std.specs.Prelude.{◌≡◌, ◌<◌, ◌≤◌, ◌+◌, ◌*◌, ◌^◌, length};
 ghost use Rattle.dcc_order.specs.FrameNumbers as index;
@@ -8,7 +8,7 @@ ghost use Rattle.dcc_wire.specs.Frames.{IsFrame};
 use dcc_packet::Packet;
 use dcc_wire::Frame;
 
-/// The number of a packet's frame.
+/// Returns the number of the frame of a packet.
 pub fn number_of_frame(packet: &Packet) -> u64
     ensures number { result ≡ index.frame_number (spelling packet.now) }
     ensures valid { IsFrame (spelling packet.now) }
@@ -16,7 +16,7 @@ pub fn number_of_frame(packet: &Packet) -> u64
     frame_number(&packet.frame())
 }
 
-/// The bytes of a frame as one number, which no other frame has.
+/// Returns the bytes of a frame as one number. Different frames have different numbers.
 pub fn frame_number(frame: &Frame) -> u64
     ensures number { result ≡ index.frame_number frame.now }
     ensures valid { IsFrame frame.now }
@@ -25,7 +25,8 @@ pub fn frame_number(frame: &Frame) -> u64
     number_of_bytes(bytes)
 }
 
-/// The number of a few bytes: the first is the lowest, and a one stands above the last.
+/// Returns the number of these bytes: the first byte is the lowest byte, and a byte 1 stands above
+/// the last byte.
 fn number_of_bytes(bytes: &[u8]) -> u64
     requires { length bytes.now ≤ 6 }
     ensures { result ≡ index.frame_number bytes.now }
@@ -41,7 +42,7 @@ fn number_of_bytes(bytes: &[u8]) -> u64
     }
 }
 
-/// A byte below the number of those behind it.
+/// Returns the number of a byte and the bytes after this byte, whose number is `later`.
 fn below(byte: &u8, later: u64) -> u64
     requires { later < 2 ^ 56 }
     ensures { result ≡ byte.now + 256 * later }

@@ -1,4 +1,4 @@
-//! A fleet that hears a track.
+//! Functions that let a fleet hear half-bits.
 
 ghost use Rattle.std.specs.Prelude.{◌++◌, ◌∷◌, [], ℕ, List, replicate};
 ghost use Rattle.dcc_wire.specs.Framing.{StandsFor};
@@ -11,7 +11,8 @@ use dcc_packet::Packet;
 use dcc_regs::Decoder;
 use dcc_wire::{Framer, RunSeen, Seen};
 
-/// Each member hears the packet that was seen, if one was.
+/// Applies the packet of the outcome `seen` to each decoder. If the outcome is no packet, no
+/// decoder changes.
 #[inline(always)]
 fn hear_seen<D: Decoder>(decoders: &mut [D], seen: &Seen)
     ensures { EachHearsSeen D.who D.registers seen.now decoders.old decoders.new }
@@ -23,41 +24,53 @@ fn hear_seen<D: Decoder>(decoders: &mut [D], seen: &Seen)
     }
 }
 
-/// A fleet hears a half of this many microseconds. Where a packet ends with it, each member hears
-/// that packet, and otherwise each stays as it is. The answer is that of the framer.
+/// A fleet hears a half-bit of `us` microseconds. If a packet ends with this half-bit, each decoder
+/// hears the packet. If no packet ends, no decoder changes. Returns the outcome that the framer
+/// returns.
 ///
-/// This is [`hear`] for members of one type, boxed or not, as a crate needs it that has a fleet of its own kind.
+/// `hear_half` is [`hear`] for decoders of one type, in boxes or not.
 #[inline(always)]
 pub fn hear_half<D: Decoder>(decoders: &mut [D], framer: &mut Framer, us: u16) -> Seen
-    // The framer takes the half, and answers what it shows behind whatever halves came before.
+    // The framer takes the half-bit, and the result is the outcome that ends with this half-bit.
     ensures history { (halves : List ℕ) × StandsFor framer.old halves }
     ensures pushes { PushesHalf framer.old us result framer.new }
-    // Each member hears the packet that was seen, if one was.
+    // Each decoder hears the packet of the outcome, if it is a packet.
     ensures hears { EachHearsSeen D.who D.registers result decoders.old decoders.new }
-    // So members that have heard a list of halves have then heard the list with this half behind it.
+    // Decoders that have heard a list of half-bits before the call have heard the list with this
+    // half-bit at its end after the call.
     ensures since { HearMore D.who D.registers framer.old (us ∷ []) decoders.old decoders.new }
 {
-    let seen = framer.push(us);
-    hear_seen(decoders, &seen);
-    seen
+    // (most half-bits have no outcome, and then no outcome has to be in memory)
+    match framer.push(us) {
+        Seen::Nothing => {
+            hear_seen(decoders, &Seen::Nothing);
+            Seen::Nothing
+        }
+        seen => {
+            hear_seen(decoders, &seen);
+            seen
+        }
+    }
 }
 
-/// A fleet hears n halves of this many microseconds, as n calls of [`hear_half`] would. At most one packet ends in them: where one
-/// does, each member hears it, and otherwise each stays as it is. The answer is that of the framer.
+/// A fleet hears `n` half-bits of `us` microseconds, as `n` calls of [`hear_half`] do. At most one
+/// packet ends in these half-bits. If a packet ends, each decoder hears the packet. If no packet
+/// ends, no decoder changes. Returns the outcome that the framer returns.
 ///
-/// This is [`hear_run`] for members of one type, boxed or not.
+/// `hear_half_run` is [`hear_run`] for decoders of one type, in boxes or not.
 pub fn hear_half_run<D: Decoder>(
     decoders: &mut [D],
     framer: &mut Framer,
     us: u16,
     n: u32,
 ) -> RunSeen
-    // The framer takes the halves, and answers what they show behind whatever halves came before.
+    // The framer takes the half-bits, and the result is the outcome that ends in them.
     ensures history { (halves : List ℕ) × StandsFor framer.old halves }
     ensures pushes { PushesRun framer.old us n result framer.new }
-    // Each member hears the packet that was seen, if one was.
+    // Each decoder hears the packet of the outcome, if it is a packet.
     ensures hears { EachHearsSeen D.who D.registers result.seen decoders.old decoders.new }
-    // So members that have heard a list of halves have then heard the list with these halves behind it.
+    // Decoders that have heard a list of half-bits before the call have heard the list with these
+    // half-bits at its end after the call.
     ensures since { HearMore D.who D.registers framer.old (replicate n us) decoders.old decoders.new }
 {
     let run = framer.push_run(us, n);
@@ -65,36 +78,40 @@ pub fn hear_half_run<D: Decoder>(
     run
 }
 
-/// A fleet hears a half of this many microseconds. Where a packet ends with it, each member hears
-/// that packet, and otherwise each stays as it is. The answer is that of the framer.
+/// A fleet hears a half-bit of `us` microseconds. If a packet ends with this half-bit, each decoder
+/// hears the packet. If no packet ends, no decoder changes. Returns the outcome that the framer
+/// returns.
 pub fn hear(decoders: &mut [Box<dyn Decoder>], framer: &mut Framer, us: u16) -> Seen
-    // The framer takes the half, and answers what it shows behind whatever halves came before.
+    // The framer takes the half-bit, and the result is the outcome that ends with this half-bit.
     ensures history { (halves : List ℕ) × StandsFor framer.old halves }
     ensures pushes { PushesHalf framer.old us result framer.new }
-    // Each member hears the packet that was seen, if one was.
+    // Each decoder hears the packet of the outcome, if it is a packet.
     ensures hears { EachHearsSeen who registers result decoders.old decoders.new }
-    // So members that have heard a list of halves have then heard the list with this half behind it.
+    // Decoders that have heard a list of half-bits before the call have heard the list with this
+    // half-bit at its end after the call.
     ensures since { HearMore who registers framer.old (us ∷ []) decoders.old decoders.new }
 {
     hear_half(decoders, framer, us)
 }
 
-/// A fleet hears n halves of this many microseconds, as n calls of [`hear`] would. At most one packet ends in them: where one
-/// does, each member hears it, and otherwise each stays as it is. The answer is that of the framer.
+/// A fleet hears `n` half-bits of `us` microseconds, as `n` calls of [`hear`] do. At most one
+/// packet ends in these half-bits. If a packet ends, each decoder hears the packet. If no packet
+/// ends, no decoder changes. Returns the outcome that the framer returns.
 pub fn hear_run(decoders: &mut [Box<dyn Decoder>], framer: &mut Framer, us: u16, n: u32) -> RunSeen
-    // The framer takes the halves, and answers what they show behind whatever halves came before.
+    // The framer takes the half-bits, and the result is the outcome that ends in them.
     ensures history { (halves : List ℕ) × StandsFor framer.old halves }
     ensures pushes { PushesRun framer.old us n result framer.new }
-    // Each member hears the packet that was seen, if one was.
+    // Each decoder hears the packet of the outcome, if it is a packet.
     ensures hears { EachHearsSeen who registers result.seen decoders.old decoders.new }
-    // So members that have heard a list of halves have then heard the list with these halves behind it.
+    // Decoders that have heard a list of half-bits before the call have heard the list with these
+    // half-bits at its end after the call.
     ensures since { HearMore who registers framer.old (replicate n us) decoders.old decoders.new }
 {
     hear_half_run(decoders, framer, us, n)
 }
 
-/// A fleet hears a piece of a track, half by half. So the track may come in pieces of any length: members that have heard
-/// the halves before it have then heard these behind them.
+/// A fleet hears a piece of a track, which can have any length. Decoders that have heard a list of
+/// half-bits before the call have heard the list with the piece at its end after the call.
 pub fn hear_piece<D: Decoder>(decoders: &mut [D], framer: &mut Framer, durations: &[u16])
     ensures stands { (halves : List ℕ) → StandsFor framer.old halves → StandsFor framer.new (halves ++ durations.now) }
     ensures since { HearMore D.who D.registers framer.old durations.now decoders.old decoders.new }

@@ -1,4 +1,4 @@
-//! Two blocks that are held until both have ended and can be compared.
+//! Two blocks that are stored until both have ended and can be compared.
 
 ghost use Rattle.std.specs.Prelude.{◌≡◌, ◌↔◌, ◌+◌, ◌<◌, ◌^◌, ◌++◌, ◌∷◌, [], true, false, IsTrue, OnOk, OnErr, length};
 ghost use Rattle.std.specs.Prelude.{Contains};
@@ -6,25 +6,31 @@ ghost use Rattle.dcc_order.specs.AlikeLists.{SameMembers, SameOrder};
 ghost use Rattle.dcc_order.specs.Held.{nothing_held};
 
 use crate::frame_number::number_of_frame;
-use crate::places::{Place, has_each_below, number_at, push_place, same_turns_of_all, set_member};
+use crate::places::{
+    Place, contains_all_below, number_at, push_place, same_turns_of_all, set_distinct_packet,
+};
 use crate::turns::Turns;
 use dcc_packet::Packet;
 use std::alloc::{AllocError, Global};
 use std::collections::BTreeMap;
 use std::marker::Model;
 
-/// Two blocks. The packets of the second are held by their numbers in the first, and a packet that the first lacks is not
-/// held: that blocks with such a packet differ is known at once. All memory that comparing them needs is taken while
-/// packets are given: the lists of their packets, one entry for each, the index of the different ones by their frames, in
-/// which there are numbers alone, and room for the turns of each.
+/// The open blocks of two lists. The packets of the second block are stored as numbers of packets
+/// of the first block. A packet that the first block does not contain is not stored, since the
+/// blocks then differ.
+///
+/// All memory is allocated while packets are appended. The memory holds the packets of the blocks,
+/// the turns of each different packet, and an index of the different packets by the numbers of
+/// their frames.
 #[derive(Drop)]
 pub struct HeldBlocks {
     places: Vec<Place>,
     count: usize,
     others: Vec<usize>,
-    // The number of each different packet, by the number of its frame. It is no list of packets: it holds none.
+    // the number of each different packet, with the number of its frame as the key
     index: BTreeMap<u64, usize>,
-    // Room for the turns of each different packet, empty but while the blocks are compared.
+    // these lists have capacity for the turns of each different packet, and are empty except during
+    // a comparison
     turns: Vec<Turns>,
     other_turns: Vec<Turns>,
 }
@@ -48,7 +54,7 @@ impl Model for HeldBlocks {
 }
 
 impl HeldBlocks {
-    /// No packets.
+    /// Creates two empty blocks.
     pub fn new(alloc: Global) -> HeldBlocks
         ensures { result ≡ nothing_held }
     {
@@ -62,7 +68,9 @@ impl HeldBlocks {
         }
     }
 
-    /// One more packet of the first block.
+    /// Appends a packet to the first block.
+    ///
+    /// Errors: AllocError if an allocation fails. If an allocation fails, the blocks are unchanged.
     pub fn push_first(&mut self, packet: &Packet) -> Result<(), AllocError>
         ensures ok { OnOk result (self.new ≡ record self.old { first = self.old.first ++ packet.now ∷ [] }) }
         ensures err { OnErr result (self.new ≡ self.old) }
@@ -73,17 +81,20 @@ impl HeldBlocks {
         self.turns.reserve(members)?;
         self.other_turns.reserve(members)?;
         self.places.reserve(1)?;
-        // A known packet stays where it is in the index.
+        // a packet that the index contains keeps its number
         self.index.insert(frame, number)?;
         push_place(&mut self.places, number, packet);
         if number == self.count {
-            set_member(&mut self.places, number, packet);
+            set_distinct_packet(&mut self.places, number, packet);
             self.count += 1;
         }
         Ok(())
     }
 
-    /// One more packet of the second block. The answer is whether the first has it: where not, nothing has changed.
+    /// Appends a packet to the second block and returns true. Returns false, and changes nothing,
+    /// if the first block does not contain the packet.
+    ///
+    /// Errors: AllocError if an allocation fails. If an allocation fails, the blocks are unchanged.
     pub fn push_second(&mut self, packet: &Packet) -> Result<bool, AllocError>
         ensures known { result ≡ Ok true
             → (self.new ≡ record self.old { second = self.old.second ++ packet.now ∷ [] }) }
@@ -99,7 +110,7 @@ impl HeldBlocks {
         Ok(true)
     }
 
-    /// How many packets are held.
+    /// Returns the number of packets in both blocks together.
     pub fn len(&self) -> u64
         ensures { length self.now.first + length self.now.second < 2 ^ 64
             → result ≡ length self.now.first + length self.now.second }
@@ -108,7 +119,7 @@ impl HeldBlocks {
         first.saturating_add(self.others.len() as u64)
     }
 
-    /// Lets all packets go. The room of the lists stays; that of the index, which finds a packet by its number, is given back.
+    /// Clears both blocks. The lists keep their capacity, and the index frees its memory.
     pub fn clear(&mut self)
         ensures { self.new ≡ nothing_held }
     {
@@ -118,17 +129,18 @@ impl HeldBlocks {
         self.index.clear();
     }
 
-    /// Whether the blocks have the same set of packets.
+    /// Returns true if both blocks have the same set of packets.
     pub fn has_same_members(&mut self) -> bool
         ensures same { IsTrue result ↔ SameMembers self.old.first self.old.second }
         ensures unchanged { self.new ≡ self.old }
     {
-        let same = has_each_below(self.others.as_slice(), self.count, &mut self.other_turns);
+        let same = contains_all_below(self.others.as_slice(), self.count, &mut self.other_turns);
         self.other_turns.clear();
         same
     }
 
-    /// Whether any two packets of the first block that conflict take the same turns in both.
+    /// Returns true if each two conflicting packets of the first block alternate equally in both
+    /// blocks.
     pub fn has_same_order(&mut self) -> bool
         ensures same { IsTrue result ↔ SameOrder self.old.first self.old.second }
         ensures unchanged { self.new ≡ self.old }

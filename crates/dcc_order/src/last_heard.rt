@@ -1,4 +1,4 @@
-//! What a decoder heard last.
+//! The last packets that a decoder heard.
 
 ghost use Rattle.std.specs.Prelude.{◌≡◌, ◌&&◌};
 ghost use Rattle.dcc_regs.specs.Result.{is_repeated};
@@ -6,7 +6,7 @@ ghost use Rattle.dcc_order.specs.Comparisons.{heard_next, nothing_heard};
 
 use dcc_packet::Packet;
 
-/// The packet that was heard last, and whether the one before it was the same.
+/// The last packet that was heard, and true if the packet before it was equal.
 #[derive(Clone, Copy, Debug)]
 pub struct LastHeard {
     packet: Option<Packet>,
@@ -14,7 +14,7 @@ pub struct LastHeard {
 }
 
 impl LastHeard {
-    /// Before the first packet.
+    /// Creates the state before the first packet was heard.
     pub fn nothing() -> LastHeard
         ensures { result ≡ nothing_heard }
     {
@@ -24,7 +24,7 @@ impl LastHeard {
         }
     }
 
-    /// With one more packet.
+    /// Returns the state after one more packet was heard.
     pub fn and(self, packet: &Packet) -> LastHeard
         ensures { result ≡ heard_next self packet.now }
     {
@@ -34,7 +34,7 @@ impl LastHeard {
         }
     }
 
-    /// Whether the last two were this packet.
+    /// Returns true if the last two packets that were heard equal `packet`.
     pub fn was_twice(&self, packet: &Packet) -> bool
         ensures { result ≡ (self.now.is_second && is_repeated self.now.packet packet.now) }
     {

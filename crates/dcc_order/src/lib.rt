@@ -1,5 +1,5 @@
-//! Decoders that hear a track, lists of packets that are alike for a decoder, and the first difference of two
-//! lists.
+//! Decoders that hear a track, lists of packets that are alike for a decoder, and the first
+//! difference of two lists of packets.
 #![tactic(auto)]
 
 mod alike_tracks;

@@ -1,9 +1,9 @@
-//! Want of memory.
+//! The error of a failed allocation.
 
 use std::alloc::AllocError;
 use thiserror::Error;
 
-/// An allocation was refused.
+/// The error that an allocation failed.
 #[derive(Clone, Copy, Debug, PartialEq, Eq, Error)]
 #[error("no memory")]
 pub struct NoMemory;

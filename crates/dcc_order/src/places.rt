@@ -1,4 +1,5 @@
-//! The places of a list of packets, each with a number and, beside it, the packet of a number.
+//! Slots of an array, which stores the packets of a block and also the different packets of this
+//! block.
 
 ghost use Rattle.std.specs.Prelude.{◌≡◌, ◌↔◌, ◌<◌, ◌≤◌, ℕ, IsTrue, length, slice_index_or, slice_set, vec_len};
 ghost use Rattle.std.specs.Prelude.{vec_capacity, Contains, ◌+◌, ◌++◌, ◌∷◌, []};
@@ -7,7 +8,7 @@ ghost use Rattle.std.specs.List.{AllByRecursion};
 ghost use Rattle.std.specs.Option.{unwrap_or};
 ghost use Rattle.std.specs.Ordering.{nat_cmp};
 ghost use Rattle.dcc_order.specs.declared.places.Place.{Place};
-ghost use Rattle.dcc_order.specs.HeldPlaces.{NumberedAlike, numbers_at};
+ghost use Rattle.dcc_order.specs.HeldPlaces.{NumberedAlike, numbers_in_slots};
 ghost use Rattle.dcc_order.specs.declared.turns.Turns.{Turns as TurnsOf};
 ghost use Rattle.dcc_order.specs.Turns.{Counted, Started};
 ghost use Rattle.dcc_regs.specs.Conflict.{Conflict};
@@ -17,15 +18,17 @@ use dcc_packet::Packet;
 use dcc_regs::{conflict, sets_nothing};
 use std::collections::BTreeMap;
 
-/// A place in the list of the first block: the number of the packet that came here, and beside it the packet that has
-/// the number of this place, if one has. So the different packets need no list of their own.
+/// A slot of the first block, with two independent parts. The field `number` of slot i is the
+/// number of the packet at place i of the block. The field `member` is the different packet with
+/// number i, if there is one. So the different packets need no array of their own.
 #[derive(Clone, Copy, Debug)]
 pub struct Place {
     pub number: usize,
     pub member: Packet,
 }
 
-/// The number that an index has for a frame, or how many numbers there are where it has none.
+/// Returns the number of a frame in the index. Returns `count` if the index does not contain the
+/// frame.
 pub fn number_at(index: &BTreeMap<u64, usize>, frame: u64, count: usize) -> usize
     ensures { result ≡ unwrap_or (get nat_cmp index.now frame) count }
 {
@@ -35,7 +38,7 @@ pub fn number_at(index: &BTreeMap<u64, usize>, frame: u64, count: usize) -> usiz
     }
 }
 
-/// One more place, for which there is room.
+/// Appends a slot to the array, which must have capacity for it.
 pub fn push_place(places: &mut Vec<Place>, number: usize, packet: &Packet)
     requires { vec_len places.old < vec_capacity places.old }
     ensures items { places.new.items ≡ places.old.items ++ (record { number = number; member = packet.now }) ∷ [] }
@@ -47,8 +50,8 @@ pub fn push_place(places: &mut Vec<Place>, number: usize, packet: &Packet)
     });
 }
 
-/// This packet has the number of this place.
-pub fn set_member(places: &mut Vec<Place>, at: usize, packet: &Packet)
+/// Stores the different packet with the number `at`.
+pub fn set_distinct_packet(places: &mut Vec<Place>, at: usize, packet: &Packet)
     requires { at < vec_len places.old }
     ensures { (d : Place)
         → places.new.items ≡ slice_set places.old.items at
@@ -60,20 +63,22 @@ pub fn set_member(places: &mut Vec<Place>, at: usize, packet: &Packet)
     };
 }
 
-/// Whether each number below a count is among numbers below it. There is room for the turns of each.
-pub fn has_each_below(numbers: &[usize], count: usize, turns: &mut Vec<Turns>) -> bool
+/// Returns true if `numbers` contains each number below `count`. The list `turns` must have
+/// capacity for `count` entries.
+pub fn contains_all_below(numbers: &[usize], count: usize, turns: &mut Vec<Turns>) -> bool
     requires below { AllByRecursion (λ n. n < count) numbers.now }
     requires room { count ≤ vec_capacity turns.old }
     ensures each { IsTrue result ↔ ((k : ℕ) → k < count → Contains numbers.now k) }
     ensures room { vec_capacity turns.old ≤ vec_capacity turns.new }
 {
-    // No number is the count itself, so each is a rival that comes.
+    // `numbers` does not contain `count`, so each number in it is a rival of packet `count`.
     count_turns(turns, count, count, numbers);
-    each_has_come(turns.as_slice())
+    all_rivals_occur(turns.as_slice())
 }
 
-/// Whether each rival has a turn, where it alone takes any.
-fn each_has_come(turns: &[Turns]) -> bool
+/// Returns true if the block contains each rival. The turns must be those of a packet that the
+/// block does not contain.
+fn all_rivals_occur(turns: &[Turns]) -> bool
     ensures { IsTrue result ↔
         ((k : ℕ) (t : TurnsOf) → k < length turns.now → IsTrue (slice_index_or turns.now k t).rival_last) }
 {
@@ -85,7 +90,8 @@ fn each_has_come(turns: &[Turns]) -> bool
     true
 }
 
-/// Whether any two members that conflict take the same turns in both blocks. There is room for the turns of each member.
+/// Returns true if each two different packets that conflict alternate equally in both blocks. The
+/// lists of turns must have capacity for an entry for each different packet.
 pub fn same_turns_of_all(
     places: &[Place],
     count: usize,
@@ -108,8 +114,9 @@ pub fn same_turns_of_all(
     true
 }
 
-/// Whether a member takes the same turns in both blocks with each member before it that it conflicts with. Conflict is
-/// mutual, so those behind it are left to their own turn.
+/// Returns true if packet `own` and each conflicting packet with a lower number alternate equally
+/// in both blocks. Conflict is symmetric, so the calls for the higher numbers compare the other
+/// pairs.
 fn same_turns_of(
     places: &[Place],
     own: usize,
@@ -124,7 +131,7 @@ fn same_turns_of(
     ensures room { vec_capacity turns.old ≤ vec_capacity turns.new }
     ensures other_room { vec_capacity other_turns.old ≤ vec_capacity other_turns.new }
 {
-    // What sets nothing conflicts with nothing.
+    // a packet that sets no register conflicts with no packet
     if sets_nothing(&places[own].member) {
         return true;
     }
@@ -133,7 +140,8 @@ fn same_turns_of(
     same_turns_at(places, own, turns.as_slice(), other_turns.as_slice())
 }
 
-/// Whether a member takes the same turns with each of the first members that it conflicts with.
+/// Returns true if packet `own` has equal turns in both lists with each rival that conflicts with
+/// packet `own`.
 fn same_turns_at(places: &[Place], own: usize, left: &[Turns], right: &[Turns]) -> bool
     requires own_in { own < length places.now }
     requires within { length left.now ≤ length places.now }
@@ -143,7 +151,8 @@ fn same_turns_at(places: &[Place], own: usize, left: &[Turns], right: &[Turns]) 
         → slice_index_or left.now rival t ≡ slice_index_or right.now rival t) }
 {
     for (rival, taken) in left.iter().enumerate() {
-        // Most turns are the same, and that is told faster than a conflict.
+        // most turns are equal, and the comparison of turns is faster than the search for a
+        // conflict
         if !taken.is(&right[rival]) && conflict(&places[own].member, &places[rival].member) {
             return false;
         }
@@ -151,10 +160,11 @@ fn same_turns_at(places: &[Place], own: usize, left: &[Turns], right: &[Turns]) 
     true
 }
 
-/// How a member and each member take turns in the first block.
+/// Counts the turns that packet `own` and each of the first `count` different packets take in the
+/// first block.
 fn count_turns_at(turns: &mut Vec<Turns>, own: usize, count: usize, places: &[Place])
     requires { count ≤ vec_capacity turns.old }
-    ensures counted { Counted turns.new.items own count (numbers_at places.now) }
+    ensures counted { Counted turns.new.items own count (numbers_in_slots places.now) }
     ensures room { vec_capacity turns.old ≤ vec_capacity turns.new }
 {
     begin_turns(turns, count);
@@ -163,7 +173,8 @@ fn count_turns_at(turns: &mut Vec<Turns>, own: usize, count: usize, places: &[Pl
     }
 }
 
-/// How a member and each member take turns in the second block.
+/// Counts the turns that packet `own` and each of the first `count` different packets take in a
+/// block, given as numbers.
 fn count_turns(turns: &mut Vec<Turns>, own: usize, count: usize, numbers: &[usize])
     requires { count ≤ vec_capacity turns.old }
     ensures counted { Counted turns.new.items own count numbers.now }
@@ -175,7 +186,7 @@ fn count_turns(turns: &mut Vec<Turns>, own: usize, count: usize, numbers: &[usiz
     }
 }
 
-/// Before any turn.
+/// Sets the turns of `count` rivals to none.
 fn begin_turns(turns: &mut Vec<Turns>, count: usize)
     requires { count ≤ vec_capacity turns.old }
     ensures begun { Started turns.new.items count }

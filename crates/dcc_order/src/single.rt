@@ -1,4 +1,4 @@
-//! The headline for those who have decoders and no fleets.
+//! The headline theorem for single decoders, with functions that let a decoder hear a track.
 
 ghost use Rattle.std.specs.Prelude.{◌≡◌, ◌++◌, ◌∷◌, [], ℕ, List};
 ghost use Rattle.dcc_wire.specs.Framing.{StandsFor};
@@ -12,22 +12,24 @@ use dcc_packet::Packet;
 use dcc_regs::Decoder;
 use dcc_wire::{Framer, Seen};
 
-/// Two decoders hear two tracks, each through a new framer and in pieces of any length. Where they were equal, of whatever
-/// types, and the packets of the two tracks are alike for them, they are equal again: [`hear_two_tracks`](crate::hear_two_tracks)
-/// for one of each.
+/// Two decoders hear two tracks, each through a new framer and in pieces of any length.
+///
+/// If the decoders were equal, and the packets of the two tracks are alike for them, then they are
+/// equal again. The decoders can have different types. For fleets, use
+/// [`hear_two_tracks`](crate::hear_two_tracks).
 pub fn hear_two<L: Decoder, R: Decoder>(
     left: &mut L,
     right: &mut R,
     pieces: &[&[u16]],
     others: &[&[u16]],
 )
-    // Each has heard its track.
+    // Each decoder has heard its track.
     ensures left { HasHeardHalves (whole_track pieces.now) (L.who left.old) (L.registers left.old)
         (L.who left.new) (L.registers left.new) }
     ensures right { HasHeardHalves (whole_track others.now) (R.who right.old) (R.registers right.old)
         (R.who right.new) (R.registers right.new) }
 
-    // So equal decoders, for whom the tracks are alike, are equal again.
+    // If the decoders were equal and the tracks are alike for them, they are equal again.
     ensures alike { L.who left.old ≡ R.who right.old → L.registers left.old ≡ R.registers right.old →
         AlikeHalves (L.who left.old) (whole_track pieces.now) (whole_track others.now) →
         L.registers left.new ≡ R.registers right.new }
@@ -36,7 +38,7 @@ pub fn hear_two<L: Decoder, R: Decoder>(
     hear_one(right, others);
 }
 
-/// A decoder hears a track through a new framer. The track may come in pieces of any length.
+/// A decoder hears a track through a new framer. The track can come in pieces of any length.
 pub fn hear_one<D: Decoder>(decoder: &mut D, pieces: &[&[u16]])
     ensures { HasHeardHalves (whole_track pieces.now) (D.who decoder.old) (D.registers decoder.old)
         (D.who decoder.new) (D.registers decoder.new) }
@@ -47,7 +49,7 @@ pub fn hear_one<D: Decoder>(decoder: &mut D, pieces: &[&[u16]])
     }
 }
 
-/// A decoder hears a piece of its track, half by half.
+/// A decoder hears a piece of its track, half-bit by half-bit.
 fn hear_its_piece<D: Decoder>(decoder: &mut D, framer: &mut Framer, durations: &[u16])
     ensures stands { (halves : List ℕ) → StandsFor framer.old halves → StandsFor framer.new (halves ++ durations.now) }
     ensures since { (halves : List ℕ) → StandsFor framer.old halves → (start : Who) (registers : RegisterMap) →
@@ -59,7 +61,7 @@ fn hear_its_piece<D: Decoder>(decoder: &mut D, framer: &mut Framer, durations: &
     }
 }
 
-/// A decoder hears a half of its track.
+/// A decoder hears a half-bit of its track.
 fn hear_its_half<D: Decoder>(decoder: &mut D, framer: &mut Framer, us: u16)
     ensures stands { (halves : List ℕ) → StandsFor framer.old halves → StandsFor framer.new (halves ++ us ∷ []) }
     ensures since { (halves : List ℕ) → StandsFor framer.old halves → (start : Who) (registers : RegisterMap) →
@@ -70,7 +72,8 @@ fn hear_its_half<D: Decoder>(decoder: &mut D, framer: &mut Framer, us: u16)
     take_seen(decoder, &seen);
 }
 
-/// A decoder hears the packet that was seen, if one was.
+/// Applies the packet of the outcome `seen` to a decoder. If the outcome is no packet, the decoder
+/// does not change.
 fn take_seen<D: Decoder>(decoder: &mut D, seen: &Seen)
     ensures { (shown : List Packet) × AreSpelled shown (frames_of seen.now)
         × HasHeard shown (D.who decoder.old) (D.registers decoder.old) (D.who decoder.new) (D.registers decoder.new) }

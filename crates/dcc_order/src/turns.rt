@@ -1,11 +1,11 @@
-//! How a packet and its rivals take turns in a block.
+//! The turns that a packet and its rivals take in a block.
 
 ghost use Rattle.std.specs.Prelude.{◌≡◌, ◌↔◌, ◌<◌, ◌-◌, ◌^◌, ℕ, IsTrue, length, slice_index_or, map};
 ghost use Rattle.dcc_order.specs.declared.turns.Turns.{Turns};
 ghost use Rattle.dcc_order.specs.Turns.{no_turns, own_turn, rival_turn, with_turn};
 
-/// How many turns a packet and a rival take, and whether the rival has the last. That tells all: they take turns, so
-/// these two numbers say which was first too.
+/// The number of turns that a packet and a rival take in a block, and true if the rival takes the
+/// last turn. The turns alternate, so these two values also determine which packet comes first.
 #[derive(Clone, Copy, Debug)]
 pub struct Turns {
     count: usize,
@@ -13,7 +13,7 @@ pub struct Turns {
 }
 
 impl Turns {
-    /// Before any turn.
+    /// Creates the state in which no turn was taken.
     pub fn none() -> Turns
         ensures { result ≡ no_turns }
     {
@@ -23,7 +23,7 @@ impl Turns {
         }
     }
 
-    /// The packet itself comes.
+    /// Returns the turns after the packet itself comes once more.
     fn with_own(self) -> Turns
         requires { self.count < 2 ^ 64 - 1 }
         ensures { result ≡ own_turn self }
@@ -38,7 +38,7 @@ impl Turns {
         }
     }
 
-    /// Its rival comes.
+    /// Returns the turns after the rival comes once more.
     fn with_rival(self) -> Turns
         requires { self.count < 2 ^ 64 - 1 }
         ensures { result ≡ rival_turn self }
@@ -53,7 +53,7 @@ impl Turns {
         }
     }
 
-    /// Whether the rival has the last turn.
+    /// Returns true if the rival took the last turn.
     pub fn rival_came_last(&self) -> bool
         ensures { result ≡ self.now.rival_last }
     {
@@ -67,7 +67,7 @@ impl Turns {
     }
 }
 
-/// The packet that all these are of comes.
+/// Updates the turns of a packet with each rival after the packet itself comes once more.
 fn take_own_turn(turns: &mut [Turns])
     requires { (rival : ℕ) (d : Turns) → rival < length turns.old
         → (slice_index_or turns.old rival d).count < 2 ^ 64 - 1 }
@@ -78,7 +78,8 @@ fn take_own_turn(turns: &mut [Turns])
     }
 }
 
-/// The packet of this number comes.
+/// Updates the turns of packet `own` with each rival: packet `number` is the next packet of the
+/// block.
 pub fn take_turn(turns: &mut [Turns], own: usize, number: usize)
     requires { (rival : ℕ) (d : Turns) → rival < length turns.old
         → (slice_index_or turns.old rival d).count < 2 ^ 64 - 1 }

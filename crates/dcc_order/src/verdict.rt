@@ -1,16 +1,18 @@
-//! The verdict on two lists.
+//! The type of the verdict on two lists of packets.
 
-/// The first difference of two lists of packets for a decoder, or that there is none. A list is what the decoder hears,
-/// with two left of more than two equal writes in a row; these writes, of configuration variables of its own, cut the
-/// rest into blocks, numbered from 0.
+/// The verdict on two lists of packets for a decoder: `Alike`, or the first difference.
+///
+/// The compared lists contain only the packets that the decoder hears, and at most two of equal own
+/// writes in a row. The own writes cut each list into blocks, which are numbered from 0.
 #[derive(Clone, Copy, Debug, PartialEq, Eq)]
 pub enum Verdict {
-    /// There is none: every decoder of that name is left the same by both.
+    /// The lists are alike: both leave each decoder with this address with equal registers.
     Alike,
-    /// After blocks that are alike comes another write, or a write in one of the lists alone.
+    /// The writes after alike blocks differ, or only one of the lists has a write.
     Writes,
-    /// The blocks of this number have different sets of packets.
+    /// The blocks with this number have different sets of packets.
     Members(u32),
-    /// The blocks of this number have the same packets, and two of them that conflict take turns differently.
+    /// The blocks with this number have the same set of packets, and two conflicting packets
+    /// alternate differently.
     Order(u32),
 }

@@ -1,14 +1,14 @@
-//! What a comparison of two lists wants next.
+//! The next request of a comparison of two lists.
 
 use crate::verdict::Verdict;
 
-/// The side whose next packet, or whose end, is to be given, or the verdict where it is settled.
+/// The list that must give its next packet or its end, or the verdict.
 #[derive(Clone, Copy, Debug, PartialEq, Eq)]
 pub enum Wants {
-    /// The next packet of the first list, or its end.
+    /// The first list must give its next packet or its end.
     Left,
-    /// The next packet of the second list, or its end.
+    /// The second list must give its next packet or its end.
     Right,
-    /// Nothing: whatever may follow, this is the verdict.
+    /// The verdict is decided, for any further packets.
     Done(Verdict),
 }

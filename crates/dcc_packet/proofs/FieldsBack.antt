@@ -6,16 +6,12 @@ use Rattle.std.proofs.lemmas.List.{append-nil}
 use Rattle.dcc_packet.specs.declared.fault.PacketFault.{PacketFault}
 use Rattle.dcc_packet.specs.Words.{Word}
 use Rattle.dcc_packet.specs.Written.{spaced_words}
+use Rattle.dcc_packet.proofs.AllLemmas.{all_append}
 use Rattle.dcc_packet.specs.Fields.{FieldOf, one_word, both, whole, IsToken, IsReadBack}
 
 pub one_word_back : {A : Type 0} (rule : Word → Result A PacketFault) (word : A → Word)
     → ((x : A) → rule (word x) ≡ Ok x) → ((x : A) → IsToken (word x)) → IsReadBack (one_word rule word)
 one_word_back rule word back token = record { back = λ x rest h. rw (back x) refl; tokens = λ x h. (token x, tt) }
-
-all_of_both : (ws more : List Word) → AllByRecursion IsToken ws → AllByRecursion IsToken more
-    → AllByRecursion IsToken (ws ++ more)
-all_of_both [] more h k = k
-all_of_both (w ∷ ws) more h k = (h.0, all_of_both ws more h.1 k)
 
 pub both_back : {A B : Type 0} (first : FieldOf A) (second : FieldOf B) → IsReadBack first → IsReadBack second
     → IsReadBack (both first second)
@@ -28,7 +24,7 @@ both_back first second one two =
             two.back x.1 rest h.1,
           ) refl;
       tokens = λ x h.
-          all_of_both (first.written x.0) (second.written x.1) (one.tokens x.0 h.0) (two.tokens x.1 h.1);
+          all_append IsToken (first.written x.0) (second.written x.1) (one.tokens x.0 h.0) (two.tokens x.1 h.1);
     }
 
 -- a line of a field

@@ -1,5 +1,6 @@
 -- What is written in one of several forms is read again.
-use Rattle.std.proofs.Common.{◌≡◌, Bool, true, false, not, inl, inr, List, [], ◌∷◌, ◌++◌, Option, Some, None, Ok, refl, sym, ap, ◌∙◌}
+use Rattle.std.proofs.Common.{◌≡◌, Bool, true, false, not, inl, inr, List, [], ◌∷◌, ◌++◌, Option, Some, None, Ok, refl}
+use Rattle.std.proofs.Common.{sym, ap, ◌∙◌}
 use Rattle.std.specs.Prelude.{MatchOption}
 use Rattle.std.specs.Option.{option_map}
 use Rattle.std.specs.List.{AllByRecursion}
@@ -8,7 +9,8 @@ use Rattle.std.proofs.lemmas.List.{append-nil}
 use Rattle.std.proofs.lemmas.Slice.Eq.{bytes_eq-Decides}
 use Rattle.dcc_packet.specs.Words.{Word, is_word}
 use Rattle.dcc_packet.specs.Fields.{FieldOf, IsToken, IsReadBack}
-use Rattle.dcc_packet.specs.Forms.{FormOf, RowOf, row, read_by, whole_by, written_by, choice, IsForm, IsRowBack, AreBack}
+use Rattle.dcc_packet.specs.Forms.{FormOf, RowOf, row, read_by, whole_by, written_by, choice, IsForm, IsRowBack}
+use Rattle.dcc_packet.specs.Forms.{AreBack}
 use Rattle.dcc_packet.specs.Forms.{SaidBy, are_distinct, has_keyword}
 use Rattle.dcc_packet.proofs.Tokens.{keyword_token}
 

@@ -2,7 +2,7 @@
 use Rattle.std.proofs.Common.{◌≡◌, ℕ, ◌-◌, ◌+◌, List, [], ◌∷◌, ◌++◌, length, take, get_or, ap, sym, ◌∙◌, subst, arith}
 use Rattle.std.proofs.Common.{refl}
 use Rattle.std.proofs.lemmas.List.{take_at, take_all, take_more, length-append}
-use Rattle.dcc_packet.specs.Rows.{IsRow, HasRow}
+use Rattle.dcc_packet.specs.Rows.{IsPacketRow, HasRow}
 use Rattle.dcc_wire.specs.Frames.{IsFrame, xor_of, with_error_byte}
 use Rattle.dcc_wire.proofs.ErrorByte.{last_is_error_byte}
 
@@ -26,6 +26,6 @@ frame_parts bytes valid =
     parts ∙ last_is_error_byte (take n bytes) (get_or bytes n 0) zero
 
 -- a frame whose bytes are in no row has no row
-pub in_no_row : (frame : List ℕ) → IsFrame frame → ¬ (IsRow (take (length frame - 1) frame)) → ¬ (HasRow frame)
+pub in_no_row : (frame : List ℕ) → IsFrame frame → ¬ (IsPacketRow (take (length frame - 1) frame)) → ¬ (HasRow frame)
 in_no_row frame valid none (bytes, row, e) =
-    none (subst IsRow (same_bytes bytes (take (length frame - 1) frame) (sym e ∙ frame_parts frame valid)) row)
+    none (subst IsPacketRow (same_bytes bytes (take (length frame - 1) frame) (sym e ∙ frame_parts frame valid)) row)

@@ -10,13 +10,15 @@ use Rattle.dcc_packet.specs.InstructionForms.{cv_access_forms, instruction_forms
 use Rattle.dcc_packet.specs.InstructionForms.{reset_form, speed28_form, speed128_form, functions_form, state_form}
 use Rattle.dcc_packet.specs.InstructionForms.{cv_access_form, cv_write_form, cv_verify_form, cv_bit_write_form}
 use Rattle.dcc_packet.specs.InstructionForms.{cv_bit_verify_form}
-use Rattle.dcc_packet.specs.LineFields.{no_fields, direction_field, speed28_field, speed128_field, functions_field, state_field}
+use Rattle.dcc_packet.specs.LineFields.{no_fields, direction_field, speed28_field, speed128_field, functions_field}
+use Rattle.dcc_packet.specs.LineFields.{state_field}
 use Rattle.dcc_packet.specs.LineFields.{switch_field, cv_field, small_field, place_field, bit_field}
 use Rattle.dcc_packet.specs.Spelling.{ValueFits}
 use Rattle.dcc_packet.proofs.FieldsBack.{both_back}
 use Rattle.dcc_packet.proofs.FormsBack.{choice_back, row_back}
 use Rattle.dcc_packet.proofs.LineFieldsBack.{nothing_is_back, direction_is_back, speed28_is_back, speed128_is_back}
-use Rattle.dcc_packet.proofs.LineFieldsBack.{functions_are_back, state_is_back, switch_is_back, cv_is_back, small_is_back}
+use Rattle.dcc_packet.proofs.LineFieldsBack.{functions_are_back, state_is_back, switch_is_back, cv_is_back}
+use Rattle.dcc_packet.proofs.LineFieldsBack.{small_is_back}
 use Rattle.dcc_packet.proofs.LineFieldsBack.{place_is_back, bit_is_back}
 
 byte_back : IsReadBack (both cv_field small_field)

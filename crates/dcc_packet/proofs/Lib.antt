@@ -19,3 +19,4 @@ pub mod RoundTrip
 pub mod LinesSayFrames
 pub mod SameFrames
 pub mod SameAddresses
+pub mod AllLemmas

@@ -3,15 +3,21 @@ use Rattle.std.proofs.Common.{refl, arith}
 use Rattle.std.specs.Fmt.{decimal}
 use Rattle.dcc_packet.specs.Fields.{IsReadBack}
 use Rattle.dcc_packet.specs.LineFields.{address_field, board_field, output_field, signal_field, switch_field, switch_of}
-use Rattle.dcc_packet.specs.LineFields.{direction_field, direction_of, bit_field, bit_of, small_field, number_field}
-use Rattle.dcc_packet.specs.LineFields.{speed28_field, speed128_field, functions_field, state_field, cv_field, place_field}
+use Rattle.dcc_packet.specs.LineFields.{direction_field, direction_of, bit_field, bit_word_of, small_field}
+use Rattle.dcc_packet.specs.LineFields.{number_field}
+use Rattle.dcc_packet.specs.LineFields.{speed28_field, speed128_field, functions_field, state_field, cv_field}
+use Rattle.dcc_packet.specs.LineFields.{place_field}
 use Rattle.dcc_packet.specs.LineFields.{no_fields}
-use Rattle.dcc_packet.specs.LineWords.{address, address_word, board_number, output_number, signal_number, direction_word}
-use Rattle.dcc_packet.specs.LineWords.{state_word, switch_word, speed28_bits, speed128_bits, state_number, cv_number, bit_place}
+use Rattle.dcc_packet.specs.LineWords.{address, address_word, board_number, output_number, signal_number}
+use Rattle.dcc_packet.specs.LineWords.{direction_word}
+use Rattle.dcc_packet.specs.LineWords.{state_word, switch_word, speed28_bits, speed128_bits, state_number, cv_number}
+use Rattle.dcc_packet.specs.LineWords.{bit_place}
 use Rattle.dcc_packet.proofs.FieldsBack.{one_word_back}
-use Rattle.dcc_packet.proofs.Tokens.{address_word_token, decimal_token, direction_token, group_token, state_token, switch_token}
+use Rattle.dcc_packet.proofs.Tokens.{address_word_token, decimal_token, direction_token, group_token, state_token}
+use Rattle.dcc_packet.proofs.Tokens.{switch_token}
 use Rattle.dcc_packet.proofs.WordsBack.{address_back, board_back, cv_back, direction_back, group_back, group_bits_back}
-use Rattle.dcc_packet.proofs.WordsBack.{number-decimal, output_back, place_back, signal_back, small_number-decimal, speed28_bits_back}
+use Rattle.dcc_packet.proofs.WordsBack.{number-decimal, output_back, place_back, signal_back, small_number-decimal}
+use Rattle.dcc_packet.proofs.WordsBack.{speed28_bits_back}
 use Rattle.dcc_packet.proofs.WordsBack.{speed128_bits_back, state_back, state_number_back, switch_back}
 use Rattle.dcc_packet.proofs.WrittenWords.{group_is_byte}
 
@@ -47,7 +53,7 @@ direction_is_back =
 
 pub bit_is_back : IsReadBack bit_field
 bit_is_back =
-    one_word_back bit_of (λ side. state_word side.one) (λ side. rw (state_back side.one) refl)
+    one_word_back bit_word_of (λ side. state_word side.one) (λ side. rw (state_back side.one) refl)
     (λ side. state_token side.one)
 
 pub small_is_back : IsReadBack small_field

@@ -18,7 +18,8 @@ use Rattle.dcc_packet.specs.Written.{written_line, words_in_line}
 use Rattle.dcc_packet.proofs.FieldsBack.{both_back}
 use Rattle.dcc_packet.proofs.FormsBack.{found, other_word, whole_by_back, row_back}
 use Rattle.dcc_packet.proofs.InstructionFormsBack.{instruction_is_back}
-use Rattle.dcc_packet.proofs.LineFieldsBack.{nothing_is_back, address_is_back, board_is_back, output_is_back, switch_is_back}
+use Rattle.dcc_packet.proofs.LineFieldsBack.{nothing_is_back, address_is_back, board_is_back, output_is_back}
+use Rattle.dcc_packet.proofs.LineFieldsBack.{switch_is_back}
 use Rattle.dcc_packet.proofs.LineFieldsBack.{signal_is_back, small_is_back}
 use Rattle.dcc_packet.proofs.OneSpelling.{one_packet}
 use Rattle.dcc_packet.proofs.Tokens.{keyword_token, hex_token}

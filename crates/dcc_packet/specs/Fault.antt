@@ -1,11 +1,11 @@
--- The numbers of the refusals.
+-- The number of an error code P1 to P14.
 use Rattle.std.specs.Prelude.{ℕ}
 use Rattle.dcc_packet.specs.declared.fault.PacketFault.{PacketFault}
 use Rattle.dcc_packet.specs.declared.fault.PacketFault.TheVariants.{Short, Long, Board, Output, Signal, CvNumber}
 use Rattle.dcc_packet.specs.declared.fault.PacketFault.TheVariants.{BitPlace, SpeedBits, GroupBits, Word, Number}
 use Rattle.dcc_packet.specs.declared.fault.PacketFault.TheVariants.{Frame, State, StateNumber}
 
--- the number behind the letter P
+-- the number of the error code of a packet error, without the letter P
 abbrev pub packet_fault_number : PacketFault → ℕ
 packet_fault_number Short = 1
 packet_fault_number Long = 2

@@ -1,4 +1,4 @@
--- The lines of instructions to locomotives, behind the address: a form each.
+-- The forms of instructions to locomotive decoders, which follow the address.
 use Rattle.std.specs.Prelude.{◌≡◌, ℕ, true, List, [], ◌∷◌, codes, if◌then◌else◌, Some, None, Ok}
 use Rattle.dcc_packet.specs.declared.cv.BitPlace.{BitPlace}
 use Rattle.dcc_packet.specs.declared.cv.CvNumber.{CvNumber}
@@ -16,12 +16,13 @@ use Rattle.dcc_packet.specs.declared.state.StateNumber.{StateNumber}
 use Rattle.dcc_packet.specs.Fields.{FieldOf, both}
 use Rattle.dcc_packet.specs.Forms.{FormOf, RowOf, row, choice, is_said_by}
 use Rattle.dcc_packet.specs.Instruction.{is_cv_access}
-use Rattle.dcc_packet.specs.LineFields.{no_fields, direction_field, speed28_field, speed128_field, functions_field, state_field}
+use Rattle.dcc_packet.specs.LineFields.{no_fields, direction_field, speed28_field, speed128_field, functions_field}
+use Rattle.dcc_packet.specs.LineFields.{state_field}
 use Rattle.dcc_packet.specs.LineFields.{switch_field, cv_field, small_field, place_field, bit_field}
 use Rattle.dcc_packet.specs.LineWords.{◌>>=◌}
 use Rattle.dcc_packet.specs.Spelling.{ValueFits}
 
--- reset
+-- the form `reset`
 abbrev pub reset_form : FormOf What (Unit {0})
 reset_form =
     record {
@@ -30,7 +31,7 @@ reset_form =
       said = elim [ Reset ↦ Some tt | what ↦ None ];
     }
 
--- speed28 f|r BITS
+-- the form `speed28 f|r BITS`
 abbrev pub speed28_form : FormOf What (Direction × SpeedBits28)
 speed28_form =
     record {
@@ -39,7 +40,7 @@ speed28_form =
       said = elim [ Speed28 forward bits ↦ Some (record { forward = forward }, bits) | what ↦ None ];
     }
 
--- speed128 f|r BITS
+-- the form `speed128 f|r BITS`
 abbrev pub speed128_form : FormOf What (Direction × SpeedBits128)
 speed128_form =
     record {
@@ -48,7 +49,7 @@ speed128_form =
       said = elim [ Speed128 forward bits ↦ Some (record { forward = forward }, bits) | what ↦ None ];
     }
 
--- functions GROUP BITS
+-- the form `functions GROUP BITS`
 abbrev pub functions_form : FormOf What GroupBits
 functions_form =
     record {
@@ -57,7 +58,7 @@ functions_form =
       said = elim [ Functions functions ↦ Some functions | what ↦ None ];
     }
 
--- state NUMBER on|off
+-- the form `state NUMBER on|off`
 abbrev pub state_form : FormOf What (StateNumber × Switch)
 state_form =
     record {
@@ -66,7 +67,7 @@ state_form =
       said = elim [ BinaryState number on ↦ Some (number, record { on = on }) | what ↦ None ];
     }
 
--- cv write CV VALUE
+-- the form `write CV VALUE` after the word `cv`
 abbrev pub cv_write_form : FormOf What (CvNumber × ℕ)
 cv_write_form =
     record {
@@ -75,7 +76,7 @@ cv_write_form =
       said = elim [ CvWrite cv value ↦ Some (cv, value) | what ↦ None ];
     }
 
--- cv verify CV VALUE
+-- the form `verify CV VALUE` after the word `cv`
 abbrev pub cv_verify_form : FormOf What (CvNumber × ℕ)
 cv_verify_form =
     record {
@@ -84,7 +85,7 @@ cv_verify_form =
       said = elim [ CvVerify cv value ↦ Some (cv, value) | what ↦ None ];
     }
 
--- cv bitwrite CV PLACE 0|1
+-- the form `bitwrite CV PLACE 0|1` after the word `cv`
 abbrev pub cv_bit_write_form : FormOf What (CvNumber × (BitPlace × Bit))
 cv_bit_write_form =
     record {
@@ -93,7 +94,7 @@ cv_bit_write_form =
       said = elim [ CvBitWrite cv place one ↦ Some (cv, (place, record { one = one })) | what ↦ None ];
     }
 
--- cv bitverify CV PLACE 0|1
+-- the form `bitverify CV PLACE 0|1` after the word `cv`
 abbrev pub cv_bit_verify_form : FormOf What (CvNumber × (BitPlace × Bit))
 cv_bit_verify_form =
     record {
@@ -102,7 +103,7 @@ cv_bit_verify_form =
       said = elim [ CvBitVerify cv place one ↦ Some (cv, (place, record { one = one })) | what ↦ None ];
     }
 
--- the words after `cv`
+-- the four forms of the words after `cv`
 abbrev pub cv_access_forms : List (RowOf What)
 cv_access_forms =
     row (both cv_field small_field) cv_write_form
@@ -123,7 +124,7 @@ cv_access_field = record {
   written = λ access. (choice CvAccessFits cv_access_forms).written access.what;
 }
 
--- cv ..
+-- the form `cv ..`, which has the four forms of CV access after the word `cv`
 abbrev pub cv_access_form : FormOf What CvAccess
 cv_access_form =
     record {
@@ -132,7 +133,7 @@ cv_access_form =
       said = λ what. if is_cv_access what then Some (record { what = what }) else None;
     }
 
--- the words after a locomotive's address
+-- all forms of the words after the address of a locomotive decoder
 abbrev pub instruction_forms : List (RowOf What)
 instruction_forms =
     row no_fields reset_form

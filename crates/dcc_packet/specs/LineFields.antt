@@ -17,28 +17,30 @@ use Rattle.dcc_packet.specs.declared.speed.SpeedBits128.{SpeedBits128}
 use Rattle.dcc_packet.specs.declared.state.StateNumber.{StateNumber}
 use Rattle.dcc_packet.specs.Fields.{FieldOf, one_word, word_and_rest}
 use Rattle.dcc_packet.specs.LineWords.{◌>>=◌, address, address_word, number, small_number, board_number, output_number}
-use Rattle.dcc_packet.specs.LineWords.{signal_number, switch, switch_word, direction, direction_word, bit_state, state_word}
-use Rattle.dcc_packet.specs.LineWords.{speed28_bits, speed128_bits, group, group_bits, group_word, state_number, cv_number}
+use Rattle.dcc_packet.specs.LineWords.{signal_number, switch, switch_word, direction, direction_word, bit_state}
+use Rattle.dcc_packet.specs.LineWords.{state_word}
+use Rattle.dcc_packet.specs.LineWords.{speed28_bits, speed128_bits, group, group_bits, group_word, state_number}
+use Rattle.dcc_packet.specs.LineWords.{cv_number}
 use Rattle.dcc_packet.specs.LineWords.{bit_place}
 use Rattle.dcc_packet.specs.Words.{Word}
 
--- no word
+-- the field without words, for a form that has only a keyword
 abbrev pub no_fields : FieldOf (Unit {0})
 no_fields = record { Fits = λ x. Unit {0}; read = λ words. Ok (tt, words); written = λ x. [] }
 
--- TO
+-- the field TO: an address of locomotive decoders
 abbrev pub address_field : FieldOf Address
 address_field = one_word address address_word
 
--- BOARD
+-- the field BOARD: the number of an accessory decoder
 abbrev pub board_field : FieldOf Board
 board_field = one_word board_number (λ board. decimal board.number)
 
--- OUTPUT
+-- the field OUTPUT: the number of an output of an accessory decoder
 abbrev pub output_field : FieldOf Output
 output_field = one_word output_number (λ output. decimal output.number)
 
--- ADDRESS of a signal
+-- the field ADDRESS: the address of a signal
 abbrev pub signal_field : FieldOf SignalAddress
 signal_field = one_word signal_number (λ address. decimal address.number)
 
@@ -47,7 +49,7 @@ switch_of word = do
   on ← switch word
   Ok (record { on = on })
 
--- on or off
+-- the field `on|off`
 abbrev pub switch_field : FieldOf Switch
 switch_field = one_word switch_of (λ switch. switch_word switch.on)
 
@@ -56,20 +58,20 @@ direction_of word = do
   forward ← direction word
   Ok (record { forward = forward })
 
--- f for forward, r for reverse
+-- the field `f|r`: f for forward, r for reverse
 abbrev pub direction_field : FieldOf Direction
 direction_field = one_word direction_of (λ direction. direction_word direction.forward)
 
-abbrev pub bit_of : Word → Result Bit PacketFault
-bit_of word = do
+abbrev pub bit_word_of : Word → Result Bit PacketFault
+bit_word_of word = do
   one ← bit_state word
   Ok (record { one = one })
 
--- SIDE of a pair of outputs, or a bit of a CV: 1 or 0
+-- the field `0|1`: the value of a bit of a CV
 abbrev pub bit_field : FieldOf Bit
-bit_field = one_word bit_of (λ side. state_word side.one)
+bit_field = one_word bit_word_of (λ side. state_word side.one)
 
--- ASPECT, VALUE: a number up to 255
+-- the fields ASPECT and VALUE, each a number up to 255
 abbrev pub small_field : FieldOf ℕ
 small_field =
     record {
@@ -78,7 +80,7 @@ small_field =
       written = λ n. decimal n ∷ [];
     }
 
--- a number up to 65535
+-- a field of one word, which is a number up to 65535
 abbrev pub number_field : FieldOf ℕ
 number_field =
     record {
@@ -87,11 +89,11 @@ number_field =
       written = λ n. decimal n ∷ [];
     }
 
--- BITS of `speed28`
+-- the field BITS of the form `speed28`
 abbrev pub speed28_field : FieldOf SpeedBits28
 speed28_field = one_word speed28_bits (λ speed. decimal speed.bits)
 
--- BITS of `speed128`
+-- the field BITS of the form `speed128`
 abbrev pub speed128_field : FieldOf SpeedBits128
 speed128_field = one_word speed128_bits (λ speed. decimal speed.bits)
 
@@ -100,7 +102,7 @@ functions_of_words words = do
   named ← word_and_rest group words
   word_and_rest (group_bits named.0) named.1
 
--- GROUP BITS
+-- the two fields GROUP and BITS of the form `functions`
 abbrev pub functions_field : FieldOf GroupBits
 functions_field =
     record {
@@ -109,14 +111,14 @@ functions_field =
       written = λ functions. group_word functions.group ∷ decimal functions.bits ∷ [];
     }
 
--- NUMBER of a binary state
+-- the field NUMBER: the number of a binary state
 abbrev pub state_field : FieldOf StateNumber
 state_field = one_word state_number (λ state. decimal state.number)
 
--- CV
+-- the field CV: the number of a CV
 abbrev pub cv_field : FieldOf CvNumber
 cv_field = one_word cv_number (λ cv. decimal cv.number)
 
--- PLACE
+-- the field PLACE: the place of a bit in a CV
 abbrev pub place_field : FieldOf BitPlace
 place_field = one_word bit_place (λ place. decimal place.place)

@@ -1,4 +1,4 @@
--- What single words of packet lines say.
+-- The values of single words of packet lines.
 use Rattle.std.specs.Prelude.{ℕ, ◌&&◌, nat_le, Bool, true, false, List, ◌++◌, length, codes, slice_index, drop, ◌==◌}
 use Rattle.std.specs.Prelude.{if◌then◌else◌, Result, Ok, Err}
 use Rattle.std.specs.Char.{is_ascii_digit}
@@ -29,30 +29,30 @@ use Rattle.dcc_packet.specs.Values.{short_of, long_of, speed28_of, speed128_of, 
 use Rattle.dcc_packet.specs.Values.{place_of, board_of, output_of, signal_of}
 use Rattle.dcc_packet.specs.Words.{Word, is_word}
 
--- the second step, where the first gave a value
+-- the result of `f` for the value `x`, or the error `e` if there is no value
 infixl 10 ◌>>=◌
 abbrev pub ◌>>=◌ : {A B : Type 0} → Result A PacketFault → (A → Result B PacketFault) → Result B PacketFault
 (Ok x) >>= f = f x
 (Err e) >>= f = Err e
 
--- 1 to 5 decimal digits
+-- true if `word` consists of 1 to 5 decimal digits
 abbrev pub is_numeral : Word → Bool
 is_numeral word = nat_le 1 (length word) && nat_le (length word) 5 && list_all is_ascii_digit word
 
--- a numeral, at most 65535
+-- the number up to 65535 that `word` writes in 1 to 5 decimal digits, or the error P11
 abbrev pub number : Word → Result ℕ PacketFault
 number word =
     if is_numeral word
     then (if nat_le (digits_value 10 word) 65535 then Ok (digits_value 10 word) else Err faults.Number)
     else Err faults.Number
 
--- such a number up to 255
+-- the number up to 255 that `word` writes in 1 to 5 decimal digits, or the error P11
 abbrev pub small_number : Word → Result ℕ PacketFault
 small_number word = do
   n ← number word
   if nat_le n 255 then Ok n else Err faults.Number
 
--- TO: `all`, or `s` (115) or `l` (108) and a number
+-- the address that a word TO means: `all`, or `s` (code 115) or `l` (code 108) followed by a number
 abbrev pub address : Word → Result Address PacketFault
 address word =
     if is_word word (codes "all") then Ok Broadcast
@@ -60,22 +60,22 @@ address word =
     else if slice_index word 0 == 108 then number (drop 1 word) >>= long_of
     else Err faults.Word
 
--- f for forward, r for reverse
+-- true for the word `f` (forward), false for the word `r` (reverse), otherwise the error P10
 abbrev pub direction : Word → Result Bool PacketFault
 direction word =
     if is_word word (codes "f") then Ok true
     else if is_word word (codes "r") then Ok false
     else Err faults.Word
 
--- BITS of `speed28`
+-- the five speed bits of a word BITS of the form `speed28`
 abbrev pub speed28_bits : Word → Result SpeedBits28 PacketFault
 speed28_bits word = small_number word >>= speed28_of
 
--- BITS of `speed128`
+-- the seven speed bits of a word BITS of the form `speed128`
 abbrev pub speed128_bits : Word → Result SpeedBits128 PacketFault
 speed128_bits word = small_number word >>= speed128_of
 
--- GROUP: its first function, as one of ten words
+-- the function group of a word GROUP, which is the number of the first function of the group
 abbrev pub group : Word → Result Group PacketFault
 group word =
     if is_word word (codes "0") then Ok F0
@@ -90,49 +90,50 @@ group word =
     else if is_word word (codes "61") then Ok F61
     else Err faults.Word
 
--- BITS of a group
+-- the bits of function group `g` in a word BITS
 abbrev pub group_bits : Group → Word → Result GroupBits PacketFault
 group_bits g word = small_number word >>= functions_of g
 
--- NUMBER of a binary state
+-- the number of a binary state in a word NUMBER
 abbrev pub state_number : Word → Result StateNumber PacketFault
 state_number word = small_number word >>= state_of
 
--- CV
+-- the number of a CV in a word CV
 abbrev pub cv_number : Word → Result CvNumber PacketFault
 cv_number word = number word >>= cv_of
 
--- PLACE
+-- the place of a bit in a word PLACE
 abbrev pub bit_place : Word → Result BitPlace PacketFault
 bit_place word = small_number word >>= place_of
 
--- the bit that is written or compared: 1 or 0
+-- true for the word `1`, false for the word `0`, otherwise the error P10; this is the bit that a
+-- packet writes or verifies
 abbrev pub bit_state : Word → Result Bool PacketFault
 bit_state word =
     if is_word word (codes "1") then Ok true
     else if is_word word (codes "0") then Ok false
     else Err faults.Word
 
--- BOARD
+-- the number of an accessory decoder in a word BOARD
 abbrev pub board_number : Word → Result Board PacketFault
 board_number word = number word >>= board_of
 
--- OUTPUT
+-- the number of an output in a word OUTPUT
 abbrev pub output_number : Word → Result Output PacketFault
 output_number word = small_number word >>= output_of
 
--- on or off
+-- true for the word `on`, false for the word `off`, otherwise the error P10
 abbrev pub switch : Word → Result Bool PacketFault
 switch word =
     if is_word word (codes "on") then Ok true
     else if is_word word (codes "off") then Ok false
     else Err faults.Word
 
--- ADDRESS of a signal
+-- the address of a signal in a word ADDRESS
 abbrev pub signal_number : Word → Result SignalAddress PacketFault
 signal_number word = number word >>= signal_of
 
--- the frame of bytes, or the fault of a word that spells none
+-- the bytes of a frame, or the error P12 if there is no frame
 abbrev pub frame_or_fault : Result Frame FrameFault → Result (List ℕ) PacketFault
 frame_or_fault (Ok frame) = Ok frame
 frame_or_fault (Err fault) = Err faults.Frame
@@ -141,11 +142,12 @@ abbrev pub framed_bytes : Result (List ℕ) FromHexError → Result (List ℕ) P
 framed_bytes (Ok bytes) = frame_or_fault (frame_of bytes)
 framed_bytes (Err fault) = Err faults.Frame
 
--- HEX: the bytes of a frame, two digits of either case a byte
+-- the bytes of the frame in a word HEX, which has two hexadecimal digits of either case for each
+-- byte
 abbrev pub hex_frame : Word → Result (List ℕ) PacketFault
 hex_frame word = framed_bytes (decode_of word)
 
--- the words that are written
+-- the word TO that is written for an address
 abbrev pub address_word : Address → Word
 address_word Broadcast = codes "all"
 address_word (Short a) = codes "s" ++ decimal a.number

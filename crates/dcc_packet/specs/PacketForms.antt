@@ -1,4 +1,4 @@
--- The lines of packets: a form each, but for `frame HEX`.
+-- The forms of all packet lines except `frame HEX`.
 use Rattle.std.specs.Prelude.{ℕ, List, [], ◌∷◌, codes, Some, None}
 use Rattle.dcc_packet.specs.declared.accessory.Board.{Board}
 use Rattle.dcc_packet.specs.declared.accessory.Output.{Output}
@@ -11,9 +11,10 @@ use Rattle.dcc_packet.specs.declared.packet.Packet.TheVariants.{Idle, Loco, Acce
 use Rattle.dcc_packet.specs.Fields.{both}
 use Rattle.dcc_packet.specs.Forms.{FormOf, RowOf, row}
 use Rattle.dcc_packet.specs.InstructionForms.{instruction_field}
-use Rattle.dcc_packet.specs.LineFields.{no_fields, address_field, board_field, output_field, switch_field, signal_field, small_field}
+use Rattle.dcc_packet.specs.LineFields.{no_fields, address_field, board_field, output_field, switch_field, signal_field}
+use Rattle.dcc_packet.specs.LineFields.{small_field}
 
--- idle
+-- the form `idle`
 abbrev pub idle_form : FormOf Packet (Unit {0})
 idle_form =
     record {
@@ -22,7 +23,7 @@ idle_form =
       said = elim [ Idle ↦ Some tt | packet ↦ None ];
     }
 
--- loco TO and an instruction
+-- the form `loco TO`, followed by an instruction
 abbrev pub loco_form : FormOf Packet (Address × What)
 loco_form =
     record {
@@ -31,7 +32,7 @@ loco_form =
       said = elim [ Loco to what ↦ Some (to, what) | packet ↦ None ];
     }
 
--- accessory BOARD OUTPUT on|off
+-- the form `accessory BOARD OUTPUT on|off`
 abbrev pub accessory_form : FormOf Packet (Board × (Output × Switch))
 accessory_form =
     record {
@@ -40,7 +41,7 @@ accessory_form =
       said = elim [ Accessory board output on ↦ Some (board, (output, record { on = on })) | packet ↦ None ];
     }
 
--- signal ADDRESS ASPECT
+-- the form `signal ADDRESS ASPECT`
 abbrev pub signal_form : FormOf Packet (SignalAddress × ℕ)
 signal_form =
     record {

@@ -1,5 +1,5 @@
--- The table of packets: the bytes of each row without the error byte (NMRA S-9.2.1; RCN-211 to RCN-214).
--- A row's comment is its bit pattern, the highest bit first.
+-- The table of packets: the bytes of each row without the error byte (NMRA S-9.2.1; RCN-211 to
+-- RCN-214). The comment of a row is its bit pattern, the highest bit first.
 use Rattle.std.specs.Prelude.{◌≡◌, ◌⊎◌, ℕ, ◌+◌, ◌-◌, ◌*◌, ◌/◌, ◌%◌, Bool, true, false, List, [], ◌∷◌, ◌++◌}
 use Rattle.dcc_wire.specs.Frames.{with_error_byte}
 use Rattle.dcc_packet.specs.declared.address.Address.{Address}
@@ -13,12 +13,12 @@ use Rattle.dcc_packet.specs.declared.instruction.What.{What}
 use Rattle.dcc_packet.specs.declared.instruction.What.TheVariants.{Reset, Speed28, Speed128, Functions, BinaryState}
 use Rattle.dcc_packet.specs.declared.instruction.What.TheVariants.{CvWrite, CvVerify, CvBitWrite, CvBitVerify}
 
--- a bit as a number
+-- 1 for true, 0 for false
 abbrev pub bit : Bool → ℕ
 bit true = 1
 bit false = 0
 
--- ADDRESSES of multifunction decoders (S-9.2.1, address partitions; RCN-211)
+-- ADDRESSES of locomotive decoders (S-9.2.1, address partitions; RCN-211)
 abbrev pub address_bytes : Address → List ℕ
 -- 00000000
 address_bytes Broadcast = 0 ∷ []
@@ -27,8 +27,9 @@ address_bytes (Short address) = address.number ∷ []
 -- 11AAAAAA AAAAAAAA
 address_bytes (Long address) = (192 + address.number / 256) ∷ (address.number % 256) ∷ []
 
--- FUNCTIONS (S-9.2.1, function groups one and two, feature expansion; RCN-212). In the first row the bits
--- from the lowest up are F1, F2, F3, F4 and F0; in all others the lowest bit is the group's first function
+-- FUNCTIONS (S-9.2.1, function groups one and two, feature expansion; RCN-212). In the first row
+-- the bits from the lowest up are F1, F2, F3, F4 and F0. In each other row the lowest bit is the
+-- first function of the group.
 abbrev pub function_bytes : Group → ℕ → List ℕ
 -- 100DDDDD
 function_bytes F0 bits = (0x80 + bits) ∷ []
@@ -51,29 +52,32 @@ function_bytes F53 bits = 0xDB ∷ bits ∷ []
 -- 11011100 DDDDDDDD
 function_bytes F61 bits = 0xDC ∷ bits ∷ []
 
--- 1110KKVV VVVVVVVV and a last byte: V is the CV's number less 1, so CV1 is 0
+-- 1110KKVV VVVVVVVV and the byte `last`: KK comes from `kind`, and V is the CV number less 1, so
+-- that it is 0 for CV1
 abbrev pub cv_bytes : ℕ → ℕ → ℕ → List ℕ
 cv_bytes kind cv last = (kind + (cv - 1) / 256) ∷ ((cv - 1) % 256) ∷ last ∷ []
 
--- INSTRUCTIONS to multifunction decoders
+-- INSTRUCTIONS to locomotive decoders
 abbrev pub instruction_bytes : What → List ℕ
 -- reset (S-9.2.1, decoder control; RCN-211): 00000000
 instruction_bytes Reset = 0 ∷ []
--- speed and direction (S-9.2.1; RCN-212): 01DCSSSS, D is 1 for forward, C the lowest of the five speed bits
+-- speed and direction (S-9.2.1; RCN-212): 01DCSSSS, D is 1 for forward, C is the lowest of the five
+-- speed bits
 instruction_bytes (Speed28 forward speed) = (0x40 + 32 * bit forward + 16 * (speed.bits % 2) + speed.bits / 2) ∷ []
 -- 128 speed steps (S-9.2.1, advanced operations; RCN-212): 00111111 DSSSSSSS, D is 1 for forward
 instruction_bytes (Speed128 forward speed) = 0x3F ∷ (128 * bit forward + speed.bits) ∷ []
--- function groups: the table above
+-- function groups: the bytes of `function_bytes`
 instruction_bytes (Functions functions) = function_bytes functions.group functions.bits
--- binary state, short form (RCN-212): 11011101 DLLLLLLL, D is 1 for on, L the state's number, 0 for all of them
+-- binary state, short form (RCN-212): 11011101 DLLLLLLL, D is 1 for on, L is the number of the
+-- state, 0 for all states
 instruction_bytes (BinaryState state on) = 0xDD ∷ (128 * bit on + state.number) ∷ []
 -- CV access, long form (S-9.2.1; RCN-214), write byte: 111011VV VVVVVVVV DDDDDDDD
 instruction_bytes (CvWrite cv value) = cv_bytes 0xEC cv.number value
 -- verify byte: 111001VV VVVVVVVV DDDDDDDD
 instruction_bytes (CvVerify cv value) = cv_bytes 0xE4 cv.number value
--- bit manipulation, write: 111010VV VVVVVVVV 1111DBBB, D is the bit, BBB its place
+-- bit manipulation, write: 111010VV VVVVVVVV 1111DBBB, D is the bit, BBB is its place
 instruction_bytes (CvBitWrite cv place one) = cv_bytes 0xE8 cv.number (0xF0 + 8 * bit one + place.place)
--- bit manipulation, verify: 111010VV VVVVVVVV 1110DBBB
+-- bit manipulation, verify: 111010VV VVVVVVVV 1110DBBB, D is the bit, BBB is its place
 instruction_bytes (CvBitVerify cv place one) = cv_bytes 0xE8 cv.number (0xE0 + 8 * bit one + place.place)
 
 -- PACKETS
@@ -81,31 +85,32 @@ instruction_bytes (CvBitVerify cv place one) = cv_bytes 0xE8 cv.number (0xE0 + 8
 abbrev pub idle_bytes : List ℕ
 idle_bytes = 0xFF ∷ 0 ∷ []
 
--- to multifunction decoders (S-9.2.1; RCN-211): an address and an instruction
+-- packets to locomotive decoders (S-9.2.1; RCN-211): an address and an instruction
 abbrev pub loco_bytes : Address → What → List ℕ
 loco_bytes to what = address_bytes to ++ instruction_bytes what
 
--- basic accessory packet (S-9.2.1; RCN-213): 10AAAAAA 1NNNCDDD, A the six low bits of the board's number,
--- N the complement of its three high bits, C is 1 for on, DDD the output
+-- basic accessory packet (S-9.2.1; RCN-213): 10AAAAAA 1NNNCDDD. A is the six low bits of the board
+-- number, and N is the complement of its three high bits. C is 1 for on, and DDD is the output.
 abbrev pub accessory_bytes : Board → Output → Bool → List ℕ
 accessory_bytes board output on =
     (0x80 + board.number % 64) ∷ (0x80 + 16 * (7 - board.number / 64) + 8 * bit on + output.number) ∷ []
 
--- extended accessory packet (S-9.2.1; RCN-213): 10AAAAAA 0NNN0PP1 XXXXXXXX, A and N of the board address / 4,
--- PP the address modulo 4, X the aspect
+-- extended accessory packet (S-9.2.1; RCN-213): 10AAAAAA 0NNN0PP1 XXXXXXXX. A and N are those of
+-- the board number, which is the signal address / 4. PP is the signal address modulo 4, and X is
+-- the aspect.
 abbrev pub signal_bytes : SignalAddress → ℕ → List ℕ
 signal_bytes address aspect =
     let board : ℕ = address.number / 4 in
     (0x80 + board % 64) ∷ (16 * (7 - board / 64) + 2 * (address.number % 4) + 1) ∷ aspect ∷ []
 
--- the bytes of a row
-abbrev pub IsRow : List ℕ → Type 0
-IsRow bytes =
+-- `bytes` are the bytes of some row of the table
+abbrev pub IsPacketRow : List ℕ → Type 0
+IsPacketRow bytes =
     (bytes ≡ idle_bytes)
     ⊎ ((to : Address) × (what : What) × (bytes ≡ loco_bytes to what))
     ⊎ ((board : Board) × (output : Output) × (on : Bool) × (bytes ≡ accessory_bytes board output on))
     ⊎ ((address : SignalAddress) × (aspect : ℕ) × (bytes ≡ signal_bytes address aspect))
 
--- the frame is the bytes of a row and their error byte
+-- `frame` consists of the bytes of some row of the table and their error byte
 abbrev pub HasRow : List ℕ → Type 0
-HasRow frame = (bytes : List ℕ) × IsRow bytes × (frame ≡ with_error_byte bytes)
+HasRow frame = (bytes : List ℕ) × IsPacketRow bytes × (frame ≡ with_error_byte bytes)

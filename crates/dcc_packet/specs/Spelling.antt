@@ -1,4 +1,4 @@
--- The frame that spells a packet.
+-- The frame that encodes a packet.
 use Rattle.std.specs.Prelude.{List, ℕ, ◌<◌}
 use Rattle.hex.specs.Hex.{IsBytes}
 use Rattle.dcc_wire.specs.Frames.{with_error_byte}
@@ -9,7 +9,8 @@ use Rattle.dcc_packet.specs.declared.packet.Packet.{Packet}
 use Rattle.dcc_packet.specs.declared.packet.Packet.TheVariants.{Idle, Loco, Accessory, Signal, Other}
 use Rattle.dcc_packet.specs.Rows.{idle_bytes, loco_bytes, accessory_bytes, signal_bytes}
 
--- the bytes of the packet's row and the error byte, or the frame that is in no row
+-- the frame of a packet: the bytes of its row of the table and their error byte. An `Other` packet
+-- fits no row, and contains its frame.
 abbrev pub spelling : Packet → List ℕ
 spelling Idle = with_error_byte idle_bytes
 spelling (Loco to what) = with_error_byte (loco_bytes to what)
@@ -17,7 +18,8 @@ spelling (Accessory board output on) = with_error_byte (accessory_bytes board ou
 spelling (Signal address aspect) = with_error_byte (signal_bytes address aspect)
 spelling (Other other) = other.frame
 
--- a value that is written to a CV or compared with one is a byte
+-- the value that an instruction writes to a CV or compares with a CV, if it has such a value, is
+-- below 256
 abbrev pub ValueFits : What → Type 0
 ValueFits Reset = Unit {0}
 ValueFits (Speed28 forward bits) = Unit {0}
@@ -29,7 +31,8 @@ ValueFits (CvVerify cv value) = value < 256
 ValueFits (CvBitWrite cv place one) = Unit {0}
 ValueFits (CvBitVerify cv place one) = Unit {0}
 
--- the bytes that a packet holds as they are below 256: true of every packet of a program, since a u8 is
+-- each number in the packet that is sent as a byte is below 256. This holds for each `Packet` of a
+-- program, since these numbers have the type `u8` there.
 abbrev pub BytesFit : Packet → Type 0
 BytesFit Idle = Unit {0}
 BytesFit (Loco to what) = ValueFits what

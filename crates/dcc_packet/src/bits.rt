@@ -1,4 +1,4 @@
-//! Bits of bytes.
+//! Functions that read and write the bits of a byte.
 ghost use Rattle.std.specs.Prelude.{◌≡◌, ◌≤◌, ◌<◌, ◌+◌, ◌*◌, ◌/◌, ◌%◌, ◌^◌, ◌==◌, ℕ, if◌then◌else◌};
 ghost use Rattle.std.specs.Int.{bit_at};
 ghost use Rattle.dcc_packet.specs.Bits.{is_one, with_bit};
@@ -7,14 +7,15 @@ ghost use Rattle.dcc_packet.specs.Rows.{bit};
 use crate::BitPlace;
 
 impl BitPlace {
-    /// Whether the bit of the byte at this place is one. Place 0 is the lowest bit.
+    /// Returns true if the bit of `byte` at this place is one. Place 0 is the lowest bit.
     pub fn is_set(&self, byte: u8) -> bool
         ensures { bit result ≡ bit_at byte self.now.place }
     {
         is_set(byte, self.place)
     }
 
-    /// The byte with the bit at this place as given, all other bits as they are. Place 0 is the lowest bit.
+    /// Returns `byte` with the bit at this place set to `one` and all other bits unchanged. Place 0
+    /// is the lowest bit.
     pub fn with_bit(&self, byte: u8, one: bool) -> u8
         ensures value { result ≡ with_bit byte self.now.place one }
         ensures bits { (k : ℕ) → k ≤ 7 → is_one result k ≡ (if k == self.now.place then one else is_one byte k) }
@@ -23,8 +24,8 @@ impl BitPlace {
         if one { byte | mask } else { byte & !mask }
     }
 
-    /// The four lowest bits DBBB of the last byte of an access to the bit at this place, from the highest on: D
-    /// is 1 for a one, BBB is the place (NMRA S-9.2.1, S-9.2.3; RCN-214). 0 to 15.
+    /// Returns the lowest four bits DBBB of the last byte of a bit access, 0 to 15. D is 1 if `one`
+    /// is true, and BBB is this place (NMRA S-9.2.1, S-9.2.3; RCN-214).
     pub fn access_bits(&self, one: bool) -> u8
         ensures value { result ≡ 8 * bit one + self.now.place }
         ensures in_range { result ≤ 15 }
@@ -33,7 +34,7 @@ impl BitPlace {
     }
 }
 
-/// Whether the bit at a place is one.
+/// Returns true if the bit of `byte` at `place` is one.
 pub(crate) fn is_set(byte: u8, place: u8) -> bool
     requires { place < 8 }
     ensures { bit result ≡ byte / 2 ^ place % 2 }
@@ -41,7 +42,7 @@ pub(crate) fn is_set(byte: u8, place: u8) -> bool
     byte >> place & 1 == 1
 }
 
-/// The bit as a number.
+/// Returns 1 if `on` is true, otherwise 0.
 pub(crate) fn bit(on: bool) -> u8
     ensures value { result ≡ bit on }
     ensures bound { result ≤ 1 }

@@ -1,18 +1,18 @@
-//! That what a packet holds as bytes are bytes.
+//! A lemma function: each byte of a packet is below 256.
 ghost use Rattle.dcc_packet.specs.Spelling.{BytesFit, ValueFits};
 
 use crate::{Packet, What};
 
 impl Packet {
-    /// Says that the bytes that the packet holds as they are are bytes. Their type says so of every packet of a program, and clauses
-    /// speak of numbers. Nothing is done.
+    /// Lemma: each byte of the packet is below 256. The type `u8` guarantees this bound, but
+    /// contracts are about natural numbers. The function does nothing at run time.
     #[inline]
     pub(crate) fn has_bytes(&self)
         ensures { BytesFit self.now }
     {
         match self {
             Packet::Idle | Packet::Accessory { .. } => (),
-            Packet::Loco { what, .. } => has_value(what),
+            Packet::Loco { what, .. } => lemma_value(what),
             Packet::Signal { aspect, .. } => {
                 let _aspect = *aspect;
             }
@@ -23,9 +23,9 @@ impl Packet {
     }
 }
 
-/// The same of an instruction.
+/// Lemma: each byte of the instruction is below 256.
 #[inline]
-pub(crate) fn has_value(what: &What)
+pub(crate) fn lemma_value(what: &What)
     ensures { ValueFits what.now }
 {
     match what {

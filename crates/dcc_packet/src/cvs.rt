@@ -1,19 +1,20 @@
-//! The configuration variables (CVs) of a decoder, CV1 to CV1024, each a byte, that of CV1 first (NMRA S-9.2.2, RCN-214).
+//! The configuration variables (CVs) of a decoder, CV1 to CV1024. Each CV is a byte, and the first
+//! byte is CV1 (NMRA S-9.2.2, RCN-214).
 
 ghost use Rattle.std.specs.Prelude.{◌≡◌, ℕ, ◌≤◌, ◌==◌, ◌&&◌, if◌then◌else◌};
 ghost use Rattle.dcc_packet.specs.Cvs.{IsCvs, cv_in, is_writable, written};
 
 use crate::CvNumber;
 
-/// A law: these are CVs.
-pub fn are_cvs(cvs: &[u8; 1024])
+/// Lemma: each element of the array `cvs` is below 256. The function does nothing at run time.
+pub fn lemma_cvs(cvs: &[u8; 1024])
     ensures { IsCvs cvs.now }
 {
-    // as a slice it tells that each item is a byte
+    // The type invariant of the slice proves the lemma.
     let _ = cvs.as_slice();
 }
 
-/// The value of a CV.
+/// Returns the value of the CV `cv`.
 #[inline]
 pub fn cv_value(cvs: &[u8; 1024], cv: CvNumber) -> u8
     ensures { result ≡ cv_in cvs.now cv.number }
@@ -21,7 +22,8 @@ pub fn cv_value(cvs: &[u8; 1024], cv: CvNumber) -> u8
     cvs[usize::from(cv.number()) - 1]
 }
 
-/// Gives a CV a value where it lies, and answers whether it did: CV7 and CV8, version and maker, stay as they are.
+/// Writes `value` to the CV `cv` and returns true. If `cv` is CV7 (version) or CV8 (manufacturer),
+/// which never change, the function returns false and writes nothing.
 #[inline]
 pub fn write_cv(cvs: &mut [u8; 1024], cv: CvNumber, value: u8) -> bool
     ensures cvs { cvs.new ≡ written cvs.old cv value }

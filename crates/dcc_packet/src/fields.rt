@@ -1,4 +1,4 @@
-//! The fields of packet lines.
+//! The values in packet lines, and how they are written as words.
 ghost use Rattle.dcc_packet.specs.LineFields.{board_field, output_field, signal_field, switch_field, bit_field};
 ghost use Rattle.dcc_packet.specs.LineFields.{direction_field, small_field, number_field, address_field};
 ghost use Rattle.dcc_packet.specs.LineFields.{speed28_field, speed128_field, functions_field, state_field, cv_field};
@@ -19,35 +19,35 @@ use crate::{
     SpeedBits128, StateNumber, What,
 };
 
-/// `on` or `off`.
+/// The word `on` or `off` of a line.
 #[derive(Clone, Copy)]
 pub struct Switch {
-    /// Whether it is `on`.
+    /// True if the word is `on`.
     pub on: bool,
 }
 
-/// The direction in which a locomotive runs, `f` or `r`.
+/// The direction of travel of a locomotive: the word `f` (forward) or `r` (reverse).
 #[derive(Clone, Copy)]
 pub struct Direction {
-    /// Whether it is forward.
+    /// True if the direction is forward.
     pub forward: bool,
 }
 
-/// A bit of a CV, or the side of a pair of outputs, `1` or `0`.
+/// A word `1` or `0`: the value of a bit of a CV, or the last output of a pair that was turned on.
 #[derive(Clone, Copy)]
 pub struct Bit {
-    /// Whether it is `1`.
+    /// True if the word is `1`.
     pub one: bool,
 }
 
-/// An access to a CV.
+/// An instruction that accesses a CV, as the words after `cv`.
 #[derive(Clone, Copy)]
 pub struct CvAccess {
-    /// The instruction.
+    /// The instruction, which is an access to a CV.
     pub what: What,
 }
 
-/// No word.
+/// The value `()` is written as no words.
 impl Field for () {
     ghost field = { no_fields };
 
@@ -59,7 +59,7 @@ impl Field for () {
 
     fn put(&self, _line: &mut Line) {}
 
-    fn is_read_back() {}
+    fn lemma_read_back() {}
 }
 
 impl Field for Address {
@@ -76,7 +76,7 @@ impl Field for Address {
     }
 
     #[tactic(auto, using(crate::proofs::LineFieldsBack::address_is_back))]
-    fn is_read_back() {}
+    fn lemma_read_back() {}
 }
 
 impl Field for Board {
@@ -93,7 +93,7 @@ impl Field for Board {
     }
 
     #[tactic(auto, using(crate::proofs::LineFieldsBack::board_is_back))]
-    fn is_read_back() {}
+    fn lemma_read_back() {}
 }
 
 impl Field for Output {
@@ -110,7 +110,7 @@ impl Field for Output {
     }
 
     #[tactic(auto, using(crate::proofs::LineFieldsBack::output_is_back))]
-    fn is_read_back() {}
+    fn lemma_read_back() {}
 }
 
 impl Field for SignalAddress {
@@ -127,7 +127,7 @@ impl Field for SignalAddress {
     }
 
     #[tactic(auto, using(crate::proofs::LineFieldsBack::signal_is_back))]
-    fn is_read_back() {}
+    fn lemma_read_back() {}
 }
 
 impl Field for Switch {
@@ -145,7 +145,7 @@ impl Field for Switch {
     }
 
     #[tactic(auto, using(crate::proofs::LineFieldsBack::switch_is_back))]
-    fn is_read_back() {}
+    fn lemma_read_back() {}
 }
 
 impl Field for Direction {
@@ -163,7 +163,7 @@ impl Field for Direction {
     }
 
     #[tactic(auto, using(crate::proofs::LineFieldsBack::direction_is_back))]
-    fn is_read_back() {}
+    fn lemma_read_back() {}
 }
 
 impl Field for Bit {
@@ -181,7 +181,7 @@ impl Field for Bit {
     }
 
     #[tactic(auto, using(crate::proofs::LineFieldsBack::bit_is_back))]
-    fn is_read_back() {}
+    fn lemma_read_back() {}
 }
 
 impl Field for SpeedBits28 {
@@ -198,7 +198,7 @@ impl Field for SpeedBits28 {
     }
 
     #[tactic(auto, using(crate::proofs::LineFieldsBack::speed28_is_back))]
-    fn is_read_back() {}
+    fn lemma_read_back() {}
 }
 
 impl Field for SpeedBits128 {
@@ -215,7 +215,7 @@ impl Field for SpeedBits128 {
     }
 
     #[tactic(auto, using(crate::proofs::LineFieldsBack::speed128_is_back))]
-    fn is_read_back() {}
+    fn lemma_read_back() {}
 }
 
 impl Field for GroupBits {
@@ -234,7 +234,7 @@ impl Field for GroupBits {
     }
 
     #[tactic(auto, using(crate::proofs::LineFieldsBack::functions_are_back))]
-    fn is_read_back() {}
+    fn lemma_read_back() {}
 }
 
 impl Field for StateNumber {
@@ -251,7 +251,7 @@ impl Field for StateNumber {
     }
 
     #[tactic(auto, using(crate::proofs::LineFieldsBack::state_is_back))]
-    fn is_read_back() {}
+    fn lemma_read_back() {}
 }
 
 impl Field for CvNumber {
@@ -268,7 +268,7 @@ impl Field for CvNumber {
     }
 
     #[tactic(auto, using(crate::proofs::LineFieldsBack::cv_is_back))]
-    fn is_read_back() {}
+    fn lemma_read_back() {}
 }
 
 impl Field for BitPlace {
@@ -285,7 +285,7 @@ impl Field for BitPlace {
     }
 
     #[tactic(auto, using(crate::proofs::LineFieldsBack::place_is_back))]
-    fn is_read_back() {}
+    fn lemma_read_back() {}
 }
 
 impl Field for u8 {
@@ -302,7 +302,7 @@ impl Field for u8 {
     }
 
     #[tactic(auto, using(crate::proofs::LineFieldsBack::small_is_back))]
-    fn is_read_back() {}
+    fn lemma_read_back() {}
 }
 
 impl Field for u16 {
@@ -319,5 +319,5 @@ impl Field for u16 {
     }
 
     #[tactic(auto, using(crate::proofs::LineFieldsBack::number_is_back))]
-    fn is_read_back() {}
+    fn lemma_read_back() {}
 }

@@ -1,4 +1,4 @@
-//! Forms of lines: a keyword and the fields behind it.
+//! Functions that write a line that consists of a keyword and fields.
 ghost use Rattle.std.specs.Prelude.{◌≡◌, ◌+◌, ◌≤◌, ◌++◌, ◌∷◌, length};
 ghost use Rattle.arrayvec.specs.ArrayString.{array_string_len};
 ghost use Rattle.dcc_packet.specs.Written.{spaced_words, words_in_line};
@@ -6,7 +6,7 @@ ghost use Rattle.dcc_packet.specs.Written.{spaced_words, words_in_line};
 use crate::field::{Field, Line};
 use crate::to_line_word::put_word;
 
-/// Adds a keyword and fields, each word behind a space.
+/// Appends a keyword and the words of `fields` to `line`, with a space before each word.
 pub(crate) fn put_form<F: Field>(line: &mut Line, keyword: &str, fields: &F)
     requires { array_string_len line.old + (1 + length keyword.now + F.most) ≤ 40 }
     ensures bytes { line.new.bytes ≡ line.old.bytes ++ spaced_words (keyword.now ∷ F.field.written fields.now) }
@@ -16,7 +16,7 @@ pub(crate) fn put_form<F: Field>(line: &mut Line, keyword: &str, fields: &F)
     fields.put(line);
 }
 
-/// The line of a keyword and fields.
+/// Returns the line that consists of a keyword and the words of `fields`.
 pub fn form_line<F: Field>(keyword: &str, fields: &F) -> Line
     requires { length keyword.now + F.most ≤ 40 }
     ensures { result.bytes ≡ words_in_line (keyword.now ∷ F.field.written fields.now) }

@@ -1,4 +1,4 @@
-//! The law that each frame spells a packet.
+//! The theorem that each frame is the encoding of a packet.
 
 ghost use Rattle.std.specs.Prelude.{◌≡◌};
 ghost use Rattle.dcc_wire.specs.Frames.{IsFrame};
@@ -7,8 +7,9 @@ ghost use Rattle.dcc_packet.specs.Spelling.{spelling};
 
 use crate::from_frame::row;
 
-/// Each frame is the spelling of a packet.
-// (the row is looked for so that the proof has it; nothing is done with it, and the compiler leaves the search out)
+/// Theorem: each frame is the encoding of a packet.
+// (the function calls `row` so that the proof knows the row, and ignores the result, so that the
+// compiler removes the call)
 #[inline(always)]
 pub fn each_frame_is_a_packet(frame: &[u8])
     requires { IsFrame frame.now }

@@ -1,8 +1,8 @@
-//! Frames as packets.
-ghost use Rattle.std.specs.Prelude.{◌≡◌, ◌≢◌, ◌≤◌, ◌<◌, ◌++◌, ◌∷◌, [], IfSome, IfNone, Bool, ℕ};
+//! Functions that return the packet that a frame encodes.
+ghost use Rattle.std.specs.Prelude.{◌≡◌, ◌≢◌, ◌≤◌, ◌<◌, ◌++◌, ◌∷◌, [], List, IfSome, IfNone, Bool, ℕ};
 ghost use Rattle.dcc_packet.specs.Rows.{instruction_bytes, address_bytes, loco_bytes, accessory_bytes, signal_bytes};
-ghost use Rattle.dcc_packet.specs.Rows.{IsRow};
-ghost use Rattle.dcc_wire.specs.Frames.{with_error_byte};
+ghost use Rattle.dcc_packet.specs.Rows.{IsPacketRow, HasRow};
+ghost use Rattle.dcc_wire.specs.Frames.{IsFrame, with_error_byte};
 ghost use Rattle.dcc_packet.specs.Spelling.{spelling, BytesFit};
 ghost use Rattle.dcc_packet.specs.declared.accessory.Board.{Board};
 ghost use Rattle.dcc_packet.specs.declared.accessory.Output.{Output};
@@ -19,8 +19,9 @@ use crate::{
 use dcc_wire::Frame;
 
 impl Packet {
-    /// The packet that the frame spells: the one of its row, or `Other` where it is in no row. No frame
-    /// has two readings (NMRA S-9.2.1; RCN-211 to RCN-214).
+    /// Returns the packet that the frame encodes, which is the packet of the row that has this
+    /// frame in the table of packets. Returns `Other` if no row has this frame. No frame is in two
+    /// rows (NMRA S-9.2.1; RCN-211 to RCN-214).
     pub fn read(frame: &Frame) -> Packet
         ensures spelled { spelling result ≡ frame.now }
         ensures only { (packet : Packet) → spelling packet ≡ frame.now → packet ≡ result }
@@ -36,14 +37,27 @@ impl Packet {
             None => Packet::Other(OtherFrame { frame: *frame }),
         }
     }
+
+    /// Returns the packet of the row that has the bytes of this frame. Returns `None` if no row has
+    /// these bytes. `Packet::read` returns [`Packet::Other`] for a frame in no row.
+    #[inline(always)]
+    pub fn of_row(frame: &[u8]) -> Option<Packet>
+        requires { IsFrame frame.now }
+        ensures found { IfSome result (λ packet. spelling packet ≡ frame.now) }
+        ensures none { IfNone result (¬ (HasRow frame.now)) }
+    {
+        row(&frame[..frame.len() - 1])
+    }
 }
 
-/// The packet of a row with these bytes before the error byte.
-// (where a law looks for it and does nothing with it, the compiler leaves out what is inlined, and no more)
+/// Returns the packet whose row has these bytes before the error byte. Returns `None` if no row has
+/// these bytes.
+// (inlined, so that the compiler removes the search if the caller ignores the result, as
+// `each_frame_is_a_packet` does)
 #[inline(always)]
 pub(crate) fn row(bytes: &[u8]) -> Option<Packet>
     ensures found { IfSome result (λ packet. spelling packet ≡ with_error_byte bytes.now) }
-    ensures none { IfNone result (¬ (IsRow bytes.now)) }
+    ensures none { IfNone result (¬ (IsPacketRow bytes.now)) }
 {
     match *bytes {
         [0xFF, 0x00] => Some(Packet::Idle),
@@ -53,18 +67,7 @@ pub(crate) fn row(bytes: &[u8]) -> Option<Packet>
     }
 }
 
-/// An instruction to the decoders of an address.
-fn addressed(to: Address, rest: &[u8]) -> Option<(Address, What)>
-    ensures found { IfSome result (λ told. loco_bytes told.0 told.1 ≡ address_bytes to ++ rest.now) }
-    ensures none { IfNone result ((what : What) → instruction_bytes what ≢ rest.now) }
-{
-    match instruction(rest) {
-        Some(what) => Some((to, what)),
-        None => None,
-    }
-}
-
-/// A long address, 11AAAAAA AAAAAAAA.
+/// Returns the long address that is encoded as the bytes 11AAAAAA AAAAAAAA.
 fn long_address(high: u8, low: u8) -> Address
     requires least { 0xC0 ≤ high }
     requires most { high ≤ 0xE7 }
@@ -74,7 +77,8 @@ fn long_address(high: u8, low: u8) -> Address
     Address::Long(LongAddress { number })
 }
 
-/// A packet to multifunction decoders.
+/// Returns the packet to multifunction decoders that these bytes encode. Returns `None` if the
+/// bytes encode no packet to multifunction decoders.
 #[inline(always)]
 fn loco_row(bytes: &[u8]) -> Option<Packet>
     ensures found { IfSome result (λ packet. spelling packet ≡ with_error_byte bytes.now) }
@@ -86,23 +90,38 @@ fn loco_row(bytes: &[u8]) -> Option<Packet>
     }
 }
 
-/// Whom an instruction to multifunction decoders is for, and the instruction, where these bytes are those of one, without
-/// the error byte (NMRA S-9.2.1; RCN-211, RCN-212, RCN-214).
+/// Returns the address and the instruction of a packet to multifunction decoders, from the bytes
+/// before the error byte. Returns `None` if these bytes encode no instruction (NMRA S-9.2.1;
+/// RCN-211, RCN-212, RCN-214).
+#[inline]
 pub fn read_loco(bytes: &[u8]) -> Option<(Address, What)>
     ensures found { IfSome result (λ told. loco_bytes told.0 told.1 ≡ bytes.now) }
     ensures none { IfNone result ((to : Address) (what : What) → loco_bytes to what ≢ bytes.now) }
 {
+    let (to, rest) = address(bytes)?;
+    let what = instruction(rest)?;
+    Some((to, what))
+}
+
+/// Returns the address at the beginning of the bytes, and the bytes after this address. Returns
+/// `None` if the bytes do not begin with an address.
+#[inline(always)]
+fn address(bytes: &[u8]) -> Option<(Address, &[u8])>
+    ensures found { IfSome result (λ told. address_bytes told.0 ++ told.1.now ≡ bytes.now) }
+    ensures none { IfNone result ((to : Address) (rest : List ℕ) → address_bytes to ++ rest ≢ bytes.now) }
+{
     match bytes {
-        [0x00, rest @ ..] => addressed(Address::Broadcast, rest),
+        [0x00, rest @ ..] => Some((Address::Broadcast, rest)),
         [number @ 0x01..=0x7F, rest @ ..] => {
-            addressed(Address::Short(ShortAddress { number: *number }), rest)
+            Some((Address::Short(ShortAddress { number: *number }), rest))
         }
-        [high @ 0xC0..=0xE7, low, rest @ ..] => addressed(long_address(*high, *low), rest),
+        [high @ 0xC0..=0xE7, low, rest @ ..] => Some((long_address(*high, *low), rest)),
         _ => None,
     }
 }
 
-/// An output of a board, 10AAAAAA 1NNNCDDD.
+/// Returns the packet of the bytes 10AAAAAA 1NNNCDDD, which switches an output. Returns `None` if
+/// the highest bit of `second` is 0.
 fn accessory_row(first: u8, second: u8) -> Option<Packet>
     requires low { 0x80 ≤ first }
     requires high { first < 0xC0 }
@@ -124,7 +143,8 @@ fn accessory_row(first: u8, second: u8) -> Option<Packet>
     })
 }
 
-/// An aspect of a signal, 10AAAAAA 0NNN0PP1 and the aspect.
+/// Returns the packet of the bytes 10AAAAAA 0NNN0PP1 and an aspect, which sets a signal. Returns
+/// `None` if the second byte has another form.
 fn signal_row(first: u8, second: u8, aspect: u8) -> Option<Packet>
     requires low { 0x80 ≤ first }
     requires high { first < 0xC0 }

@@ -1,4 +1,4 @@
-//! Packet lines.
+//! Functions that parse packet lines.
 ghost use Rattle.std.specs.Prelude.{◌≡◌, IfOk};
 ghost use Rattle.dcc_packet.specs.Words.{words};
 ghost use Rattle.dcc_packet.specs.Spelling.{BytesFit};
@@ -9,7 +9,7 @@ use crate::words::{Words, is_word};
 use crate::{Packet, PacketFault, packet_forms};
 
 impl Packet {
-    /// The packet of a line, which is one of these:
+    /// Returns the packet of a packet line. A packet line has one of these forms:
     ///
     /// ```text
     /// idle
@@ -27,14 +27,16 @@ impl Packet {
     /// frame HEX
     /// ```
     ///
-    /// Words stand between spaces, tabs and carriage returns. TO is `all`, or `s` or `l` and a number; `f`
-    /// is forward, `r` reverse; GROUP is 0, 5, 9, 13, 21, 29, 37, 45, 53 or 61. A number has 1 to 5 decimal
-    /// digits and is at most 65535, or 255 for BITS, NUMBER, VALUE, PLACE, OUTPUT, ASPECT and after `s`. HEX
-    /// are the bytes of a frame, the error byte last.
+    /// Spaces, tabs and carriage returns separate words. TO is `all`, or `s` or `l` and a number.
+    /// `f` is forward and `r` is reverse. GROUP is 0, 5, 9, 13, 21, 29, 37, 45, 53 or 61. A number
+    /// has 1 to 5 decimal digits. The greatest number is 255 for BITS, NUMBER, VALUE, PLACE,
+    /// OUTPUT, ASPECT and after `s`, otherwise 65535. HEX are the bytes of a frame, and the last
+    /// byte is the error byte.
     ///
-    /// Words are judged from left to right and the first fault decides: P10 a word that may not stand there
-    /// or is missing, P11 a wrong number, P1 to P9 and P14 a number out of the range of its value, P12 hex digits
-    /// that are no frame, and last P10 for a word too many.
+    /// Errors: the function checks the words from left to right, and returns the first error. P10
+    /// if a word is missing or not allowed. P11 if a number is malformed or too large. P1 to P9 or
+    /// P14 if a number is out of the range of its value. P12 if the hex digits form no frame. P10
+    /// if a word is left at the end.
     pub fn from_line(line: &str) -> Result<Packet, PacketFault>
         ensures says { Says (words line.now) result }
         ensures fits { IfOk result BytesFit }
@@ -42,7 +44,8 @@ impl Packet {
         Packet::from_line_bytes(line.as_bytes())
     }
 
-    /// The packet of a line of bytes that need be no text, in the same way.
+    /// Returns the packet of a line of bytes, which need not be UTF-8. The forms and the errors of
+    /// the line are those of [`from_line`](Self::from_line).
     pub fn from_line_bytes(line: &[u8]) -> Result<Packet, PacketFault>
         ensures says { Says (words line.now) result }
         ensures fits { IfOk result BytesFit }

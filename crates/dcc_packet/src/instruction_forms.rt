@@ -1,10 +1,11 @@
-//! The lines of instructions to locomotives, behind the address: a form each.
+//! The words of instructions to multifunction decoders, after the address.
 ghost use Rattle.std.specs.Prelude.{◌≡◌, true, IfOk};
-ghost use Rattle.dcc_packet.specs.Fields.{Gives};
+ghost use Rattle.dcc_packet.specs.Fields.{ParsesAs};
 ghost use Rattle.dcc_packet.specs.Forms.{is_said_by, read_by};
-ghost use Rattle.dcc_packet.specs.InstructionForms.{cv_access_field, cv_access_forms, instruction_field, instruction_forms};
+ghost use Rattle.dcc_packet.specs.InstructionForms.{cv_access_field, cv_access_forms, instruction_field};
+ghost use Rattle.dcc_packet.specs.InstructionForms.{instruction_forms};
 
-use crate::bytes_fit::has_value;
+use crate::bytes_fit::lemma_value;
 use crate::field::{Field, Line};
 use crate::fields::{Bit, CvAccess, Direction, Switch};
 use crate::form::put_form;
@@ -21,7 +22,7 @@ impl Field for What {
     fn take(words: &mut Words) -> Result<What, PacketFault> {
         let keyword = words.word()?;
         let what = instruction(keyword, words)?;
-        has_value(&what);
+        lemma_value(&what);
         Ok(what)
     }
 
@@ -46,12 +47,12 @@ impl Field for What {
     }
 
     #[tactic(auto, using(crate::proofs::InstructionFormsBack::instruction_is_back))]
-    fn is_read_back() {}
+    fn lemma_read_back() {}
 }
 
-/// What the words behind this keyword say.
+/// Parses the words after `keyword` as an instruction, and removes these words.
 fn instruction(keyword: &[u8], words: &mut Words) -> Result<What, PacketFault>
-    ensures { Gives (read_by instruction_forms keyword.now words.old) result words.new }
+    ensures { ParsesAs (read_by instruction_forms keyword.now words.old) result words.new }
 {
     if is_word(keyword, b"reset") {
         Ok(What::Reset)
@@ -90,7 +91,7 @@ impl Field for CvAccess {
     fn take(words: &mut Words) -> Result<CvAccess, PacketFault> {
         let keyword = words.word()?;
         let what = cv_access(keyword, words)?;
-        has_value(&what);
+        lemma_value(&what);
         Ok(CvAccess { what })
     }
 
@@ -109,12 +110,12 @@ impl Field for CvAccess {
     }
 
     #[tactic(auto, using(crate::proofs::InstructionFormsBack::cv_access_is_back))]
-    fn is_read_back() {}
+    fn lemma_read_back() {}
 }
 
-/// What the words behind `cv` and this keyword say.
+/// Parses the words after `cv` and `keyword` as an instruction, and removes these words.
 fn cv_access(keyword: &[u8], words: &mut Words) -> Result<What, PacketFault>
-    ensures is { Gives (read_by cv_access_forms keyword.now words.old) result words.new }
+    ensures is { ParsesAs (read_by cv_access_forms keyword.now words.old) result words.new }
     ensures said { IfOk result (λ what. is_said_by cv_access_forms what ≡ true) }
 {
     if is_word(keyword, b"write") {

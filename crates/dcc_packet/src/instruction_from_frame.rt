@@ -1,4 +1,4 @@
-//! Instructions of bytes (NMRA S-9.2.1, RCN-212, RCN-214).
+//! Functions that return the instruction of the bytes of a frame (NMRA S-9.2.1, RCN-212, RCN-214).
 ghost use Rattle.std.specs.Prelude.{◌≡◌, ◌≢◌, ◌≤◌, ◌<◌, ◌-◌, ◌/◌, ◌%◌, ◌∷◌, [], IfSome, IfNone};
 ghost use Rattle.dcc_packet.specs.Rows.{instruction_bytes, cv_bytes};
 ghost use Rattle.dcc_packet.specs.declared.instruction.What.{What};
@@ -6,7 +6,8 @@ ghost use Rattle.dcc_packet.specs.declared.instruction.What.{What};
 use crate::bits::is_set;
 use crate::{BitPlace, CvNumber, Group, GroupBits, SpeedBits28, SpeedBits128, StateNumber, What};
 
-/// The instruction of these bytes, where there is one.
+/// Returns the instruction that these bytes encode. Returns `None` if the bytes encode no
+/// instruction.
 pub(crate) fn instruction(bytes: &[u8]) -> Option<What>
     ensures found { IfSome result (λ what. instruction_bytes what ≡ bytes.now) }
     ensures none { IfNone result ((what : What) → instruction_bytes what ≢ bytes.now) }
@@ -19,7 +20,8 @@ pub(crate) fn instruction(bytes: &[u8]) -> Option<What>
     }
 }
 
-/// An instruction of one byte.
+/// Returns the instruction that this byte encodes. Returns `None` if the byte encodes no
+/// instruction.
 fn one_byte(byte: u8) -> Option<What>
     ensures found { IfSome result (λ what. instruction_bytes what ≡ byte ∷ []) }
     ensures none { IfNone result ((what : What) → instruction_bytes what ≢ byte ∷ []) }
@@ -32,7 +34,8 @@ fn one_byte(byte: u8) -> Option<What>
     }
 }
 
-/// An instruction of two bytes.
+/// Returns the instruction that these two bytes encode. Returns `None` if the bytes encode no
+/// instruction.
 fn two_bytes(first: u8, second: u8) -> Option<What>
     ensures found { IfSome result (λ what. instruction_bytes what ≡ first ∷ second ∷ []) }
     ensures none { IfNone result ((what : What) → instruction_bytes what ≢ first ∷ second ∷ []) }
@@ -44,7 +47,8 @@ fn two_bytes(first: u8, second: u8) -> Option<What>
     }
 }
 
-/// An instruction of three bytes.
+/// Returns the instruction that these three bytes encode. Returns `None` if the bytes encode no
+/// instruction.
 fn three_bytes(first: u8, second: u8, last: u8) -> Option<What>
     ensures found { IfSome result (λ what. instruction_bytes what ≡ first ∷ second ∷ last ∷ []) }
     ensures none { IfNone result ((what : What) → instruction_bytes what ≢ first ∷ second ∷ last ∷ []) }
@@ -55,7 +59,7 @@ fn three_bytes(first: u8, second: u8, last: u8) -> Option<What>
     }
 }
 
-/// A baseline speed, 01DCSSSS.
+/// Returns the instruction of a byte 01DCSSSS, which sets the speed in 28 or 14 steps.
 fn speed28(byte: u8) -> What
     requires low { 0x40 ≤ byte }
     requires high { byte < 0x80 }
@@ -68,7 +72,7 @@ fn speed28(byte: u8) -> What
     }
 }
 
-/// A group whose bits stand in the first byte: 100DDDDD, 1011DDDD or 1010DDDD.
+/// Returns the instruction of a byte 100DDDDD, 1011DDDD or 1010DDDD, which switches F0 to F12.
 fn narrow_group(byte: u8) -> What
     requires low { 0x80 ≤ byte }
     requires high { byte < 0xC0 }
@@ -91,7 +95,7 @@ fn narrow_group(byte: u8) -> What
     What::Functions(functions)
 }
 
-/// A speed in 128 steps, DSSSSSSS.
+/// Returns the instruction that sets the speed in 128 steps, from the second byte DSSSSSSS.
 fn speed128(byte: u8) -> What
     ensures { instruction_bytes result ≡ 0x3F ∷ byte ∷ [] }
 {
@@ -101,7 +105,8 @@ fn speed128(byte: u8) -> What
     }
 }
 
-/// A group whose bits stand in the second byte, or a binary state, DLLLLLLL.
+/// Returns the instruction that two bytes encode. The instruction switches a group of functions
+/// from F13 on, or a binary state.
 fn two_byte_functions(first: u8, bits: u8) -> What
     requires low { 0xD8 ≤ first }
     requires high { first < 0xE0 }
@@ -120,7 +125,7 @@ fn two_byte_functions(first: u8, bits: u8) -> What
     What::Functions(GroupBits { group, bits })
 }
 
-/// A binary state in the short form, DLLLLLLL.
+/// Returns the instruction that switches a binary state, from the second byte DLLLLLLL.
 fn binary_state(byte: u8) -> What
     ensures { instruction_bytes result ≡ 0xDD ∷ byte ∷ [] }
 {
@@ -132,7 +137,8 @@ fn binary_state(byte: u8) -> What
     }
 }
 
-/// A write of a byte, a verify of a byte, or a bit access to a CV: 1110KKVV VVVVVVVV and a last byte.
+/// Returns the instruction of the bytes 1110KKVV VVVVVVVV and a last byte, which is an access to a
+/// CV. Returns `None` if the last byte of a bit access encodes no instruction.
 fn cv_access(first: u8, second: u8, last: u8) -> Option<What>
     requires low { 0xE4 ≤ first }
     requires high { first < 0xF0 }
@@ -147,7 +153,8 @@ fn cv_access(first: u8, second: u8, last: u8) -> Option<What>
     }
 }
 
-/// A write or a verify of a bit of a CV: 1111DBBB or 1110DBBB.
+/// Returns the instruction of a bit access, whose last byte is 1111DBBB (write) or 1110DBBB
+/// (compare). Returns `None` if the last byte is below 0xE0.
 fn bit_access(cv: CvNumber, last: u8) -> Option<What>
     ensures found { IfSome result (λ what. instruction_bytes what ≡ cv_bytes 0xE8 cv.number last) }
     ensures none { IfNone result (last < 0xE0) }
@@ -161,7 +168,8 @@ fn bit_access(cv: CvNumber, last: u8) -> Option<What>
     }
 }
 
-/// The CV of an access: its two high bits and its eight low bits, from 0.
+/// Returns the CV of an access. The lowest two bits of `first` and the byte `second` are the number
+/// of the CV minus 1.
 fn cv_in_bytes(first: u8, second: u8) -> CvNumber
     ensures high { (result.number - 1) / 256 ≡ first % 4 }
     ensures low { (result.number - 1) % 256 ≡ second }

@@ -1,4 +1,4 @@
-//! Laws of packets, their frames and their lines.
+//! Theorems about packets, their frames and their lines.
 
 ghost use Rattle.std.specs.Prelude.{◌≡◌, List, Result, Ok};
 ghost use Rattle.dcc_packet.specs.declared.packet.Packet.{Packet};
@@ -13,51 +13,52 @@ ghost use Rattle.dcc_packet.specs.Written.{written_line};
 use crate::{Packet, PacketFault};
 use dcc_wire::Frame;
 
-/// The frame of a packet is read as the packet.
+/// Theorem: the packet that `read` returns for the frame of a packet is this packet.
 pub fn read_after_frame(packet: &Packet) -> Packet
     ensures { result ≡ packet.now }
 {
     Packet::read(&packet.frame())
 }
 
-/// The frame of the packet that a frame is read as is the frame.
+/// Theorem: if `read` returns a packet for a frame, this frame is the frame of the packet.
 pub fn frame_after_read(frame: &Frame) -> Frame
     ensures { result ≡ frame.now }
 {
     Packet::read(frame).frame()
 }
 
-/// The line of a packet is read as the packet.
+/// Theorem: `from_line` returns the packet for the packet line of a packet.
 pub fn from_line_after_to_line(packet: &Packet) -> Result<Packet, PacketFault>
     ensures { result ≡ Ok packet.now }
 {
     Packet::from_line(&packet.to_line())
 }
 
-/// Packets with one spelling are one packet, so no frame has two readings.
+/// Theorem: two packets with equal encodings are equal, so each frame encodes only one packet.
 #[tactic(auto, using(crate::proofs::OneSpelling::one_packet))]
 pub fn one_reading()
     ensures { (one other : Packet) → spelling one ≡ spelling other → one ≡ other }
 {}
 
-/// The spelling of a packet is a frame: 3 to 6 bytes whose exclusive or is zero.
+/// Theorem: the encoding of a packet is a frame, which has 3 to 6 bytes whose exclusive or is zero.
 #[tactic(auto, using(crate::proofs::FrameSpellings::spellings_are_frames))]
 pub fn spellings_are_frames()
     ensures { SpellingsAreFrames }
 {}
 
-/// The words of a line say one packet or one fault.
+/// Theorem: the words of a line mean at most one result, which is a packet or an error.
 pub fn one_answer()
     ensures { (line : List Word) (one other : Result Packet PacketFault)
         → Says line one → Says line other → one ≡ other }
 {}
 
-/// If the words of a line say some bytes, these bytes are a frame: 3 to 6 bytes whose exclusive or is zero.
+/// Theorem: if the words of a line mean a packet, its bytes are a frame, which has 3 to 6 bytes
+/// whose exclusive or is zero.
 pub fn lines_say_frames()
     ensures { LinesSayFrames }
 {}
 
-/// The written line of a packet says the packet.
+/// Theorem: the packet line that is written for a packet means this packet.
 #[tactic(auto, using(crate::proofs::RoundTrip::says_back))]
 pub fn written_line_says()
     ensures { (packet : Packet) → BytesFit packet → Says (words (written_line packet)) (Ok packet) }

@@ -1,4 +1,4 @@
-//! What single words of packet lines say.
+//! Functions that parse single words of packet lines.
 ghost use Rattle.std.specs.Prelude.{◌≡◌};
 ghost use Rattle.dcc_wire.specs.FrameOf.{frame_of};
 ghost use Rattle.dcc_packet.specs.LineWords.{address, direction, speed28_bits, speed128_bits, group, group_bits};
@@ -12,7 +12,10 @@ use crate::{
 };
 use dcc_wire::Frame;
 
-/// `all`, or `s` or `l` and a number.
+/// Returns the address of a word: `all`, or `s` or `l` and a number.
+///
+/// Errors: P10 if the word has another form, P11 if the number is malformed or too large, P1 or P2
+/// if the address is out of range.
 pub fn address(word: &[u8]) -> Result<Address, PacketFault>
     ensures { result ≡ address word.now }
 {
@@ -24,7 +27,9 @@ pub fn address(word: &[u8]) -> Result<Address, PacketFault>
     }
 }
 
-/// `f` for forward, `r` for reverse.
+/// Returns true for `f` (forward) and false for `r` (reverse).
+///
+/// Errors: P10 for any other word.
 pub fn direction(word: &[u8]) -> Result<bool, PacketFault>
     ensures { result ≡ direction word.now }
 {
@@ -35,21 +40,28 @@ pub fn direction(word: &[u8]) -> Result<bool, PacketFault>
     }
 }
 
-/// The five bits of a speed in 28 steps, as a number.
+/// Returns the speed bits for 28 steps that the word gives as a number.
+///
+/// Errors: P11 if the word is no number or a number above 255, P8 if the number is above 31.
 pub fn speed28_bits(word: &[u8]) -> Result<SpeedBits28, PacketFault>
     ensures { result ≡ speed28_bits word.now }
 {
     SpeedBits28::new(small_number(word)?)
 }
 
-/// The seven bits of a speed in 128 steps, as a number.
+/// Returns the speed bits for 128 steps that the word gives as a number.
+///
+/// Errors: P11 if the word is no number or a number above 255, P8 if the number is above 127.
 pub fn speed128_bits(word: &[u8]) -> Result<SpeedBits128, PacketFault>
     ensures { result ≡ speed128_bits word.now }
 {
     SpeedBits128::new(small_number(word)?)
 }
 
-/// A group by the number of its first function. `05` is none of them.
+/// Returns the function group whose first function has the number `word`. A word with a leading
+/// zero is not accepted.
+///
+/// Errors: P10 for any other word.
 pub fn group(word: &[u8]) -> Result<Group, PacketFault>
     ensures { result ≡ group word.now }
 {
@@ -68,35 +80,46 @@ pub fn group(word: &[u8]) -> Result<Group, PacketFault>
     }
 }
 
-/// The bits of a function group, as a number.
+/// Returns the bits of `group` that the word gives as a number.
+///
+/// Errors: P11 if the word is no number or a number above 255, P9 if the bits are wider than the
+/// group.
 pub fn group_bits(group: Group, word: &[u8]) -> Result<GroupBits, PacketFault>
     ensures { result ≡ group_bits group word.now }
 {
     GroupBits::new(group, small_number(word)?)
 }
 
-/// The number of a binary state.
+/// Returns the number of a binary state.
+///
+/// Errors: P11 if the word is no number or a number above 255, P14 if the number is above 127.
 pub fn state_number(word: &[u8]) -> Result<StateNumber, PacketFault>
     ensures { result ≡ state_number word.now }
 {
     StateNumber::new(small_number(word)?)
 }
 
-/// The number of a CV.
+/// Returns the number of a CV.
+///
+/// Errors: P11 if the word is no number or a number above 65535, P6 if the number is not 1 to 1024.
 pub fn cv_number(word: &[u8]) -> Result<CvNumber, PacketFault>
     ensures { result ≡ cv_number word.now }
 {
     CvNumber::new(number(word)?)
 }
 
-/// The place of a bit in a CV.
+/// Returns the place of a bit in a CV.
+///
+/// Errors: P11 if the word is no number or a number above 255, P7 if the number is above 7.
 pub fn bit_place(word: &[u8]) -> Result<BitPlace, PacketFault>
     ensures { result ≡ bit_place word.now }
 {
     BitPlace::new(small_number(word)?)
 }
 
-/// `1` or `0`.
+/// Returns true for `1` and false for `0`.
+///
+/// Errors: P10 for any other word.
 pub fn bit_state(word: &[u8]) -> Result<bool, PacketFault>
     ensures { result ≡ bit_state word.now }
 {
@@ -107,21 +130,27 @@ pub fn bit_state(word: &[u8]) -> Result<bool, PacketFault>
     }
 }
 
-/// The number of an accessory decoder.
+/// Returns the address of an accessory decoder.
+///
+/// Errors: P11 if the word is no number or a number above 65535, P3 if the number is above 511.
 pub fn board_number(word: &[u8]) -> Result<Board, PacketFault>
     ensures { result ≡ board_number word.now }
 {
     Board::new(number(word)?)
 }
 
-/// The number of an output.
+/// Returns the number of an output.
+///
+/// Errors: P11 if the word is no number or a number above 255, P4 if the number is above 7.
 pub fn output_number(word: &[u8]) -> Result<Output, PacketFault>
     ensures { result ≡ output_number word.now }
 {
     Output::new(small_number(word)?)
 }
 
-/// `on` or `off`.
+/// Returns true for `on` and false for `off`.
+///
+/// Errors: P10 for any other word.
 pub fn switch(word: &[u8]) -> Result<bool, PacketFault>
     ensures { result ≡ switch word.now }
 {
@@ -132,14 +161,18 @@ pub fn switch(word: &[u8]) -> Result<bool, PacketFault>
     }
 }
 
-/// The number of a signal.
+/// Returns the address of a signal.
+///
+/// Errors: P11 if the word is no number or a number above 65535, P5 if the number is above 2047.
 pub fn signal_number(word: &[u8]) -> Result<SignalAddress, PacketFault>
     ensures { result ≡ signal_number word.now }
 {
     SignalAddress::new(number(word)?)
 }
 
-/// The frame whose bytes stand in hex, with digits of either case.
+/// Returns the frame whose bytes are these hex digits, in upper or lower case.
+///
+/// Errors: P12 if the digits form no frame.
 pub fn hex_frame(word: &[u8]) -> Result<Frame, PacketFault>
     ensures { result ≡ hex_frame word.now }
 {

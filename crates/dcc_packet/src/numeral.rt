@@ -1,11 +1,13 @@
-//! Numbers in packet lines.
+//! Functions that parse the numbers in packet lines.
 ghost use Rattle.std.specs.Prelude.{◌≡◌, false, IsTrue, IfSome, IfNone};
 ghost use Rattle.std.specs.Str.Parse.{digits_value};
 ghost use Rattle.dcc_packet.specs.LineWords.{is_numeral, number, small_number};
 
 use crate::PacketFault;
 
-/// A number up to 65535.
+/// Returns the number that the word gives, at most 65535.
+///
+/// Errors: P11 if the word is not 1 to 5 decimal digits, or if the number is above 65535.
 pub fn number(word: &[u8]) -> Result<u16, PacketFault>
     ensures { result ≡ number word.now }
 {
@@ -18,7 +20,9 @@ pub fn number(word: &[u8]) -> Result<u16, PacketFault>
     Ok(value as u16)
 }
 
-/// A number up to 255.
+/// Returns the number that the word gives, at most 255.
+///
+/// Errors: P11 if the word is not 1 to 5 decimal digits, or if the number is above 255.
 pub fn small_number(word: &[u8]) -> Result<u8, PacketFault>
     ensures { result ≡ small_number word.now }
 {
@@ -29,7 +33,7 @@ pub fn small_number(word: &[u8]) -> Result<u8, PacketFault>
     Ok(value as u8)
 }
 
-/// The value of 1 to 5 decimal digits, and none of any other word. (Each digit is looked at once.)
+/// Returns the value of a word of 1 to 5 decimal digits. Returns `None` for any other word.
 fn numeral_value(word: &[u8]) -> Option<u32>
     ensures some { IfSome result (λ value. IsTrue (is_numeral word.now) × (value ≡ digits_value 10 word.now)) }
     ensures none { IfNone result (is_numeral word.now ≡ false) }

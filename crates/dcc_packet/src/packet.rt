@@ -1,4 +1,4 @@
-//! Packets (NMRA S-9.2.1; RCN-211 to RCN-214).
+//! The type of packets (NMRA S-9.2.1; RCN-211 to RCN-214).
 
 ghost use Rattle.std.specs.Prelude.{◌≡◌};
 ghost use Rattle.dcc_wire.specs.Frames.{IsFrame};
@@ -7,7 +7,7 @@ ghost use Rattle.dcc_packet.specs.Rows.{HasRow};
 use crate::{Address, Board, Output, SignalAddress, What};
 use dcc_wire::Frame;
 
-/// A frame in no row of the table of packets. Reading alone makes one.
+/// A frame that is in no row of the table of packets. Only `Packet::read` creates an `OtherFrame`.
 #[derive(Clone, Copy, Debug, PartialEq, Eq)]
 pub struct OtherFrame {
     pub(crate) frame: Frame,
@@ -16,7 +16,7 @@ pub struct OtherFrame {
 }
 
 impl OtherFrame {
-    /// The bytes of the frame, the error byte last.
+    /// Returns the bytes of the frame, with the error byte last.
     pub fn bytes(&self) -> &[u8]
         ensures value { result.now ≡ self.now.frame }
         ensures valid { IsFrame result.now }
@@ -25,32 +25,33 @@ impl OtherFrame {
     }
 }
 
-/// A packet: what the bytes of a frame say.
+/// A packet: the meaning of the bytes of a frame.
 #[derive(Clone, Copy, Debug, PartialEq, Eq)]
 pub enum Packet {
-    /// To nobody: keeps the track powered between packets (RCN-211).
+    /// An idle packet, which no decoder hears. Idle packets keep the track powered between other
+    /// packets (RCN-211).
     Idle,
     /// An instruction to multifunction decoders (RCN-211, RCN-212, RCN-214).
     Loco {
-        /// Whom it is for.
+        /// The address of the packet.
         to: Address,
         /// The instruction.
         what: What,
     },
-    /// An output of an accessory board, on or off (RCN-213).
+    /// Switches an output of an accessory decoder on or off (RCN-213).
     Accessory {
-        /// The board.
+        /// The address of the accessory decoder.
         board: Board,
-        /// Its output.
+        /// The output that is switched.
         output: Output,
-        /// Whether the output is switched on.
+        /// True if the output is switched on.
         on: bool,
     },
-    /// An aspect of a signal (RCN-213).
+    /// Sets the aspect of a signal (RCN-213).
     Signal {
-        /// The signal.
+        /// The address of the signal.
         address: SignalAddress,
-        /// The aspect, a whole byte.
+        /// The aspect, 0 to 255.
         aspect: u8,
     },
     /// A frame that is in no row of the table of packets.

@@ -1,5 +1,5 @@
-//! The lines of packets: a form each, but for `frame HEX`.
-ghost use Rattle.dcc_packet.specs.Fields.{Gives};
+//! A function that parses all forms of packet lines except `frame HEX`.
+ghost use Rattle.dcc_packet.specs.Fields.{ParsesAs};
 ghost use Rattle.dcc_packet.specs.Forms.{read_by};
 ghost use Rattle.dcc_packet.specs.PacketForms.{packet_forms};
 
@@ -8,9 +8,9 @@ use crate::fields::Switch;
 use crate::words::{Words, is_word};
 use crate::{Address, Board, Output, Packet, PacketFault, SignalAddress, What};
 
-/// What the words behind this keyword say.
+/// Parses the words after `keyword` as a packet, and removes these words.
 pub(crate) fn packet(keyword: &[u8], words: &mut Words) -> Result<Packet, PacketFault>
-    ensures { Gives (read_by packet_forms keyword.now words.old) result words.new }
+    ensures { ParsesAs (read_by packet_forms keyword.now words.old) result words.new }
 {
     if is_word(keyword, b"idle") {
         Ok(Packet::Idle)

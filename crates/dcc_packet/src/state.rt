@@ -1,10 +1,11 @@
-//! Binary states (RCN-212).
+//! The type of the number of a binary state (RCN-212).
 
 ghost use Rattle.std.specs.Prelude.{◌≡◌, ◌↔◌, ◌<◌, ◌≤◌, IsOk, IfOk, IfErr};
 
 use crate::PacketFault;
 
-/// The number of a binary state in the short form, 0 to 127. 0 names all of 1 to 127 at once.
+/// The number of a binary state in the short form, 0 to 127. Number 0 stands for all binary states
+/// 1 to 127.
 #[derive(Clone, Copy, Debug, PartialEq, Eq)]
 pub struct StateNumber {
     pub(crate) number: u8,
@@ -14,7 +15,9 @@ pub struct StateNumber {
 impl StateNumber {
     ghost use Rattle.dcc_packet.specs.Values.{state_of};
 
-    /// The state of this number, or all of them for 0. P14 where it is above 127.
+    /// Creates the number `number` of a binary state.
+    ///
+    /// Errors: P14 if `number` is above 127.
     pub fn new(number: u8) -> Result<StateNumber, PacketFault>
         ensures range { IsOk result ↔ (number ≤ 127) }
         ensures ok { IfOk result (λ state. state.number ≡ number) }
@@ -27,7 +30,7 @@ impl StateNumber {
         Ok(StateNumber { number })
     }
 
-    /// The number, 0 to 127.
+    /// Returns the number of the binary state, 0 to 127.
     pub fn number(&self) -> u8
         ensures value { result ≡ self.now.number }
         ensures in_range { result ≤ 127 }

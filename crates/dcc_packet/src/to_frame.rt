@@ -1,4 +1,4 @@
-//! Packets as frames.
+//! Functions that return the frame of a packet.
 ghost use Rattle.std.specs.Prelude.{◌≡◌, ◌≤◌, ◌+◌, ◌-◌, ◌*◌, ◌/◌, ◌%◌, ◌++◌, ◌∷◌, [], length};
 ghost use Rattle.arrayvec.specs.ArrayVec.{array_vec_len};
 ghost use Rattle.dcc_wire.specs.Frames.{with_error_byte, xor_of};
@@ -14,13 +14,15 @@ use crate::{
 use arrayvec::ArrayVec;
 use dcc_wire::Frame;
 
-/// The bytes of a packet, from the first on.
+/// The bytes of a packet before the error byte, in the order in which they are sent.
 type Bytes = ArrayVec<u8, 6>;
 
 impl Packet {
-    /// The frame that spells the packet: the bytes of its row and the error byte (NMRA S-9.2.1; RCN-211 to
-    /// RCN-214). Reading it gives the packet again.
-    // (Inlined, it has its caller take the packet apart, each field for itself, before it looks which packet it is.)
+    /// Returns the frame that encodes the packet: the bytes of the row that has this packet, and
+    /// the error byte (NMRA S-9.2.1; RCN-211 to RCN-214). `Packet::read` returns the packet for
+    /// this frame.
+    // (not inlined, since a caller with the inlined code would load each field of the packet before
+    // it knows the kind of the packet)
     #[inline(never)]
     pub fn frame(&self) -> Frame
         ensures spelled { result ≡ spelling self.now }
@@ -44,7 +46,7 @@ impl Packet {
     }
 }
 
-/// The frame of these bytes and their error byte.
+/// Returns the frame of these bytes, followed by their error byte.
 fn with_error_byte(bytes: &[u8]) -> Frame
     requires long_enough { 2 ≤ length bytes.now }
     requires fits { length bytes.now ≤ 5 }
@@ -56,7 +58,7 @@ fn with_error_byte(bytes: &[u8]) -> Frame
     }
 }
 
-/// More bytes.
+/// Appends the bytes `more` to `bytes`.
 fn put(bytes: &mut Bytes, more: &[u8])
     requires { array_vec_len bytes.old + length more.now ≤ 6 }
     ensures { bytes.new.items ≡ bytes.old.items ++ more.now }
@@ -64,7 +66,7 @@ fn put(bytes: &mut Bytes, more: &[u8])
     bytes.try_extend_from_slice(more).unwrap()
 }
 
-/// The address bytes.
+/// Appends the bytes of the address `to`.
 fn put_address(bytes: &mut Bytes, to: &Address)
     requires { array_vec_len bytes.old ≤ 4 }
     ensures { bytes.new.items ≡ bytes.old.items ++ address_bytes to.now }
@@ -80,7 +82,7 @@ fn put_address(bytes: &mut Bytes, to: &Address)
     }
 }
 
-/// The instruction bytes.
+/// Appends the bytes of the instruction `what`.
 fn put_instruction(bytes: &mut Bytes, what: &What)
     requires { array_vec_len bytes.old ≤ 3 }
     ensures { bytes.new.items ≡ bytes.old.items ++ instruction_bytes what.now }
@@ -102,14 +104,15 @@ fn put_instruction(bytes: &mut Bytes, what: &What)
     }
 }
 
-/// A baseline speed, 01DCSSSS.
+/// Returns the byte 01DCSSSS of an instruction that sets the speed in 28 or 14 steps.
 fn speed28_byte(forward: bool, speed: &SpeedBits28) -> u8
     ensures { result ∷ [] ≡ instruction_bytes (What.Speed28 forward speed.now) }
 {
     speed.bits >> 1 | (speed.bits & 1) << 4 | bit(forward) << 5 | 0x40
 }
 
-/// An access to a CV, with the last byte of the instruction.
+/// Returns the three bytes of an access to a CV. The parameter `kind` has the upper six bits of the
+/// first byte.
 fn cv_bytes(kind: u8, cv: &CvNumber, last: u8) -> [u8; 3]
     requires { kind ≤ 0xEC }
     ensures { result ≡ cv_bytes kind cv.now.number last }
@@ -122,7 +125,7 @@ fn cv_bytes(kind: u8, cv: &CvNumber, last: u8) -> [u8; 3]
     ]
 }
 
-/// The bits of a function group, in one byte or behind a byte that names the group.
+/// Appends the bytes of an instruction that switches a function group.
 fn put_functions(bytes: &mut Bytes, functions: &GroupBits)
     requires { array_vec_len bytes.old ≤ 3 }
     ensures { bytes.new.items
@@ -143,7 +146,8 @@ fn put_functions(bytes: &mut Bytes, functions: &GroupBits)
     }
 }
 
-/// An output of a board, 10AAAAAA 1NNNCDDD with the high bits of the board complemented.
+/// Returns the bytes 10AAAAAA 1NNNCDDD of a packet that switches an output. The high bits of the
+/// address are complemented.
 fn accessory_bytes(board: &Board, output: &Output, on: bool) -> [u8; 2]
     ensures { result ≡ accessory_bytes board.now output.now on }
 {
@@ -155,7 +159,7 @@ fn accessory_bytes(board: &Board, output: &Output, on: bool) -> [u8; 2]
     ]
 }
 
-/// An aspect of a signal, 10AAAAAA 0NNN0PP1 and the aspect.
+/// Returns the bytes 10AAAAAA 0NNN0PP1 and the aspect of a packet that sets a signal.
 fn signal_bytes(signal: &SignalAddress, aspect: u8) -> [u8; 3]
     ensures { result ≡ signal_bytes signal.now aspect }
 {

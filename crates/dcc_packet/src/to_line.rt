@@ -1,4 +1,4 @@
-//! Packets as lines.
+//! Functions that return the packet line of a packet.
 ghost use Rattle.std.specs.Prelude.{◌≡◌, Result, Ok};
 ghost use Rattle.dcc_packet.specs.declared.packet.Packet.{Packet};
 ghost use Rattle.dcc_packet.specs.declared.fault.PacketFault.{PacketFault};
@@ -15,9 +15,9 @@ use crate::to_line_word::put_hex;
 use arrayvec::ArrayString;
 
 impl Packet {
-    /// The line of the packet, without a line end: the words of its form with one space between two,
-    /// numbers without leading zeros, hex in lower case. A packet in no row is written as `frame`.
-    /// `from_line` reads it back as this packet.
+    /// Returns the packet line of the packet, without a line feed. One space separates two words.
+    /// Numbers have no leading zeros, and hex digits are in lower case. If the packet is `Other`,
+    /// the line has the form `frame HEX`. `from_line` returns the packet for this line.
     #[tactic(auto, using(crate::proofs::RoundTrip::says_back))]
     pub fn to_line(&self) -> ArrayString<40>
         ensures bytes { result.bytes ≡ written_line self.now }
@@ -29,7 +29,7 @@ impl Packet {
         self.written()
     }
 
-    /// The line, and that the bytes of the packet are bytes.
+    /// Returns the packet line. The contract also says that the bytes of the packet are below 256.
     fn written(&self) -> ArrayString<40>
         ensures bytes { result.bytes ≡ written_line self.now }
         ensures fits { BytesFit self.now }

@@ -1,4 +1,4 @@
-//! Words of written packet lines.
+//! Functions that write the words of packet lines.
 ghost use Rattle.std.specs.Prelude.{◌≡◌, ◌+◌, ◌≤◌, ◌<◌, ◌++◌, ◌∷◌, [], length};
 ghost use Rattle.std.specs.Fmt.{decimal};
 ghost use Rattle.hex.specs.Hex.{encode_lower};
@@ -10,7 +10,7 @@ use crate::field::Line;
 use crate::{Address, Group};
 use std::str;
 
-/// A space and a word.
+/// Appends a space and the word `word`.
 pub(crate) fn put_word(line: &mut Line, word: &str)
     requires { array_string_len line.old + 1 + length word.now ≤ 40 }
     ensures { line.new.bytes ≡ with_word line.old.bytes word.now }
@@ -19,7 +19,7 @@ pub(crate) fn put_word(line: &mut Line, word: &str)
     line.push_str(word);
 }
 
-/// A space and a number.
+/// Appends a space and the decimal digits of `number`.
 #[tactic(auto, using(crate::proofs::Decimal::short))]
 pub(crate) fn put_number(line: &mut Line, number: u16)
     requires { array_string_len line.old + 6 ≤ 40 }
@@ -30,7 +30,7 @@ pub(crate) fn put_number(line: &mut Line, number: u16)
     put_digits(line, number);
 }
 
-/// The digits of a number, at most five.
+/// Appends the decimal digits of `number`. The contract bounds the digits by five bytes.
 #[tactic(auto, using(crate::proofs::Decimal::short))]
 fn put_bound_digits(line: &mut Line, number: u16)
     requires { array_string_len line.old + 5 ≤ 40 }
@@ -40,7 +40,7 @@ fn put_bound_digits(line: &mut Line, number: u16)
     put_digits(line, number);
 }
 
-/// The digits of a number.
+/// Appends the decimal digits of `number`.
 fn put_digits(line: &mut Line, number: u16)
     requires { array_string_len line.old + length (decimal number) ≤ 40 }
     ensures { line.new.bytes ≡ line.old.bytes ++ decimal number }
@@ -53,7 +53,7 @@ fn put_digits(line: &mut Line, number: u16)
     }
 }
 
-/// A digit.
+/// Appends the character of one decimal digit.
 fn put_digit(line: &mut Line, digit: u16)
     requires digit { digit < 10 }
     requires room { array_string_len line.old + 1 ≤ 40 }
@@ -62,7 +62,7 @@ fn put_digit(line: &mut Line, digit: u16)
     line.push(char::from(b'0' + digit as u8));
 }
 
-/// A space and an address.
+/// Appends a space and the word of the address `to`.
 pub(crate) fn put_address(line: &mut Line, to: &Address)
     requires { array_string_len line.old + 7 ≤ 40 }
     ensures bytes { line.new.bytes ≡ with_word line.old.bytes (address_word to.now) }
@@ -81,7 +81,7 @@ pub(crate) fn put_address(line: &mut Line, to: &Address)
     }
 }
 
-/// The bytes in hex.
+/// Appends the bytes as hex digits in lower case.
 pub(crate) fn put_hex(line: &mut Line, bytes: &[u8])
     requires room { array_string_len line.old ≤ 28 }
     requires few { length bytes.now ≤ 6 }
@@ -96,7 +96,7 @@ pub(crate) fn put_hex(line: &mut Line, bytes: &[u8])
     }
 }
 
-/// `f` or `r`.
+/// Returns the word `f` if `forward` is true, otherwise `r`.
 pub(crate) fn direction_word(forward: bool) -> &'static str
     ensures value { result.now ≡ direction_word forward }
     ensures len { length result.now ≡ 1 }
@@ -104,7 +104,7 @@ pub(crate) fn direction_word(forward: bool) -> &'static str
     if forward { "f" } else { "r" }
 }
 
-/// `1` or `0`.
+/// Returns the word `1` if `one` is true, otherwise `0`.
 pub(crate) fn state_word(one: bool) -> &'static str
     ensures value { result.now ≡ state_word one }
     ensures len { length result.now ≡ 1 }
@@ -112,7 +112,7 @@ pub(crate) fn state_word(one: bool) -> &'static str
     if one { "1" } else { "0" }
 }
 
-/// `on` or `off`.
+/// Returns the word `on` if `on` is true, otherwise `off`.
 pub(crate) fn switch_word(on: bool) -> &'static str
     ensures value { result.now ≡ switch_word on }
     ensures len { length result.now ≤ 3 }
@@ -120,7 +120,7 @@ pub(crate) fn switch_word(on: bool) -> &'static str
     if on { "on" } else { "off" }
 }
 
-/// The number of the group's first function.
+/// Returns the number of the first function of the group, as a word.
 pub(crate) fn group_word(group: Group) -> &'static str
     ensures value { result.now ≡ group_word group }
     ensures len { length result.now ≤ 2 }

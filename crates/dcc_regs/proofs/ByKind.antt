@@ -20,28 +20,28 @@ use Rattle.dcc_regs.specs.Heard.{is_full_reset}
 use Rattle.dcc_regs.specs.Outputs.{out_set}
 use Rattle.dcc_regs.specs.Sets.{sets, side}
 use Rattle.dcc_regs.specs.Inner.ConflictParts.{Differ, DifferIn, DifferInLoco, DifferAtOutput, DifferInOutputs}
-use Rattle.dcc_regs.specs.Inner.ConflictParts.{DifferInAspects, output_of}
+use Rattle.dcc_regs.specs.Inner.ConflictParts.{DifferInAspects, output_in_packet}
 use Rattle.dcc_regs.proofs.DifferLemmas.{Off, off_by, never, differ-sym, neither}
 
 nothing : (a : Option Value) → Differ a None → ⊥
 nothing a d = differ-sym a None d
 
 -- a packet of another kind turns an output off or leaves it, and leaves the pairs
-off_out : (p : Packet) (n : ℕ) → output_of p ≡ None → Off (out_set p n)
+off_out : (p : Packet) (n : ℕ) → output_in_packet p ≡ None → Off (out_set p n)
 off_out (ToLoco to what) n e = off_by (is_full_reset to what && nat_le n 7)
 off_out (Accessory board output on) n e = absurd (cc)
 off_out p n e = tt
 
-no_position : (p q : Packet) (n : ℕ) → output_of p ≡ None
+no_position : (p q : Packet) (n : ℕ) → output_in_packet p ≡ None
     → Differ (sets Steps28 p (Position n)) (sets Steps28 q (Position n)) → ⊥
 no_position (Accessory board output on) q n e d = absurd (cc)
 no_position p q n e d = d
 
-pub no_outputs : (p q : Packet) → option_or (output_of p) (output_of q) ≡ None → DifferInOutputs p q → ⊥
+pub no_outputs : (p q : Packet) → option_or (output_in_packet p) (output_in_packet q) ≡ None → DifferInOutputs p q → ⊥
 no_outputs p q e (inl d) =
-    let no = neither (output_of p) (output_of q) e in
+    let no = neither (output_in_packet p) (output_in_packet q) e in
     never (out_set p d.0) (out_set q d.0) (off_out p d.0 no.0) (off_out q d.0 no.1) d.1
-no_outputs p q e (inr d) = no_position p q d.0 (neither (output_of p) (output_of q) e).0 d.1
+no_outputs p q e (inr d) = no_position p q d.0 (neither (output_in_packet p) (output_in_packet q) e).0 d.1
 
 -- an accessory packet and another packet
 pub output_from : (p q : Packet) (n : ℕ) → DifferAtOutput p q n → DifferInOutputs p q
@@ -81,7 +81,7 @@ output_there p board output n on e d =
     subst (λ (n : ℕ). DifferAtOutput p (Accessory board output on) n) same (output_at p board output on d)
 
 -- they differ at the output that one of them is for
-pub output_to : (p q : Packet) (n : ℕ) → option_or (output_of p) (output_of q) ≡ Some n → DifferInOutputs p q
+pub output_to : (p q : Packet) (n : ℕ) → option_or (output_in_packet p) (output_in_packet q) ≡ Some n → DifferInOutputs p q
     → DifferAtOutput p q n
 output_to (Accessory board output on) q n e d =
     at-sym q (Accessory board output on) n

@@ -21,3 +21,5 @@ pub mod ResultByParts
 pub mod SameValues
 pub mod OwnWrites
 pub mod NothingSet
+pub mod SafetyLemmas
+pub mod CvChanges

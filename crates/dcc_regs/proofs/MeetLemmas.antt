@@ -12,7 +12,7 @@ use Rattle.dcc_packet.specs.declared.packet.Packet.TheVariants.{Loco as ToLoco, 
 use Rattle.dcc_regs.specs.declared.register.Who.{Who}
 use Rattle.dcc_regs.specs.declared.register.Who.TheVariants.{Loco as LocoWho, Board as BoardWho}
 use Rattle.dcc_regs.specs.Heard.{hears, is_for, is_full_reset, address_of}
-use Rattle.dcc_regs.specs.Inner.ConflictParts.{HeardTogether, meets, both_meet, boards_meet, board_number, some_loco}
+use Rattle.dcc_regs.specs.Inner.ConflictParts.{HeardTogether, meets, both_meet, boards_meet, board_of_packet, some_loco}
 use Rattle.dcc_regs.specs.Inner.ConflictParts.{some_board}
 
 pub self : (n : ℕ) → (n == n) ≡ true
@@ -56,7 +56,7 @@ hears_signal own address true u e f = grind (arith, nat_tests)
 hears_signal own address false true e f = grind (arith, nat_tests)
 hears_signal own address false false e f = refl
 
-hears_board : (own : Board) (p : Packet) → hears (BoardWho own) p ≡ takes_board own.number (board_number p)
+hears_board : (own : Board) (p : Packet) → hears (BoardWho own) p ≡ takes_board own.number (board_of_packet p)
 unfolding takes_board
 hears_board own (ToLoco to what) = hears_reset own.number (is_full_reset to what)
 hears_board own (Signal address aspect) =
@@ -117,7 +117,7 @@ fits_by false m n h e = absurd (cc)
 quarter : (n : ℕ) → n ≤ 2047 → n / 4 ≤ 511
 quarter n h = omega arith
 
-fits : (p : Packet) (n : ℕ) → board_number p ≡ Some n → n ≤ 511
+fits : (p : Packet) (n : ℕ) → board_of_packet p ≡ Some n → n ≤ 511
 fits (ToLoco to what) n e = fits_by (is_full_reset to what) 511 n (omega arith) e
 fits (Accessory board output on) n e = fits_by true board.number n board.in_range e
 fits (Signal address aspect) n e =
@@ -125,7 +125,7 @@ fits (Signal address aspect) n e =
     (quarter address.number address.in_range) e
 fits p n e = cc
 
-by_boards : (p q : Packet) (o o' : Option ℕ) → board_number p ≡ o → board_number q ≡ o'
+by_boards : (p q : Packet) (o o' : Option ℕ) → board_of_packet p ≡ o → board_of_packet q ≡ o'
     → both_meet boards_meet o o' ≡ true → HeardTogether p q
 by_boards p q (Some a) (Some b) e f h =
     let at = board_by a b (fits p a e) (fits q b f) (a == 511) refl h in
@@ -137,7 +137,7 @@ by_boards p q (Some a) (Some b) e f h =
 by_boards p q o o' e f h = cc
 
 pub together_board : (p q : Packet) → some_board p q ≡ true → HeardTogether p q
-together_board p q h = by_boards p q (board_number p) (board_number q) refl refl h
+together_board p q h = by_boards p q (board_of_packet p) (board_of_packet q) refl refl h
 
 pub together_loco : (p q : Packet) → some_loco p q ≡ true → HeardTogether p q
 together_loco p q h =
@@ -149,7 +149,7 @@ by_who p q (LocoWho active) h k =
     or_first (some_loco p q) (some_board p q) (loco_to (address_of p) (address_of q) active h k)
 by_who p q (BoardWho own) h k =
     let t : some_board p q ≡ true =
-    board_to (board_number p) (board_number q) own.number (sym (hears_board own p) ∙ h)
+    board_to (board_of_packet p) (board_of_packet q) own.number (sym (hears_board own p) ∙ h)
     (sym (hears_board own q) ∙ k) in
     or_right (some_loco p q) (some_board p q) t
 

@@ -1,5 +1,6 @@
 -- Which packets set no plain register.
-use Rattle.std.proofs.Common.{ℕ, Bool, cond, true, false, ◌≡◌, ◌≤◌, ◌∙◌, ap, refl, sym, Some, None, arith, eqb, inl, inr}
+use Rattle.std.proofs.Common.{ℕ, Bool, cond, true, false, ◌≡◌, ◌≤◌, ◌∙◌, ap, refl, sym, Some, None, arith, eqb, inl}
+use Rattle.std.proofs.Common.{inr}
 use Rattle.std.specs.Prelude.{option_map, ◌||◌, ◌&&◌, ◌%◌, ◌⊎◌, nat_le, nat_lt}
 use Rattle.std.proofs.lemmas.Bool.{ltb-false, or_right}
 use Rattle.dcc_packet.specs.declared.accessory.Board.{Board}

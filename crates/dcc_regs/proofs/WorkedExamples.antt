@@ -5,14 +5,15 @@ use Rattle.dcc_packet.specs.declared.address.Address.{Address}
 use Rattle.dcc_packet.specs.declared.address.Address.TheVariants.{Broadcast, Short}
 use Rattle.dcc_packet.specs.declared.cv.CvNumber.{CvNumber}
 use Rattle.dcc_packet.specs.declared.cv.BitPlace.{BitPlace}
-use Rattle.dcc_packet.specs.declared.instruction.What.TheVariants.{Reset, Speed28, BinaryState, CvWrite, CvBitWrite}
+use Rattle.dcc_packet.specs.declared.instruction.What.TheVariants.{Reset, Speed28, Speed128}
+use Rattle.dcc_packet.specs.declared.instruction.What.TheVariants.{BinaryState, CvWrite, CvBitWrite}
 use Rattle.dcc_packet.specs.declared.packet.Packet.{Packet}
 use Rattle.dcc_packet.specs.declared.packet.Packet.TheVariants.{Idle, Loco as ToLoco, Accessory}
 use Rattle.dcc_regs.specs.declared.register.Register.{Register}
 use Rattle.dcc_regs.specs.declared.register.Register.TheVariants.{Speed as SpeedRegister, Direction, Function}
 use Rattle.dcc_regs.specs.declared.register.Register.TheVariants.{State as StateRegister, CvBit}
 use Rattle.dcc_regs.specs.declared.register.Register.TheVariants.{Pending as PendingRegister, Out, Position}
-use Rattle.dcc_regs.specs.declared.register.Speed.TheVariants.{Step14, Step28}
+use Rattle.dcc_regs.specs.declared.register.Speed.TheVariants.{Stop, Emergency, Step14, Step28, Step126}
 use Rattle.dcc_regs.specs.declared.register.Value.{Value}
 use Rattle.dcc_regs.specs.declared.register.Value.TheVariants.{Speed as SpeedValue, Forward, Flag, Number}
 use Rattle.dcc_regs.specs.declared.register.Value.TheVariants.{Pending as PendingValue}
@@ -21,6 +22,7 @@ use Rattle.dcc_packet.specs.SamePacket.{same}
 use Rattle.dcc_regs.specs.Board.{board_registers, made}
 use Rattle.dcc_regs.specs.Loco.{loco_registers, start_content}
 use Rattle.dcc_regs.specs.Result.{result}
+use Rattle.dcc_regs.specs.Safety.{is_stop_packet, can_move, can_have_step}
 
 abbrev short_3 : Address
 short_3 = Short (record { number = 3; in_range = (omega arith, omega arith) })
@@ -70,6 +72,19 @@ after cv29 l =
     result (LocoWho (Some short_3))
     (loco_registers (start_content (λ n. if n == 1 then 3 else if n == 29 then cv29 else 0)))
     l
+
+-- a step of 28 and a step of 128 for all locomotives, and the emergency stop of 128 steps
+abbrev step_for_all : Packet
+step_for_all = speed Broadcast 9 (omega arith) true
+
+abbrev speed_128 : (n : ℕ) → n ≤ 127 → Packet
+speed_128 n fits = ToLoco Broadcast (Speed128 true (record { bits = n; in_range = fits }))
+
+abbrev fast_for_all : Packet
+fast_for_all = speed_128 5 (omega arith)
+
+abbrev emergency_128 : Packet
+emergency_128 = speed_128 1 (omega arith)
 
 -- outputs of a board
 abbrev switched : (board : ℕ) → board ≤ 511 → (output : ℕ) → output ≤ 7 → Packet
@@ -155,6 +170,19 @@ record Rows : Type 0 where
   -- a broadcast stop sets the direction where C is zero alone
   emergency_forward : after 2 (emergency ∷ []) Direction ≡ Some (Forward true)
   stop_backwards : after 2 (emergency ∷ stop ∷ []) Direction ≡ Some (Forward false)
+  -- all locomotives: a step of 28 moves none of them, a step of 128 moves them
+  no_step_for_all : after 2 (step_for_all ∷ []) SpeedRegister ≡ Some (SpeedValue Stop)
+  step_for_all_moves_none : can_move step_for_all ≡ false
+  step_for_all_has_none : can_have_step step_for_all ≡ false
+  fast_together : after 2 (fast_for_all ∷ []) SpeedRegister ≡ Some (SpeedValue (Step126 4))
+  fast_moves : can_move fast_for_all ≡ true
+  own_step_moves : can_move x ≡ true
+  stopped_together : after 2 (fast_for_all ∷ emergency_128 ∷ []) SpeedRegister ≡ Some (SpeedValue Emergency)
+  stop_stops : is_stop_packet stop ≡ true
+  emergency_stops : is_stop_packet emergency_128 ≡ true
+  emergency_moves_none : can_move emergency_128 ≡ false
+  reset_stops : is_stop_packet reset ≡ true
+  write_stops_none : is_stop_packet w ≡ false
   -- boards
   five_on : board_after (five ∷ four ∷ []) (Out 5) ≡ on
   four_on : board_after (five ∷ four ∷ []) (Out 4) ≡ on
@@ -199,6 +227,18 @@ rows = record {
   read_only = refl;
   emergency_forward = refl;
   stop_backwards = refl;
+  no_step_for_all = refl;
+  step_for_all_moves_none = refl;
+  step_for_all_has_none = refl;
+  fast_together = refl;
+  fast_moves = refl;
+  own_step_moves = refl;
+  stopped_together = refl;
+  stop_stops = refl;
+  emergency_stops = refl;
+  emergency_moves_none = refl;
+  reset_stops = refl;
+  write_stops_none = refl;
   five_on = refl;
   four_on = refl;
   side_0 = refl;

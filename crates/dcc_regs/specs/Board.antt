@@ -7,31 +7,35 @@ use Rattle.dcc_regs.specs.Outputs.{out_set, position_set, aspect_set}
 use Rattle.dcc_regs.specs.Sets.{side}
 use Rattle.dcc_regs.specs.Result.{RegisterMap}
 
--- what an accessory decoder holds: its outputs, the sides of its pairs of outputs (true is side 1) and its aspects, by
--- number
+-- the content of an accessory decoder. `outs` gives the outputs, `positions` the side of each pair
+-- of outputs (true is side 1), and `aspects` the aspect of each signal.
 pub record BoardContent : Type 0 where
   pub outs : ℕ → Bool
   pub positions : ℕ → Bool
   pub aspects : ℕ → ℕ
 
--- the registers of an accessory decoder
+-- the registers of an accessory decoder with content `d`; `None` for a register that it does not
+-- have
 abbrev pub board_registers : BoardContent → RegisterMap
 board_registers d (Out n) = if nat_le n 7 then Some (Flag (d.outs n)) else None
 board_registers d (Position n) = if nat_le n 3 then Some (side (d.positions n)) else None
 board_registers d (Aspect n) = if nat_le n 3 then Some (Number (d.aspects n)) else None
 board_registers d x = None
 
--- an accessory decoder takes a packet: what the packet sets is as it sets it, and all else is as before
+-- packet `p` changes the content of an accessory decoder from `d` to `d'`. Each register that `p`
+-- sets has the value of `p`, and every other register is unchanged.
 pub record TakesPacket (p : Packet) (d d' : BoardContent) : Type 0 where
   pub outs : (n : ℕ) → n ≤ 7 → d'.outs n ≡ unwrap_or (out_set p n) (d.outs n)
   pub positions : (n : ℕ) → n ≤ 3 → d'.positions n ≡ unwrap_or (position_set p n) (d.positions n)
   pub aspects : (n : ℕ) → n ≤ 3 → d'.aspects n ≡ unwrap_or (aspect_set p n) (d.aspects n)
 
--- an accessory decoder just made: all outputs off, all pairs at side 0, all aspects 0
+-- the content of a new accessory decoder: all outputs are off, all pairs are at side 0, and all
+-- aspects are 0
 abbrev pub made : BoardContent
 made = record { outs = λ n. false; positions = λ n. false; aspects = λ n. 0 }
 
--- the registers after power-up: all outputs off, all others kept
+-- the registers of an accessory decoder after power-up, if `m` are its registers before: all
+-- outputs are off, and every other register is unchanged
 abbrev pub board_powered_up : RegisterMap → RegisterMap
 board_powered_up m (Out n) = board_registers made (Out n)
 board_powered_up m r = m r

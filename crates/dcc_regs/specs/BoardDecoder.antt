@@ -1,4 +1,4 @@
--- What the plain accessory decoder holds.
+-- The content of the plain accessory decoder.
 use Rattle.std.specs.Prelude.{false, slice_index, slice_index_or}
 use Rattle.dcc_regs.specs.declared.board.BoardDecoder.{BoardDecoder}
 use Rattle.dcc_regs.specs.Board.{BoardContent}

@@ -1,4 +1,4 @@
--- An accessory decoder's state as plain data.
+-- The state of an accessory decoder as plain data.
 use Rattle.std.specs.Prelude.{false, slice_index, slice_index_or}
 use Rattle.dcc_regs.specs.declared.board_state.BoardState.{BoardState}
 use Rattle.dcc_regs.specs.declared.register.Who.{Who}
@@ -7,7 +7,7 @@ use Rattle.dcc_packet.specs.Bits.{is_one}
 use Rattle.dcc_regs.specs.Board.{BoardContent, board_registers}
 use Rattle.dcc_regs.specs.Result.{RegisterMap}
 
--- what a decoder in this state holds
+-- the content of an accessory decoder in state `s`
 abbrev pub content : BoardState → BoardContent
 content s =
     record {
@@ -16,7 +16,7 @@ content s =
       aspects = λ n. slice_index s.aspects n;
     }
 
--- who such a decoder is, and what its registers hold
+-- the number of an accessory decoder in state `s`, as a `Who`
 abbrev pub board_who : BoardState → Who
 board_who s = BoardWho s.board
 

@@ -1,4 +1,4 @@
--- Which packets conflict.
+-- Conflicts between packets.
 use Rattle.std.specs.Prelude.{◌≡◌, ◌≢◌, true, Some}
 use Rattle.dcc_packet.specs.declared.packet.Packet.{Packet}
 use Rattle.dcc_regs.specs.declared.register.Who.{Who}
@@ -8,8 +8,8 @@ use Rattle.dcc_regs.specs.declared.register.Value.{Value}
 use Rattle.dcc_regs.specs.Heard.{hears}
 use Rattle.dcc_regs.specs.Sets.{sets}
 
--- two packets conflict where some decoder hears both and, in one of the two modes, the same for both, they set one
--- register to two values
+-- packets `p` and `q` conflict: some decoder hears both, and in one of the two speed modes they set
+-- a register to different values
 pub record Conflict (p q : Packet) : Type 0 where
   pub who : Who
   pub first_heard : hears who p ≡ true

@@ -1,4 +1,4 @@
--- The functions that a packet turns on and off (RCN-212, NMRA S-9.2.1).
+-- The functions that a packet sets (RCN-212, NMRA S-9.2.1).
 use Rattle.std.specs.Prelude.{ℕ, Bool, false, ◌&&◌, ◌==◌, nat_lt, nat_le, ◌+◌, ◌-◌, ◌%◌, Option, None, Some}
 use Rattle.std.specs.Prelude.{option_map, if◌then◌else◌}
 use Rattle.dcc_packet.specs.declared.address.Address.TheVariants.{Broadcast}
@@ -12,7 +12,7 @@ use Rattle.dcc_regs.specs.declared.register.SpeedMode.{SpeedMode}
 use Rattle.dcc_regs.specs.declared.register.SpeedMode.TheVariants.{Steps14, Steps28}
 use Rattle.dcc_packet.specs.Bits.{is_one}
 
--- the function of a group's lowest bit
+-- the number of the function in the lowest bit of a function group; for group F0 this is 1
 abbrev pub first_function : Group → ℕ
 first_function F0 = 1
 first_function F5 = 5
@@ -25,7 +25,8 @@ first_function F45 = 45
 first_function F53 = 53
 first_function F61 = 61
 
--- how many functions a group has from that one on, one to a bit. F0, the fifth bit of group 0, stands aside
+-- the number of functions in the bits of a function group, from the lowest bit on. F0, which is the
+-- fifth bit of group F0, does not count.
 abbrev pub count_of : Group → ℕ
 count_of F0 = 4
 count_of F5 = 4
@@ -38,12 +39,14 @@ count_of F45 = 8
 count_of F53 = 8
 count_of F61 = 8
 
--- the bit of a group that is for F0: there is one in group 0 where the speed instruction has none for it
+-- the place of F0 in the bits of `group` in speed mode `mode`. Only group F0 has it, and only with
+-- 28 steps: with 14 steps F0 is in the speed instruction.
 abbrev pub place_of_f0 : SpeedMode → Group → Option ℕ
 place_of_f0 Steps28 F0 = Some 4
 place_of_f0 mode group = None
 
--- the bit of a group that is for function n
+-- the place of function `n` in the bits of `group`, or `None` if `group` does not have this
+-- function in speed mode `mode`
 abbrev pub function_place : SpeedMode → Group → ℕ → Option ℕ
 function_place mode group n =
     if n == 0 then place_of_f0 mode group
@@ -51,12 +54,13 @@ function_place mode group n =
     (n - first_function group)
     else None
 
--- what a group's bits say of function n
+-- the value of function `n` in the function group `bits`, or `None` if the group does not have this
+-- function
 abbrev pub group_bit : SpeedMode → GroupBits → ℕ → Option Bool
 group_bit mode bits n = option_map (is_one bits.bits) (function_place mode bits.group n)
 
--- whether a packet turns function n on or off: the lowest bit of the baseline speed instruction is F0 where it is read
--- for 14 steps
+-- the value to which a packet sets function `n`, true for on, or `None` if it does not set it. With
+-- 14 steps, bit C of a speed instruction is F0.
 abbrev pub function_set : SpeedMode → Packet → ℕ → Option Bool
 function_set mode (ToLoco to Reset) n = if nat_le n 68 then Some false else None
 function_set mode (ToLoco Broadcast (Speed28 forward bits)) n = None

@@ -1,4 +1,4 @@
--- Who hears which packet (RCN-211, RCN-213; NMRA S-9.2.1).
+-- The decoders that hear a packet (RCN-211, RCN-213; NMRA S-9.2.1).
 use Rattle.std.specs.Prelude.{ℕ, Bool, true, false, ◌&&◌, ◌||◌, ◌==◌, nat_lt, nat_le, ◌+◌, ◌-◌, ◌*◌, ◌/◌, Option}
 use Rattle.std.specs.Prelude.{None, Some, List, slice_index, filter, if◌then◌else◌}
 use Rattle.std.specs.Option.{option_map_or}
@@ -14,7 +14,8 @@ use Rattle.dcc_packet.specs.declared.packet.Packet.TheVariants.{Idle, Loco as To
 use Rattle.dcc_regs.specs.declared.register.Who.{Who}
 use Rattle.dcc_regs.specs.declared.register.Who.TheVariants.{Loco, Board}
 
--- a locomotive decoder with this active address takes what is sent to that one
+-- true if a locomotive decoder with the active address `active` hears instructions to the address
+-- `to`
 abbrev pub is_for : Option Address → Address → Bool
 is_for active Broadcast = true
 is_for None (Short to) = false
@@ -22,7 +23,8 @@ is_for None (Long to) = false
 is_for (Some own) (Short to) = same_address own (Short to)
 is_for (Some own) (Long to) = same_address own (Long to)
 
--- the address of locomotive decoders that the first bytes of a frame name, if they name one
+-- the address of locomotive decoders at the beginning of the frame `bytes`, or `None` if the frame
+-- has no such address
 abbrev pub frame_address : List ℕ → Option Address
 frame_address bytes =
     let first : ℕ = slice_index bytes 0 in
@@ -31,19 +33,22 @@ frame_address bytes =
     else if nat_le 192 first && nat_le first 231 then result_ok (long_of ((first - 192) * 256 + slice_index bytes 1))
     else None
 
--- the address of locomotive decoders that a packet is sent to, if it is sent to one
+-- the address of locomotive decoders to which a packet is sent, or `None` if the packet has no such
+-- address
 abbrev pub address_of : Packet → Option Address
 address_of (ToLoco to what) = Some to
 address_of (Other frame) = frame_address frame.frame
 address_of x = None
 
--- the reset of all decoders, the one instruction to locomotives that boards hear: a reset to the broadcast address
+-- true if an instruction is the reset to the broadcast address. Accessory decoders hear no other
+-- instruction to locomotive decoders.
 abbrev pub is_full_reset : Address → What → Bool
 is_full_reset Broadcast Reset = true
 is_full_reset x what = false
 
--- which decoder hears which packet. A frame of no row is heard by the locomotives whose address it names; board 511 is
--- every board, signal 2047 every signal, and signals 2044 to 2046 are nobody's
+-- true if the decoder hears the packet. Locomotive decoders hear other packets to their address,
+-- and accessory decoders hear no other packets. All accessory decoders hear packets to board 511
+-- and to signal 2047. No accessory decoder has the signals 2044 to 2046.
 abbrev pub hears : Who → Packet → Bool
 hears (Loco active) p = option_map_or (is_for active) (address_of p) false
 hears (Board own) Idle = false
@@ -53,6 +58,6 @@ hears (Board own) (Signal address aspect) =
     address.number == 2047 || (nat_lt address.number 2044 && own.number == address.number / 4)
 hears (Board own) (Other frame) = false
 
--- what a decoder hears of a list of packets
+-- the packets of a list that decoder `who` hears, in order
 abbrev pub heard : Who → List Packet → List Packet
 heard who = filter (hears who)

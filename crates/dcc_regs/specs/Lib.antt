@@ -20,8 +20,9 @@ pub mod Possible
 pub mod Conflict
 pub mod Notes
 pub mod Laws
+pub mod Safety
 pub mod Inner
--- what the clauses of this crate cite from below
+-- Definitions of lower crates that the contracts of this crate use.
 pub use Rattle.dcc_packet.specs.Cvs
 pub use Rattle.dcc_packet.specs.Spelling
 pub use Rattle.dcc_wire.specs.Frames

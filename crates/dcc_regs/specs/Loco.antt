@@ -21,7 +21,8 @@ use Rattle.dcc_regs.specs.States.{is_binary_state}
 use Rattle.dcc_regs.specs.Writes.{CvChange, Byte, OneBit, cv_change, change_of, is_own_write}
 use Rattle.dcc_regs.specs.Result.{RegisterMap}
 
--- what a locomotive decoder holds: its functions, its binary states and its CVs by number
+-- the content of a locomotive decoder. `functions`, `states` and `cvs` map a number to the value of
+-- this function, binary state or CV.
 pub record LocoContent : Type 0 where
   pub speed : Speed
   pub forward : Bool
@@ -30,15 +31,16 @@ pub record LocoContent : Type 0 where
   pub cvs : ℕ → ℕ
   pub pending : Option Packet
 
--- F0 to F68
+-- true if `n` is the number of a function, 0 to 68
 abbrev pub is_function : ℕ → Bool
 is_function n = nat_le n 68
 
--- the bits 0 to 7 of CV1 to CV1024
+-- true if `place` is a bit (0 to 7) of a CV and `cv` is the number of a CV (1 to 1024)
 abbrev pub is_cv_bit : ℕ → ℕ → Bool
 is_cv_bit cv place = nat_le 1 cv && nat_le cv 1024 && nat_le place 7
 
--- the registers of a locomotive decoder
+-- the registers of a locomotive decoder with content `d`; `None` for a register that it does not
+-- have
 abbrev pub loco_registers : LocoContent → RegisterMap
 loco_registers d SpeedRegister = Some (SpeedValue d.speed)
 loco_registers d Direction = Some (Forward d.forward)
@@ -48,19 +50,20 @@ loco_registers d (CvBit cv place) = if is_cv_bit cv place then Some (Flag (is_on
 loco_registers d PendingRegister = Some (PendingValue d.pending)
 loco_registers d x = None
 
--- a locomotive decoder just made or powered up: stopped, forward, all functions and binary states off, nothing pending
+-- the content of a locomotive decoder with the CVs `cvs` after power-up: stopped, forward, all
+-- functions and binary states off, and no pending write
 abbrev pub start_content : (ℕ → ℕ) → LocoContent
 start_content cvs =
     record { speed = Stop; forward = true; functions = λ n. false; states = λ n. false; cvs = cvs; pending = None }
 
--- who such a decoder is, and what its registers hold
+-- the identity of a locomotive decoder with the CVs `cvs` after power-up
 abbrev pub start_who : (ℕ → ℕ) → Who
 start_who cvs = LocoWho (active_address cvs)
 
 abbrev pub start_map : (ℕ → ℕ) → RegisterMap
 start_map cvs = loco_registers (start_content cvs)
 
--- the steps of each speed mode
+-- true if the speed is a stop, or a step in the range of its speed mode
 abbrev pub is_speed : Speed → Bool
 is_speed Stop = true
 is_speed Emergency = true
@@ -68,35 +71,37 @@ is_speed (Step14 n) = nat_le 1 n && nat_le n 14
 is_speed (Step28 n) = nat_le 1 n && nat_le n 28
 is_speed (Step126 n) = nat_le 1 n && nat_le n 126
 
--- a byte that is written is at most 255
+-- true if a change of a CV, if there is one, writes a value of at most 255
 abbrev pub change_fits : Option CvChange → Bool
 change_fits None = true
 change_fits (Some (Byte cv value)) = nat_le value 255
 change_fits (Some (OneBit cv place one)) = true
 
--- the value that an instruction writes to a CV is a byte
+-- true if instruction `what` writes a value of at most 255 to a CV, or no value
 abbrev pub writes_byte : What → Bool
 writes_byte what = change_fits (cv_change what)
 
--- the same of a packet
+-- true if packet `p` writes a value of at most 255 to a CV, or no value
 abbrev pub is_byte_write : Packet → Bool
 is_byte_write p = change_fits (change_of p)
 
--- only a CV write to the own address is ever pending
+-- true if a decoder with the address `active` can have this pending write: `None`, or an own write
+-- of a byte that it hears
 abbrev pub is_pending_for : Option Address → Option Packet → Bool
 is_pending_for active None = true
 is_pending_for active (Some p) = is_own_write p && is_byte_write p && hears (LocoWho active) p
 
--- the register holds a one
+-- true if the value of a register is a flag that is on, such as a bit that is one
 abbrev pub holds_one : Option Value → Bool
 holds_one (Some (Flag true)) = true
 holds_one held = false
 
--- the value of a CV among the registers
+-- the value of CV `cv`, computed from the registers `m` of its bits
 abbrev pub cv_held : RegisterMap → ℕ → ℕ
 cv_held m cv = byte_of (λ place. holds_one (m (CvBit cv place)))
 
--- the registers after power-up: those of a decoder just made with the CVs as they are
+-- the registers of a locomotive decoder after power-up, if `m` are its registers before: the CVs
+-- are unchanged, and all other registers have their start values
 abbrev pub powered_up : RegisterMap → RegisterMap
 powered_up m (CvBit cv place) = m (CvBit cv place)
 powered_up m r = start_map (cv_held m) r

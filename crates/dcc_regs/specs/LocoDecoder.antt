@@ -1,4 +1,4 @@
--- What the plain locomotive decoder holds.
+-- The content of the plain locomotive decoder.
 use Rattle.std.specs.Prelude.{false, slice_index_or}
 use Rattle.dcc_regs.specs.declared.loco.LocoDecoder.{LocoDecoder}
 use Rattle.dcc_packet.specs.Cvs.{cv_in}

@@ -1,9 +1,9 @@
--- What a locomotive decoder holds besides its CVs.
+-- The registers of a locomotive decoder except its CVs.
 use Rattle.std.specs.Prelude.{List, ℕ}
 use Rattle.dcc_regs.specs.declared.loco_registers.LocoRegisters.{LocoRegisters}
 use Rattle.dcc_regs.specs.declared.loco_state.LocoState.{LocoState}
 
--- the state of a decoder with these registers and these CVs
+-- the state of a locomotive decoder with the registers `r` and the CVs `cvs`
 abbrev pub with_cvs : LocoRegisters → List ℕ → LocoState
 with_cvs r cvs = record {
   address = r.address;
@@ -15,7 +15,7 @@ with_cvs r cvs = record {
   cvs = cvs;
 }
 
--- a state without its CVs
+-- the registers of state `s` except the CVs
 abbrev pub registers_in : LocoState → LocoRegisters
 registers_in s = record {
   address = s.address;

@@ -1,4 +1,4 @@
--- A locomotive decoder's state as plain data.
+-- The state of a locomotive decoder as plain data.
 use Rattle.std.specs.Prelude.{Bool, ◌&&◌, ◌==◌, nat_lt, ◌^◌, ◌%◌}
 use Rattle.dcc_regs.specs.declared.loco_state.LocoState.{LocoState}
 use Rattle.dcc_regs.specs.declared.register.Who.{Who}
@@ -9,14 +9,15 @@ use Rattle.dcc_regs.specs.Loco.{LocoContent, loco_registers, is_speed, is_pendin
 use Rattle.dcc_regs.specs.Result.{RegisterMap}
 use Rattle.dcc_regs.specs.Addresses.{is_active}
 
--- a decoder can be in this state: its address is no broadcast, its speed step is in range, no function above 68 and no
--- state 0 is on, and what is pending is a CV write to its address
+-- true if a locomotive decoder can be in state `s`. Its address is no broadcast, and its speed step
+-- is in range. No function above 68 and no binary state 0 is on. A pending packet is a CV write to
+-- its address.
 abbrev pub is_state : LocoState → Bool
 is_state s =
     is_active s.address && is_speed s.speed && nat_lt s.functions (2 ^ 69) && s.states % 2 == 0 && is_pending_for
     s.address s.pending
 
--- what a decoder in this state holds
+-- the content of a locomotive decoder in state `s`
 abbrev pub content : LocoState → LocoContent
 content s =
     record {
@@ -28,7 +29,7 @@ content s =
       pending = s.pending;
     }
 
--- who such a decoder is, and what its registers hold
+-- the identity of a locomotive decoder in state `s`
 abbrev pub loco_who : LocoState → Who
 loco_who s = LocoWho s.address
 

@@ -1,4 +1,4 @@
--- What a listener is told of a packet: one call for each kind of packet.
+-- The callbacks of a listener, one callback for each kind of packet.
 use Rattle.std.specs.Prelude.{◌≡◌, ℕ, Bool, true, false, Option, Some, None, [], ◌∷◌, if◌then◌else◌}
 use Rattle.dcc_packet.specs.declared.accessory.Board.{Board}
 use Rattle.dcc_packet.specs.declared.accessory.Output.{Output}
@@ -17,7 +17,7 @@ use Rattle.dcc_regs.specs.declared.register.Who.{Who}
 use Rattle.dcc_regs.specs.Heard.{hears}
 use Rattle.dcc_regs.specs.Result.{RegisterMap, HasHeard}
 
--- a call, with what it is given
+-- a call of a callback of a listener, with the arguments of the call
 pub data Note : Type 0 where
   IdleCall : Note
   ResetCall : Address → Note
@@ -29,7 +29,7 @@ pub data Note : Type 0 where
   SignalCall : SignalAddress → ℕ → Note
   OtherCall : OtherFrame → Note
 
--- the one call of an instruction
+-- the callback for an instruction that is sent to address `to`
 abbrev pub loco_note : Address → What → Note
 loco_note to Reset = ResetCall to
 loco_note to (Speed28 forward bits) = SpeedCall to (Speed28 forward bits)
@@ -41,7 +41,7 @@ loco_note to (CvVerify cv value) = CvAccessCall to (CvVerify cv value)
 loco_note to (CvBitWrite cv place one) = CvAccessCall to (CvBitWrite cv place one)
 loco_note to (CvBitVerify cv place one) = CvAccessCall to (CvBitVerify cv place one)
 
--- the one call of a packet
+-- the callback of a listener for a packet
 abbrev pub note_of : Packet → Note
 note_of Idle = IdleCall
 note_of (ToLoco to what) = loco_note to what
@@ -49,17 +49,18 @@ note_of (Accessory board output on) = TurnoutCall board output on
 note_of (Signal address aspect) = SignalCall address aspect
 note_of (Other frame) = OtherCall frame
 
--- an instruction of speed and direction
+-- true if the instruction sets speed and direction
 abbrev pub is_speed_instruction : What → Bool
 is_speed_instruction (Speed28 forward bits) = true
 is_speed_instruction (Speed128 forward bits) = true
 is_speed_instruction x = false
 
--- an instruction that is of the kind of its call
+-- the packet with address `to` and instruction `what` if `of_its_kind` is true, otherwise `None`
 abbrev pub told_if : Bool → Address → What → Option Packet
 told_if of_its_kind to what = if of_its_kind then Some (ToLoco to what) else None
 
--- the packet that a call tells; none where it is given an instruction of another kind
+-- the packet of which a callback notifies, or `None` if the callback has an instruction of another
+-- kind
 abbrev pub packet_told : Note → Option Packet
 packet_told IdleCall = Some Idle
 packet_told (ResetCall to) = Some (ToLoco to Reset)
@@ -71,7 +72,8 @@ packet_told (TurnoutCall board output on) = Some (Accessory board output on)
 packet_told (SignalCall address aspect) = Some (Signal address aspect)
 packet_told (OtherCall frame) = Some (Other frame)
 
--- a decoder hears a packet, and a listener is told it where it is for this decoder
+-- a decoder has heard packet `p`, and the listener was notified of `p` if and only if the decoder
+-- hears `p`
 pub record IsHeardAndTold {L : Type 0} (told : L → Note → L → Type 0) (p : Packet) (who : Who) (start : RegisterMap)
     (who' : Who) (now : RegisterMap) (listener listener' : L) : Type 0 where
   pub heard : HasHeard (p ∷ []) who start who' now

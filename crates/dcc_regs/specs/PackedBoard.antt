@@ -1,4 +1,5 @@
--- What the packed accessory decoder holds: bit n of one byte is output n, bit n of the other the side of pair n.
+-- The content of the packed accessory decoder. Bit n of the byte `outs` is output n, and bit n of
+-- the byte `positions` is the side of pair n.
 use Rattle.std.specs.Prelude.{slice_index}
 use Rattle.dcc_regs.specs.declared.packed_board.PackedBoard.{PackedBoard}
 use Rattle.dcc_packet.specs.Bits.{is_one}

@@ -1,4 +1,5 @@
--- What a decoder may be and hold: exactly what `restore` takes.
+-- The possible identities and registers of decoders, which are exactly those that `restore`
+-- accepts.
 use Rattle.std.specs.Prelude.{◌≡◌, Bool, true, false, not, ◌&&◌, nat_le, Option, None, Some}
 use Rattle.dcc_regs.specs.declared.register.Who.{Who}
 use Rattle.dcc_regs.specs.declared.register.Who.TheVariants.{Loco as LocoWho, Board as BoardWho}
@@ -14,12 +15,14 @@ use Rattle.dcc_regs.specs.States.{is_binary_state}
 use Rattle.dcc_regs.specs.Loco.{is_speed, is_pending_for, is_function, is_cv_bit}
 use Rattle.dcc_regs.specs.Result.{RegisterMap}
 
--- no locomotive decoder answers to the broadcast address, and no accessory decoder to board 511
+-- true if a decoder can have this identity: an address other than the broadcast, or a board number
+-- up to 510
 abbrev pub is_decoder : Who → Bool
 is_decoder (LocoWho active) = is_active active
 is_decoder (BoardWho own) = nat_le own.number 510
 
--- what a register of a decoder may hold
+-- true if register `r` of a decoder can have this value; `None` means that the decoder does not
+-- have the register
 abbrev pub may_hold : Who → Register → Option Value → Bool
 may_hold (LocoWho active) SpeedRegister (Some (SpeedValue speed)) = is_speed speed
 may_hold (LocoWho active) Direction (Some (Forward forward)) = true
@@ -47,7 +50,7 @@ may_hold (BoardWho own) (CvBit cv place) None = true
 may_hold (BoardWho own) PendingRegister None = true
 may_hold who r held = false
 
--- a decoder may be this one and hold these registers
+-- a decoder can have the identity `who` and the registers `m`
 pub record IsPossible (who : Who) (m : RegisterMap) : Type 0 where
   pub decoder : is_decoder who ≡ true
   pub registers : (r : Register) → may_hold who r (m r) ≡ true

@@ -1,4 +1,4 @@
--- What one heard packet sets, read from the registers as they stand before it.
+-- The registers that a heard packet sets, which depend on the registers before the packet.
 use Rattle.std.specs.Prelude.{Option, None, Some, unwrap_or}
 use Rattle.dcc_packet.specs.declared.packet.Packet.{Packet}
 use Rattle.dcc_regs.specs.declared.register.SpeedMode.{SpeedMode}
@@ -11,11 +11,12 @@ use Rattle.dcc_regs.specs.declared.register.Value.TheVariants.{Pending as Pendin
 use Rattle.dcc_regs.specs.Sets.{sets}
 use Rattle.dcc_regs.specs.Result.{RegisterMap, left_pending, effective_set, mode_of}
 
--- how a decoder with these registers reads speed instructions
+-- the speed mode of a decoder with the registers `m`
 abbrev pub mode_in : RegisterMap → SpeedMode
 mode_in m = mode_of (m (CvBit 29 1))
 
--- the constant that a heard packet sets a register to
+-- the value to which a heard packet `p` sets a register, if `m` are the registers before it, or
+-- `None` if `p` does not set it
 abbrev pub set_from : RegisterMap → Packet → Register → Option Value
 set_from m p PendingRegister = Some (PendingValue (left_pending p))
 set_from m p (CvBit cv place) = effective_set (m PendingRegister) p cv place
@@ -27,7 +28,8 @@ set_from m p (Out n) = sets (mode_in m) p (Out n)
 set_from m p (Position n) = sets (mode_in m) p (Position n)
 set_from m p (Aspect n) = sets (mode_in m) p (Aspect n)
 
--- a register after a value was put over it, if one was. One that a decoder does not have stays none
+-- the value of a register after a packet: `set`, or the value before if `set` is `None`. A register
+-- that the decoder does not have stays `None`.
 abbrev pub value_over : Option Value → Option Value → Option Value
 value_over None set = None
 value_over (Some start) set = Some (unwrap_or set start)

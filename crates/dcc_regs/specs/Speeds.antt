@@ -9,23 +9,26 @@ use Rattle.dcc_regs.specs.declared.register.SpeedMode.TheVariants.{Steps14, Step
 use Rattle.dcc_regs.specs.declared.register.Speed.{Speed}
 use Rattle.dcc_regs.specs.declared.register.Speed.TheVariants.{Stop, Emergency, Step14, Step28, Step126}
 
--- the baseline instruction, read for 28 steps
+-- the speed of a speed instruction with 28 steps, whose five bits are `bits`
 abbrev pub speed_of_28 : ℕ → Speed
 speed_of_28 bits = if nat_lt bits 2 then Stop else if nat_lt bits 4 then Emergency else Step28 (bits - 3)
 
--- the baseline instruction, read for 14 steps: the lowest bit is F0
+-- the speed of a speed instruction with 14 steps, whose five bits are `bits`; the lowest bit is F0
 abbrev pub speed_of_14 : ℕ → Speed
 speed_of_14 bits = if bits / 2 == 0 then Stop else if bits / 2 == 1 then Emergency else Step14 (bits / 2 - 1)
 
--- the instruction of 128 steps, two of which are stops
+-- the speed of a speed instruction with 128 steps, whose seven bits are `bits`; 0 and 1 are stops,
+-- so that 126 steps remain
 abbrev pub speed_of_126 : ℕ → Speed
 speed_of_126 bits = if bits == 0 then Stop else if bits == 1 then Emergency else Step126 (bits - 1)
 
--- the baseline instruction to the broadcast address: a step is no stop, and sets nothing
+-- the stop that the five bits `bits` of a broadcast for 28 or 14 steps mean. A broadcast with a
+-- speed step sets no speed, and the result is `None`.
 abbrev pub stop_of : ℕ → Option Speed
 stop_of bits = if nat_lt bits 2 then Some Stop else if nat_lt bits 4 then Some Emergency else None
 
--- the speed that a packet sets
+-- the speed to which a packet sets a locomotive decoder in speed mode `mode`, or `None` if it sets
+-- no speed
 abbrev pub speed_set : SpeedMode → Packet → Option Speed
 speed_set mode (ToLoco to Reset) = Some Stop
 speed_set mode (ToLoco Broadcast (Speed28 forward bits)) = stop_of bits.bits
@@ -34,7 +37,8 @@ speed_set Steps14 (ToLoco to (Speed28 forward bits)) = Some (speed_of_14 bits.bi
 speed_set mode (ToLoco to (Speed128 forward bits)) = Some (speed_of_126 bits.bits)
 speed_set mode x = None
 
--- the direction that a packet sets: a broadcast stop sets it only where bit C is zero, which are the bits 0 and 2
+-- the direction that a packet sets, true for forward, or `None` if it sets no direction. A
+-- broadcast stop sets the direction only if bit C is zero (values 0 and 2).
 abbrev pub direction_set : Packet → Option Bool
 direction_set (ToLoco to Reset) = Some true
 direction_set (ToLoco Broadcast (Speed28 forward bits)) =

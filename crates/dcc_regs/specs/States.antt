@@ -6,36 +6,39 @@ use Rattle.dcc_packet.specs.declared.instruction.What.TheVariants.{Reset, Binary
 use Rattle.dcc_packet.specs.declared.packet.Packet.{Packet}
 use Rattle.dcc_packet.specs.declared.packet.Packet.TheVariants.{Loco as ToLoco}
 
--- the states 1 to 127
+-- true if `n` is the number of a binary state, 1 to 127
 abbrev pub is_binary_state : ℕ → Bool
 is_binary_state n = nat_le 1 n && nat_le n 127
 
--- the number that an instruction turns on or off, and which of the two. 0 stands for all of 1 to 127; a reset turns all
--- off
+-- the number of the binary state that an instruction sets, and its value. The number 0 means all
+-- states from 1 to 127. A reset sets all states to off.
 abbrev pub states_in : What → Option (ℕ × Bool)
 states_in Reset = Some (0, false)
 states_in (BinaryState state on) = Some (state.number, on)
 states_in x = None
 
--- the same of a packet
+-- the number of the binary state that a packet sets, and its value, with 0 for all states
 abbrev pub turned_states : Packet → Option (ℕ × Bool)
 turned_states (ToLoco to what) = states_in what
 turned_states x = None
 
--- whether such a number turns state n on or off
+-- the value to which a pair of a state number and a value sets binary state `n`, or `None` if it
+-- does not set state `n`
 abbrev pub state_by : Option (ℕ × Bool) → ℕ → Option Bool
 state_by None n = None
 state_by (Some told) n = if is_binary_state n && (told.0 == 0 || n == told.0) then Some told.1 else None
 
--- whether a packet turns state n on or off: in either speed mode, and to the broadcast address too
+-- the value to which packet `p` sets binary state `n`, or `None` if it does not set it. The speed
+-- mode does not matter, and packets to the broadcast address set states too.
 abbrev pub state_set : Packet → ℕ → Option Bool
 state_set p n = state_by (turned_states p) n
 
--- the number of a single state, where it is one
+-- the number of the binary state that is set, or `None` if no state or each state is set
 abbrev pub single_state : Option (ℕ × Bool) → Option ℕ
 single_state None = None
 single_state (Some told) = if told.0 == 0 then None else Some told.0
 
--- a state at which two packets differ, if they differ in states: that of either, or any where both are for all
+-- the number of a binary state that two packets set to different values, if such a state exists. It
+-- is the single state of one of the packets, or 1 if both set all states.
 abbrev pub differing_state : Option (ℕ × Bool) → Option (ℕ × Bool) → ℕ
 differing_state c d = unwrap_or (option_or (single_state c) (single_state d)) 1

@@ -10,54 +10,57 @@ use Rattle.dcc_packet.specs.declared.packet.Packet.TheVariants.{Loco as ToLoco}
 use Rattle.dcc_packet.specs.Bits.{is_one}
 use Rattle.dcc_packet.specs.Cvs.{is_read_only}
 
--- what is written of a CV
+-- a change that a packet makes to a CV
 pub data CvChange : Type 0 where
-  -- this byte
+  -- the CV gets the byte as its value
   Byte : CvNumber → ℕ → CvChange
-  -- this bit at this place
+  -- the bit at the given place of the CV gets the given value
   OneBit : CvNumber → BitPlace → Bool → CvChange
 
--- what an instruction writes: a CV, or a bit of one
+-- the change that an instruction makes to a CV, or `None` if it changes no CV
 abbrev pub cv_change : What → Option CvChange
 cv_change (CvWrite cv value) = Some (Byte cv value)
 cv_change (CvBitWrite cv place one) = Some (OneBit cv place one)
 cv_change x = None
 
--- the same of a packet
+-- the change that a packet makes to a CV, or `None` if it changes no CV
 abbrev pub change_of : Packet → Option CvChange
 change_of (ToLoco to what) = cv_change what
 change_of x = None
 
--- an instruction that writes a CV or a bit of one
+-- true if instruction `what` writes a CV or a bit of a CV
 abbrev pub is_cv_write : What → Bool
 is_cv_write what = is_some (cv_change what)
 
--- a CV write that is not to the broadcast address. One that is heard is to the decoder's own address
+-- true if the packet is an own write: a CV write that is not sent to the broadcast address
 abbrev pub is_own_write : Packet → Bool
 is_own_write (ToLoco Broadcast what) = false
 is_own_write p = is_some (change_of p)
 
--- the constant that such a change sets bit k of CV n to, where it takes effect
+-- the value to which a change sets bit `k` of CV `n`, or `None` if it does not set this bit or the
+-- CV is read-only
 abbrev pub bit_by : Option CvChange → ℕ → ℕ → Option Bool
 bit_by None n k = None
-bit_by (Some (Byte cv value)) n k = if n == cv.number && not (is_read_only cv.number) then Some (is_one value k) else None
+bit_by (Some (Byte cv value)) n k = if n == cv.number && not (is_read_only cv.number) then Some
+    (is_one value k) else None
 bit_by (Some (OneBit cv place one)) n k =
     if n == cv.number && k == place.place && not (is_read_only cv.number) then Some one else None
 
--- the constant that a packet sets bit k of CV n to, where it takes effect
+-- the value to which packet `p` sets bit `k` of CV `n` when it takes effect, or `None` if it does
+-- not set this bit
 abbrev pub bit_set : Packet → ℕ → ℕ → Option Bool
 bit_set p n k = bit_by (change_of p) n k
 
--- a change of CV29 or of a bit of it
+-- true if the change is a change of CV29
 abbrev pub is_of_cv29 : Option CvChange → Bool
 is_of_cv29 None = false
 is_of_cv29 (Some (Byte cv value)) = cv.number == 29
 is_of_cv29 (Some (OneBit cv place one)) = cv.number == 29
 
--- an instruction that writes CV29 or a bit of it
+-- true if instruction `what` writes CV29 or a bit of CV29
 abbrev pub writes_mode : What → Bool
 writes_mode what = is_of_cv29 (cv_change what)
 
--- the same of a packet
+-- true if packet `p` writes CV29 or a bit of CV29
 abbrev pub writes_cv29 : Packet → Bool
 writes_cv29 p = is_of_cv29 (change_of p)

@@ -1,4 +1,4 @@
-//! The plain accessory decoder.
+//! An accessory decoder that stores its outputs and positions as truth values.
 ghost use Rattle.std.specs.Prelude.{◌≡◌, ℕ, ◌<◌, ◌≤◌, ◌↔◌, unwrap_or, slice_index, slice_index_or, false, true};
 ghost use Rattle.std.specs.Prelude.{nat_le, IsOk, IfOk, IfErr, ◌≢◌};
 ghost use Rattle.dcc_regs.specs.Outputs as table;
@@ -12,7 +12,8 @@ use crate::packed_board::{outs_after, positions_after};
 use crate::register::{Register, Value, Who};
 use dcc_packet::{Board, Packet, PacketFault};
 
-/// An accessory decoder.
+/// An accessory decoder. Element n of `positions` is true if output 2n + 1 was the last output of
+/// pair n that was turned on.
 #[derive(Drop)]
 pub struct BoardDecoder {
     board: Board,
@@ -27,7 +28,9 @@ impl BoardDecoder {
     ghost use Rattle.dcc_regs.specs.Board.{board_powered_up, board_registers, made};
     ghost use Rattle.dcc_regs.specs.declared.register.Who.TheVariants.{Board as BoardWho};
 
-    /// A decoder just made: all outputs off, all pairs at side 0, all aspects 0.
+    /// Creates an accessory decoder with all outputs off, all positions false and all aspects 0.
+    ///
+    /// Errors: P3 if the address is 511, which is the broadcast.
     pub fn new(board: Board) -> Result<BoardDecoder, PacketFault>
         ensures valid { IsOk result ↔ (nat_le board.number 510 ≡ true) }
         ensures fault { IfErr result (λ fault. fault ≡ PacketFault.Board) }
@@ -46,7 +49,9 @@ impl BoardDecoder {
         }
     }
 
-    /// A decoder in this state.
+    /// Creates the decoder with this state.
+    ///
+    /// Errors: P3 if the address is 511, which is the broadcast.
     pub fn restore(state: &BoardState) -> Result<BoardDecoder, PacketFault>
         ensures valid { IsOk result ↔ (nat_le state.now.board.number 510 ≡ true) }
         ensures fault { IfErr result (λ fault. fault ≡ PacketFault.Board) }
@@ -65,7 +70,8 @@ impl BoardDecoder {
         }
     }
 
-    /// What the decoder holds, as plain data: of it `restore` makes a decoder that is as this one.
+    /// Returns the state of the decoder as plain data. For this state `restore` returns an equal
+    /// decoder.
     pub fn state(&self) -> BoardState
         ensures possible { nat_le result.board.number 510 ≡ true }
         ensures who { ⟦<BoardDecoder as Decoder>⟧.who self.now ≡ board_who result }
@@ -79,7 +85,7 @@ impl BoardDecoder {
         }
     }
 
-    /// Powers the decoder up.
+    /// Powers the decoder up: all outputs are off, and positions and aspects do not change.
     pub fn power_up(&mut self)
         ensures who { ⟦<BoardDecoder as Decoder>⟧.who self.new ≡ ⟦<BoardDecoder as Decoder>⟧.who self.old }
         ensures registers { ⟦<BoardDecoder as Decoder>⟧.registers self.new ≡ board_powered_up
@@ -89,7 +95,7 @@ impl BoardDecoder {
     }
 }
 
-/// Gives the signals the aspects that a packet gives them.
+/// Sets each aspect that a heard packet sets.
 pub fn set_aspects(aspects: &mut [u8; 4], packet: &Packet)
     ensures { (n : ℕ) → n ≤ 3
         → slice_index aspects.new n ≡ unwrap_or (table.aspect_set packet.now n) (slice_index aspects.old n) }
@@ -100,7 +106,7 @@ pub fn set_aspects(aspects: &mut [u8; 4], packet: &Packet)
     }
 }
 
-/// A law: aspects are bytes.
+/// Lemma: the aspects are below 256. The function does nothing at run time.
 pub fn are_bytes(aspects: &[u8])
     ensures { (n : ℕ) → slice_index aspects.now n < 256 }
 {}

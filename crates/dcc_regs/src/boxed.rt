@@ -1,11 +1,11 @@
-//! A boxed decoder is a decoder.
+//! The implementation of `Decoder` for decoders in boxes.
 
 use crate::decoder::Decoder;
 use crate::register::{Register, Value, Who};
 use dcc_packet::Packet;
 
-/// A decoder of any type in a box is who it is, and holds what it holds. So what takes decoders of one type takes a mixed
-/// fleet too.
+/// A box with a decoder of any type is a decoder with the address and the registers of the decoder
+/// in the box. So functions for fleets of one type accept fleets of several types too.
 impl Decoder for Box<dyn Decoder> {
     ghost who = { λ decoder. (Decoder-box decoder).who decoder.value };
 

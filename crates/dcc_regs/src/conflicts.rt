@@ -1,4 +1,4 @@
-//! Which packets conflict.
+//! Functions that return true if two packets conflict.
 
 ghost use Rattle.std.specs.Prelude.{◌≡◌, ◌↔◌, ◌⊎◌, IsTrue};
 ghost use Rattle.dcc_regs.specs.Conflict.{Conflict};
@@ -13,36 +13,38 @@ use crate::hearers::heard_together;
 use crate::register::SpeedMode;
 use dcc_packet::{Address, Packet, What};
 
-/// Whether both packets set a register of locomotive decoders, and in one speed mode not to one value.
+/// Returns true if, in one of the two speed modes, the packets set a register of locomotive
+/// decoders to different values.
 fn locos_differ(p: &Packet, q: &Packet) -> bool
     ensures { IsTrue result ↔ (DifferInLoco Steps28 p.now q.now ⊎ DifferInLoco Steps14 p.now q.now) }
 {
     locos_differ_in(SpeedMode::Steps28, p, q) || locos_differ_in(SpeedMode::Steps14, p, q)
 }
 
-/// Whether both packets set a register of accessory decoders, and not to one value.
+/// Returns true if the packets set a register of accessory decoders to different values.
 fn boards_differ(p: &Packet, q: &Packet) -> bool
     ensures { IsTrue result ↔ (DifferInOutputs p.now q.now ⊎ DifferInAspects p.now q.now) }
 {
     outputs_differ(p, q) || aspects_differ(p, q)
 }
 
-/// Whether both packets set a register, and in one speed mode not to one value.
+/// Returns true if, in one of the two speed modes, the packets set a register to different values.
 fn differ_in_some_mode(p: &Packet, q: &Packet) -> bool
     ensures { IsTrue result ↔ ((mode : SpeedMode) × DifferIn mode p.now q.now) }
 {
     locos_differ(p, q) || boards_differ(p, q)
 }
 
-/// Whether two packets conflict: some decoder can hear both and, in one of the two speed modes, they
-/// set one register to two values. A CV access conflicts with nothing.
+/// Returns true if two packets conflict: some decoder hears both packets and, in one of the two
+/// speed modes, they set a register to different values. A CV access conflicts with no packet.
 pub fn conflict(p: &Packet, q: &Packet) -> bool
     ensures { IsTrue result ↔ Conflict p.now q.now }
 {
     heard_together(p, q) && differ_in_some_mode(p, q)
 }
 
-/// Whether an instruction to an address sets no register.
+/// Returns true if, in both speed modes, an instruction to the address `to` sets no register to a
+/// constant.
 fn instruction_sets_nothing(to: &Address, what: &What) -> bool
     ensures { IsTrue result ↔ SetsNothing (ToLoco to.now what.now) }
 {
@@ -60,7 +62,8 @@ fn instruction_sets_nothing(to: &Address, what: &What) -> bool
     }
 }
 
-/// Whether a packet sets no register to a constant, in either of the two speed modes. Then it conflicts with nothing.
+/// Returns true if, in both speed modes, a packet sets no register to a constant. If the result is
+/// true, the packet conflicts with no packet.
 pub fn sets_nothing(packet: &Packet) -> bool
     ensures { IsTrue result ↔ SetsNothing packet.now }
 {

@@ -1,4 +1,4 @@
-//! What the configuration variables say to a locomotive decoder, and the writes that it hears.
+//! Functions that read the CVs of a locomotive decoder, and write CVs after a heard packet.
 ghost use Rattle.std.specs.Prelude.{◌≡◌, ℕ, ◌≤◌, true, Some, None, unwrap_or, if◌then◌else◌};
 ghost use Rattle.dcc_regs.specs.Addresses.{active_address as address_at, is_active};
 ghost use Rattle.dcc_packet.specs.Bits.{is_one};
@@ -12,7 +12,8 @@ use crate::register::SpeedMode;
 use crate::writes::is_repeated_write;
 use dcc_packet::{Address, Packet, What, cv_value, write_cv};
 
-/// The address of a decoder that is powered up with these CVs.
+/// Returns the active address that a decoder with these CVs has after power-up. Returns `None` if
+/// these CVs give no address.
 pub fn active_address(cvs: &[u8; 1024]) -> Option<Address>
     ensures address { result ≡ address_at (cv_in cvs.now) }
     ensures active { is_active result ≡ true }
@@ -26,7 +27,7 @@ pub fn active_address(cvs: &[u8; 1024]) -> Option<Address>
     }
 }
 
-/// A bit of a CV, where there is such a bit.
+/// Returns bit `place` of CV `cv`. Returns `None` if there is no such CV or no such bit.
 pub fn bit(cvs: &[u8; 1024], cv: u16, place: u8) -> Option<bool>
     ensures { result ≡ (if is_cv_bit cv place then Some (is_one (cv_in cvs.now cv) place) else None) }
 {
@@ -37,7 +38,8 @@ pub fn bit(cvs: &[u8; 1024], cv: u16, place: u8) -> Option<bool>
     }
 }
 
-/// Does a heard CV write at its second copy, the first one being pending.
+/// Executes a heard packet that is the second copy of the own write `pending`: writes its CV, or
+/// its bit of a CV. Another packet changes no CV.
 pub fn hear(cvs: &mut [u8; 1024], pending: &Option<Packet>, packet: &Packet)
     ensures { (cv place : ℕ) → 1 ≤ cv → place ≤ 7
         → is_one (cv_in cvs.new cv)
@@ -50,7 +52,8 @@ pub fn hear(cvs: &mut [u8; 1024], pending: &Option<Packet>, packet: &Packet)
     }
 }
 
-/// Does a CV write. CV7 and CV8 stay as they are.
+/// Executes a CV write, which writes a CV or a bit of a CV. CV7 and CV8 never change. A packet of
+/// another kind changes no CV.
 fn write(cvs: &mut [u8; 1024], packet: &Packet)
     ensures { (cv place : ℕ) → 1 ≤ cv → place ≤ 7
         → is_one (cv_in cvs.new cv) place ≡ unwrap_or (bit_set packet.now cv place)
@@ -74,7 +77,8 @@ fn write(cvs: &mut [u8; 1024], packet: &Packet)
     }
 }
 
-/// How speed instructions are read.
+/// Returns the mode in which a decoder with these CVs reads speed instructions: bit 1 of CV29 is
+/// one for 28 steps.
 pub fn mode(cvs: &[u8; 1024]) -> SpeedMode
     ensures { result ≡ mode_of (Some (Flag (is_one (cv_in cvs.now 29) 1))) }
 {

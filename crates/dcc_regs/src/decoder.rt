@@ -1,4 +1,4 @@
-//! What every decoder promises.
+//! The trait of decoders, with its contract.
 
 ghost use Rattle.std.specs.Prelude.{◌≡◌, ◌≤◌, Option, None, false, if◌then◌else◌};
 ghost use Rattle.dcc_regs.specs.Heard.{hears};
@@ -13,20 +13,20 @@ ghost use Rattle.dcc_regs.specs.declared.register.Who.{Who};
 use crate::register::{Register, Value, Who};
 use dcc_packet::Packet;
 
-/// A decoder. Its meaning is a map from registers to values, and who it is.
+/// A decoder. The meaning of a decoder is its kind and address, and a map from registers to values.
 pub trait Decoder: Drop {
     /// The kind of the decoder and its active address.
     ghost who: { Self → Who };
 
-    /// What each register holds, None where the decoder has no such register.
+    /// The value of each register, or `None` if the decoder has no such register.
     ghost registers: { Self → Register → Option Value };
 
-    /// Who the decoder is. It is always one that `restore` could have made.
+    /// Returns the kind and the active address of the decoder. `restore` accepts this address.
     fn who(&self) -> Who
         ensures who { result ≡ who self.now }
         ensures possible { IsPossible (who self.now) (registers self.now) };
 
-    /// Hears one packet, and does what it says where it is for this decoder.
+    /// Applies one packet. The decoder ignores a packet that it does not hear.
     fn apply(&mut self, packet: &Packet)
         ensures same_who { who self.new ≡ who self.old }
         ensures step { registers self.new ≡ step (who self.old) (registers self.old) packet.now }
@@ -34,12 +34,13 @@ pub trait Decoder: Drop {
         ensures kept { (r : Register) → set_from (registers self.old) packet.now r ≡ None
             → registers self.new r ≡ registers self.old r };
 
-    /// What a register holds, None where the decoder has no such register.
+    /// Returns the value of a register. Returns `None` if the decoder has no such register.
     fn get(&self, register: Register) -> Option<Value>
         ensures { result ≡ registers self.now register };
 
-    /// The byte of a CV, whose bits are eight registers; a register that the decoder does not have counts as a 0. A decoder that keeps
-    /// bytes answers it at once; else it is asked bit by bit.
+    /// Returns the byte of a CV, whose bits are eight registers. A bit counts as 0 if the decoder
+    /// does not have its register. The default body calls `get` for each bit. A decoder that stores
+    /// bytes can return the byte directly.
     fn cv_byte(&self, cv: u16) -> u8
         ensures { result ≡ cv_held (registers self.now) cv }
     {
@@ -54,7 +55,7 @@ pub trait Decoder: Drop {
     }
 }
 
-/// The weight of a bit where the value is a one.
+/// Returns `weight` if `value` is a bit that is one, otherwise 0.
 fn weight(value: Option<Value>, weight: u8) -> u8
     ensures value { result ≡ (if holds_one value then weight else 0) }
     ensures at_most { result ≤ weight }

@@ -1,9 +1,10 @@
-//! The registers that two packets set to two values.
+//! Functions that return true if two packets set a register to different values.
 
 ghost use Rattle.std.specs.Prelude.{◌≡◌, ◌↔◌, ℕ, ◌%◌, ◌+◌, ◌<◌, ◌≤◌, IsTrue};
 ghost use Rattle.dcc_regs.specs.Inner.ConflictParts.{Differ, DifferAtOutput, DifferInAspects, DifferInLoco};
 ghost use Rattle.dcc_regs.specs.Inner.ConflictParts.{DifferInOutputs, group_of as group_of_packet};
-ghost use Rattle.dcc_regs.specs.Inner.ConflictParts.{output_of as output_of_packet, signal_of as signal_of_packet};
+ghost use Rattle.dcc_regs.specs.Inner.ConflictParts.{output_in_packet as output_of_packet};
+ghost use Rattle.dcc_regs.specs.Inner.ConflictParts.{signal_in_packet as signal_of_packet};
 ghost use Rattle.dcc_regs.specs.Sets as table;
 ghost use Rattle.dcc_regs.specs.declared.register.Register.TheVariants.{Aspect, Function, State as StateRegister};
 ghost use Rattle.dcc_regs.specs.declared.register.SpeedMode.TheVariants.{Steps28};
@@ -16,7 +17,8 @@ use crate::speeds::{direction_set, speed_set};
 use crate::states::{looked, state_set};
 use dcc_packet::{Group, Packet, What};
 
-/// The constant that a packet sets a plain register to.
+/// Returns the constant to which a packet sets a register. Returns `None` if the packet does not
+/// set the register to a constant.
 fn sets(mode: SpeedMode, packet: &Packet, register: Register) -> Option<Value>
     ensures { result ≡ table.sets mode packet.now register }
 {
@@ -47,7 +49,8 @@ fn differ_at(mode: SpeedMode, p: &Packet, q: &Packet, register: Register) -> boo
     differ(sets(mode, p, register), sets(mode, q, register))
 }
 
-/// Whether both packets set one of the `count` functions from `first` on, and not to one state.
+/// Returns true if the packets set one of the functions `first` to `first + count - 1` to different
+/// states.
 fn functions_from_differ(mode: SpeedMode, p: &Packet, q: &Packet, first: u8, count: u8) -> bool
     requires { first + count ≤ 69 }
     ensures { IsTrue result ↔
@@ -62,7 +65,8 @@ fn functions_from_differ(mode: SpeedMode, p: &Packet, q: &Packet, first: u8, cou
     false
 }
 
-/// The group of functions that a packet is for.
+/// Returns the function group that a packet switches. Returns `None` if the packet switches no
+/// group.
 fn group_of(packet: &Packet) -> Option<Group>
     ensures { result ≡ group_of_packet packet.now }
 {
@@ -75,8 +79,8 @@ fn group_of(packet: &Packet) -> Option<Group>
     }
 }
 
-/// Whether both packets set some function, and not to one state. A packet for no group turns no
-/// function but F0 on, so the functions of one group are enough to look at.
+/// Returns true if the packets set some function to different states. A packet that switches no
+/// group turns on no function but F0. So the function compares F0 and the functions of one group.
 fn functions_differ(mode: SpeedMode, p: &Packet, q: &Packet) -> bool
     ensures { IsTrue result ↔
         ((n : ℕ) × Differ (table.sets mode p.now (Function n)) (table.sets mode q.now (Function n))) }
@@ -90,7 +94,7 @@ fn functions_differ(mode: SpeedMode, p: &Packet, q: &Packet) -> bool
     }
 }
 
-/// Whether both packets set some binary state, and not to one value.
+/// Returns true if the packets set some binary state to different values.
 fn states_differ(mode: SpeedMode, p: &Packet, q: &Packet) -> bool
     ensures { IsTrue result ↔
         ((n : ℕ) × Differ (table.sets mode p.now (StateRegister n)) (table.sets mode q.now (StateRegister n))) }
@@ -98,7 +102,8 @@ fn states_differ(mode: SpeedMode, p: &Packet, q: &Packet) -> bool
     differ_at(mode, p, q, Register::State(looked(p, q)))
 }
 
-/// Whether both packets set a register of locomotive decoders, and not to one value.
+/// Returns true if the packets set a register of locomotive decoders to different values in speed
+/// mode `mode`.
 pub fn locos_differ_in(mode: SpeedMode, p: &Packet, q: &Packet) -> bool
     ensures { IsTrue result ↔ DifferInLoco mode p.now q.now }
 {
@@ -108,7 +113,7 @@ pub fn locos_differ_in(mode: SpeedMode, p: &Packet, q: &Packet) -> bool
         || states_differ(mode, p, q)
 }
 
-/// Whether both packets set output `n` or its pair, and not to one value.
+/// Returns true if the packets set output `n`, or the position of its pair, to different values.
 fn output_differs(p: &Packet, q: &Packet, n: u8) -> bool
     ensures { IsTrue result ↔ DifferAtOutput p.now q.now n }
 {
@@ -116,7 +121,7 @@ fn output_differs(p: &Packet, q: &Packet, n: u8) -> bool
     differ_at(mode, p, q, Register::Out(n)) || differ_at(mode, p, q, Register::Position(n / 2))
 }
 
-/// The output that a packet is for.
+/// Returns the output that a packet switches. Returns `None` if the packet switches no output.
 fn output_of(packet: &Packet) -> Option<u8>
     ensures { result ≡ output_of_packet packet.now }
 {
@@ -126,8 +131,9 @@ fn output_of(packet: &Packet) -> Option<u8>
     }
 }
 
-/// Whether both packets set some output or pair of outputs, and not to one value. A packet for no
-/// output turns none on, so the output of one packet is enough to look at.
+/// Returns true if the packets set some output or the position of some pair to different values. A
+/// packet that switches no output turns none of the outputs on. So the function compares only the
+/// output that one of the packets switches.
 pub fn outputs_differ(p: &Packet, q: &Packet) -> bool
     ensures { IsTrue result ↔ DifferInOutputs p.now q.now }
 {
@@ -137,7 +143,8 @@ pub fn outputs_differ(p: &Packet, q: &Packet) -> bool
     }
 }
 
-/// The signal that a packet is for.
+/// Returns the address of the signal that a packet sets. Returns `None` if the packet sets no
+/// signal.
 fn signal_of(packet: &Packet) -> Option<u16>
     ensures { result ≡ signal_of_packet packet.now }
 {
@@ -147,7 +154,7 @@ fn signal_of(packet: &Packet) -> Option<u16>
     }
 }
 
-/// Whether both packets set the aspect of signal `address`, and not to one value.
+/// Returns true if the packets set the aspect of signal `address` to different values.
 fn aspect_differs(p: &Packet, q: &Packet, address: u16) -> bool
     ensures { IsTrue result ↔ Differ (table.sets Steps28 p.now (Aspect (address % 4)))
         (table.sets Steps28 q.now (Aspect (address % 4))) }
@@ -160,7 +167,7 @@ fn aspect_differs(p: &Packet, q: &Packet, address: u16) -> bool
     )
 }
 
-/// Whether both packets set some aspect, and not to one value.
+/// Returns true if the packets set the aspect of some signal to different values.
 pub fn aspects_differ(p: &Packet, q: &Packet) -> bool
     ensures { IsTrue result ↔ DifferInAspects p.now q.now }
 {

@@ -1,4 +1,4 @@
-//! The functions that a packet turns on and off (RCN-212, NMRA S-9.2.1).
+//! Functions that say which functions a packet turns on and off (RCN-212, NMRA S-9.2.1).
 
 ghost use Rattle.std.specs.Prelude.{◌≡◌, ◌≤◌, ◌^◌, ◌-◌, IfSome};
 ghost use Rattle.dcc_regs.specs.FunctionBits as table;
@@ -6,7 +6,8 @@ ghost use Rattle.dcc_regs.specs.FunctionBits as table;
 use crate::register::SpeedMode;
 use dcc_packet::{Address, Group, GroupBits, Packet, What};
 
-/// The function of a group's lowest bit (NMRA S-9.2.1, RCN-212): F1 of the group of F0, whose bit is the highest.
+/// Returns the function of the lowest bit of a group (NMRA S-9.2.1, RCN-212). For the group of F0
+/// this function is F1, since the highest bit of the group is F0.
 pub fn first_function(group: Group) -> u8
     ensures first { result ≡ table.first_function group }
     ensures small { result ≤ 61 }
@@ -25,7 +26,7 @@ pub fn first_function(group: Group) -> u8
     }
 }
 
-/// How many functions a group has, F0 aside.
+/// Returns the number of functions of a group, without F0.
 pub fn count_of(group: Group) -> u8
     ensures count { result ≡ table.count_of group }
     ensures small { result ≤ 8 }
@@ -36,7 +37,7 @@ pub fn count_of(group: Group) -> u8
     }
 }
 
-/// The bit of a group that is for F0.
+/// Returns the place of the bit of F0 in a group. Returns `None` if no bit of the group is F0.
 fn place_of_f0(mode: SpeedMode, group: Group) -> Option<u8>
     ensures place { result ≡ table.place_of_f0 mode group }
     ensures small { IfSome result (λ place. place ≤ 7) }
@@ -47,7 +48,8 @@ fn place_of_f0(mode: SpeedMode, group: Group) -> Option<u8>
     }
 }
 
-/// The bit of a group that is for function `n`.
+/// Returns the place of the bit of function `n` in a group. Returns `None` if no bit of the group
+/// is this function.
 fn function_place(mode: SpeedMode, group: Group, n: u8) -> Option<u8>
     ensures place { result ≡ table.function_place mode group n }
     ensures small { IfSome result (λ place. place ≤ 7) }
@@ -70,7 +72,8 @@ fn group_bit(mode: SpeedMode, bits: GroupBits, n: u8) -> Option<bool>
     function_place(mode, bits.group(), n).map(|place| bits.bits() >> place & 1 == 1)
 }
 
-/// Whether a packet turns function `n` on or off.
+/// Returns true if a packet turns function `n` on, and false if it turns the function off. Returns
+/// `None` if the packet does not set this function.
 pub fn function_set(mode: SpeedMode, packet: &Packet, n: u8) -> Option<bool>
     ensures { result ≡ table.function_set mode packet.now n }
 {
@@ -92,7 +95,7 @@ pub fn function_set(mode: SpeedMode, packet: &Packet, n: u8) -> Option<bool>
     }
 }
 
-/// A one for each bit of a group that is for one of its functions, F0 aside.
+/// Returns a byte with a one for each bit of a group that is a function other than F0.
 pub fn ones_of(group: Group) -> u8
     ensures { result ≡ 2 ^ table.count_of group - 1 }
 {

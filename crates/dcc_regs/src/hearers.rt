@@ -1,20 +1,21 @@
-//! Whether some decoder hears two packets.
+//! Functions that return true if some decoder hears both of two packets.
 
 ghost use Rattle.std.specs.Prelude.{◌≡◌, ◌↔◌, IsTrue};
-ghost use Rattle.dcc_regs.specs.Inner.ConflictParts.{HeardTogether, board_number as board_number_of, meets, some_board};
+ghost use Rattle.dcc_regs.specs.Inner.ConflictParts.{HeardTogether, board_of_packet as board_number_of, meets};
+ghost use Rattle.dcc_regs.specs.Inner.ConflictParts.{some_board};
 ghost use Rattle.dcc_regs.specs.Inner.ConflictParts.{some_loco};
 
 use crate::heard::{address_of, is_for_active, is_full_reset};
 use dcc_packet::{Address, Packet};
 
-/// Whether some locomotive decoder takes what is sent to either address.
+/// Returns true if some locomotive decoder hears packets to both addresses.
 fn addresses_meet(a: &Address, b: &Address) -> bool
     ensures { result ≡ meets a.now b.now }
 {
     is_for_active(&Some(*a), b) || is_for_active(&Some(*b), a)
 }
 
-/// Whether some locomotive decoder hears both packets.
+/// Returns true if some locomotive decoder hears both packets.
 fn some_loco_hears(p: &Packet, q: &Packet) -> bool
     ensures { result ≡ some_loco p.now q.now }
 {
@@ -24,7 +25,8 @@ fn some_loco_hears(p: &Packet, q: &Packet) -> bool
     }
 }
 
-/// The board that a packet is sent to, where 511 is every board.
+/// Returns the address of accessory decoders to which a packet is sent, 511 for a broadcast.
+/// Returns `None` if the packet is not sent to accessory decoders.
 fn board_number(packet: &Packet) -> Option<u16>
     ensures { result ≡ board_number_of packet.now }
 {
@@ -47,7 +49,7 @@ fn board_number(packet: &Packet) -> Option<u16>
     }
 }
 
-/// Whether some accessory decoder hears both packets.
+/// Returns true if some accessory decoder hears both packets.
 fn some_board_hears(p: &Packet, q: &Packet) -> bool
     ensures { result ≡ some_board p.now q.now }
 {
@@ -57,7 +59,7 @@ fn some_board_hears(p: &Packet, q: &Packet) -> bool
     }
 }
 
-/// Whether some decoder hears both packets.
+/// Returns true if some decoder hears both packets.
 pub fn heard_together(p: &Packet, q: &Packet) -> bool
     ensures { IsTrue result ↔ HeardTogether p.now q.now }
 {

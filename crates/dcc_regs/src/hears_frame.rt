@@ -1,4 +1,5 @@
-//! Whether a locomotive decoder hears a packet, by the address bytes of its frame (NMRA S-9.2.1; RCN-211).
+//! A function that decides whether a locomotive decoder hears a packet, from the address bytes of
+//! the frame (NMRA S-9.2.1; RCN-211).
 
 ghost use Rattle.std.specs.Prelude.{◌≡◌};
 ghost use Rattle.dcc_wire.specs.Frames.{IsFrame};
@@ -9,8 +10,8 @@ ghost use Rattle.dcc_regs.specs.Heard.{hears as is_heard_by};
 
 use dcc_packet::Address;
 
-/// Returns true if a locomotive decoder with this active address hears the packet that the frame spells. The bytes behind the
-/// address are not looked at.
+/// Returns true if a locomotive decoder with the address `active` hears the packet of the frame.
+/// The function reads only the address bytes.
 #[inline(always)]
 pub fn loco_hears_frame(active: &Option<Address>, frame: &[u8]) -> bool
     requires { IsFrame frame.now }

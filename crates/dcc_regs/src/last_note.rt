@@ -1,4 +1,4 @@
-//! Keeps the packet that was told last.
+//! A listener that stores the last packet of which it was notified.
 
 ghost use Rattle.std.specs.Prelude.{◌≡◌, Some, None};
 
@@ -8,7 +8,8 @@ use dcc_packet::{
 };
 use std::marker::Model;
 
-/// Keeps the packet that it was told last. A call that is given an instruction of another kind tells none.
+/// A listener that stores the last packet of which it was notified. A callback whose instruction is
+/// of another kind changes nothing.
 #[derive(Drop)]
 pub struct LastNote {
     last: Option<Packet>,
@@ -24,14 +25,14 @@ impl Model for LastNote {
 }
 
 impl LastNote {
-    /// Nothing was told yet.
+    /// Creates a listener that has stored no packet.
     pub fn new() -> LastNote
         ensures { result ≡ None }
     {
         LastNote { last: None }
     }
 
-    /// The packet that was told last, if any was.
+    /// Returns the last packet. Returns `None` if the listener was notified of no packet.
     pub fn last(&self) -> Option<Packet>
         ensures { result ≡ self.now }
     {
@@ -43,7 +44,7 @@ impl Notify for LastNote {
     ghost use Rattle.std.specs.Option.{option_or};
     ghost use Rattle.dcc_regs.specs.Notes.{packet_told};
 
-    // A call with an instruction of another kind tells no packet, and changes nothing.
+    // a callback whose instruction is of another kind notifies of no packet, and changes nothing
     ghost told = { λ old note now. now ≡ option_or (packet_told note) old };
 
     fn idle(&mut self) {

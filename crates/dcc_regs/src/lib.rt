@@ -1,5 +1,7 @@
-//! Registers of decoders, and what a packet does to them (NMRA S-9.2.1; RCN-212 to RCN-214). Nothing here takes
-//! memory.
+//! The registers of decoders, and the effects of packets on them (NMRA S-9.2.1; RCN-212 to
+//! RCN-214).
+//!
+//! This crate does not allocate memory.
 #![tactic(auto)]
 
 mod applying;

@@ -1,4 +1,4 @@
-//! The plain locomotive decoder.
+//! A locomotive decoder that stores its functions and binary states as truth values.
 ghost use Rattle.std.specs.Prelude.{◌≡◌, ℕ, ◌<◌, ◌≤◌, IsTrue, Some, None, if◌then◌else◌, unwrap_or, slice_index_or};
 ghost use Rattle.std.specs.Prelude.{true, false, ◌↔◌, IsOk, IfOk, IfErr};
 ghost use Rattle.dcc_regs.specs.Addresses.{is_active};
@@ -10,9 +10,10 @@ use crate::decoder::Decoder;
 use crate::loco_registers::LocoRegisters;
 use crate::loco_state::{LocoState, functions_of, packed, states_in, states_of};
 use crate::register::{Register, Speed, Value, Who};
-use dcc_packet::{Address, CvNumber, Packet, PacketFault, are_cvs, cv_value};
+use dcc_packet::{Address, CvNumber, Packet, PacketFault, cv_value, lemma_cvs};
 
-/// A locomotive decoder: its functions and binary states as truth values, its CVs as bytes.
+/// A locomotive decoder that stores functions and binary states as truth values, and each CV as a
+/// byte.
 #[derive(Drop)]
 pub struct LocoDecoder {
     address: Option<Address>,
@@ -33,13 +34,13 @@ impl LocoDecoder {
     ghost use Rattle.dcc_regs.specs.LocoRegisters.{with_cvs};
     ghost use Rattle.dcc_regs.specs.LocoState.{is_state, loco_map, loco_who};
 
-    /// A decoder powered up with these CVs.
+    /// Creates a locomotive decoder that was powered up with these CVs.
     pub fn new(cvs: &[u8; 1024]) -> LocoDecoder
         ensures who { ⟦<LocoDecoder as Decoder>⟧.who result ≡ start_who (cv_in cvs.now) }
         ensures registers { ⟦<LocoDecoder as Decoder>⟧.registers result ≡ start_map (cv_in cvs.now) }
         ensures bytes { (n : ℕ) → cv_in cvs.now n < 256 }
     {
-        are_cvs(cvs);
+        lemma_cvs(cvs);
         LocoDecoder {
             address: cvs::active_address(cvs),
             speed: Speed::Stop,
@@ -51,7 +52,9 @@ impl LocoDecoder {
         }
     }
 
-    /// A decoder in this state.
+    /// Creates the decoder with this state.
+    ///
+    /// Errors: P13 if no decoder can be in this state.
     pub fn restore(state: &LocoState) -> Result<LocoDecoder, PacketFault>
         ensures valid { IsOk result ↔ (is_state state.now ≡ true) }
         ensures fault { IfErr result (λ fault. fault ≡ PacketFault.State) }
@@ -73,7 +76,8 @@ impl LocoDecoder {
         }
     }
 
-    /// What the decoder holds, as plain data: of it `restore` makes a decoder that is as this one.
+    /// Returns the state of the decoder as plain data. For this state `restore` returns an equal
+    /// decoder.
     pub fn state(&self) -> LocoState
         ensures possible { is_state result ≡ true }
         ensures who { ⟦<LocoDecoder as Decoder>⟧.who self.now ≡ loco_who result }
@@ -82,25 +86,26 @@ impl LocoDecoder {
         self.registers().with_cvs(&self.cvs)
     }
 
-    /// Powers the decoder up: it is as `new` makes one of its present CVs.
+    /// Powers the decoder up: it becomes the decoder that `new` creates with the CVs of this
+    /// decoder.
     pub fn power_up(&mut self)
         ensures who { ⟦<LocoDecoder as Decoder>⟧.who self.new ≡ start_who
             (cv_held (⟦<LocoDecoder as Decoder>⟧.registers self.old)) }
         ensures registers { ⟦<LocoDecoder as Decoder>⟧.registers self.new ≡ powered_up
             (⟦<LocoDecoder as Decoder>⟧.registers self.old) }
     {
-        are_cvs(&self.cvs);
+        lemma_cvs(&self.cvs);
         *self = LocoDecoder::new(&self.cvs);
     }
 
-    /// The value of a CV.
+    /// Returns the value of the CV `cv`.
     pub fn cv(&self, cv: CvNumber) -> u8
         ensures { result ≡ cv_held (⟦<LocoDecoder as Decoder>⟧.registers self.now) cv.number }
     {
         cv_value(&self.cvs, cv)
     }
 
-    /// What it holds besides its CVs, in bits.
+    /// Returns the registers except the CVs, with functions and binary states as bits.
     fn registers(&self) -> LocoRegisters
         ensures possible { is_state (with_cvs result self.now.cvs) ≡ true }
         ensures who { ⟦<LocoDecoder as Decoder>⟧.who self.now ≡ loco_who (with_cvs result self.now.cvs) }
@@ -116,10 +121,11 @@ impl LocoDecoder {
         }
     }
 
-    /// Takes these up.
+    /// Sets all registers except the CVs.
     fn put(&mut self, registers: &LocoRegisters)
         requires { is_state (with_cvs registers.now self.old.cvs) ≡ true }
-        ensures registers { ⟦<LocoDecoder as Decoder>⟧.registers self.new ≡ loco_map (with_cvs registers.now self.old.cvs) }
+        ensures registers { ⟦<LocoDecoder as Decoder>⟧.registers self.new
+            ≡ loco_map (with_cvs registers.now self.old.cvs) }
         ensures who { ⟦<LocoDecoder as Decoder>⟧.who self.new ≡ loco_who (with_cvs registers.now self.old.cvs) }
     {
         self.address = registers.address;
@@ -130,7 +136,7 @@ impl LocoDecoder {
         self.pending = registers.pending;
     }
 
-    /// A binary state, where there is such a state.
+    /// Returns binary state `n`. Returns `None` if `n` is not 1 to 127.
     fn binary_state(&self, n: u8) -> Option<bool>
         ensures { result ≡ (if is_binary_state n then Some (slice_index_or self.now.states n false) else None) }
     {

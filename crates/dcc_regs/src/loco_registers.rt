@@ -1,4 +1,5 @@
-//! What a locomotive decoder holds besides its CVs, and what a packet does to both.
+//! The registers of a locomotive decoder except its CVs, and the effect of a packet on registers
+//! and CVs.
 
 ghost use Rattle.std.specs.Prelude.{◌≡◌, ◌==◌, ℕ, ◌<◌, ◌≤◌, ◌%◌, ◌^◌, if◌then◌else◌, unwrap_or};
 ghost use Rattle.dcc_packet.specs.Bits.{is_one};
@@ -18,20 +19,23 @@ use crate::states::turned_states;
 use crate::writes::{is_own_write, leave_pending};
 use dcc_packet::{Address, GroupBits, Packet, What};
 
-/// What a locomotive decoder holds besides its CVs: a `LocoState` without them. The CVs may stand anywhere, and are written where they stand.
+/// The registers of a locomotive decoder except its CVs: a [`LocoState`] without `cvs`. A caller
+/// can store the CVs anywhere.
 #[derive(Clone, Copy)]
 pub struct LocoRegisters {
-    /// Bit n is function n, 0 to 68.
+    /// The functions: bit n is one if function n, 0 to 68, is on.
     pub functions: u128,
-    /// Bit n is the binary state n, 1 to 127. Bit 0 is none.
+    /// The binary states: bit n is one if binary state n, 1 to 127, is on. Bit 0 of `states` is
+    /// unused.
     pub states: u128,
-    /// The CV write to the active address that was heard last, where nothing else was heard since.
+    /// The pending write, which is the last packet that the decoder heard if this packet is a CV
+    /// write to the active address.
     pub pending: Option<Packet>,
-    /// The active address, if it has one.
+    /// The active address, or `None` if the decoder has no address.
     pub address: Option<Address>,
-    /// The speed.
+    /// The speed of the locomotive.
     pub speed: Speed,
-    /// Whether the direction is forward.
+    /// True if the direction is forward.
     pub forward: bool,
 }
 
@@ -46,7 +50,7 @@ impl LocoRegisters {
     ghost use Rattle.dcc_regs.specs.Result.{left_pending, step};
     ghost use Rattle.dcc_regs.specs.Setting.{set_from};
 
-    /// Those of a decoder powered up with these CVs.
+    /// Creates the registers of a decoder that was powered up with these CVs.
     pub fn new(cvs: &[u8; 1024]) -> LocoRegisters
         ensures possible { is_state (with_cvs result cvs.now) ≡ true }
         ensures who { loco_who (with_cvs result cvs.now) ≡ start_who (cv_in cvs.now) }
@@ -63,7 +67,7 @@ impl LocoRegisters {
         }
     }
 
-    /// Whether a decoder can hold these, whatever its CVs.
+    /// Returns true if a decoder can have these registers, with any CVs.
     pub fn is_possible(&self) -> bool
         ensures { (cvs : List ℕ) → result ≡ is_state (with_cvs self.now cvs) }
     {
@@ -74,7 +78,7 @@ impl LocoRegisters {
             && is_pending_for(&self.address, &self.pending)
     }
 
-    /// The state of a decoder that holds these and has these CVs.
+    /// Returns the state of a decoder with these registers and these CVs.
     pub fn with_cvs(&self, cvs: &[u8; 1024]) -> LocoState
         ensures { result ≡ with_cvs self.now cvs.now }
     {
@@ -89,9 +93,10 @@ impl LocoRegisters {
         }
     }
 
-    /// A decoder that holds these and has these CVs hears one packet, and does what it says where it is for this decoder: at most one
-    /// CV is written. Answers whether it is; where it is not nothing changes.
-    // (what it does with numbers of 128 bits has no place on the stack of each caller)
+    /// Applies one packet to a decoder with these registers and these CVs. The function writes at
+    /// most one CV. Returns true if the decoder hears the packet. If the decoder does not hear the
+    /// packet, nothing changes.
+    // not inlined, so that the numbers of 128 bits do not take space on the stack of each caller
     #[inline(never)]
     pub fn apply(&mut self, cvs: &mut [u8; 1024], packet: &Packet) -> bool
         ensures heard { result ≡ hears (loco_who (with_cvs self.old cvs.old)) packet.now }
@@ -146,7 +151,8 @@ fn is_pending_for(active: &Option<Address>, pending: &Option<Packet>) -> bool
     }
 }
 
-/// The functions after a heard packet: those of a group are put in at once, since one by one would take long.
+/// Returns the functions after a heard packet. All functions of a group are set together, since a
+/// loop over single functions takes long.
 fn functions_after(functions: u128, mode: SpeedMode, packet: &Packet) -> u128
     ensures { (n : ℕ) → n ≤ 68 → is_one result n ≡ unwrap_or (function_set_of mode packet.now n) (is_one functions n) }
 {
@@ -161,7 +167,8 @@ fn functions_after(functions: u128, mode: SpeedMode, packet: &Packet) -> u128
     }
 }
 
-/// The functions with F0 as a packet turns it.
+/// Returns the functions after a heard packet has set F0. If the packet does not set F0, no
+/// function changes.
 fn with_f0(functions: u128, mode: SpeedMode, packet: &Packet) -> u128
     ensures f0 { is_one result 0 ≡ unwrap_or (function_set_of mode packet.now 0) (is_one functions 0) }
     ensures others { (n : ℕ) → 1 ≤ n → n ≤ 127 → is_one result n ≡ is_one functions n }
@@ -169,7 +176,8 @@ fn with_f0(functions: u128, mode: SpeedMode, packet: &Packet) -> u128
     with_bit_set(functions, 0, function_set(mode, packet, 0))
 }
 
-/// The functions with those of a group as its bits say, F0 aside: those of them that differ are turned round.
+/// Returns `functions` with the functions of a group, except F0, set to the bits `bits`. The code
+/// inverts the bits that differ.
 fn with_group(functions: u128, bits: GroupBits) -> u128
     ensures f0 { is_one result 0 ≡ is_one functions 0 }
     ensures others { (mode : SpeedModeOf) (n : ℕ) → 1 ≤ n → n ≤ 68
@@ -181,7 +189,7 @@ fn with_group(functions: u128, bits: GroupBits) -> u128
     functions ^ u128::from(differing) << first
 }
 
-/// The binary states after a heard packet.
+/// Returns the binary states after a heard packet, as bits.
 fn states_after(states: u128, packet: &Packet) -> u128
     ensures { (n : ℕ) → n ≤ 127 → is_one result n ≡ unwrap_or (state_set_of packet.now n) (is_one states n) }
 {
@@ -192,7 +200,7 @@ fn states_after(states: u128, packet: &Packet) -> u128
     }
 }
 
-/// A word with all bits but the lowest turned on, or off.
+/// Returns `word` with all bits except the lowest set to `on`.
 fn all_turned(word: u128, on: bool) -> u128
     ensures { (k : ℕ) → k ≤ 127 → is_one result k ≡ (if k == 0 then is_one word k else on) }
 {
@@ -203,7 +211,7 @@ fn all_turned(word: u128, on: bool) -> u128
     }
 }
 
-/// A word with one bit as it is set, where it is.
+/// Returns `word` with bit `n` set to the value in `set`. If `set` is `None`, the result is `word`.
 fn with_bit_set(word: u128, n: u8, set: Option<bool>) -> u128
     requires { n ≤ 127 }
     ensures { (k : ℕ) → k ≤ 127 → is_one result k ≡ (if k == n then unwrap_or set (is_one word k) else is_one word k) }
@@ -214,7 +222,7 @@ fn with_bit_set(word: u128, n: u8, set: Option<bool>) -> u128
     }
 }
 
-/// A word with one bit changed.
+/// Returns `word` with bit `n` set to `on`.
 fn with_bit(word: u128, n: u8, on: bool) -> u128
     requires { n ≤ 127 }
     ensures { (k : ℕ) → k ≤ 127 → is_one result k ≡ (if k == n then on else is_one word k) }

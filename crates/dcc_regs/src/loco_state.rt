@@ -1,4 +1,4 @@
-//! A locomotive decoder's state as plain data.
+//! The state of a locomotive decoder as plain data.
 
 ghost use Rattle.std.specs.Prelude.{◌≡◌, ℕ, ◌<◌, ◌≤◌, ◌^◌, ◌%◌, length, slice_index_or, false};
 ghost use Rattle.dcc_packet.specs.Bits.{is_one};
@@ -7,22 +7,24 @@ use crate::loco_registers::LocoRegisters;
 use crate::register::Speed;
 use dcc_packet::{Address, Packet};
 
-/// What a locomotive decoder holds.
+/// The state of a locomotive decoder as plain data.
 #[derive(Clone, Copy)]
 pub struct LocoState {
-    /// The active address, if it has one.
+    /// The active address, or `None` if the decoder has no address.
     pub address: Option<Address>,
-    /// The speed.
+    /// The speed of the locomotive.
     pub speed: Speed,
-    /// Whether the direction is forward.
+    /// True if the direction is forward.
     pub forward: bool,
-    /// Bit n is function n, 0 to 68.
+    /// The functions: bit n is one if function n, 0 to 68, is on.
     pub functions: u128,
-    /// Bit n is the binary state n, 1 to 127. Bit 0 is none.
+    /// The binary states: bit n is one if binary state n, 1 to 127, is on. Bit 0 of `states` is
+    /// unused.
     pub states: u128,
-    /// The CV write to the active address that was heard last, where nothing else was heard since.
+    /// The pending write, which is the last packet that the decoder heard if this packet is a CV
+    /// write to the active address.
     pub pending: Option<Packet>,
-    /// CV1 to CV1024.
+    /// The values of CV1 to CV1024. The first byte of `cvs` is CV1.
     pub cvs: [u8; 1024],
 }
 
@@ -30,14 +32,14 @@ impl LocoState {
     ghost use Rattle.dcc_regs.specs.LocoRegisters.{registers_in};
     ghost use Rattle.dcc_regs.specs.LocoState.{is_state};
 
-    /// Whether a decoder can be in this state.
+    /// Returns true if a decoder can be in this state.
     pub fn is_possible(&self) -> bool
         ensures { result ≡ is_state self.now }
     {
         self.registers().is_possible()
     }
 
-    /// The state without its CVs.
+    /// Returns the registers of the state without the CVs.
     pub fn registers(&self) -> LocoRegisters
         ensures { result ≡ registers_in self.now }
     {
@@ -52,7 +54,8 @@ impl LocoState {
     }
 }
 
-/// The functions that the bits of a number turn on.
+/// Returns an array in which element n is true if bit n of `bits` is one, for the functions 0 to
+/// 68.
 pub fn functions_of(bits: u128) -> [bool; 69]
     ensures { (n : ℕ) → n ≤ 68 → slice_index_or result n false ≡ is_one bits n }
 {
@@ -63,7 +66,7 @@ pub fn functions_of(bits: u128) -> [bool; 69]
     functions
 }
 
-/// The binary states that the bits of a number turn on.
+/// Returns an array in which element n is true if bit n of `bits` is one, for the binary states.
 pub fn states_of(bits: u128) -> [bool; 128]
     ensures { (n : ℕ) → n ≤ 127 → slice_index_or result n false ≡ is_one bits n }
 {
@@ -74,7 +77,7 @@ pub fn states_of(bits: u128) -> [bool; 128]
     states
 }
 
-/// The number whose bits are these truth values.
+/// Returns the number in which bit n is one if element n of `flags` is true.
 pub fn packed(flags: &[bool]) -> u128
     requires { length flags.now ≤ 128 }
     ensures bits { (n : ℕ) → n < length flags.now → is_one result n ≡ slice_index_or flags.now n false }
@@ -87,7 +90,7 @@ pub fn packed(flags: &[bool]) -> u128
     bits
 }
 
-/// The bits of F0 to F68 alone.
+/// Returns the number with the bits of F0 to F68, and with all other bits 0.
 pub fn functions_in(bits: u128) -> u128
     ensures bits { (n : ℕ) → n ≤ 68 → is_one result n ≡ is_one bits n }
     ensures small { result < 2 ^ 69 }
@@ -95,7 +98,7 @@ pub fn functions_in(bits: u128) -> u128
     bits & ((1 << 69) - 1)
 }
 
-/// The bits of the states 1 to 127 alone.
+/// Returns the number with the bits of binary states 1 to 127, and with bit 0 equal to 0.
 pub fn states_in(bits: u128) -> u128
     ensures bits { (n : ℕ) → 1 ≤ n → is_one result n ≡ is_one bits n }
     ensures even { result % 2 ≡ 0 }

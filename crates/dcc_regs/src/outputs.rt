@@ -1,11 +1,13 @@
-//! What a packet sets in an accessory decoder (RCN-213).
+//! Functions that return the outputs, positions and aspects that a packet sets in an accessory
+//! decoder (RCN-213).
 
 ghost use Rattle.std.specs.Prelude.{◌≡◌};
 ghost use Rattle.dcc_regs.specs.Outputs as table;
 
 use dcc_packet::{Address, Packet, What};
 
-/// Whether a packet turns output `n` on or off.
+/// Returns true if a packet turns output `n` on, and false if it turns the output off. Returns
+/// `None` if the packet does not set this output.
 pub fn out_set(packet: &Packet, n: u8) -> Option<bool>
     ensures { result ≡ table.out_set packet.now n }
 {
@@ -23,7 +25,8 @@ pub fn out_set(packet: &Packet, n: u8) -> Option<bool>
     }
 }
 
-/// Whether a packet puts pair `n` of the outputs to side 1.
+/// Returns the position to which a packet sets pair `n`: true if it turns output 2n + 1 on, false
+/// if it turns output 2n on. Returns `None` if the packet does not set this position.
 pub fn position_set(packet: &Packet, n: u8) -> Option<bool>
     ensures { result ≡ table.position_set packet.now n }
 {
@@ -44,7 +47,8 @@ pub fn position_set(packet: &Packet, n: u8) -> Option<bool>
     }
 }
 
-/// The aspect that a packet gives signal `n` of a board.
+/// Returns the aspect to which a packet sets signal `n` of a board. Returns `None` if the packet
+/// does not set this aspect.
 pub fn aspect_set(packet: &Packet, n: u8) -> Option<u8>
     ensures { result ≡ table.aspect_set packet.now n }
 {

@@ -1,4 +1,4 @@
-//! An accessory decoder with its outputs packed into one byte and the sides of its pairs into another.
+//! An accessory decoder that stores its outputs and positions as bits of two bytes.
 ghost use Rattle.std.specs.Prelude.{◌≡◌, ℕ, ◌<◌, ◌≤◌, ◌↔◌, unwrap_or, slice_index_or, false, true, nat_le, IsOk};
 ghost use Rattle.std.specs.Prelude.{IfOk, IfErr};
 ghost use Rattle.dcc_packet.specs.Bits.{is_one};
@@ -13,8 +13,8 @@ use crate::outputs::{out_set, position_set};
 use crate::register::{Register, Value, Who};
 use dcc_packet::{Board, Packet, PacketFault};
 
-/// An accessory decoder: bit n of `outs` is output n, bit n of `positions`, 0 to 3, the side of pair n. It keeps the
-/// contracts of `BoardDecoder`.
+/// An accessory decoder with the contract of `BoardDecoder`. Bit n of `outs` is output n. Bit n of
+/// `positions`, 0 to 3, is one if output 2n + 1 was the last output of pair n that was turned on.
 #[derive(Drop)]
 pub struct PackedBoard {
     board: Board,
@@ -29,7 +29,9 @@ impl PackedBoard {
     ghost use Rattle.dcc_regs.specs.Board.{board_powered_up, board_registers, made};
     ghost use Rattle.dcc_regs.specs.declared.register.Who.TheVariants.{Board as BoardWho};
 
-    /// A decoder just made: all outputs off, all pairs at side 0, all aspects 0.
+    /// Creates an accessory decoder with all outputs off, all positions 0 and all aspects 0.
+    ///
+    /// Errors: P3 if the address is 511, which is the broadcast.
     pub fn new(board: Board) -> Result<PackedBoard, PacketFault>
         ensures valid { IsOk result ↔ (nat_le board.number 510 ≡ true) }
         ensures fault { IfErr result (λ fault. fault ≡ PacketFault.Board) }
@@ -48,7 +50,9 @@ impl PackedBoard {
         }
     }
 
-    /// A decoder in this state.
+    /// Creates the decoder with this state.
+    ///
+    /// Errors: P3 if the address is 511, which is the broadcast.
     pub fn restore(state: &BoardState) -> Result<PackedBoard, PacketFault>
         ensures valid { IsOk result ↔ (nat_le state.now.board.number 510 ≡ true) }
         ensures fault { IfErr result (λ fault. fault ≡ PacketFault.Board) }
@@ -67,7 +71,8 @@ impl PackedBoard {
         }
     }
 
-    /// What the decoder holds, as plain data: of it `restore` makes a decoder that is as this one.
+    /// Returns the state of the decoder as plain data. For this state `restore` returns an equal
+    /// decoder.
     pub fn state(&self) -> BoardState
         ensures possible { nat_le result.board.number 510 ≡ true }
         ensures who { ⟦<PackedBoard as Decoder>⟧.who self.now ≡ board_who result }
@@ -81,7 +86,7 @@ impl PackedBoard {
         }
     }
 
-    /// Powers the decoder up.
+    /// Powers the decoder up: all outputs are off, and positions and aspects do not change.
     pub fn power_up(&mut self)
         ensures who { ⟦<PackedBoard as Decoder>⟧.who self.new ≡ ⟦<PackedBoard as Decoder>⟧.who self.old }
         ensures registers { ⟦<PackedBoard as Decoder>⟧.registers self.new ≡ board_powered_up
@@ -91,7 +96,7 @@ impl PackedBoard {
     }
 }
 
-/// The outputs after a heard packet.
+/// Returns the outputs after a heard packet, as bits.
 pub(crate) fn outs_after(outs: u8, packet: &Packet) -> u8
     ensures { (n : ℕ) → n ≤ 7 → is_one result n ≡ unwrap_or (table.out_set packet.now n) (is_one outs n) }
 {
@@ -103,7 +108,7 @@ pub(crate) fn outs_after(outs: u8, packet: &Packet) -> u8
     after
 }
 
-/// The sides of the pairs after a heard packet.
+/// Returns the positions of the pairs after a heard packet, as bits.
 pub(crate) fn positions_after(positions: u8, packet: &Packet) -> u8
     ensures { (n : ℕ) → n ≤ 3 → is_one result n ≡ unwrap_or (table.position_set packet.now n) (is_one positions n) }
 {

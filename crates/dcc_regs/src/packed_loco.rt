@@ -1,4 +1,4 @@
-//! A locomotive decoder with its functions packed into one number, its binary states into another.
+//! A locomotive decoder that stores its functions and binary states as bits of two numbers.
 ghost use Rattle.std.specs.Prelude.{◌≡◌, ℕ, ◌<◌, ◌≤◌, Some, None, if◌then◌else◌, true, ◌↔◌};
 ghost use Rattle.std.specs.Prelude.{IsOk, IfOk, IfErr};
 ghost use Rattle.dcc_packet.specs.Bits.{is_one};
@@ -11,10 +11,10 @@ use crate::decoder::Decoder;
 use crate::loco_registers::LocoRegisters;
 use crate::loco_state::LocoState;
 use crate::register::{Register, Value, Who};
-use dcc_packet::{CvNumber, Packet, PacketFault, are_cvs, cv_value};
+use dcc_packet::{CvNumber, Packet, PacketFault, cv_value, lemma_cvs};
 
-/// A locomotive decoder: bit n of `functions` is function n, bit n of `states` state n, its CVs are bytes. It
-/// keeps the contracts of `LocoDecoder`.
+/// A locomotive decoder with the contract of `LocoDecoder`. The functions and the binary states are
+/// bits of two numbers, and each CV is a byte.
 #[derive(Drop)]
 pub struct PackedLoco {
     registers: LocoRegisters,
@@ -27,20 +27,22 @@ impl PackedLoco {
     ghost use Rattle.dcc_regs.specs.Loco.{cv_held, powered_up, start_map, start_who};
     ghost use Rattle.dcc_regs.specs.LocoState.{is_state, loco_map, loco_who};
 
-    /// A decoder powered up with these CVs.
+    /// Creates a locomotive decoder that was powered up with these CVs.
     pub fn new(cvs: &[u8; 1024]) -> PackedLoco
         ensures who { ⟦<PackedLoco as Decoder>⟧.who result ≡ start_who (cv_in cvs.now) }
         ensures registers { ⟦<PackedLoco as Decoder>⟧.registers result ≡ start_map (cv_in cvs.now) }
         ensures bytes { (n : ℕ) → cv_in cvs.now n < 256 }
     {
-        are_cvs(cvs);
+        lemma_cvs(cvs);
         PackedLoco {
             registers: LocoRegisters::new(cvs),
             cvs: *cvs,
         }
     }
 
-    /// A decoder in this state.
+    /// Creates the decoder with this state.
+    ///
+    /// Errors: P13 if no decoder can be in this state.
     pub fn restore(state: &LocoState) -> Result<PackedLoco, PacketFault>
         ensures valid { IsOk result ↔ (is_state state.now ≡ true) }
         ensures fault { IfErr result (λ fault. fault ≡ PacketFault.State) }
@@ -57,7 +59,8 @@ impl PackedLoco {
         }
     }
 
-    /// What the decoder holds, as plain data: of it `restore` makes a decoder that is as this one.
+    /// Returns the state of the decoder as plain data. For this state `restore` returns an equal
+    /// decoder.
     pub fn state(&self) -> LocoState
         ensures possible { is_state result ≡ true }
         ensures who { ⟦<PackedLoco as Decoder>⟧.who self.now ≡ loco_who result }
@@ -66,18 +69,19 @@ impl PackedLoco {
         self.registers.with_cvs(&self.cvs)
     }
 
-    /// Powers the decoder up: it is as `new` makes one of its present CVs.
+    /// Powers the decoder up: it becomes the decoder that `new` creates with the CVs of this
+    /// decoder.
     pub fn power_up(&mut self)
         ensures who { ⟦<PackedLoco as Decoder>⟧.who self.new ≡ start_who
             (cv_held (⟦<PackedLoco as Decoder>⟧.registers self.old)) }
         ensures registers { ⟦<PackedLoco as Decoder>⟧.registers self.new ≡ powered_up
             (⟦<PackedLoco as Decoder>⟧.registers self.old) }
     {
-        are_cvs(&self.cvs);
+        lemma_cvs(&self.cvs);
         self.registers = LocoRegisters::new(&self.cvs);
     }
 
-    /// The value of a CV.
+    /// Returns the value of the CV `cv`.
     pub fn cv(&self, cv: CvNumber) -> u8
         ensures { result ≡ cv_held (⟦<PackedLoco as Decoder>⟧.registers self.now) cv.number }
     {
@@ -85,7 +89,7 @@ impl PackedLoco {
     }
 }
 
-/// A binary state, where there is such a state.
+/// Returns binary state `n`. Returns `None` if `n` is not 1 to 127.
 fn state(states: u128, n: u8) -> Option<bool>
     ensures { result ≡ (if is_binary_state n then Some (is_one states n) else None) }
 {

@@ -1,23 +1,23 @@
-//! The registers of decoders and what they hold.
+//! The registers of decoders, and their values.
 
 use dcc_packet::{Address, Board, Packet};
 
 /// The speed of a locomotive decoder.
 #[derive(Clone, Copy, Debug, PartialEq, Eq)]
 pub enum Speed {
-    /// Stopped.
+    /// The locomotive stops.
     Stop,
-    /// Stopped at once, without braking.
+    /// The locomotive stops at once, without braking.
     Emergency,
-    /// One of 14 steps, 1 to 14.
+    /// A speed step of 14 steps, 1 to 14.
     Step14(u8),
-    /// One of 28 steps, 1 to 28.
+    /// A speed step of 28 steps, 1 to 28.
     Step28(u8),
-    /// One of 126 steps, 1 to 126.
+    /// A speed step of 126 steps, 1 to 126.
     Step126(u8),
 }
 
-/// The name of a register. A decoder has some of them.
+/// The name of a register. A decoder has only the registers of its kind.
 #[derive(Clone, Copy, Debug, PartialEq, Eq)]
 pub enum Register {
     /// The speed of a locomotive decoder.
@@ -28,47 +28,52 @@ pub enum Register {
     Function(u8),
     /// A binary state of a locomotive decoder, 1 to 127.
     State(u8),
-    /// A bit of a configuration variable: CV 1 to 1024, and the place of the bit, 0 to 7, from the lowest.
+    /// A bit of a CV. The numbers are the CV, 1 to 1024, and the place of the bit, 0 (the lowest)
+    /// to 7.
     CvBit(u16, u8),
-    /// The CV write that a locomotive decoder does when it hears it again.
+    /// The pending CV write of a locomotive decoder. The write takes effect if the decoder hears
+    /// the same packet again.
     Pending,
     /// An output of an accessory decoder, 0 to 7.
     Out(u8),
-    /// The side of a pair of outputs, 0 to 3. The outputs 2n and 2n + 1 are the sides 0 and 1 of pair n.
+    /// The position of one of the pairs of outputs 0 to 3. The position of pair n says which of the
+    /// outputs 2n and 2n + 1 was turned on last.
     Position(u8),
-    /// The aspect of a signal, 0 to 3.
+    /// The aspect of a signal of an accessory decoder. The signals have the numbers 0 to 3.
     Aspect(u8),
 }
 
-/// What a register holds.
+/// The value of a register.
 #[derive(Clone, Copy, Debug, PartialEq, Eq)]
 pub enum Value {
-    /// Of `Speed`.
+    /// The value of `Speed`.
     Speed(Speed),
-    /// Of `Direction`: whether it is forward.
+    /// The value of `Direction`, which is true for forward.
     Forward(bool),
-    /// Of `Function`, `State`, `CvBit` and `Out`: on or off, one or zero.
+    /// The value of `Function`, `State`, `CvBit` or `Out`, which is true for on or one.
     Flag(bool),
-    /// Of `Position`, 0 or 1, and of `Aspect`, 0 to 255.
+    /// The value of `Position`, 0 or 1, or of `Aspect`, 0 to 255.
     Number(u8),
-    /// Of `Pending`.
+    /// The value of `Pending`: the pending CV write, or `None`.
     Pending(Option<Packet>),
 }
 
-/// A kind of decoder, with the address that it answers to.
+/// The kind of a decoder, with its address.
 #[derive(Clone, Copy, Debug, PartialEq, Eq)]
 pub enum Who {
-    /// A locomotive decoder with its active address, if it has one. Without one it hears broadcasts alone.
+    /// A locomotive decoder with its active address, or with `None` if it has no address. A decoder
+    /// without an address hears only broadcasts.
     Loco(Option<Address>),
-    /// An accessory decoder.
+    /// An accessory decoder with its address.
     Board(Board),
 }
 
-/// How a decoder reads the baseline speed instruction: bit 1 of CV29 is one for 28 steps (NMRA S-9.2.2).
+/// The mode in which a decoder reads the speed instruction for 14 or 28 steps. Bit 1 of CV29 is one
+/// for 28 steps (NMRA S-9.2.2).
 #[derive(Clone, Copy, Debug, PartialEq, Eq)]
 pub enum SpeedMode {
-    /// In 14 steps, with F0 in the lowest bit.
+    /// The decoder reads 14 steps, and F0 is the lowest bit.
     Steps14,
-    /// In 28 steps.
+    /// The decoder reads 28 steps.
     Steps28,
 }

@@ -1,4 +1,4 @@
-//! The speed and the direction that a packet sets (RCN-212, NMRA S-9.2.1).
+//! Functions that return the speed and the direction that a packet sets (RCN-212, NMRA S-9.2.1).
 
 ghost use Rattle.std.specs.Prelude.{◌≡◌, ◌≤◌, IfSome, true};
 ghost use Rattle.dcc_regs.specs.Loco.{is_speed};
@@ -54,7 +54,7 @@ fn stop_of(bits: u8) -> Option<Speed>
     }
 }
 
-/// The speed that a packet sets.
+/// Returns the speed that a packet sets. Returns `None` if the packet sets no speed.
 pub fn speed_set(mode: SpeedMode, packet: &Packet) -> Option<Speed>
     ensures speed { result ≡ table.speed_set mode packet.now }
     ensures step { IfSome result (λ speed. is_speed speed ≡ true) }
@@ -72,7 +72,8 @@ pub fn speed_set(mode: SpeedMode, packet: &Packet) -> Option<Speed>
     }
 }
 
-/// The direction that a packet sets.
+/// Returns the direction that a packet sets, true for forward. Returns `None` if the packet sets no
+/// direction.
 pub fn direction_set(packet: &Packet) -> Option<bool>
     ensures { result ≡ table.direction_set packet.now }
 {

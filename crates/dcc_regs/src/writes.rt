@@ -1,4 +1,4 @@
-//! CV writes to a decoder's own address (RCN-214).
+//! Functions that find CV writes to the address of a decoder, and pending writes (RCN-214).
 
 ghost use Rattle.std.specs.Prelude.{◌≡◌, ◌↔◌, nat_le, IsTrue, Some, true};
 ghost use Rattle.dcc_regs.specs.Loco.{is_byte_write, writes_byte};
@@ -8,12 +8,12 @@ ghost use Rattle.dcc_regs.specs.declared.register.Value.TheVariants.{Pending as 
 
 use dcc_packet::{Address, Packet, What};
 
-/// A law: the value of a byte is at most 255.
+/// Lemma: a byte is at most 255. The function does nothing at run time.
 fn byte_is_small(value: u8)
     ensures { nat_le value 255 ≡ true }
 {}
 
-/// Whether an instruction writes a CV or a bit of one.
+/// Returns true if the instruction writes a CV or a bit of a CV.
 fn is_write(what: &What) -> bool
     ensures write { result ≡ is_cv_write what.now }
     ensures byte { writes_byte what.now ≡ true }
@@ -28,7 +28,8 @@ fn is_write(what: &What) -> bool
     }
 }
 
-/// Whether a packet is a CV write that is not to the broadcast address: heard, it is to the decoder's own address.
+/// Returns true if the packet is a CV write and no broadcast. Each decoder that hears an own write
+/// has the address of the packet.
 pub fn is_own_write(packet: &Packet) -> bool
     ensures own { result ≡ is_own_write_of packet.now }
     ensures byte { is_byte_write packet.now ≡ true }
@@ -39,7 +40,8 @@ pub fn is_own_write(packet: &Packet) -> bool
     }
 }
 
-/// What a heard packet leaves pending.
+/// Returns the pending write after a heard packet: this packet if it is an own write, otherwise
+/// `None`.
 fn own_write(packet: &Packet) -> Option<Packet>
     ensures pending { result ≡ left_pending packet.now }
     ensures byte { is_byte_write packet.now ≡ true }
@@ -51,7 +53,8 @@ fn own_write(packet: &Packet) -> Option<Packet>
     }
 }
 
-/// A heard packet leaves itself pending where it is an own write, and else nothing.
+/// Sets `pending` to the pending write after a heard packet: this packet if it is an own write,
+/// otherwise `None`.
 pub fn leave_pending(pending: &mut Option<Packet>, packet: &Packet)
     ensures pending { pending.new ≡ left_pending packet.now }
     ensures byte { is_byte_write packet.now ≡ true }
@@ -59,7 +62,8 @@ pub fn leave_pending(pending: &mut Option<Packet>, packet: &Packet)
     *pending = own_write(packet);
 }
 
-/// Whether a heard packet is a CV write that takes effect: the second copy of the pending one.
+/// Returns true if a heard packet is a CV write that takes effect, because it is the second copy of
+/// the pending packet.
 pub fn is_repeated_write(pending: &Option<Packet>, packet: &Packet) -> bool
     ensures { result ≡ is_effective (Some (PendingValue pending.now)) packet.now }
 {
@@ -69,8 +73,8 @@ pub fn is_repeated_write(pending: &Option<Packet>, packet: &Packet) -> bool
     }
 }
 
-/// Whether a packet is the same as one that is an own write.
-// (by what they say: `Packet::is` makes a frame of each)
+/// Returns true if `packet` equals `own_write`, which must be an own write.
+// compares the fields, since `Packet::is` creates the frames of both packets
 fn is_same_write(packet: &Packet, own_write: &Packet) -> bool
     requires { is_own_write_of own_write.now ≡ true }
     ensures { IsTrue result ↔ (packet.now ≡ own_write.now) }
@@ -87,7 +91,7 @@ fn is_same_write(packet: &Packet, own_write: &Packet) -> bool
     }
 }
 
-/// Whether an instruction is the same as one that writes a CV or a bit of one.
+/// Returns true if the instruction `what` equals `write`, which must write a CV or a bit of a CV.
 fn is_same_write_of(what: &What, write: &What) -> bool
     requires { is_cv_write write.now ≡ true }
     ensures { IsTrue result ↔ (what.now ≡ write.now) }

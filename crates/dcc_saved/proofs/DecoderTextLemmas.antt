@@ -1,5 +1,6 @@
 -- The lines of a decoder text, read one after the other.
-use Rattle.std.proofs.Common.{zero, suc, ◌≡◌, ℕ, ◌+◌, ◌-◌, ◌<◌, List, [], ◌∷◌, ◌++◌, length, Some, Err, refl, sym, arith, inr}
+use Rattle.std.proofs.Common.{zero, suc, ◌≡◌, ℕ, ◌+◌, ◌-◌, ◌<◌, List, [], ◌∷◌, ◌++◌, length, Some, Err, refl, sym}
+use Rattle.std.proofs.Common.{arith, inr}
 use Rattle.dcc_io.specs.declared.fault.KeptFault.{KeptFault}
 use Rattle.dcc_io.specs.declared.fault.KeptFault.TheVariants.{Number, TooMuch}
 use Rattle.dcc_io.specs.Faults.{as_tool_fault}
@@ -9,7 +10,7 @@ use Rattle.dcc_saved.specs.declared.decoder_line.Head.TheVariants as heads
 use Rattle.dcc_io.specs.InputState.{InputState}
 use Rattle.dcc_saved.specs.TextReader.{Reader, ◌>>=◌, done, stop_at_decoder}
 use Rattle.dcc_saved.specs.TextReader.Stop.{cut}
-use Rattle.dcc_saved.specs.TextRead.{at, GoesOn, Leads, Answers, StopsAtDecoder, UsedWholeLines}
+use Rattle.dcc_saved.specs.TextRead.{at, ContinuesAs, Leads, ReadsValue, StopsAtDecoder, UsedWholeLines}
 use Rattle.dcc_regs.specs.declared.register.Who.{Who}
 use Rattle.dcc_saved.specs.declared.decoder_line.Version.{Version}
 use Rattle.dcc_saved.specs.DecoderText.{decoder_lines, decoders_from, decoder_text}
@@ -30,7 +31,7 @@ no_more version zero before = refl
 no_more version (suc room) before = refl
 
 -- some bytes were used where the reader does not go on as from no bytes
-whole_line : {rest : Reader (List Saved)} {old new : InputState} (bytes : List ℕ) → GoesOn decoder_text old rest new bytes
+whole_line : {rest : Reader (List Saved)} {old new : InputState} (bytes : List ℕ) → ContinuesAs decoder_text old rest new bytes
     → (rest (at new []) ≡ Err (cut old.place.line) → ⊥) → new.lines + 1 ≡ new.place.line
 unfolding decoder_text
 whole_line [] goes more = absurd (more (sym (goes.goes_on [])))
@@ -46,7 +47,7 @@ whole_lines {rest = rest} {old = old} {new = new} leads more =
 
 -- a decoder too many
 pub too_many_decoders : (old now : InputState) → Leads decoder_text old stop_at_decoder now
-    → Answers decoder_text old (Err TooMuch) (record now { fault = Some TooMuch })
+    → ReadsValue decoder_text old (Err TooMuch) (record now { fault = Some TooMuch })
 too_many_decoders old now leads = (
   (
     leads.failures,
@@ -59,7 +60,7 @@ too_many_decoders old now leads = (
 )
 
 -- the fault of a text, as it is told
-pub fault_is_told : (old new : InputState) (fault : KeptFault) → Answers decoder_text old (Err fault) new
+pub fault_is_told : (old new : InputState) (fault : KeptFault) → ReadsValue decoder_text old (Err fault) new
     → ReadFails old (as_tool_fault fault) new
 fault_is_told old new (Number line) h = absurd h.0
 fault_is_told old new fault h = h

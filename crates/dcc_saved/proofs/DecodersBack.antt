@@ -26,7 +26,8 @@ use Rattle.dcc_saved.specs.ReadBack.{Saves, IsPossibleDecoder, line_feeds, Saves
 use Rattle.dcc_saved.specs.TextReader.{done}
 use Rattle.dcc_saved.proofs.CvsBack.{cvs_read}
 use Rattle.dcc_saved.proofs.LinesBack.{Reads, Reads-then, Reads-last, line_back, at}
-use Rattle.dcc_saved.proofs.MapsBack.{speed_is, pending_is, no_state_0, loco_state, same_loco, aspects_small, board_state}
+use Rattle.dcc_saved.proofs.MapsBack.{speed_is, pending_is, no_state_0, loco_state, same_loco, aspects_small}
+use Rattle.dcc_saved.proofs.MapsBack.{board_state}
 use Rattle.dcc_saved.proofs.MapsBack.{same_board}
 use Rattle.dcc_saved.proofs.NumbersBack.{numbers_fit, numbers_line_back}
 use Rattle.dcc_saved.proofs.PendingBack.{pending_line_back}

@@ -14,7 +14,7 @@ use Rattle.dcc_packet.proofs.WrittenWords.{not_true, words_spaced}
 use Rattle.dcc_saved.specs.DecoderLines.{keyed}
 use Rattle.dcc_saved.specs.Lines.{LineOf, line_text}
 use Rattle.dcc_saved.specs.ReadBack.{line_feeds}
-use Rattle.dcc_saved.specs.TextReader.{Text, Reader, ◌>>=◌, first_line, behind_line, line_by}
+use Rattle.dcc_saved.specs.TextReader.{Text, Reader, ◌>>=◌, first_line, after_first_line, line_by}
 
 -- a text at this line
 abbrev pub at : ℕ → List ℕ → Text
@@ -52,7 +52,7 @@ record Ends (line : List ℕ) : Type 0 where
   ascii : list_all is_ascii line ≡ true
   feeds : line_feeds (line ++ codes "\n") ≡ 1
   first : (rest : List ℕ) → first_line (line ++ 10 ∷ rest) ≡ line
-  behind : (rest : List ℕ) → behind_line (line ++ 10 ∷ rest) ≡ Some rest
+  behind : (rest : List ℕ) → after_first_line (line ++ 10 ∷ rest) ≡ Some rest
 
 Ends-byte : (b : ℕ) (line : List ℕ) → is_ascii b ≡ true → eqb b 10 ≡ false → Ends line → Ends (b ∷ line)
 Ends-byte b line ascii other ends = record {

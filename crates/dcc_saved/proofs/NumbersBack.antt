@@ -21,7 +21,7 @@ use Rattle.dcc_regs.specs.Result.{RegisterMap}
 use Rattle.dcc_saved.specs.declared.decoder_line.Numbered.{Numbered}
 use Rattle.dcc_saved.specs.declared.decoder_line.Numbered.TheVariants as kinds
 use Rattle.dcc_saved.specs.Numbered.{name_of, end_of, register_of}
-use Rattle.dcc_saved.specs.DecoderLines.{number_of, numbers_from, numbers_of, numbers_on, numbers_line}
+use Rattle.dcc_saved.specs.DecoderLines.{number_word_of, numbers_from, numbers_of, numbers_on, numbers_line}
 use Rattle.dcc_saved.specs.FleetText.{bits_on, numbers_held}
 use Rattle.dcc_saved.proofs.LinesBack.{IsLineBack}
 use Rattle.dcc_saved.proofs.RowsLemmas.{bits_fit}
@@ -41,10 +41,10 @@ digits n few = elim (cases_lt n 100) [
 
 module _ (kind : Numbered) where
   -- a number that is on is read: there is no state 0
-  number_back : (n : ℕ) → n < end_of kind → (kind ≡ kinds.State → 0 < n) → number_of kind (decimal n) ≡ Ok n
+  number_back : (n : ℕ) → n < end_of kind → (kind ≡ kinds.State → 0 < n) → number_word_of kind (decimal n) ≡ Ok n
   number_back n within some = go kind within some
     where
-      go : (k : Numbered) → n < end_of k → (k ≡ kinds.State → 0 < n) → number_of k (decimal n) ≡ Ok n
+      go : (k : Numbered) → n < end_of k → (k ≡ kinds.State → 0 < n) → number_word_of k (decimal n) ≡ Ok n
       go kinds.Function within some =
           rw (small_number-decimal n (omega (arith, within)), le-ltb 68 n (omega (arith, within))) refl
       go kinds.State within some =
@@ -81,7 +81,7 @@ module _ (kind : Numbered) where
       words : List Word
       words = numbers_on (n + 1) more (bits / 2)
 
-      back : (kind ≡ kinds.State → 0 < n) → number_of kind (decimal n) ≡ Ok n
+      back : (kind ≡ kinds.State → 0 < n) → number_word_of kind (decimal n) ≡ Ok n
       back some = number_back n (omega (arith, last)) some
 
       go : (b : Bool) → is_one bits 0 ≡ b → AreRead (n + 1) (bits / 2) words

@@ -13,14 +13,14 @@ use Rattle.dcc_io.specs.TextPlace.{lines_with}
 use Rattle.dcc_io.specs.ReaderState.{IsAtEnd}
 use Rattle.dcc_io.specs.InputState.{InputState, all_lines}
 use Rattle.dcc_io.specs.Took.{Uses, Took}
-use Rattle.dcc_io.specs.NextLine.{has_line_feed, lines_within, IsOneLine, EndsLine, IsBadAt}
+use Rattle.dcc_io.specs.NextLine.{has_line_feed, lines_within, IsOneLine, ReadsLine, IsBadAt}
 use Rattle.dcc_saved.specs.Inner.RequiredLine.{TakesLine}
 use Rattle.dcc_saved.specs.Lines.{LineOf}
-use Rattle.dcc_saved.specs.TextReader.{Text, Stop, Reader, read_on, ◌>>=◌, first_line, behind_line}
+use Rattle.dcc_saved.specs.TextReader.{Text, Stop, Reader, read_on, ◌>>=◌, first_line, after_first_line}
 use Rattle.dcc_saved.specs.TextReader.{line_verdict, ended_line, line_by}
 use Rattle.dcc_saved.specs.TextReader.Stop.{cut, refused, too_many}
-use Rattle.dcc_saved.specs.TextRead.{at, answer_of, answer_at, answer_in, StopsAt, Leads, Refuses, Answers}
-use Rattle.dcc_saved.specs.TextRead.{GoesOn, StopsAtDecoder, TextLinesAt, UsesThroughLine}
+use Rattle.dcc_saved.specs.TextRead.{at, result_of, answer_at, answer_in, TextStopsAt, Leads, RefusesText, ReadsValue}
+use Rattle.dcc_saved.specs.TextRead.{ContinuesAs, StopsAtDecoder, TextLinesAt, UsesThroughLine}
 use Rattle.dcc_io.proofs.TookLemmas.{if_some_map, map_text, Took-start, Took-map, Took-join, Stops-map}
 use Rattle.dcc_io.proofs.TookLemmas.{same_cond, Stops-behind, within_limit-used, within_limit-front, overflows}
 use Rattle.dcc_io.proofs.TookLemmas.{zero_fits, told_behind, LinesAt-behind}
@@ -41,8 +41,8 @@ pub ruleset begins = (Leads-start)
 
 -- what stops a reader, in other words
 Refuses-map : {A B : Type 0} (read : Reader A) (whole : Reader B) (old now new : InputState) (fault : KeptFault)
-    → (StopsAt read now fault new → StopsAt whole old fault new) → Refuses read now fault new
-    → Refuses whole old fault new
+    → (TextStopsAt read now fault new → TextStopsAt whole old fault new) → RefusesText read now fault new
+    → RefusesText whole old fault new
 Refuses-map read whole old now new (Number line) each stops = stops
 Refuses-map read whole old now new fault each stops = each stops
 
@@ -66,14 +66,14 @@ told_by read old new x took each =
 
 -- an input that stood at the start of a line stands at one where the reader goes on
 at_line_start : {A : Type 0} {read rest_read : Reader A} {old new : InputState} (used : List ℕ)
-    → GoesOn read old rest_read new used → old.lines + 1 ≡ old.place.line → new.lines + 1 ≡ new.place.line
+    → ContinuesAs read old rest_read new used → old.lines + 1 ≡ old.place.line → new.lines + 1 ≡ new.place.line
 at_line_start [] goes start = let same = goes.still refl in omega (arith, same.0, same.1, start)
 at_line_start (byte ∷ used) goes start = goes.last (omega arith)
 
 module _ {A B : Type 0} (first : Reader A) (next : A → Reader B) {whole : Reader B} {old now : InputState}
     (leads : Leads whole old (first >>= next) now) where
   -- the first of two readers gave a value
-  pub Leads-then : {new : InputState} {x : A} → Answers first now (Ok x) new → Leads whole old (next x) new
+  pub Leads-then : {new : InputState} {x : A} → ReadsValue first now (Ok x) new → Leads whole old (next x) new
   Leads-then {new = new} value = record {
     took = Took-join leads.took value.took (λ front back before behind.
         record {
@@ -87,7 +87,7 @@ module _ {A B : Type 0} (first : Reader A) (next : A → Reader B) {whole : Read
 
   -- where the first of two readers stops, both stop
   stops : (last : Option KeptFault) (fault : KeptFault) (read : Result (A × Text) Stop)
-      → answer_of last read ≡ Err fault → answer_of last (read_on read next) ≡ Err fault
+      → result_of last read ≡ Err fault → result_of last (read_on read next) ≡ Err fault
   stops last fault (Ok read) says = cc
   stops last fault (Err stop) says = cc
 
@@ -114,15 +114,15 @@ module _ {A B : Type 0} (first : Reader A) (next : A → Reader B) {whole : Read
       (stops_at_decoder (first (at now rest)) (new.lines + 1) stops)) stops)
   lines_behind new fault lines = LinesAt-behind leads.took new fault lines
 
-  pub Answers-fault : (new : InputState) (fault : KeptFault) → Answers first now (Err fault) new
-      → Answers whole old (Err fault) new
+  pub Answers-fault : (new : InputState) (fault : KeptFault) → ReadsValue first now (Err fault) new
+      → ReadsValue whole old (Err fault) new
   Answers-fault new fault stop = (
     Refuses-map first whole old now new fault
         (λ h. Stops-behind leads.took _ _ _ _ new fault h
         (λ front back before fails. rw before.goes_on (stops (Some Read) Read (first (at now back)) fails))
         (λ text rest uses says.
         within_limit-used old now (answer_at whole old) (answer_at (first >>= next) now) text rest uses
-        (λ more last. ap (answer_of last) (uses.is.goes_on more))
+        (λ more last. ap (result_of last) (uses.is.goes_on more))
         ∙ cond-map (nat_le (length rest) now.bytes) (stops None fault (first (at now rest)))
         (stops (Some TooMuch) fault (first (at now (take (now.bytes - 1) rest)))) says))
         stop.0,
@@ -132,7 +132,7 @@ module _ {A B : Type 0} (first : Reader A) (next : A → Reader B) {whole : Read
 
 -- bytes without a line feed begin the first line
 line-parts : (line rest : List ℕ) → has_line_feed line ≡ false
-    → (first_line (line ++ rest) ≡ line ++ first_line rest) × (behind_line (line ++ rest) ≡ behind_line rest)
+    → (first_line (line ++ rest) ≡ line ++ first_line rest) × (after_first_line (line ++ rest) ≡ after_first_line rest)
 line-parts [] rest one = (refl, refl)
 line-parts (byte ∷ line) rest one =
     let here = or_false (eqb byte 10) (has_line_feed line) one in
@@ -142,7 +142,7 @@ line-parts (byte ∷ line) rest one =
 module _ {A : Type 0} (line_is : LineOf A) where
   -- the front of a line, and what follows it
   line-front : (n : ℕ) (line rest : List ℕ) → IsOneLine line → first_line rest ≡ []
-      → line_by line_is (record { line = n; bytes = line ++ rest }) ≡ ended_line line_is n line (behind_line rest)
+      → line_by line_is (record { line = n; bytes = line ++ rest }) ≡ ended_line line_is n line (after_first_line rest)
   line-front n line rest is_line ends =
       let parts = line-parts line rest is_line.one in rw (parts.0, parts.1, ends, append-nil, is_line.good) refl
 
@@ -160,25 +160,25 @@ module _ {A : Type 0} (line_is : LineOf A) where
 
   -- a line that was not taken
   pub line-missed : (old new : InputState) (fault : KeptFault) → TakesLine old (Err fault) new
-      → Answers (line_by line_is) old (Err fault) new
+      → ReadsValue (line_by line_is) old (Err fault) new
   line-missed old new (Line n why) h =
       rw (h.0, h.1) ((h.2.failures, if_some_map _ _ old.text (missed_text old) h.2.text), h.2.fault, h.2.lines)
   line-missed old new TooMuch h = (
     overflows IsOneLine (answer_at (line_by line_is) old) (Err TooMuch) old new h.0
-        (λ used is_line. ap (answer_of (Some TooMuch)) (line-cut old.place.line used is_line)),
+        (λ used is_line. ap (result_of (Some TooMuch)) (line-cut old.place.line used is_line)),
     h.1,
     inl h.2,
   )
   line-missed old new Read h = (
     Stops-map IsOneLine _ (λ text. Unit {0}) (λ text. Unit {0}) old new Read h.0
-        (λ used is_line. ap (answer_of (Some Read)) (line-cut old.place.line used is_line)) (λ text none. none),
+        (λ used is_line. ap (result_of (Some Read)) (line-cut old.place.line used is_line)) (λ text none. none),
     h.1,
     h.2,
   )
   line-missed old new (Number n) h = absurd h
 
   module _ (blank : line_is.read [] ≡ Err faults.Word) (old mid : InputState) (n : ℕ) (line : List ℕ)
-      (ends : EndsLine old n line mid) where
+      (ends : ReadsLine old n line mid) where
     -- what is said of the line, whatever follows it
     given : (used more : List ℕ) → IsThrough old mid line used
         → line_by line_is (at old (used ++ more)) ≡ line_verdict old.place.line (line_is.read (words line)) more
@@ -186,7 +186,7 @@ module _ {A : Type 0} (line_is : LineOf A) where
         rw (through.0, append_assoc) (line-front old.place.line line (10 ∷ more) ends.is_line refl)
 
     -- a line that has a value
-    pub line-read : (x : A) → Ok x ≡ line_is.read (words line) → Answers (line_by line_is) old (Ok x) mid
+    pub line-read : (x : A) → Ok x ≡ line_is.read (words line) → ReadsValue (line_by line_is) old (Ok x) mid
     line-read x is = record {
       took = Took-map (took_line old mid n line ends) (λ used through. record {
         goes_on = λ more. given used more through ∙ rw (← is, ends.next) refl;
@@ -219,14 +219,14 @@ module _ {A : Type 0} (line_is : LineOf A) where
 
     -- a line that is refused
     pub line-refused : (why : PacketFault) (new : InputState) (fault : KeptFault) → Err why ≡ line_is.read (words line)
-        → KeepsFault mid (Line n why) fault new → Answers (line_by line_is) old (Err fault) new
+        → KeepsFault mid (Line n why) fault new → ReadsValue (line_by line_is) old (Err fault) new
     line-refused why new fault is keeps =
         let took = took_line old mid n line ends in
         rw (keeps.0, keeps.1, ends.at) (
           (
             ends.failures,
             told_by (line_by line_is) old mid (Err (Line old.place.line why)) took
-                (λ used more last through. ap (answer_of last) (given used more through) ∙ rw (← is) refl),
+                (λ used more last through. ap (result_of last) (given used more through) ∙ rw (← is) refl),
           ),
           refl,
           on_line line old.text mid.text ends.lines took.text,

@@ -15,12 +15,14 @@ use Rattle.dcc_regs.specs.declared.register.Who.TheVariants as who
 use Rattle.dcc_saved.specs.declared.decoder_line.Head.{Head}
 use Rattle.dcc_saved.specs.declared.decoder_line.Head.TheVariants as heads
 use Rattle.dcc_saved.specs.declared.decoder_line.LocoLine.TheVariants as behind
-use Rattle.dcc_saved.specs.DecoderLines.{four, speed_words, version_field, speed_field, version_line, head_forms, head_line}
+use Rattle.dcc_saved.specs.DecoderLines.{four, speed_words, version_field, speed_field, version_line, head_forms}
+use Rattle.dcc_saved.specs.DecoderLines.{head_line}
 use Rattle.dcc_saved.specs.DecoderLines.{head_of, speed_line, loco_line_of, loco_line, positions_line, aspects_line}
-use Rattle.dcc_saved.specs.DecoderLines.{own_address_field, own_board_field, loco_form, board_form, end_form}
+use Rattle.dcc_saved.specs.DecoderLines.{own_address_field, own_board_field, loco_head_form, board_form, end_form}
 use Rattle.dcc_saved.specs.PossibleLines.{IsPossibleHead}
 use Rattle.dcc_saved.proofs.LinesBack.{IsLineBack, few_say, keyed_back}
-use Rattle.dcc_saved.proofs.RulesBack.{version_is_back, speed_back, speed_is_back, four_back, own_address_is_back, own_board_is_back}
+use Rattle.dcc_saved.proofs.RulesBack.{version_is_back, speed_back, speed_is_back, four_back, own_address_is_back}
+use Rattle.dcc_saved.proofs.RulesBack.{own_board_is_back}
 
 pub version_line_back : IsLineBack version_line
 version_line_back =
@@ -50,7 +52,7 @@ aspects_line_back =
 -- the lines that begin a decoder, and the last line
 back : AreBack head_forms
 back = (
-  row_back own_address_field loco_form own_address_is_back
+  row_back own_address_field loco_head_form own_address_is_back
       (record { token = refl; back = elim [ heads.Decoder (who.Loco address) ↦ λ x e. cc | head ↦ λ x e. absurd cc ] }),
   (
     row_back own_board_field board_form own_board_is_back

@@ -18,7 +18,7 @@ use Rattle.dcc_regs.specs.Addresses.{is_active}
 use Rattle.dcc_regs.specs.Loco.{is_speed}
 use Rattle.dcc_saved.specs.declared.decoder_line.Version.TheVariants as versions
 use Rattle.dcc_saved.specs.DecoderLines.{version_number, version_word, version_field, own_address, own_board_field}
-use Rattle.dcc_saved.specs.DecoderLines.{own_address_word, own_address_field, speed_step, speed_of, speed_words}
+use Rattle.dcc_saved.specs.DecoderLines.{own_address_word, own_address_field, step_words, speed_of, speed_words}
 use Rattle.dcc_saved.specs.DecoderLines.{speed_field, four}
 
 pub version_is_back : IsReadBack version_field
@@ -53,7 +53,7 @@ own_board_is_back =
 -- the words of a speed that has a step
 step_back : (name : Word) (step : ℕ → Speed) (last n : ℕ) → last < 256 → IsToken name
     → (nat_le 1 n && nat_le n last) ≡ true
-    → ((rest : List Word) → speed_step step last (decimal n ∷ rest) ≡ Ok (step n, rest))
+    → ((rest : List Word) → step_words step last (decimal n ∷ rest) ≡ Ok (step n, rest))
     × AllByRecursion IsToken (name ∷ decimal n ∷ []) × (length (name ∷ decimal n ∷ []) ≤ 2)
 step_back name step last n small token h =
     let parts = and_parts (nat_le 1 n) (nat_le n last) h in

@@ -1,6 +1,9 @@
--- The lines of a decoder text. Of each: which values it may say; what its words say, or the first fault from left to right,
--- where of one word first the number decides, then its range, then its order; and which words are written for a value.
-use Rattle.std.specs.Prelude.{◌≡◌, zero, suc, ℕ, ◌+◌, ◌^◌, ◌/◌, ◌%◌, ◌<◌, ◌==◌, nat_le, nat_lt, true, List, [], ◌∷◌, ◌++◌}
+-- The lines of a decoder text. The definition of a line has the values that the line can have, the
+-- rule that parses its words, and the rule that writes its words. The first error from left to
+-- right counts. Within one word the order of errors is: no number, a number out of range, a number
+-- out of order.
+use Rattle.std.specs.Prelude.{◌≡◌, zero, suc, ℕ, ◌+◌, ◌^◌, ◌/◌, ◌%◌, ◌<◌, ◌==◌, nat_le, nat_lt, true, List, [], ◌∷◌}
+use Rattle.std.specs.Prelude.{◌++◌}
 use Rattle.std.specs.Prelude.{codes, Option, None, Some, Result, Ok, Err, if◌then◌else◌}
 use Rattle.std.specs.Fmt.{decimal}
 use Rattle.hex.specs.Hex.{encode_lower}
@@ -40,11 +43,11 @@ use Rattle.dcc_regs.specs.Addresses.{is_active}
 use Rattle.dcc_saved.specs.declared.decoder_fields.OwnAddress.{OwnAddress}
 use Rattle.dcc_saved.specs.declared.decoder_fields.OwnBoard.{OwnBoard}
 
--- the word that begins a line of this kind
+-- `Ok` if `word` is the keyword `name`, otherwise the error P10
 abbrev pub keyword : List ℕ → Word → Result (Unit {0}) PacketFault
 keyword name word = if is_word word name then Ok tt else Err faults.Word
 
--- a line of this keyword and these fields, with which it ends
+-- a line that consists of the keyword `name` and the field `field`
 abbrev pub keyed : {A : Type 0} → List ℕ → FieldOf A → LineOf A
 keyed name field = record {
   Fits = field.Fits;
@@ -54,11 +57,11 @@ keyed name field = record {
   written = λ x. name ∷ field.written x;
 }
 
--- numbers ascend: each is at least the one after the number before it
+-- `Ok` if `n` is at least `least`, otherwise the error P10; so the numbers of a line ascend
 abbrev pub in_order : ℕ → ℕ → Result (Unit {0}) PacketFault
 in_order least n = if nat_lt n least then Err faults.Word else Ok tt
 
--- VERSION, 1 or 2, as a word
+-- the version in a word VERSION, 1 or 2
 abbrev pub version_number : Word → Result Version PacketFault
 version_number word =
     if is_word word (codes "1") then Ok versions.One
@@ -69,7 +72,7 @@ abbrev pub version_word : Version → Word
 version_word versions.One = codes "1"
 version_word versions.Two = codes "2"
 
--- dcc-decoders VERSION
+-- the field VERSION of the line `dcc-decoders VERSION`
 abbrev pub version_field : FieldOf Version
 version_field = one_word version_number version_word
 
@@ -81,12 +84,12 @@ some_address word = do
   to ← address word
   Ok (Some to)
 
--- what is written for the active address
+-- the word ADDRESS that is written for an active address
 abbrev pub own_address_word : Option Address → Word
 own_address_word None = codes "none"
 own_address_word (Some address) = address_word address
 
--- the active address: `none`, or `s` or `l` and a number
+-- the active address in a word ADDRESS: `none`, or `s` or `l` followed by a number
 abbrev pub own_address : Word → Result (Option Address) PacketFault
 own_address word =
     if is_word word (codes "none") then Ok None
@@ -98,7 +101,7 @@ own_address_of word = do
   address ← own_address word
   Ok (record { address = address })
 
--- ADDRESS
+-- the field ADDRESS: the active address of a locomotive decoder
 abbrev pub own_address_field : FieldOf OwnAddress
 own_address_field =
     record {
@@ -107,13 +110,14 @@ own_address_field =
       written = λ own. own_address_word own.address ∷ [];
     }
 
--- a board that an accessory decoder can be: 511 is the broadcast
+-- the number of an accessory decoder in a word BOARD, from 0 to 510. The number 511 is an error,
+-- since it is the broadcast address.
 abbrev pub own_board : Word → Result OwnBoard PacketFault
 own_board word = do
   board ← board_number word
   if board.number == 511 then Err faults.Board else Ok (record { board = board })
 
--- BOARD
+-- the field BOARD: the number of an accessory decoder
 abbrev pub own_board_field : FieldOf OwnBoard
 own_board_field =
     record {
@@ -122,16 +126,16 @@ own_board_field =
       written = λ own. decimal own.board.number ∷ [];
     }
 
--- loco ADDRESS
-abbrev pub loco_form : FormOf Head OwnAddress
-loco_form =
+-- the form `loco ADDRESS`
+abbrev pub loco_head_form : FormOf Head OwnAddress
+loco_head_form =
     record {
       keyword = codes "loco";
       says = λ own. heads.Decoder (who.Loco own.address);
       said = elim [ heads.Decoder (who.Loco address) ↦ Some (record { address = address }) | head ↦ None ];
     }
 
--- board BOARD
+-- the form `board BOARD`
 abbrev pub board_form : FormOf Head OwnBoard
 board_form =
     record {
@@ -140,44 +144,45 @@ board_form =
       said = elim [ heads.Decoder (who.Board board) ↦ Some (record { board = board }) | head ↦ None ];
     }
 
--- end
+-- the form `end`
 abbrev pub end_form : FormOf Head (Unit {0})
 end_form =
     record { keyword = codes "end"; says = λ none. heads.End; said = elim [ heads.End ↦ Some tt | head ↦ None ] }
 
--- the lines that begin a decoder, and the last line
+-- the forms of the first line of a decoder, and the form of the last line of a decoder text
 abbrev pub head_forms : List (RowOf Head)
-head_forms = row own_address_field loco_form ∷ row own_board_field board_form ∷ row no_fields end_form ∷ []
+head_forms = row own_address_field loco_head_form ∷ row own_board_field board_form ∷ row no_fields end_form ∷ []
 
 unfoldable pub head_of : List Word → Result Head PacketFault
 head_of [] = Err faults.Word
 head_of (word ∷ rest) = whole_by head_forms word rest
 
--- loco ADDRESS, board BOARD or end
+-- the line `loco ADDRESS`, `board BOARD` or `end`
 abbrev pub head_line : LineOf Head
 head_line = record { Fits = IsPossibleHead; read = head_of; written = written_by head_forms }
 
--- a step from 1 to the last one
-abbrev pub step_up_to : ℕ → Word → Result ℕ PacketFault
-step_up_to last word = do
+-- the speed step in `word`, from 1 to `last`
+abbrev pub parse_step : ℕ → Word → Result ℕ PacketFault
+parse_step last word = do
   n ← small_number word
   if nat_lt n 1 then Err faults.State else if nat_lt last n then Err faults.State else Ok n
 
-abbrev pub speed_step : (ℕ → Speed) → ℕ → List Word → Result (Speed × List Word) PacketFault
-speed_step step last rest = do
-  n ← word_and_rest (step_up_to last) rest
+abbrev pub step_words : (ℕ → Speed) → ℕ → List Word → Result (Speed × List Word) PacketFault
+step_words step last rest = do
+  n ← word_and_rest (parse_step last) rest
   Ok (step n.0, n.1)
 
 abbrev pub speed_after : Word → List Word → Result (Speed × List Word) PacketFault
 speed_after word rest =
     if is_word word (codes "stop") then Ok (speeds.Stop, rest)
     else if is_word word (codes "emergency") then Ok (speeds.Emergency, rest)
-    else if is_word word (codes "14") then speed_step (λ n. speeds.Step14 n) 14 rest
-    else if is_word word (codes "28") then speed_step (λ n. speeds.Step28 n) 28 rest
-    else if is_word word (codes "126") then speed_step (λ n. speeds.Step126 n) 126 rest
+    else if is_word word (codes "14") then step_words (λ n. speeds.Step14 n) 14 rest
+    else if is_word word (codes "28") then step_words (λ n. speeds.Step28 n) 28 rest
+    else if is_word word (codes "126") then step_words (λ n. speeds.Step126 n) 126 rest
     else Err faults.Word
 
--- stop, emergency, 14 STEP, 28 STEP or 126 STEP, and the words after it
+-- the speed that the first words mean, and the words after them. A speed is `stop`, `emergency`,
+-- `14 STEP`, `28 STEP` or `126 STEP`.
 abbrev pub speed_of : List Word → Result (Speed × List Word) PacketFault
 speed_of [] = Err faults.Word
 speed_of (word ∷ rest) = speed_after word rest
@@ -194,7 +199,7 @@ saved_speed words = do
   speed ← speed_of words
   Ok (record { speed = speed.0 }, speed.1)
 
--- SPEED
+-- the field SPEED, which has one or two words
 abbrev pub speed_field : FieldOf SavedSpeed
 speed_field =
     record {
@@ -203,17 +208,17 @@ speed_field =
       written = λ saved. speed_words saved.speed;
     }
 
--- speed SPEED f|r
+-- the line `speed SPEED f|r`
 abbrev pub speed_line : LineOf (SavedSpeed × Direction)
 speed_line = keyed (codes "speed") (both speed_field direction_field)
 
--- a function of a locomotive decoder, 0 to 68
+-- the number of a function in `word`, from 0 to 68
 abbrev pub function_number : Word → Result ℕ PacketFault
 function_number word = do
   n ← small_number word
   if nat_lt 68 n then Err faults.State else Ok n
 
--- a binary state of a locomotive decoder, 1 to 127
+-- the number of a binary state in `word`, from 1 to 127
 abbrev pub binary_state : Word → Result ℕ PacketFault
 binary_state word = do
   n ← small_number word
@@ -224,21 +229,23 @@ out_number word = do
   output ← output_number word
   Ok output.number
 
-abbrev pub number_of : Numbered → Word → Result ℕ PacketFault
-number_of kinds.Function word = function_number word
-number_of kinds.State word = binary_state word
-number_of kinds.Out word = out_number word
+abbrev pub number_word_of : Numbered → Word → Result ℕ PacketFault
+number_word_of kinds.Function word = function_number word
+number_word_of kinds.State word = binary_state word
+number_word_of kinds.Out word = out_number word
 
--- the numbers that are on, as bits, in ascending order from this one on
+-- the number with a one bit for the number in each word of a list. These numbers ascend, and the
+-- first is at least `least`.
 abbrev pub numbers_from : Numbered → ℕ → List Word → Result ℕ PacketFault
 numbers_from kind least [] = Ok 0
 numbers_from kind least (word ∷ rest) = do
-  n ← number_of kind word
+  n ← number_word_of kind word
   ordered ← in_order least n
   others ← numbers_from kind (n + 1) rest
   Ok (2 ^ n + others)
 
--- the words of the numbers whose bits are one, of so many from this one on: the lowest bit is that of the first
+-- the words of the numbers from `n` on whose bits in `bits` are one; the lowest bit belongs to the
+-- number `n`
 unfoldable pub numbers_on : ℕ → ℕ → ℕ → List Word
 numbers_on n zero bits = []
 numbers_on n (suc more) bits =
@@ -249,7 +256,8 @@ numbers_of kind line = do
   key ← word_and_rest (keyword (name_of kind)) line
   numbers_from kind 0 key.1
 
--- on FUNCTION .., states STATE .. or out OUTPUT .., as bits. There is no state 0
+-- the line `on FUNCTION ..`, `states STATE ..` or `out OUTPUT ..`. Its value is a number with a one
+-- bit for each number in the line. No binary state has the number 0.
 abbrev pub numbers_line : Numbered → LineOf ℕ
 numbers_line kind = record {
   Fits = λ bits. (bits < 2 ^ end_of kind) × (kind ≡ kinds.State → bits % 2 ≡ 0);
@@ -263,7 +271,8 @@ framed_write active word = do
   packet ← pending_write active frame
   Ok (Some packet)
 
--- `none`, or the frame of a CV write to the decoder's address
+-- the packet in a word PACKET. It is `None` for `none`, or the CV write with the frame in `word`
+-- that can be pending in a decoder with the address `active`.
 abbrev pub pending_word : Option Address → Word → Result (Option Packet) PacketFault
 pending_word active word = if is_word word (codes "none") then Ok None else framed_write active word
 
@@ -271,7 +280,8 @@ abbrev pub pending_text : Option Packet → Word
 pending_text None = codes "none"
 pending_text (Some packet) = encode_lower (spelling packet)
 
--- PACKET, a CV write to this address
+-- the field PACKET: `none`, or a CV write that can be pending in a decoder with the address
+-- `active`
 abbrev pub pending_field : Option Address → FieldOf (Option Packet)
 pending_field active = record {
   Fits = λ pending. is_pending_for active pending ≡ true;
@@ -279,11 +289,11 @@ pending_field active = record {
   written = λ pending. pending_text pending ∷ [];
 }
 
--- pending PACKET
+-- the line `pending PACKET` of a decoder with the address `active`
 abbrev pub pending_line : Option Address → LineOf (Option Packet)
 pending_line active = keyed (codes "pending") (pending_field active)
 
--- CV VALUE, the CV not below this one
+-- the values of the words `CV VALUE` if the number of the CV is at least `least`
 abbrev pub cv_words : ℕ → List Word → Result LocoLine PacketFault
 cv_words least rest = do
   cv ← word_and_rest cv_number rest
@@ -311,11 +321,11 @@ abbrev pub loco_line_written : LocoLine → List Word
 loco_line_written (behind.Cv cv value) = cv_written cv.number value
 loco_line_written (behind.Head head) = written_by head_forms head
 
--- cv CV VALUE, or what stands behind the CVs
+-- the line `cv CV VALUE` with a CV number of at least `least`, or the line after the CVs
 abbrev pub loco_line : ℕ → LineOf LocoLine
 loco_line least = record { Fits = IsSoundLine least; read = loco_line_of least; written = loco_line_written }
 
--- four fields of a kind
+-- four values of one type
 abbrev pub Four : Type 0 → Type 0
 Four A = A × (A × (A × A))
 
@@ -325,10 +335,10 @@ four field = both field (both field (both field field))
 abbrev pub listed : {A : Type 0} → Four A → List A
 listed x = x.0 ∷ x.1.0 ∷ x.1.1.0 ∷ x.1.1.1 ∷ []
 
--- position SIDE SIDE SIDE SIDE
+-- the line `position SIDE SIDE SIDE SIDE`
 abbrev pub positions_line : LineOf (Four Bit)
 positions_line = keyed (codes "position") (four bit_field)
 
--- aspect ASPECT ASPECT ASPECT ASPECT
+-- the line `aspect ASPECT ASPECT ASPECT ASPECT`
 abbrev pub aspects_line : LineOf (Four ℕ)
 aspects_line = keyed (codes "aspect") (four small_field)

@@ -19,27 +19,32 @@ use Rattle.dcc_saved.specs.DecoderLines.{version_line, head_line, speed_line, nu
 use Rattle.dcc_saved.specs.DecoderLines.{loco_line, Four, listed, positions_line, aspects_line}
 use Rattle.dcc_saved.specs.TextReader.{Reader, ◌>>=◌, done, stop_at_decoder, line_by}
 
--- a line of a CV, which is given its value, or the line behind the CVs
+-- the reader after a line in the CVs of a decoder. A line of a CV sets its value in `cvs`, and
+-- `again` reads the next line. Any other line ends the CVs.
 abbrev pub behind_loco_line : (ℕ → List ℕ → Reader (List ℕ × Head)) → List ℕ → LocoLine → Reader (List ℕ × Head)
 behind_loco_line again cvs (behind.Cv cv value) = again (cv.number + 1) (slice_set cvs (cv.number - 1) value)
 behind_loco_line again cvs (behind.Head head) = done (cvs, head)
 
--- the CVs of the lines from here on, ascending from this one on, and the line behind them; at most so
--- many lines, since no more can ascend
+-- the reader of the lines of CVs, in ascending order from CV `least` on, and of one further line.
+-- It sets the values in `cvs` and reads at most `most` lines of CVs, which is enough since the CV
+-- numbers end at 1024.
 abbrev pub cvs_from : ℕ → ℕ → List ℕ → Reader (List ℕ × Head)
 cvs_from zero least cvs = stop_at_decoder
 cvs_from (suc most) least cvs = line_by (loco_line least) >>= behind_loco_line (cvs_from most) cvs
 
--- CV1 to CV1024, of which those that are not listed are 0, and the line behind them
+-- the reader of the lines of CV1 to CV1024, and of one further line; a CV without a line has the
+-- value 0
 unfoldable pub cvs_lines : Reader (List ℕ × Head)
 cvs_lines = cvs_from 1025 1 (replicate 1024 0)
 
--- the line of the binary states that are on. Version 1 has none, and there all are off
+-- the reader of the line of the binary states that are on. Version 1 has no such line, and all its
+-- binary states are off.
 abbrev pub states_by : Version → Reader ℕ
 states_by versions.One = done 0
 states_by versions.Two = line_by (numbers_line kinds.State)
 
--- the lines of a locomotive decoder behind its first, and the line behind them
+-- the reader of the lines of a locomotive decoder after its first line, and of one further line.
+-- The further line is the first line of the next decoder, or `end`.
 unfoldable pub loco_lines : Version → Option Address → Reader (Saved × Head)
 loco_lines version address = do
   speed ← line_by speed_line
@@ -61,7 +66,7 @@ loco_lines version address = do
     cvs.1,
   )
 
--- what the lines of an accessory decoder say
+-- the state of an accessory decoder whose lines have the values `outs`, `positions` and `aspects`
 abbrev pub board_read : Board → ℕ → Four Bit → Four ℕ → BoardState
 board_read board outs positions aspects =
     record {
@@ -71,7 +76,8 @@ board_read board outs positions aspects =
       aspects = listed aspects;
     }
 
--- the lines of an accessory decoder behind its first, and the line behind them
+-- the reader of the lines of an accessory decoder after its first line, and of one further line.
+-- The further line is the first line of the next decoder, or `end`.
 unfoldable pub board_lines : Board → Reader (Saved × Head)
 board_lines board = do
   outs ← line_by (numbers_line kinds.Out)
@@ -80,12 +86,14 @@ board_lines board = do
   head ← line_by head_line
   done (saved.Board (board_read board outs positions aspects), head)
 
--- the lines of a decoder behind its first, and the line behind them
+-- the reader of the lines of a decoder after its first line, and of one further line. The further
+-- line is the first line of the next decoder, or `end`.
 abbrev pub decoder_lines : Version → Who → Reader (Saved × Head)
 decoder_lines version (who.Loco address) = loco_lines version address
 decoder_lines version (who.Board board) = board_lines board
 
--- these decoders, and at most so many more from this line on
+-- the reader of at most `room` decoders. The first line of the first of them was already read. The
+-- result is the list `before` followed by these decoders.
 abbrev pub decoders_from : Version → ℕ → List Saved → Head → Reader (List Saved)
 decoders_from version room before heads.End = done before
 decoders_from version zero before (heads.Decoder next) = stop_at_decoder
@@ -93,7 +101,7 @@ decoders_from version (suc room) before (heads.Decoder next) = do
   decoder ← decoder_lines version next
   decoders_from version room (before ++ decoder.0 ∷ []) decoder.1
 
--- the decoders of a text, at most 64
+-- the reader of the at most 64 decoders of a decoder text
 unfoldable pub decoder_text : Reader (List Saved)
 decoder_text = do
   version ← line_by version_line

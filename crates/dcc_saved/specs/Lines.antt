@@ -1,18 +1,18 @@
--- Lines of a text: one thing to read and to write.
+-- Lines of a text that a program parses and writes.
 use Rattle.std.specs.Prelude.{ℕ, List, ◌++◌, codes, Result}
 use Rattle.dcc_packet.specs.declared.fault.PacketFault.{PacketFault}
 use Rattle.dcc_packet.specs.Words.{Word}
 use Rattle.dcc_packet.specs.Written.{words_in_line}
 
--- a line that says a value of this type
+-- a kind of line with values of type `A`
 pub record LineOf (A : Type 0) : Type 1 where
-  -- the values that it may say
+  -- the line can have the given value
   pub Fits : A → Type 0
-  -- what its words say, or the first fault
+  -- the value of the words of a line, or their first error
   pub read : List Word → Result A PacketFault
-  -- the words that are written for a value
+  -- the words that are written for the given value
   pub written : A → List Word
 
--- the line of a value
+-- the text of the line of kind `line` with the value `x`
 abbrev pub line_text : {A : Type 0} → LineOf A → A → List ℕ
 line_text line x = words_in_line (line.written x) ++ codes "\n"

@@ -1,17 +1,18 @@
--- The lines that tell which registers of a kind are on.
+-- The lines that list all registers of a kind that are on.
 use Rattle.std.specs.Prelude.{ℕ, List, codes}
 use Rattle.dcc_regs.specs.declared.register.Register.{Register}
 use Rattle.dcc_regs.specs.declared.register.Register.TheVariants as registers
 use Rattle.dcc_saved.specs.declared.decoder_line.Numbered.{Numbered}
 use Rattle.dcc_saved.specs.declared.decoder_line.Numbered.TheVariants.{Function, State, Out}
 
--- the word that begins the line
+-- the first word of the line of a kind of registers
 abbrev pub name_of : Numbered → List ℕ
 name_of Function = codes "on"
 name_of State = codes "states"
 name_of Out = codes "out"
 
--- the number behind the last: F0 to F68, the states up to 127, the outputs 0 to 7
+-- the number after the greatest number of a kind: functions F0 to F68, binary states up to 127,
+-- outputs 0 to 7
 abbrev pub end_of : Numbered → ℕ
 end_of Function = 69
 end_of State = 128

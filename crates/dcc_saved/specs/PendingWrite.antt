@@ -1,5 +1,6 @@
--- The CV write that a decoder text shows as pending (RCN-214).
-use Rattle.std.specs.Prelude.{ℕ, ◌+◌, ◌*◌, ◌/◌, ◌%◌, ◌==◌, ◌&&◌, List, Option, None, Some, Result, Ok, Err, length, drop}
+-- The pending write of a decoder text (RCN-214).
+use Rattle.std.specs.Prelude.{ℕ, ◌+◌, ◌*◌, ◌/◌, ◌%◌, ◌==◌, ◌&&◌, List, Option, None, Some, Result, Ok, Err, length}
+use Rattle.std.specs.Prelude.{drop}
 use Rattle.std.specs.Prelude.{slice_index, bytes_eq, if◌then◌else◌}
 use Rattle.dcc_packet.specs.declared.address.Address.{Address}
 use Rattle.dcc_packet.specs.declared.instruction.What.TheVariants.{CvWrite, CvBitWrite}
@@ -13,34 +14,39 @@ use Rattle.dcc_packet.specs.Values.{cv_of, place_of}
 use Rattle.dcc_packet.specs.LineWords.{◌>>=◌}
 use Rattle.dcc_regs.specs.Loco.{is_pending_for}
 
--- the number of the CV in the first two bytes of an instruction: KKKKKKVV VVVVVVVV is the number less 1
+-- the number of the CV in the first two bytes of an instruction: the bits V in KKKKKKVV VVVVVVVV
+-- are this number less 1
 abbrev pub cv_named : List ℕ → ℕ
 cv_named bytes = 256 * (slice_index bytes 0 % 4) + slice_index bytes 1 + 1
 
--- these bytes of an instruction taken for the write of a CV
+-- the write of a CV that the bytes `bytes` of an instruction mean, sent to the address `to`
 abbrev pub byte_write : Address → List ℕ → Result Packet PacketFault
 byte_write to bytes = do
   cv ← cv_of (cv_named bytes)
   Ok (Loco to (CvWrite cv (slice_index bytes 2)))
 
--- these bytes of an instruction taken for the write of a bit, 1111DBBB
+-- the write of a bit (1111DBBB) that the bytes `bytes` of an instruction mean, sent to the address
+-- `to`
 abbrev pub bit_write : Address → List ℕ → Result Packet PacketFault
 bit_write to bytes = do
   cv ← cv_of (cv_named bytes)
   place ← place_of (slice_index bytes 2 % 8)
   Ok (Loco to (CvBitWrite cv place (slice_index bytes 2 / 8 % 2 == 1)))
 
--- the write that these bytes of an instruction can be at most: 111011VV begins that of a CV
+-- the write that the bytes `bytes` of an instruction mean, sent to the address `to`. If they begin
+-- with 111011VV it is a write of a CV, otherwise a write of a bit.
 abbrev pub write_in : Address → List ℕ → Result Packet PacketFault
 write_in to bytes = if slice_index bytes 0 / 4 == 59 then byte_write to bytes else bit_write to bytes
 
--- the packet, where it has this frame and may be pending in a decoder with this address
+-- `packet` if its frame is `frame` and it can be pending in a decoder with the address `active`,
+-- otherwise the error P13
 abbrev pub with_frame : Option Address → List ℕ → Result Packet PacketFault → Result Packet PacketFault
 with_frame active frame (Ok packet) =
     if bytes_eq (spelling packet) frame && is_pending_for active (Some packet) then Ok packet else Err faults.State
 with_frame active frame (Err fault) = Err faults.State
 
--- the CV write with this frame that may be pending in a decoder with this address
+-- the CV write with the frame `frame` if it can be pending in a decoder with the address `to`,
+-- otherwise the error P13
 unfoldable pub pending_write : Option Address → List ℕ → Result Packet PacketFault
 pending_write None frame = Err faults.State
 pending_write (Some to) frame = with_frame (Some to) frame (write_in to (drop (length (address_bytes to)) frame))

@@ -1,4 +1,4 @@
--- The text that is written for a fleet is read back as the same decoders.
+-- The decoder text of a fleet is parsed as the decoders of this fleet.
 use Rattle.std.specs.Prelude.{◌≡◌, ℕ, ◌+◌, ◌≤◌, ◌==◌, if◌then◌else◌, ◌++◌, List, [], ◌∷◌, Ok, length}
 use Rattle.std.specs.List.{AllByRecursion}
 use Rattle.dcc_regs.specs.declared.register.Register.{Register}
@@ -15,11 +15,12 @@ use Rattle.dcc_saved.specs.declared.saved.Saved.TheVariants as saved
 use Rattle.dcc_saved.specs.DecoderText.{decoder_text}
 use Rattle.dcc_saved.specs.FleetText.{fleet_text}
 
--- two maps agree in every register
+-- the maps `one` and `other` have the same value for each register
 abbrev pub SameRegisters : RegisterMap → RegisterMap → Type 0
 SameRegisters one other = (r : Register) → one r ≡ other r
 
--- this state is of that decoder: the same address, and the decoder that is restored from it has the same registers
+-- the saved state is the state of a decoder: both have one identity, and a decoder that `restore`
+-- makes from the state has the same registers
 abbrev pub Saves : Saved → Who × RegisterMap → Type 0
 Saves (saved.Loco state) (who.Loco address, m) =
     (state.address ≡ address) × SameRegisters (loco_registers (loco_content state)) m
@@ -28,7 +29,7 @@ Saves (saved.Board state) (who.Board board, m) =
 Saves (saved.Loco state) (who.Board board, m) = ⊥
 Saves (saved.Board state) (who.Loco address, m) = ⊥
 
--- one state for each decoder, in order
+-- each saved state of a list is the state of the decoder at the same place of the fleet
 abbrev pub SavesEach : List Saved → List (Who × RegisterMap) → Type 0
 SavesEach [] [] = Unit {0}
 SavesEach (one ∷ more) (decoder ∷ fleet) = Saves one decoder × SavesEach more fleet
@@ -38,12 +39,13 @@ SavesEach (one ∷ more) [] = ⊥
 abbrev pub IsPossibleDecoder : Who × RegisterMap → Type 0
 IsPossibleDecoder decoder = IsPossible decoder.0 decoder.1
 
--- the line feeds of a text
+-- the number of line feeds in a text
 abbrev pub line_feeds : List ℕ → ℕ
 line_feeds [] = 0
 line_feeds (byte ∷ bytes) = if byte == 10 then 1 + line_feeds bytes else line_feeds bytes
 
--- the text of this fleet is read as a state of each, and what follows it is left
+-- the text of `fleet`, from line `line` on and followed by the bytes `rest`, is parsed as the
+-- states of the decoders of `fleet`. The reader leaves `rest`.
 pub record ReadsBack (fleet : List (Who × RegisterMap)) (line : ℕ) (rest : List ℕ) : Type 0 where
   pub states : List Saved
   pub behind : ℕ
@@ -52,7 +54,8 @@ pub record ReadsBack (fleet : List (Who × RegisterMap)) (line : ℕ) (rest : Li
   pub saves : SavesEach states fleet
   pub lines : behind ≡ line + line_feeds (fleet_text fleet)
 
--- at most 64 decoders, each of which may be, are read back, wherever their text stands
+-- the text of a fleet of at most 64 possible decoders is parsed as these decoders, from any line of
+-- an input on and before any further bytes
 abbrev pub FleetsAreReadBack : Type 0
 FleetsAreReadBack = (fleet : List (Who × RegisterMap)) (line : ℕ) (rest : List ℕ)
     → length fleet ≤ 64 → AllByRecursion IsPossibleDecoder fleet → ReadsBack fleet line rest

@@ -1,4 +1,4 @@
--- Reading a text line by line.
+-- Readers, which parse a text line by line.
 use Rattle.std.specs.Prelude.{ℕ, ◌+◌, ◌==◌, List, [], ◌∷◌, Option, None, Some, Result, Ok, Err, if◌then◌else◌}
 use Rattle.dcc_packet.specs.declared.fault.PacketFault.{PacketFault}
 use Rattle.dcc_packet.specs.declared.fault.PacketFault.TheVariants as faults
@@ -6,21 +6,22 @@ use Rattle.dcc_packet.specs.Words.{words}
 use Rattle.dcc_io.specs.NumberedLines.{is_good}
 use Rattle.dcc_saved.specs.Lines.{LineOf}
 
--- a text from this line on
+-- a text and the number of its first line
 pub record Text : Type 0 where
   pub line : ℕ
   pub bytes : List ℕ
 
--- why a text is not read to its end
+-- the reason why a reader stops before the end of a text
 pub data Stop : Type 0 where
-  -- a line has this fault
+  -- the line with the given number has the given error
   refused : ℕ → PacketFault → Stop
-  -- the text is cut off before this line has ended
+  -- the text ends before the line with the given number ends
   cut : ℕ → Stop
-  -- there is a decoder too many, whose first line is the one before this
+  -- a decoder exceeds the limit of decoders, and its first line is the line before the given number
   too_many : ℕ → Stop
 
--- a value and the text after it, or why there is none
+-- a reader: a function from a text to a value and the text after it, or to the reason why the
+-- reader stops
 abbrev pub Reader : Type 0 → Type 0
 Reader A = Text → Result (A × Text) Stop
 
@@ -28,7 +29,7 @@ abbrev pub read_on : {A B : Type 0} → Result (A × Text) Stop → (A → Reade
 read_on (Ok read) next = next read.0 read.1
 read_on (Err stop) next = Err stop
 
--- the second reader behind the first, where that gave a value
+-- the reader `first` followed by the reader that `next` gives for the value of `first`
 infixl 10 ◌>>=◌
 abbrev pub ◌>>=◌ : {A B : Type 0} → Reader A → (A → Reader B) → Reader B
 (first >>= next) text = read_on (first text) next
@@ -36,21 +37,22 @@ abbrev pub ◌>>=◌ : {A B : Type 0} → Reader A → (A → Reader B) → Read
 abbrev pub done : {A : Type 0} → A → Reader A
 done x text = Ok (x, text)
 
--- a decoder too many was found on the line before this text
+-- the reader that stops since a decoder exceeds the limit of decoders; the first line of this
+-- decoder is the line before `text`
 abbrev pub stop_at_decoder : {A : Type 0} → Reader A
 stop_at_decoder text = Err (too_many text.line)
 
--- the bytes up to the first line feed, or all where there is none
+-- the bytes of a text before its first line feed, or all its bytes if it has no line feed
 abbrev pub first_line : List ℕ → List ℕ
 first_line [] = []
 first_line (byte ∷ text) = if byte == 10 then [] else byte ∷ first_line text
 
--- the bytes behind the first line feed, where there is one
-abbrev pub behind_line : List ℕ → Option (List ℕ)
-behind_line [] = None
-behind_line (byte ∷ text) = if byte == 10 then Some text else behind_line text
+-- the bytes of a text after its first line feed, or `None` if it has no line feed
+abbrev pub after_first_line : List ℕ → Option (List ℕ)
+after_first_line [] = None
+after_first_line (byte ∷ text) = if byte == 10 then Some text else after_first_line text
 
--- what the words of a line say, and the text after it
+-- the value of line `n` and the text `rest` after it, or the error of this line
 abbrev pub line_verdict : {A : Type 0} → ℕ → Result A PacketFault → List ℕ → Result (A × Text) Stop
 line_verdict n (Ok x) rest = Ok (x, record { line = n + 1; bytes = rest })
 line_verdict n (Err fault) rest = Err (refused n fault)
@@ -59,8 +61,9 @@ abbrev pub ended_line : {A : Type 0} → LineOf A → ℕ → List ℕ → Optio
 ended_line line n bytes None = Err (cut n)
 ended_line line n bytes (Some rest) = line_verdict n (line.read (words bytes)) rest
 
--- this line
+-- the reader of one line of the kind `line`
 abbrev pub line_by : {A : Type 0} → LineOf A → Reader A
 line_by line text =
-    if is_good (first_line text.bytes) then ended_line line text.line (first_line text.bytes) (behind_line text.bytes)
+    if is_good (first_line text.bytes) then ended_line line text.line (first_line text.bytes)
+    (after_first_line text.bytes)
     else Err (refused text.line faults.Word)

@@ -1,4 +1,4 @@
--- The word that names a decoder.
+-- The word of a command line that names a decoder.
 use Rattle.std.specs.Prelude.{◌==◌, slice_index, drop, Option, Result, Ok, Err, if◌then◌else◌}
 use Rattle.dcc_packet.specs.declared.accessory.Board.{Board}
 use Rattle.dcc_packet.specs.declared.address.Address.{Address}
@@ -12,17 +12,18 @@ use Rattle.dcc_io.specs.declared.fault.ToolFault.TheVariants as faults
 use Rattle.dcc_io.specs.declared.fault.Usage.TheVariants as usages
 use Rattle.dcc_saved.specs.DecoderLines.{own_address}
 
--- a locomotive decoder with this address, if it has one
+-- the locomotive decoder with the active address `active`, or the error U1 if its word has an error
 abbrev pub loco_named : Result (Option Address) PacketFault → Result Who ToolFault
 loco_named (Ok active) = Ok (who.Loco active)
 loco_named (Err fault) = Err (faults.Usage usages.BadWho)
 
--- an accessory decoder of this board
+-- the accessory decoder with the number `board`, or the error U1 if its word has an error
 abbrev pub board_named : Result Board PacketFault → Result Who ToolFault
 board_named (Ok board) = Ok (who.Board board)
 board_named (Err fault) = Err (faults.Usage usages.BadWho)
 
--- `b` (98) and a board's number; or the active address of a locomotive decoder: `none`, or `s` or `l` and a number
+-- the decoder that `word` names. The word of an accessory decoder is `b` (code 98) and its number.
+-- The word of a locomotive decoder is its active address: `none`, or `s` or `l` and a number.
 unfoldable pub who_named : Word → Result Who ToolFault
 who_named word =
     if slice_index word 0 == 98 then board_named (board_number (drop 1 word)) else loco_named (own_address word)

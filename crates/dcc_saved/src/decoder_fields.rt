@@ -1,4 +1,4 @@
-//! The fields of decoder texts.
+//! The values in the lines of a decoder text, and how they are written as words.
 ghost use Rattle.dcc_saved.specs.DecoderLines.{version_field, own_address_field, own_board_field, speed_field};
 
 use crate::decoder_line::Version;
@@ -8,24 +8,24 @@ use dcc_packet::words::Words;
 use dcc_packet::{Address, Board, PacketFault};
 use dcc_regs::Speed;
 
-/// The active address of a locomotive decoder, or that it has none.
+/// The active address of a locomotive decoder, or `none`.
 #[derive(Clone, Copy)]
 pub struct OwnAddress {
-    /// The address, where it has one.
+    /// The active address, or `None` if the decoder has no address.
     pub address: Option<Address>,
 }
 
-/// A board that an accessory decoder can be.
+/// The address of an accessory decoder, which is no broadcast.
 #[derive(Clone, Copy)]
 pub struct OwnBoard {
-    /// The board, 0 to 510.
+    /// The address of the decoder, 0 to 510.
     pub board: Board,
 }
 
-/// The speed of a locomotive decoder.
+/// The speed of a locomotive decoder, as words of a decoder text.
 #[derive(Clone, Copy)]
 pub struct SavedSpeed {
-    /// The speed.
+    /// The speed of the decoder.
     pub speed: Speed,
 }
 
@@ -46,7 +46,7 @@ impl Field for Version {
     }
 
     #[tactic(auto, using(crate::proofs::RulesBack::version_is_back))]
-    fn is_read_back() {}
+    fn lemma_read_back() {}
 }
 
 impl Field for OwnAddress {
@@ -67,7 +67,7 @@ impl Field for OwnAddress {
     }
 
     #[tactic(auto, using(crate::proofs::RulesBack::own_address_is_back))]
-    fn is_read_back() {}
+    fn lemma_read_back() {}
 }
 
 impl Field for OwnBoard {
@@ -88,7 +88,7 @@ impl Field for OwnBoard {
     }
 
     #[tactic(auto, using(crate::proofs::RulesBack::own_board_is_back))]
-    fn is_read_back() {}
+    fn lemma_read_back() {}
 }
 
 impl Field for SavedSpeed {
@@ -121,5 +121,5 @@ impl Field for SavedSpeed {
     }
 
     #[tactic(auto, using(crate::proofs::RulesBack::speed_is_back))]
-    fn is_read_back() {}
+    fn lemma_read_back() {}
 }

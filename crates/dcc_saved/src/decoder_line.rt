@@ -1,4 +1,4 @@
-//! What a line of a decoder text can be, where there is a choice.
+//! The types of the values of lines of a decoder text.
 
 ghost use Rattle.std.specs.Prelude.{◌≡◌, ◌≤◌, length};
 ghost use Rattle.dcc_saved.specs.Numbered.{name_of, end_of, register_of};
@@ -9,34 +9,35 @@ use dcc_regs::{Register, Who};
 /// The version of a decoder text.
 #[derive(Clone, Copy)]
 pub enum Version {
-    /// Without binary states: all are off.
+    /// Version 1: the text has no line with binary states, and all binary states are off.
     One,
-    /// With a line of the binary states of each locomotive decoder.
+    /// Version 2: the text has a line with the binary states of each locomotive decoder.
     Two,
 }
 
-/// Four fields of a kind.
+/// A list of four fields of one type.
 pub type Four<F> = (F, (F, (F, F)));
 
-/// A line that begins a decoder, or the last line.
+/// The value of the first line of a decoder, or of the last line of the text.
 #[derive(Clone, Copy)]
 pub enum Head {
-    /// A decoder of this kind and address.
+    /// The first line of a decoder, with its kind and address.
     Decoder(Who),
-    /// The text ends.
+    /// The last line of the text, `end`.
     End,
 }
 
-/// A line behind a locomotive decoder's `pending`.
+/// The value of a line after the `pending` line of a locomotive decoder.
 #[derive(Clone, Copy)]
 pub enum LocoLine {
-    /// The value of a CV.
+    /// A line with the value of a CV.
     Cv { cv: CvNumber, value: u8 },
-    /// No CV more.
+    /// The first line of the next decoder, or the last line of the text.
     Head(Head),
 }
 
-/// The lines that tell which registers of a kind are on, by their numbers.
+/// The kinds of lines that list registers. A line that lists registers has the numbers of the
+/// registers that are on.
 #[derive(Clone, Copy)]
 pub enum Numbered {
     Function,
@@ -45,7 +46,7 @@ pub enum Numbered {
 }
 
 impl Numbered {
-    /// The word that begins the line.
+    /// Returns the word at the beginning of the line.
     pub(crate) fn name(self) -> &'static [u8]
         ensures is { result.now ≡ name_of self }
         ensures short { length result.now ≤ 6 }
@@ -57,7 +58,7 @@ impl Numbered {
         }
     }
 
-    /// The number behind the last.
+    /// Returns the greatest number of a register of this kind, plus 1.
     pub(crate) fn end(self) -> u8
         ensures is { result ≡ end_of self }
         ensures most { result ≤ 128 }
@@ -69,7 +70,7 @@ impl Numbered {
         }
     }
 
-    /// The register of this number.
+    /// Returns the register of this kind with the number `n`.
     pub(crate) fn register(self, n: u8) -> Register
         ensures { result ≡ register_of self n }
     {

@@ -1,4 +1,4 @@
-//! The lines that are written for a decoder.
+//! Functions that write the lines of a decoder in a decoder text.
 ghost use Rattle.std.specs.Prelude.{◌≡◌, ◌<◌, ◌^◌, ◌++◌, ◌==◌, if◌then◌else◌};
 ghost use Rattle.dcc_regs.specs.Loco.{holds_one as is_on_value};
 ghost use Rattle.dcc_saved.specs.Lines.{line_text};
@@ -48,7 +48,7 @@ fn number_in(value: Option<Value>) -> u8
     }
 }
 
-/// The bit of this number where the value is a one.
+/// Returns the number in which bit `n` is one if `value` is on, and all other bits are 0.
 fn bit_where_on(value: Option<Value>, n: u8) -> u128
     requires { n < 128 }
     ensures { result ≡ (if is_on_value value then 2 ^ n else 0) }
@@ -59,7 +59,7 @@ fn bit_where_on(value: Option<Value>, n: u8) -> u128
     }
 }
 
-/// Which registers of a kind are on, as bits.
+/// Returns the registers of a kind as bits: bit n is one if register n is on.
 fn numbers_in(decoder: &dyn Decoder, numbered: Numbered) -> u128
     ensures { result ≡ numbers_held numbered (registers decoder.now) }
 {
@@ -70,7 +70,7 @@ fn numbers_in(decoder: &dyn Decoder, numbered: Numbered) -> u128
     bits
 }
 
-/// The lines of a locomotive decoder before its CVs.
+/// Returns the lines of a locomotive decoder that come before the lines of its CVs.
 pub(crate) fn loco_front(address: &Option<Address>, decoder: &dyn Decoder) -> Rows
     ensures { result.items
         ≡ line_text head_line (Head.Decoder (Who.Loco address.now)) ++ before_cvs address.now (registers decoder.now) }
@@ -100,7 +100,7 @@ fn aspect(decoder: &dyn Decoder, n: u8) -> u8
     number_in(decoder.get(Register::Aspect(n)))
 }
 
-/// The lines of an accessory decoder.
+/// Returns all lines of an accessory decoder.
 pub(crate) fn board_rows(board: &Board, decoder: &dyn Decoder) -> Rows
     ensures { result.items ≡ written_decoder (Who.Board board.now) (registers decoder.now) }
 {

@@ -1,11 +1,11 @@
-//! Reading a decoder text.
+//! Functions that read a decoder text.
 
 ghost use Rattle.std.specs.Prelude.{◌≡◌, ◌%◌, None, true, nat_le, IfOk};
 ghost use Rattle.dcc_regs.specs.Addresses.{is_active};
 ghost use Rattle.dcc_regs.specs.Possible.{is_decoder};
 ghost use Rattle.dcc_saved.specs.Inner.RequiredLine.{TakesLine};
 ghost use Rattle.dcc_saved.specs.TextReader.{line_by};
-ghost use Rattle.dcc_saved.specs.TextRead.{Answers};
+ghost use Rattle.dcc_saved.specs.TextRead.{ReadsValue};
 ghost use Rattle.dcc_saved.specs.DecoderText.{board_lines, cvs_lines, decoder_lines, loco_lines, states_by};
 ghost use Rattle.dcc_saved.specs.PossibleLines.{IsPossibleHead, is_possible};
 
@@ -17,7 +17,9 @@ use dcc_io::{Input, KeptFault, Source, TextLine};
 use dcc_packet::{Address, Board, PacketFault};
 use dcc_regs::{BoardState, LocoState, Who};
 
-/// The next line. Where there is none, the line behind the last is out of place.
+/// Returns the next line.
+///
+/// Errors: U3 with P10 and the number of the line after the last, if no line is left.
 fn line_in_place<R: Source>(input: &mut Input<R>) -> Result<TextLine, KeptFault>
     requires { input.old.fault ≡ None }
     ensures { TakesLine input.old result input.new }
@@ -31,13 +33,13 @@ fn line_in_place<R: Source>(input: &mut Input<R>) -> Result<TextLine, KeptFault>
     }
 }
 
-/// What the next line says. Its fault is kept.
+/// Returns the value of the next line. If the function returns an error, `input` stores this error.
 pub(crate) fn read_line<R: Source, L: SavedLine>(
     input: &mut Input<R>,
     line: L,
 ) -> Result<L::Value, KeptFault>
     requires { input.old.fault ≡ None }
-    ensures reads { Answers (line_by (L.line line)) input.old result input.new }
+    ensures reads { ReadsValue (line_by (L.line line)) input.old result input.new }
     ensures fits { IfOk result (L.line line).Fits }
 {
     let taken = line_in_place(input)?;
@@ -47,11 +49,12 @@ pub(crate) fn read_line<R: Source, L: SavedLine>(
     }
 }
 
-/// The binary states that are on. Version 1 has no line of them.
+/// Returns the binary states that are on, as bits. A text of version 1 has no line with binary
+/// states.
 #[tactic(auto, using(crate::proofs::ReadLemmas::begins))]
 fn states_of<R: Source>(input: &mut Input<R>, version: Version) -> Result<u128, KeptFault>
     requires { input.old.fault ≡ None }
-    ensures reads { Answers (states_by version) input.old result input.new }
+    ensures reads { ReadsValue (states_by version) input.old result input.new }
     ensures even { IfOk result (λ states. states % 2 ≡ 0) }
 {
     match version {
@@ -60,10 +63,10 @@ fn states_of<R: Source>(input: &mut Input<R>, version: Version) -> Result<u128, 
     }
 }
 
-/// The CVs and the line behind them.
+/// Reads the lines of the CVs and one more line. Returns the CVs and the value of the last line.
 fn read_cvs<R: Source>(input: &mut Input<R>) -> Result<([u8; 1024], Head), KeptFault>
     requires { input.old.fault ≡ None }
-    ensures reads { Answers cvs_lines input.old result input.new }
+    ensures reads { ReadsValue cvs_lines input.old result input.new }
     ensures possible { IfOk result (λ read. IsPossibleHead read.1) }
 {
     let mut cvs = [0; 1024];
@@ -79,7 +82,8 @@ fn read_cvs<R: Source>(input: &mut Input<R>) -> Result<([u8; 1024], Head), KeptF
     }
 }
 
-/// A locomotive decoder with this address, and the line behind it.
+/// Reads the locomotive decoder with this address and one more line. Returns the decoder and the
+/// value of the last line.
 fn read_loco<R: Source>(
     input: &mut Input<R>,
     version: Version,
@@ -87,7 +91,7 @@ fn read_loco<R: Source>(
 ) -> Result<(Saved, Head), KeptFault>
     requires fault { input.old.fault ≡ None }
     requires active { is_active address ≡ true }
-    ensures reads { Answers (loco_lines version address) input.old result input.new }
+    ensures reads { ReadsValue (loco_lines version address) input.old result input.new }
     ensures possible { IfOk result (λ read. (is_possible read.0 ≡ true) × IsPossibleHead read.1) }
 {
     let (saved, direction) = read_line(input, SPEED)?;
@@ -107,11 +111,12 @@ fn read_loco<R: Source>(
     Ok((Saved::Loco(state), head))
 }
 
-/// This accessory decoder, and the line behind it.
+/// Reads the accessory decoder with this address and one more line. Returns the decoder and the
+/// value of the last line.
 fn read_board<R: Source>(input: &mut Input<R>, board: Board) -> Result<(Saved, Head), KeptFault>
     requires fault { input.old.fault ≡ None }
     requires own { nat_le board.number 510 ≡ true }
-    ensures reads { Answers (board_lines board) input.old result input.new }
+    ensures reads { ReadsValue (board_lines board) input.old result input.new }
     ensures possible { IfOk result (λ read. (is_possible read.0 ≡ true) × IsPossibleHead read.1) }
 {
     let outs = read_line(input, Numbered::Out)?;
@@ -132,7 +137,8 @@ fn read_board<R: Source>(input: &mut Input<R>, board: Board) -> Result<(Saved, H
     Ok((Saved::Board(state), head))
 }
 
-/// A decoder of this kind and address, and the line behind it.
+/// Reads the decoder of this kind and address and one more line. Returns the decoder and the value
+/// of the last line.
 pub(crate) fn read_decoder<R: Source>(
     input: &mut Input<R>,
     version: Version,
@@ -140,7 +146,7 @@ pub(crate) fn read_decoder<R: Source>(
 ) -> Result<(Saved, Head), KeptFault>
     requires fault { input.old.fault ≡ None }
     requires possible { is_decoder who ≡ true }
-    ensures reads { Answers (decoder_lines version who) input.old result input.new }
+    ensures reads { ReadsValue (decoder_lines version who) input.old result input.new }
     ensures possible { IfOk result (λ read. (is_possible read.0 ≡ true) × IsPossibleHead read.1) }
 {
     match who {

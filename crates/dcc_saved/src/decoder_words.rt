@@ -1,4 +1,4 @@
-//! The words of the lines of a decoder text.
+//! Functions that parse the words of the lines of a decoder text.
 ghost use Rattle.std.specs.Prelude.{◌≡◌, ◌+◌, ◌^◌, ◌%◌, ◌≤◌, ◌<◌, ◌&&◌, Some, true, IfOk, OnOk};
 ghost use Rattle.dcc_regs.specs.declared.register.Who.TheVariants.{Loco as LocoWho};
 ghost use Rattle.dcc_regs.specs.Addresses.{is_active};
@@ -6,13 +6,13 @@ ghost use Rattle.dcc_regs.specs.Heard.{hears as hears_packet};
 ghost use Rattle.dcc_regs.specs.Loco.{is_speed, is_byte_write, is_pending_for};
 ghost use Rattle.dcc_regs.specs.Writes.{is_own_write};
 ghost use Rattle.dcc_saved.specs.DecoderLines.{in_order, version_number, own_address};
-ghost use Rattle.dcc_saved.specs.DecoderLines.{step_up_to};
+ghost use Rattle.dcc_saved.specs.DecoderLines.{parse_step};
 ghost use Rattle.dcc_saved.specs.DecoderLines.{speed_of, speed_after, function_number, binary_state};
-ghost use Rattle.dcc_saved.specs.DecoderLines.{number_of, numbers_from, pending_word};
+ghost use Rattle.dcc_saved.specs.DecoderLines.{number_word_of, numbers_from, pending_word};
 ghost use Rattle.dcc_saved.specs.DecoderLines.{cv_words};
 ghost use Rattle.dcc_saved.specs.Numbered.{end_of};
 ghost use Rattle.dcc_saved.specs.Inner.DecoderWords.{TakesKeyword, TakesSpeed};
-ghost use Rattle.dcc_packet.specs.Fields.{word_and_rest, Gives};
+ghost use Rattle.dcc_packet.specs.Fields.{word_and_rest, ParsesAs};
 ghost use Rattle.dcc_saved.specs.PendingWrite.{pending_write};
 ghost use Rattle.dcc_saved.specs.PossibleLines.{IsSoundLine};
 
@@ -24,7 +24,9 @@ use dcc_packet::{Address, Packet, PacketFault};
 use dcc_regs::{Speed, Who, hears, is_own_write};
 use dcc_wire::Frame;
 
-/// Takes the word that begins a line of this kind.
+/// Removes the first word of a line.
+///
+/// Errors: P10 if the word is not the keyword `name`, or if no word is left.
 pub(crate) fn take_keyword(words: &mut Words, name: &[u8]) -> Result<(), PacketFault>
     ensures { TakesKeyword name.now words.old result words.new }
 {
@@ -36,7 +38,9 @@ pub(crate) fn take_keyword(words: &mut Words, name: &[u8]) -> Result<(), PacketF
     }
 }
 
-/// Numbers ascend: each is at least the one after the number before it.
+/// Returns Ok if `n` is at least `least`. The numbers in a line must ascend.
+///
+/// Errors: P10 if `n` is below `least`.
 fn in_order(least: u16, n: u16) -> Result<(), PacketFault>
     ensures is { result ≡ in_order least n }
     ensures ascends { OnOk result (least ≤ n) }
@@ -48,7 +52,9 @@ fn in_order(least: u16, n: u16) -> Result<(), PacketFault>
     }
 }
 
-/// `1` or `2`
+/// Returns the version that the word `1` or `2` names.
+///
+/// Errors: P10 for any other word.
 pub(crate) fn version_number(word: &[u8]) -> Result<Version, PacketFault>
     ensures { result ≡ version_number word.now }
 {
@@ -59,7 +65,10 @@ pub(crate) fn version_number(word: &[u8]) -> Result<Version, PacketFault>
     }
 }
 
-/// The active address of a locomotive decoder, or `none`.
+/// Returns the active address of a locomotive decoder. Returns `None` for the word `none`.
+///
+/// Errors: P10 if the word is `all` or no address, P11 if the number is malformed or too large, P1
+/// or P2 if the address is out of range.
 pub fn own_address(word: &[u8]) -> Result<Option<Address>, PacketFault>
     ensures is { result ≡ own_address word.now }
     ensures active { IfOk result (λ active. is_active active ≡ true) }
@@ -73,9 +82,11 @@ pub fn own_address(word: &[u8]) -> Result<Option<Address>, PacketFault>
     }
 }
 
-/// A step from 1 to the last one.
-fn step_up_to(last: u8, word: &[u8]) -> Result<u8, PacketFault>
-    ensures is { result ≡ step_up_to last word.now }
+/// Returns the speed step that a word gives, from 1 to `last`.
+///
+/// Errors: P11 if the word is no number or a number above 255, P13 if the step is not 1 to `last`.
+fn parse_step(last: u8, word: &[u8]) -> Result<u8, PacketFault>
+    ensures is { result ≡ parse_step last word.now }
     ensures step { IfOk result (λ step. (1 ≤ step) × (step ≤ last)) }
 {
     let step = small_number(word)?;
@@ -86,12 +97,12 @@ fn step_up_to(last: u8, word: &[u8]) -> Result<u8, PacketFault>
     }
 }
 
-/// Takes a step from 1 to the last one.
+/// Removes the next word and returns the speed step that it gives, from 1 to `last`.
 fn take_step(words: &mut Words, last: u8) -> Result<u8, PacketFault>
-    ensures is { Gives (word_and_rest (step_up_to last) words.old) result words.new }
+    ensures is { ParsesAs (word_and_rest (parse_step last) words.old) result words.new }
     ensures step { IfOk result (λ step. (1 ≤ step) × (step ≤ last)) }
 {
-    step_up_to(last, words.word()?)
+    parse_step(last, words.word()?)
 }
 
 fn speed_after(word: &[u8], rest: &mut Words) -> Result<Speed, PacketFault>
@@ -113,7 +124,7 @@ fn speed_after(word: &[u8], rest: &mut Words) -> Result<Speed, PacketFault>
     }
 }
 
-/// Takes a speed.
+/// Removes the words of a speed and returns this speed.
 pub(crate) fn take_speed(words: &mut Words) -> Result<Speed, PacketFault>
     ensures is { TakesSpeed (speed_of words.old) result words.new }
     ensures possible { IfOk result (λ speed. is_speed speed ≡ true) }
@@ -122,7 +133,9 @@ pub(crate) fn take_speed(words: &mut Words) -> Result<Speed, PacketFault>
     speed_after(word, words)
 }
 
-/// A function of a locomotive decoder, 0 to 68.
+/// Returns the number of a function of a locomotive decoder, 0 to 68.
+///
+/// Errors: P11 if the word is no number or a number above 255, P13 if the number is above 68.
 fn function_number(word: &[u8]) -> Result<u8, PacketFault>
     ensures is { result ≡ function_number word.now }
     ensures range { IfOk result (λ n. n ≤ 68) }
@@ -135,7 +148,9 @@ fn function_number(word: &[u8]) -> Result<u8, PacketFault>
     }
 }
 
-/// A binary state of a locomotive decoder, 1 to 127.
+/// Returns the number of a binary state of a locomotive decoder, 1 to 127.
+///
+/// Errors: P11 if the word is no number or a number above 255, P14 if the number is not 1 to 127.
 fn binary_state(word: &[u8]) -> Result<u8, PacketFault>
     ensures is { result ≡ binary_state word.now }
     ensures state { IfOk result (λ n. (1 ≤ n) × (n ≤ 127)) }
@@ -149,7 +164,7 @@ fn binary_state(word: &[u8]) -> Result<u8, PacketFault>
 }
 
 fn number(numbered: Numbered, word: &[u8]) -> Result<u8, PacketFault>
-    ensures is { result ≡ number_of numbered word.now }
+    ensures is { result ≡ number_word_of numbered word.now }
     ensures range { IfOk result (λ n. n < end_of numbered) }
     ensures some { numbered ≡ Numbered.State → IfOk result (λ n. 1 ≤ n) }
 {
@@ -181,7 +196,7 @@ pub(crate) fn numbers_from(
     }
 }
 
-/// Whether the packet is a CV write to a decoder's own address.
+/// Returns true if the packet is a CV write to the active address of the decoder.
 fn is_write_for(active: &Option<Address>, packet: &Packet) -> bool
     ensures is { result ≡ (is_own_write packet.now && hears_packet (LocoWho active.now) packet.now) }
     ensures byte { is_byte_write packet.now ≡ true }
@@ -189,7 +204,9 @@ fn is_write_for(active: &Option<Address>, packet: &Packet) -> bool
     is_own_write(packet) && hears(Who::Loco(*active), packet)
 }
 
-/// The CV write with this frame that may be pending in a decoder with this address.
+/// Returns the CV write with this frame.
+///
+/// Errors: P13 if this packet cannot be pending in a decoder with the address `active`.
 #[tactic(auto, using(crate::proofs::PendingBack::pending_write_is))]
 fn pending_write(active: &Option<Address>, frame: &Frame) -> Result<Packet, PacketFault>
     ensures is { result ≡ pending_write active.now frame.now }
@@ -203,7 +220,10 @@ fn pending_write(active: &Option<Address>, frame: &Frame) -> Result<Packet, Pack
     }
 }
 
-/// `none`, or the frame of a CV write to the decoder's address.
+/// Returns the pending write that a word gives: `none`, or the frame of a CV write to the address
+/// of the decoder.
+///
+/// Errors: P12 if the word is no frame, P13 if the packet cannot be pending in the decoder.
 pub(crate) fn pending_word(
     active: &Option<Address>,
     word: &[u8],
@@ -218,7 +238,8 @@ pub(crate) fn pending_word(
     Ok(Some(pending_write(active, &frame)?))
 }
 
-/// `CV VALUE`, the CV not below this one.
+/// Returns the value of a line with the words `CV VALUE` after its keyword. The CV must be at least
+/// `least`.
 pub(crate) fn cv_words(words: &mut Words, least: u16) -> Result<LocoLine, PacketFault>
     ensures is { result ≡ cv_words least words.old }
     ensures sound { IfOk result (IsSoundLine least) }

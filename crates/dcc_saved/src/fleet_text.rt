@@ -1,4 +1,4 @@
-//! The decoder text of a fleet.
+//! Functions that write the decoder text of a fleet.
 ghost use Rattle.std.specs.Prelude.{◌≡◌, ◌≤◌, ◌==◌, ◌++◌, [], map, if◌then◌else◌};
 ghost use Rattle.dcc_regs.specs.Loco.{cv_held};
 ghost use Rattle.dcc_io.specs.WrittenBytes.{Writes};
@@ -11,8 +11,10 @@ use dcc_io::{Failed, Sink, write_all};
 use dcc_packet::CvNumber;
 use dcc_regs::{Decoder, Who};
 
-/// Writes the decoder text of the fleet, version 2, in its order: the line that begins it, the lines of each decoder, and
-/// the line `end`. Where a write fails, nothing more is written.
+/// Writes the decoder text of the fleet, in version 2. The text has the first line, the lines of
+/// each decoder in the order of the fleet, and the line `end`.
+///
+/// Errors: Failed if a write fails. After a failed write the function writes nothing more.
 pub fn write_fleet<W: Sink>(decoders: &[Box<dyn Decoder>], writer: &mut W) -> Result<(), Failed>
     ensures { Writes (W.state writer.old)
         (fleet_text (map (λ decoder. (who decoder, registers decoder)) decoders.now)) result
@@ -25,7 +27,7 @@ pub fn write_fleet<W: Sink>(decoders: &[Box<dyn Decoder>], writer: &mut W) -> Re
     write_all(writer, row(HeadLine, Head::End).as_slice())
 }
 
-/// Writes the lines of a decoder.
+/// Writes all lines of a decoder.
 fn write_decoder<W: Sink>(decoder: &dyn Decoder, writer: &mut W) -> Result<(), Failed>
     ensures { Writes (W.state writer.old)
         (written_decoder (who decoder.now) (registers decoder.now)) result
@@ -37,7 +39,7 @@ fn write_decoder<W: Sink>(decoder: &dyn Decoder, writer: &mut W) -> Result<(), F
     }
 }
 
-/// Writes these lines, and behind them those of the CVs that are not 0.
+/// Writes the lines `front`, followed by a line for each CV that is not 0.
 fn write_cvs<W: Sink>(front: &[u8], decoder: &dyn Decoder, writer: &mut W) -> Result<(), Failed>
     ensures { Writes (W.state writer.old) (front.now ++ cvs_text (cv_held (registers decoder.now)) 1024)
         result
@@ -50,7 +52,7 @@ fn write_cvs<W: Sink>(front: &[u8], decoder: &dyn Decoder, writer: &mut W) -> Re
     Ok(())
 }
 
-/// Writes the line of a CV, where it is not 0.
+/// Writes the line of a CV, if the value of the CV is not 0.
 fn write_cv<W: Sink>(cv: u16, value: u8, writer: &mut W) -> Result<(), Failed>
     requires { (1 ≤ cv) × (cv ≤ 1024) }
     ensures { Writes (W.state writer.old) (if value == 0 then [] else cv_line cv value) result (W.state writer.new) }

@@ -1,6 +1,6 @@
-//! The lines that begin a decoder, and the last line: a form each.
+//! Functions for the first line of a decoder and the last line of a decoder text.
 ghost use Rattle.std.specs.Prelude.{◌≡◌};
-ghost use Rattle.dcc_packet.specs.Fields.{Gives};
+ghost use Rattle.dcc_packet.specs.Fields.{ParsesAs};
 ghost use Rattle.dcc_packet.specs.Forms.{read_by, written_by};
 ghost use Rattle.dcc_packet.specs.Written.{words_in_line};
 ghost use Rattle.dcc_saved.specs.DecoderLines.{head_forms};
@@ -13,9 +13,9 @@ use dcc_packet::form::form_line;
 use dcc_packet::words::Words;
 use dcc_regs::Who;
 
-/// What the words behind this keyword say.
+/// Parses the words after `keyword` as the first line of a decoder or the last line of the text.
 pub(crate) fn read_head(keyword: &[u8], words: &mut Words) -> Result<Head, PacketFault>
-    ensures { Gives (read_by head_forms keyword.now words.old) result words.new }
+    ensures { ParsesAs (read_by head_forms keyword.now words.old) result words.new }
 {
     if keyword == b"loco".as_slice() {
         Ok(Head::Decoder(Who::Loco(OwnAddress::take(words)?.address)))
@@ -28,7 +28,7 @@ pub(crate) fn read_head(keyword: &[u8], words: &mut Words) -> Result<Head, Packe
     }
 }
 
-/// The line, without a line end.
+/// Returns the line for the value `head`, without a line feed.
 pub(crate) fn line_of_head(head: &Head) -> Line
     ensures { result.bytes ≡ words_in_line (written_by head_forms head.now) }
 {

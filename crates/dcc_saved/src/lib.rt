@@ -1,4 +1,5 @@
-//! The decoder text: how it is read and written, that what was written is read back, and the word that names a decoder.
+//! Functions that read and write decoder texts, the theorem that a written text is read back, and
+//! the word that names a decoder.
 #![tactic(auto)]
 
 mod decoder_fields;

@@ -1,13 +1,13 @@
-//! A decoder as a decoder text saves it.
+//! The type of the state of a decoder in a decoder text.
 
 use dcc_regs::{BoardState, LocoState};
 
-/// What a decoder text saves of one decoder. `LocoDecoder::restore` or `BoardDecoder::restore` makes the
-/// decoder of it.
+/// The state of a decoder in a decoder text. `LocoDecoder::restore` or `BoardDecoder::restore`
+/// creates the decoder with this state.
 #[derive(Clone, Copy)]
 pub enum Saved {
-    /// A locomotive decoder.
+    /// The state of a locomotive decoder.
     Loco(LocoState),
-    /// An accessory decoder.
+    /// The state of an accessory decoder.
     Board(BoardState),
 }

@@ -1,4 +1,5 @@
-//! The lines of a decoder text: a type each, by which it is read and written.
+//! The lines of a decoder text. Each kind of line has a type with a function that reads the line
+//! and a function that writes it.
 
 ghost use Rattle.std.specs.Prelude.{◌≡◌, ◌+◌, ◌<◌, ◌≤◌, ◌++◌, ◌∷◌, [], ℕ, Result, Err, IfOk, length, if◌then◌else◌};
 ghost use Rattle.std.specs.Fmt.{decimal};
@@ -21,35 +22,35 @@ use dcc_packet::words::Words;
 use dcc_packet::{Address, Bit, Direction, Packet, PacketFault};
 use std::marker::PhantomData;
 
-/// Some lines of a decoder, at most all of them before its CVs.
+/// The lines of a decoder, with capacity for all lines before the lines of its CVs.
 pub(crate) type Rows = ArrayVec<u8, 4096>;
 
-/// A line of a decoder text.
+/// A kind of line of a decoder text.
 pub(crate) trait SavedLine: Drop {
-    /// What it says.
+    /// The type of the value of a line.
     type Value: Copy;
 
-    // How it is read and written.
+    // the definition of how a line is parsed and written
     ghost line: { Self → LineOf Self.Value };
 
-    // The most bytes that are written for it.
+    // the greatest number of bytes of a line
     ghost most: { Self → ℕ };
 
-    /// What the line says, or its first fault.
+    /// Returns the value of the line `text`, or the first error of this line.
     fn read(self, text: &[u8]) -> Result<Self::Value, PacketFault>
         ensures is { result ≡ (line self).read (words text.now) }
         ensures fits { IfOk result (line self).Fits }
-        // A line without words is refused.
+        // a line without words has the error P10
         ensures blank { (line self).read [] ≡ Err PacketFault.Word };
 
-    /// Adds the line of a value.
+    /// Appends the line with the value `value` to `rows`.
     fn put(self, value: Self::Value, rows: &mut Rows)
         requires { array_vec_len rows.old + most self ≤ 4096 }
         ensures items { rows.new.items ≡ rows.old.items ++ line_text (line self) value }
         ensures len { array_vec_len rows.new ≤ array_vec_len rows.old + most self };
 }
 
-/// The line of a value.
+/// Returns the line with the value `value`.
 pub(crate) fn row<L: SavedLine>(line: L, value: L::Value) -> Rows
     requires { L.most line ≤ 4096 }
     ensures items { result.items ≡ line_text (L.line line) value }
@@ -60,7 +61,8 @@ pub(crate) fn row<L: SavedLine>(line: L, value: L::Value) -> Rows
     rows
 }
 
-/// `loco ADDRESS`, `board BOARD` or `end`: the line that begins a decoder, or the last line.
+/// The kind of the lines `loco ADDRESS`, `board BOARD` and `end`, which are the first line of a
+/// decoder and the last line of the text.
 #[derive(Clone, Copy)]
 pub(crate) struct HeadLine;
 
@@ -86,7 +88,8 @@ impl SavedLine for HeadLine {
     }
 }
 
-/// `on FUNCTION ..`, `states STATE ..` or `out OUTPUT ..`, as bits: the line of the numbers that are on.
+/// the kind of the lines `on FUNCTION ..`, `states STATE ..` and `out OUTPUT ..`, whose value is a
+/// number with a bit for each register
 impl SavedLine for Numbered {
     type Value = u128;
 
@@ -111,7 +114,7 @@ impl SavedLine for Numbered {
     }
 }
 
-/// Adds a space and the number, where it is on.
+/// Appends a space and the number `n`, if bit `n` of `bits` is one.
 #[tactic(auto, using(dcc_io::proofs::DecimalLemmas::decimal_is_short))]
 fn append_where_on(bits: u128, n: u8, rows: &mut Rows)
     requires few { n < 128 }
@@ -125,7 +128,7 @@ fn append_where_on(bits: u128, n: u8, rows: &mut Rows)
     }
 }
 
-/// `pending PACKET`: the line of the pending CV write to this address.
+/// The kind of the line `pending PACKET`, with the pending CV write to the address `address`.
 #[derive(Clone, Copy)]
 pub(crate) struct PendingLine {
     pub address: Option<Address>,
@@ -164,7 +167,7 @@ fn append_pending(pending: &Option<Packet>, rows: &mut Rows)
     }
 }
 
-/// `cv CV VALUE`: a line of a CV, not below this one, or the line behind the CVs.
+/// The kind of the line `cv CV VALUE`, whose CV is at least `least`, and of the line after the CVs.
 #[derive(Clone, Copy)]
 pub(crate) struct CvLine {
     pub least: u16,
@@ -194,7 +197,7 @@ impl SavedLine for CvLine {
     }
 }
 
-/// The line of a keyword and the fields behind it.
+/// The kind of a line that consists of a keyword and fields.
 #[derive(Drop)]
 pub(crate) struct Keyed<F: Field> {
     keyword: &'static str,
@@ -202,31 +205,31 @@ pub(crate) struct Keyed<F: Field> {
     ghost short: { length keyword.now + F.most ≤ 40 },
 }
 
-/// `dcc-decoders VERSION`.
+/// The kind of the line `dcc-decoders VERSION`.
 pub(crate) const VERSION: Keyed<Version> = Keyed {
     keyword: "dcc-decoders",
     fields: PhantomData,
 };
 
-/// `speed SPEED f|r`.
+/// The kind of the line `speed SPEED f|r`.
 pub(crate) const SPEED: Keyed<(SavedSpeed, Direction)> = Keyed {
     keyword: "speed",
     fields: PhantomData,
 };
 
-/// `cv CV VALUE`.
+/// The kind of the line `cv CV VALUE`.
 const CV: Keyed<(u16, u8)> = Keyed {
     keyword: "cv",
     fields: PhantomData,
 };
 
-/// `position SIDE SIDE SIDE SIDE`.
+/// The kind of the line `position SIDE SIDE SIDE SIDE`.
 pub(crate) const POSITIONS: Keyed<Four<Bit>> = Keyed {
     keyword: "position",
     fields: PhantomData,
 };
 
-/// `aspect ASPECT ASPECT ASPECT ASPECT`.
+/// The kind of the line `aspect ASPECT ASPECT ASPECT ASPECT`.
 pub(crate) const ASPECTS: Keyed<Four<u8>> = Keyed {
     keyword: "aspect",
     fields: PhantomData,

@@ -1,4 +1,4 @@
-//! The word that names a decoder.
+//! Functions that parse the word that names a decoder.
 ghost use Rattle.std.specs.Prelude.{◌≡◌};
 ghost use Rattle.dcc_packet.specs.LineWords.{board_number as board_of};
 ghost use Rattle.dcc_saved.specs.DecoderLines.{own_address as address_of};
@@ -9,9 +9,12 @@ use dcc_io::{ToolFault, Usage};
 use dcc_packet::line_word::board_number;
 use dcc_regs::Who;
 
-/// The decoder that a word names: a locomotive decoder by `s` and its short address, 1 to 127, by `l` and its
-/// long address, 0 to 10239, or by `none`, where it has no active address; an accessory decoder by `b` and its
-/// board, 0 to 511. A number has 1 to 5 decimal digits. Any other word is U1.
+/// Returns the decoder that a word names. The name of a locomotive decoder is `s` and a short
+/// address, 1 to 127, or `l` and a long address, 0 to 10239. The name of a locomotive decoder
+/// without an active address is `none`. The name of an accessory decoder is `b` and its address, 0
+/// to 511. A number has 1 to 5 decimal digits.
+///
+/// Errors: U1 for any other word.
 pub fn read_who(word: &str) -> Result<Who, ToolFault>
     ensures { result ≡ who_named word.now }
 {
@@ -28,7 +31,7 @@ fn who_of(word: &[u8]) -> Result<Who, ToolFault>
     }
 }
 
-/// An accessory decoder of the board with this number.
+/// Returns the accessory decoder whose address has the digits `digits`.
 fn board_named(digits: &[u8]) -> Result<Who, ToolFault>
     ensures { result ≡ board_named (board_of digits.now) }
 {
@@ -38,7 +41,7 @@ fn board_named(digits: &[u8]) -> Result<Who, ToolFault>
     }
 }
 
-/// A locomotive decoder with this active address, or with none.
+/// Returns the locomotive decoder that the word names by its active address, or by `none`.
 fn loco_named(word: &[u8]) -> Result<Who, ToolFault>
     ensures { result ≡ loco_named (address_of word.now) }
 {

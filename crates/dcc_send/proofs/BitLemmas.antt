@@ -1,11 +1,13 @@
 -- The halves of bits as text.
 use Rattle.std.proofs.Common.{◌≡◌, ℕ, zero, suc, ◌+◌, ◌-◌, ◌*◌, ◌≤◌, ◌<◌, Bool, true, false, eqb, List, [], ◌∷◌, ◌++◌}
-use Rattle.std.proofs.Common.{length, take, drop, get_or, replicate, refl, sym, ap, ◌∙◌, append-nil, arith}
+use Rattle.std.proofs.Common.{length, take, drop, get_or, replicate, refl, sym, ap, ◌∙◌, append-nil, length-append}
+use Rattle.std.proofs.Common.{arith}
 use Rattle.std.specs.Int.{bit_at}
 use Rattle.std.specs.List.{flat_map, between}
 use Rattle.std.proofs.Math.ListN.{set, drop_of_length-le}
 use Rattle.std.proofs.Math.Seq.{take-append-add}
-use Rattle.std.proofs.lemmas.List.{append_assoc, take-append-le, length-take-le, take_more_set, drop_more}
+use Rattle.std.proofs.lemmas.List.{append_assoc, take-append-le, length-take-le, take_more_set, take-set-le, take-take}
+use Rattle.std.proofs.lemmas.List.{take_at, drop_more}
 use Rattle.std.proofs.lemmas.List.Concat.{flat_map-append}
 use Rattle.std.proofs.lemmas.Slice.{between_is}
 use Rattle.dcc_wire.specs.declared.timing.Timing.{Timing}
@@ -134,3 +136,19 @@ pub line_of : (line : List ℕ) (len : ℕ) (halves : List ℕ) → len < length
 line_of line len [] within some e = absurd (omega (arith, some))
 line_of line len (n ∷ more) within some e =
     between_is (set line len 10) 1 (len + 1) ∙ ap (drop 1) (take_more_set line len 10 within ∙ ap (λ s. s ++ 10 ∷ []) e)
+
+-- a line that begins with the text of a preamble begins with it where halves were written behind it, and a line feed behind them
+pub preamble_kept : (timing : Timing) (bytes old new : List ℕ) (p n : ℕ) → p ≤ length old → n ≤ length new
+    → take p old ≡ text_of timing (replicate timing.preamble true)
+    → take n new ≡ flat_map behind_space (sent bytes timing) → take p (set new n 10) ≡ take p old
+unfolding sent sent_bits
+preamble_kept timing bytes old new p n within room front all =
+    let ones = text_of timing (replicate timing.preamble true) in
+    let rest = text_of timing (body_bits bytes) in
+    let parts : take n new ≡ ones ++ rest = all ∙ text_of-append timing (replicate timing.preamble true) (body_bits bytes) in
+    let long : length ones ≡ p = sym (ap length front) ∙ length-take-le p old within in
+    let whole : length ones + length rest ≡ n =
+    sym (length-append ones rest) ∙ sym (ap length parts) ∙ length-take-le n new room in
+    let before : p ≤ n = omega (arith, long, whole) in
+    take-set-le p new n 10 before ∙ sym (take-take p n new before) ∙ ap (take p) parts
+    ∙ take_at ones rest p long ∙ sym front

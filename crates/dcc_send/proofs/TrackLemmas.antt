@@ -18,12 +18,12 @@ use Rattle.dcc_packet.specs.Cvs.{IsCvs}
 use Rattle.dcc_service.specs.Machine.{ServiceState, is_acknowledged}
 use Rattle.dcc_service.specs.Question.{after_question}
 use Rattle.dcc_service.specs.ReadingLaws.{AreFirstOf}
-use Rattle.dcc_service.specs.Readings.{Comes}
+use Rattle.dcc_service.specs.Readings.{ReadingEnds}
 use Rattle.dcc_service.proofs.ReadingLemmas.{asks_only, next_is_true, truth_is_the_value, silence_is_no_answer}
 use Rattle.dcc_io.specs.declared.fault.ToolFault.{ToolFault}
 use Rattle.dcc_io.specs.declared.fault.ToolFault.TheVariants as faults
 use Rattle.dcc_io.specs.Failures.{HasRisen}
-use Rattle.dcc_send.specs.Inner.ProgrammingTrackAnswers.{TakesAnswer, Tells}
+use Rattle.dcc_send.specs.Inner.ProgrammingTrackAnswers.{TakesAnswer, AnswersQuestion}
 use Rattle.dcc_send.specs.ProgrammingTrackReading.{value_on, answers_on, answered_line, with_answer, answered_lines}
 use Rattle.dcc_send.specs.ProgrammingTrackReading.{no_answers}
 use Rattle.dcc_send.specs.ProgrammingTrackReading.{value_line, reading_text, after_reading, ReadsCv}
@@ -94,7 +94,7 @@ pub IsReading-more : (track : Option (List ℕ)) (cv : CvNumber) (so_far next : 
     (before mid after : WriterState)
     → IsReading track cv so_far before mid
     → AreFirstOf (so_far.answers ++ answer ∷ []) (answers_on track cv)
-    → Comes so_far.cv (so_far.answers ++ answer ∷ []) (More next)
+    → ReadingEnds so_far.cv (so_far.answers ++ answer ∷ []) (More next)
     → Appends mid.contents after.contents (answered_line (question_frame so_far) answer) → after.failures ≡ mid.failures
     → IsReading track cv next before after
 IsReading-more track cv so_far next answer before mid after reading first comes line same =
@@ -155,14 +155,14 @@ reading_of-exact (Some a) None e = absurd (cc)
 
 -- the answers on a track come to the value on it
 outcome : (track : Option (List ℕ)) (cv : CvNumber) (told : Option ℕ) → IfSome track IsCvs
-    → Comes cv (answers_on track cv) (reading_of told) → told ≡ value_on track cv
+    → ReadingEnds cv (answers_on track cv) (reading_of told) → told ≡ value_on track cv
 outcome None cv told ok comes = reading_of-exact told None (silence_is_no_answer cv (reading_of told) comes)
 outcome (Some cvs) cv told ok comes =
     reading_of-exact told (Some (cv_in cvs cv.number))
     (truth_is_the_value cv (cv_in cvs cv.number) (reading_of told) (ok.bytes (cv.number - 1)) comes)
 
 -- a reading that has come to its end has nine answers
-nine_answers : (cv : CvNumber) (answers : List Bool) (told : Option ℕ) → Comes cv answers (reading_of told)
+nine_answers : (cv : CvNumber) (answers : List Bool) (told : Option ℕ) → ReadingEnds cv answers (reading_of told)
     → length answers ≡ 9
 nine_answers cv answers None comes = omega (arith, comes.1, ap length comes.2, length-append comes.0 (false ∷ []))
 nine_answers cv answers (Some value) comes =
@@ -171,7 +171,7 @@ nine_answers cv answers (Some value) comes =
 -- a reading that has come to its end has all answers
 all_answers : (track : Option (List ℕ)) (cv : CvNumber) (so_far : CvAnswers) (answer : Bool) (told : Option ℕ)
     → AreFirstOf (so_far.answers ++ answer ∷ []) (answers_on track cv)
-    → Comes so_far.cv (so_far.answers ++ answer ∷ []) (reading_of told)
+    → ReadingEnds so_far.cv (so_far.answers ++ answer ∷ []) (reading_of told)
     → so_far.answers ++ answer ∷ [] ≡ answers_on track cv
 all_answers track cv so_far answer told first comes =
     all_of _ _ (nine_answers so_far.cv (so_far.answers ++ answer ∷ []) told comes) (nine_on track cv) first
@@ -180,10 +180,10 @@ all_answers track cv so_far answer told first comes =
 told_value : (track : Option (List ℕ)) (cv : CvNumber) (so_far : CvAnswers) (answer : Bool) (told : Option ℕ)
     → IfSome track IsCvs → so_far.cv ≡ cv
     → AreFirstOf (so_far.answers ++ answer ∷ []) (answers_on track cv)
-    → Comes so_far.cv (so_far.answers ++ answer ∷ []) (reading_of told) → told ≡ value_on track cv
+    → ReadingEnds so_far.cv (so_far.answers ++ answer ∷ []) (reading_of told) → told ≡ value_on track cv
 told_value track cv so_far answer told ok same_cv first comes =
-    let P : List Bool → Type 0 = λ answers. Comes cv answers (reading_of told) in
-    let Q : CvNumber → Type 0 = λ c. Comes c (so_far.answers ++ answer ∷ []) (reading_of told) in
+    let P : List Bool → Type 0 = λ answers. ReadingEnds cv answers (reading_of told) in
+    let Q : CvNumber → Type 0 = λ c. ReadingEnds c (so_far.answers ++ answer ∷ []) (reading_of told) in
     outcome track cv told ok (subst P (all_answers track cv so_far answer told first comes) (subst Q same_cv comes))
 
 -- the value is told, behind the lines of all answers
@@ -191,7 +191,7 @@ pub tells_value : (track : Option (List ℕ)) (cv : CvNumber) (so_far : CvAnswer
     (before mid after then : WriterState)
     (result : Result (Option ℕ) ToolFault) → IfSome track IsCvs → IsReading track cv so_far before mid
     → AreFirstOf (so_far.answers ++ answer ∷ []) (answers_on track cv)
-    → TakesAnswer so_far answer mid (Ok (reading_of told)) after → Tells told after result then
+    → TakesAnswer so_far answer mid (Ok (reading_of told)) after → AnswersQuestion told after result then
     → ReadsCv track cv before result then
 tells_value track cv so_far answer told before mid after then result ok reading first takes
     tells =
@@ -205,7 +205,7 @@ tells_value track cv so_far answer told before mid after then result ok reading 
     ends : (result : Result (Option ℕ) ToolFault) → told ≡ value_on track cv
         → Appends before.contents after.contents (answered_lines (no_answers cv) (answers_on track cv))
         → after.failures ≡ before.failures
-        → Tells told after result then → ReadsCv track cv before result then
+        → AnswersQuestion told after result then → ReadsCv track cv before result then
     ends (Ok answered) value lines same tells = (
       (
         tells.0.0 ∙ value,
@@ -252,7 +252,7 @@ asked_last : (so_far : CvAnswers) (question : ServicePacket) (before now new : S
     (answer : Bool) (told : Option ℕ) → Asks so_far question → so_far.cv ≡ cv
     → IsCvs before.cvs → now.cvs ≡ before.cvs → new ≡ after_question now question
     → AreFirstOf (so_far.answers ++ answer ∷ []) (answers_on (Some before.cvs) cv)
-    → Comes so_far.cv (so_far.answers ++ answer ∷ []) (reading_of told) → new ≡ after_reading before cv
+    → ReadingEnds so_far.cv (so_far.answers ++ answer ∷ []) (reading_of told) → new ≡ after_reading before cv
 asked_last so_far question before now new cv answer None asks same_cv ok same is first comes =
     let clash : None ≡ Some (cv_in before.cvs cv.number) =
     told_value (Some before.cvs) cv so_far answer None ok same_cv first comes in
@@ -335,7 +335,7 @@ pub track_asked_last : (so_far : CvAnswers) (question : ServicePacket) (before n
     → IfSome now (λ d. IsCvs d.cvs) → cvs_on now ≡ cvs_on before
     → new ≡ option_map (λ d. after_question d question) now
     → AreFirstOf (so_far.answers ++ answer ∷ []) (answers_on (cvs_on before) cv)
-    → Comes so_far.cv (so_far.answers ++ answer ∷ []) (reading_of told)
+    → ReadingEnds so_far.cv (so_far.answers ++ answer ∷ []) (reading_of told)
     → new ≡ option_map (λ d. after_reading d cv) before
 track_asked_last so_far question None None new cv answer told asks same_cv ok same is first comes = is
 track_asked_last so_far question (Some before) (Some now) new cv answer told asks same_cv ok same is first comes =

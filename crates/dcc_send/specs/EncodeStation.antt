@@ -1,16 +1,17 @@
--- The station of an `encode`.
+-- The station that `encode` creates.
 use Rattle.std.specs.Prelude.{ℕ, Bool, true, false, not, Option, None, Some, Result, Ok, Err}
 use Rattle.dcc_station.specs.Limits.{is_within_limits}
 use Rattle.dcc_io.specs.declared.fault.ToolFault.{ToolFault}
 use Rattle.dcc_io.specs.declared.fault.ToolFault.TheVariants.{Usage, Number, Line, Read, Write, NoMemory, TooMuch}
 use Rattle.dcc_io.specs.declared.fault.Usage.TheVariants.{Words, BadWho, BadStation}
 
--- a station is asked for whose queue, slots or repeats are past their limits
+-- true if `encode` is requested with a station, and a size of this station is out of its limits
 abbrev pub is_past_limits : Option (ℕ × ℕ × ℕ) → Bool
 is_past_limits None = false
 is_past_limits (Some sizes) = not (is_within_limits sizes.0 sizes.1 sizes.2)
 
--- the answer is none that comes before anything is read, where no station could be made
+-- true if the result is not an error of the creation of the station. Such an error comes before
+-- anything is read.
 abbrev pub has_begun : Result (Unit {0}) ToolFault → Bool
 has_begun (Ok done) = true
 has_begun (Err (Usage Words)) = true

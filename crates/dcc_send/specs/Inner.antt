@@ -1,3 +1,3 @@
--- What the contracts of private functions cite, and no public one.
+-- Definitions that only contracts of private functions use.
 pub mod Held
 pub mod ProgrammingTrackAnswers

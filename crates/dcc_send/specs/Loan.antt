@@ -1,10 +1,11 @@
--- A decoder that may be lent to a call.
+-- An optional mutable reference to a decoder.
 use Rattle.std.specs.Prelude.{◌⊎◌, Option, Some, None}
 use Rattle.std.proofs.Common.{inl, inr}
 use denote.MutBor.{MutBor}
 use Rattle.dcc_service.specs.Machine.{ServiceState}
 
--- what an optional loan of a decoder holds at the return
+-- the state of the decoder after the function has returned, or `None` if the caller has passed no
+-- reference
 abbrev pub left_in : (Unit {0}) ⊎ ((MutBor ServiceState × Unit {0}) ⊎ ⊥) → Option ServiceState
 left_in (inl none) = None
 left_in (inr (inl some)) = Some some.0.now

@@ -1,9 +1,10 @@
--- The programming track of saved decoders.
+-- The decoder on the programming track.
 use Rattle.std.specs.Prelude.{ℕ, List, [], ◌∷◌, Option, None, Some}
 use Rattle.dcc_saved.specs.declared.saved.Saved.{Saved}
 use Rattle.dcc_saved.specs.declared.saved.Saved.TheVariants.{Loco, Board}
 
--- the CVs of the first locomotive, which is the decoder on the programming track
+-- the CVs of the first locomotive decoder of a list, which is the decoder on the programming track,
+-- or `None` if the list has no locomotive decoder
 abbrev pub first_cvs : List Saved → Option (List ℕ)
 first_cvs [] = None
 first_cvs (Loco state ∷ rest) = Some state.cvs

@@ -1,4 +1,4 @@
--- What `encode` writes with a station.
+-- The result of `encode` with a station.
 use Rattle.std.specs.Prelude.{◌≡◌, ℕ, ◌==◌, not, List, [], ◌∷◌, ◌++◌, Option, None, Some, Result, length, codes}
 use Rattle.std.specs.Prelude.{if◌then◌else◌}
 use Rattle.std.specs.Io.KnownBytes.{Appends}
@@ -17,7 +17,9 @@ use Rattle.dcc_io.specs.WrittenBytes.{AppendsFront}
 use Rattle.dcc_send.specs.Encoded.{frame_line}
 use Rattle.dcc_io.specs.StationLines.{Asked, Command, Next, station_lines}
 
--- why a station refuses a command: first that it is none to be sent, then that its queue is full
+-- the error of the command `packet` for a station in state `s`, or `None` if the station accepts
+-- it. The error C3, that a station does not send such packets, comes before the error C4, that the
+-- queue is full.
 abbrev pub refusal : sending.Sending → Packet → Option Refused
 refusal s packet =
     if not (is_sendable packet) then Some NotSendable
@@ -28,17 +30,18 @@ abbrev pub refusal_line : Refused → List ℕ
 refusal_line NotSendable = codes "# refused C3\n"
 refusal_line QueueFull = codes "# refused C4\n"
 
--- what is written of a command: nothing, or why it is refused
+-- the bytes that are written for a command: no bytes if the station accepts it, otherwise the line
+-- of its error
 abbrev pub command_line : Option Refused → List ℕ
 command_line None = []
 command_line (Some refused) = refusal_line refused
 
--- a command waits behind the others, unless it is refused
+-- the state of a station after the command `packet`, which is added to the queue if it has no error
 abbrev pub after_command : sending.Sending → Packet → Option Refused → sending.Sending
 after_command s packet None = sending.with_command s packet
 after_command s packet (Some refused) = s
 
--- what a station is asked, these bytes are written of it, and so it is then
+-- a station in state `s` answers a request with `bytes` and is then in state `new`
 abbrev pub Answers : Encode → sending.Sending → Asked → List ℕ → sending.Sending → Type 0
 Answers how s (Command frame) bytes new =
     (packet : Packet) × (spelling packet ≡ frame) × (bytes ≡ command_line (refusal s packet))
@@ -46,21 +49,24 @@ Answers how s (Command frame) bytes new =
 Answers how s Next bytes new =
     (packet : Packet) × sending.Next s packet new × (bytes ≡ frame_line how (spelling packet))
 
--- all that a station is asked, one after the other
+-- a station in state `s` answers the requests of a list, one after the other, with `bytes` and is
+-- then in state `new`
 abbrev pub AnswersAll : Encode → sending.Sending → List Asked → List ℕ → sending.Sending → Type 0
 AnswersAll how s [] bytes new = (bytes ≡ []) × (new ≡ s)
 AnswersAll how s (item ∷ later) bytes new =
     (between : sending.Sending) × (first rest : List ℕ) × (bytes ≡ first ++ rest) × Answers how s item first between
     × AnswersAll how between later rest new
 
--- what a station answers was written
+-- a station in state `s` that gets the requests `items` is in state `new`, and its answers were
+-- written
 pub record Wrote (how : Encode) (s : sending.Sending) (items : List Asked) (new : sending.Sending)
     (before after : WriterState) : Type 0 where
   pub bytes : List ℕ
   pub answers : AnswersAll how s items bytes new
   pub written : Appends before.contents after.contents bytes
 
--- a front of what a station answers to the first of these items was written
+-- a prefix of the answers of a station in state `s` was written. These are the answers to the first
+-- requests of `items`.
 pub record WroteFront (how : Encode) (s : sending.Sending) (before after : WriterState) (items : List Asked) : Type 0
   where
     pub first : List Asked
@@ -71,11 +77,13 @@ pub record WroteFront (how : Encode) (s : sending.Sending) (before after : Write
     pub answers : AnswersAll how s first bytes new
     pub written : AppendsFront before after bytes
 
--- what a station answers to all of these was written
+-- the answers of a station in state `s` to all requests of `items` were written
 abbrev pub Answered : Encode → sending.Sending → WriterState → WriterState → List Asked → Type 0
 Answered how s before after items = (new : sending.Sending) × Wrote how s items new before after
 
--- A fault comes only where its cause stands, and all that stands before it is answered.
+-- If the result of `encode` with a station is Ok, the answers to all requests were written. After
+-- an error of the input, the answers to the requests before this error were written. After a failed
+-- write, a prefix of the answers was written.
 abbrev pub StationText : Encode → sending.Sending → InputState → WriterState → Result (Unit {0}) ToolFault → InputState
     → WriterState → Type 0
 StationText how s old before result new after =

@@ -1,4 +1,4 @@
-//! The line of a packet that is sent.
+//! Functions that write the lines of packets that are sent.
 ghost use Rattle.std.specs.Prelude.{◌≡◌, ◌≤◌, ◌+◌, ◌*◌, ◌++◌, ◌∷◌, [], length, take, replicate, true, false};
 ghost use Rattle.std.specs.List.{flat_map};
 ghost use Rattle.dcc_wire.specs.Bodies.{bits_of};
@@ -13,52 +13,74 @@ use arrayvec::ArrayVec;
 use dcc_io::{Failed, HeldLines, Sink, append_decimal};
 use dcc_wire::{Frame, Timing};
 
-/// Room for the 150 halves of six bytes in service mode, each of up to five digits and a space, and for what is written behind the last.
+/// A line with capacity for the 150 half-bits of six bytes in service mode, each with up to five
+/// digits and a space. The line also has capacity for the unused bytes that are written after the
+/// last text.
 type EncodedLine = [u8; 1024];
 
-/// How many bytes are written for a bit, whose text is a front of them.
+/// The number of bytes that are written for one bit. The text of the bit is a prefix of these
+/// bytes.
 const WRITTEN: usize = 16;
 
-/// How frames are written, with the texts of their bits, which are made once for all lines.
+/// The encoding of frames, with the texts of bits, which are computed once for all lines.
 #[derive(Drop)]
 pub(crate) struct FrameLines {
     how: Encode,
     texts: BitTexts,
+    /// The line that is being written, and the length of the text of the preamble at its beginning.
+    line: EncodedLine,
+    preamble_len: usize,
     ghost timing: { texts.timing ≡ timing_of how },
+    ghost preamble: { take preamble_len line
+        ≡ flat_map behind_space (durations_of texts.timing (replicate texts.timing.preamble true)) },
+    ghost short: { preamble_len ≤ 240 },
 }
 
 impl FrameLines {
-    /// The lines that are written so.
+    /// Creates the texts for the encoding `how`.
     pub(crate) fn new(how: Encode) -> FrameLines
         ensures { result.how ≡ how }
     {
+        let texts = BitTexts::new(timing_of(how));
+        let mut line = [0; 1024];
+        let preamble_len = put_ones(&mut line, &texts.one, texts.timing);
         FrameLines {
             how,
-            texts: BitTexts::new(timing_of(how)),
+            texts,
+            line,
+            preamble_len,
         }
     }
 
-    /// Holds the line of a frame.
+    /// Appends the line of a frame to the buffered lines.
     pub(crate) fn hold<W: Sink>(
-        &self,
+        &mut self,
         held: &mut HeldLines,
         frame: &Frame,
         writer: &mut W,
     ) -> Result<(), Failed>
-        ensures { HoldsOrFails (W.state writer.old) (held.old ++ frame_line self.now.how frame.now) result
+        ensures line { HoldsOrFails (W.state writer.old) (held.old ++ frame_line self.old.how frame.now) result
             held.new
             (W.state writer.new) }
+        ensures how { self.new.how ≡ self.old.how }
     {
         let bytes = frame.bytes();
         if self.how.hex {
             hold_hex(held, bytes, writer)
         } else {
-            hold_halves(held, bytes, &self.texts, writer)
+            hold_halves(
+                held,
+                bytes,
+                &self.texts,
+                &mut self.line,
+                self.preamble_len,
+                writer,
+            )
         }
     }
 }
 
-/// Holds the bytes of a frame in hex, and a line feed.
+/// Appends a line with the bytes of a frame in hex to the buffered lines.
 fn hold_hex<W: Sink>(held: &mut HeldLines, bytes: &[u8], writer: &mut W) -> Result<(), Failed>
     requires { length bytes.now ≤ 6 }
     ensures { HoldsOrFails (W.state writer.old)
@@ -72,28 +94,33 @@ fn hold_hex<W: Sink>(held: &mut HeldLines, bytes: &[u8], writer: &mut W) -> Resu
     held.hold(&line[..len + 1], writer)
 }
 
-/// Holds the halves that are sent for a frame, and a line feed.
+/// Appends a line with the half-bits of a frame to the buffered lines.
 ///
-/// It stands alone, since whoever has this line in its frame makes room for it at each call.
-#[inline(never)]
+/// The function is not inlined, so that the stack of its caller has no line.
 fn hold_halves<W: Sink>(
     held: &mut HeldLines,
     frame: &[u8],
     texts: &BitTexts,
+    line: &mut EncodedLine,
+    preamble_len: usize,
     writer: &mut W,
 ) -> Result<(), Failed>
     requires few { length frame.now ≤ 6 }
-    ensures { HoldsOrFails (W.state writer.old)
+    requires preamble { take preamble_len line.old
+        ≡ flat_map behind_space (durations_of texts.now.timing (replicate texts.now.timing.preamble true)) }
+    requires short { preamble_len ≤ 240 }
+    ensures halves { HoldsOrFails (W.state writer.old)
         (held.old ++ (spaced_numbers (sent frame.now texts.now.timing) ++ 10 ∷ [])) result held.new
         (W.state writer.new) }
+    ensures preamble { take preamble_len line.new ≡ take preamble_len line.old }
 {
-    let mut line = texts.preamble;
-    let len = put_halves(&mut line, frame, texts);
+    let len = put_halves(line, frame, texts, preamble_len);
     line[len] = b'\n';
     held.hold(&line[1..len + 1], writer)
 }
 
-/// The timing that is sent with.
+/// Returns the timing of the encoding: that of service mode if `how.service` is true, otherwise
+/// that of the main track.
 fn timing_of(how: Encode) -> Timing
     ensures timing { result ≡ timing_of how }
     ensures short { result.preamble ≤ 20 }
@@ -105,42 +132,31 @@ fn timing_of(how: Encode) -> Timing
     }
 }
 
-/// The halves that are sent for the ones and zeros of a packet, and for its preamble, as text.
+/// The texts of the half-bits of a one and of a zero.
 #[derive(Drop)]
 struct BitTexts {
     timing: Timing,
     one: BitText,
     zero: BitText,
-    /// A line that begins with the text of a preamble, and how many bytes this text has.
-    preamble: EncodedLine,
-    preamble_len: usize,
     ghost ones: { take one.len one.bytes ≡ flat_map behind_space (durations_of timing (true ∷ [])) },
     ghost zeros: { take zero.len zero.bytes ≡ flat_map behind_space (durations_of timing (false ∷ [])) },
-    ghost preamble_text: { take preamble_len preamble
-        ≡ flat_map behind_space (durations_of timing (replicate timing.preamble true)) },
-    ghost preamble_short: { preamble_len ≤ 240 },
 }
 
 impl BitTexts {
     #[tactic(auto, using(crate::proofs::BitLemmas::one_text, crate::proofs::BitLemmas::zero_text))]
     fn new(timing: Timing) -> BitTexts
-        requires { timing.preamble ≤ 20 }
         ensures { result.timing ≡ timing }
     {
-        let one = BitText::new(timing.one, timing.one);
-        let mut preamble = [0; 1024];
-        let preamble_len = put_ones(&mut preamble, &one, timing);
         BitTexts {
             timing,
-            one,
+            one: BitText::new(timing.one, timing.one),
             zero: BitText::new(timing.zero_first, timing.zero_second),
-            preamble,
-            preamble_len,
         }
     }
 }
 
-/// Two halves in decimal, each behind a space: the front of so many of these bytes.
+/// The text of two half-bits in decimal digits, with a space before each. The text is the first
+/// `len` bytes of `bytes`.
 #[derive(Clone, Copy, Drop)]
 struct BitText {
     bytes: [u8; WRITTEN],
@@ -165,11 +181,13 @@ impl BitText {
     }
 }
 
-/// Writes the halves of a preamble, by the text of a one, and answers how many bytes they take.
+/// Writes the half-bits of a preamble, as copies of the text of a one, and returns the number of
+/// bytes.
 fn put_ones(line: &mut EncodedLine, one: &BitText, timing: Timing) -> usize
     requires text { take one.now.len one.now.bytes ≡ flat_map behind_space (durations_of timing (true ∷ [])) }
     requires short { timing.preamble ≤ 20 }
-    ensures items { take result line.new ≡ flat_map behind_space (durations_of timing (replicate timing.preamble true)) }
+    ensures items { take result line.new ≡ flat_map behind_space (durations_of timing
+        (replicate timing.preamble true)) }
     ensures few { result ≤ 240 }
 {
     let mut at = 0;
@@ -179,15 +197,17 @@ fn put_ones(line: &mut EncodedLine, one: &BitText, timing: Timing) -> usize
     at
 }
 
-/// Writes the halves that are sent for the frame of these bytes, a space before each, behind the preamble that stands in the line, and
-/// answers how many bytes all of them take.
-fn put_halves(line: &mut EncodedLine, frame: &[u8], texts: &BitTexts) -> usize
+/// Writes the half-bits of the frame with these bytes, with a space before each, after the preamble
+/// in the line. Returns the number of bytes of the preamble and the frame.
+fn put_halves(line: &mut EncodedLine, frame: &[u8], texts: &BitTexts, preamble_len: usize) -> usize
     requires few { length frame.now ≤ 6 }
-    requires preamble { line.old ≡ texts.now.preamble }
+    requires preamble { take preamble_len line.old
+        ≡ flat_map behind_space (durations_of texts.now.timing (replicate texts.now.timing.preamble true)) }
+    requires short { preamble_len ≤ 240 }
     ensures items { take result line.new ≡ flat_map behind_space (sent frame.now texts.now.timing) }
     ensures few { result ≤ 900 }
 {
-    let mut at = texts.preamble_len;
+    let mut at = preamble_len;
     for byte in frame {
         at = put_bit(line, at, texts, false);
         at = put_byte(line, at, texts, *byte);
@@ -195,7 +215,8 @@ fn put_halves(line: &mut EncodedLine, frame: &[u8], texts: &BitTexts) -> usize
     put_bit(line, at, texts, true)
 }
 
-/// Writes the halves of eight bits at a place, and answers the place behind them.
+/// Writes the half-bits of the eight bits of `byte` at the place `at`, and returns the place after
+/// them.
 #[inline(always)]
 fn put_byte(line: &mut EncodedLine, at: usize, texts: &BitTexts, byte: u8) -> usize
     requires { at ≤ 900 }
@@ -210,7 +231,7 @@ fn put_byte(line: &mut EncodedLine, at: usize, texts: &BitTexts, byte: u8) -> us
     end
 }
 
-/// Writes the halves of a bit at a place, and answers the place behind them.
+/// Writes the half-bits of a bit at the place `at`, and returns the place after them.
 #[inline(always)]
 fn put_bit(line: &mut EncodedLine, at: usize, texts: &BitTexts, bit: bool) -> usize
     requires { at ≤ 1000 }
@@ -222,7 +243,8 @@ fn put_bit(line: &mut EncodedLine, at: usize, texts: &BitTexts, bit: bool) -> us
     put(line, at, text)
 }
 
-/// Writes a text at a place, and answers the place behind it. What else is written behind that is written over.
+/// Writes a text at the place `at`, and returns the place after the text. A later text overwrites
+/// the bytes that are written after this place.
 #[inline(always)]
 #[tactic(auto, using(crate::proofs::BitLemmas::front_written))]
 fn put(line: &mut EncodedLine, at: usize, text: &BitText) -> usize

@@ -1,15 +1,17 @@
-//! How packets are written.
+//! The options of the operation `encode`.
 
-/// How packets are written.
+/// The options of the operation `encode`.
 #[derive(Clone, Copy, Debug, PartialEq, Eq)]
 pub struct Encode {
-    /// The bytes in hex, in place of the halves.
+    /// True if packets are written as bytes in hex, false if they are written as half-bits.
     pub hex: bool,
 
-    /// The timing of service mode (NMRA S-9.2.3), in place of that of the main track.
+    /// True if the timing is that of service mode (NMRA S-9.2.3), false if it is that of the main
+    /// track.
     pub service: bool,
 
-    /// The station that sends the packets: how many commands may wait, how many packets are refreshed, and how often a
-    /// command is sent in a row. None where each packet is written once.
+    /// The sizes of the station that sends the packets, or `None` if each packet is written once.
+    /// The sizes are the capacities of the queue and of the entries, and the number of copies of a
+    /// command.
     pub station: Option<(usize, usize, u8)>,
 }

@@ -1,4 +1,5 @@
-//! What is sent: the packets of lines, by a station or without one, and the questions that read a CV on a programming track.
+//! The operations that send packets: `encode` for packet lines, with or without a station, and
+//! `readcv`, which reads a CV on a programming track.
 #![tactic(auto)]
 
 mod encode_call;

@@ -1,14 +1,15 @@
-//! The next line of an input from which lines are made that are held.
+//! A function that returns the value of the next line, for a caller with buffered output lines.
 ghost use Rattle.std.specs.Prelude.{◌≡◌, None};
 ghost use Rattle.dcc_io.specs.PacketRead.{AnswersSaid};
 ghost use Rattle.dcc_send.specs.Inner.Held.{TakesNext};
 
-use dcc_io::inputs::{SaidLine, next_said, said_at_hand};
+use dcc_io::inputs::{ParsedLine, next_item, take_buffered_item};
 use dcc_io::{Failed, HeldLines, Input, KeptFault, Sink, Source};
 
-/// What the next line says that says anything, or none at the end. What is held is written before more is read for it, and
-/// before a fault of a line is kept.
-pub(crate) fn next_line<R: Source, W: Sink, L: SaidLine>(
+/// Returns the value of the next line that is neither blank nor a comment. Returns `None` at the
+/// end of the input. The function writes the buffered lines before it reads more input, and before
+/// the input stores an error of a line.
+pub(crate) fn next_line<R: Source, W: Sink, L: ParsedLine>(
     input: &mut Input<R>,
     held: &mut HeldLines,
     writer: &mut W,
@@ -18,9 +19,9 @@ pub(crate) fn next_line<R: Source, W: Sink, L: SaidLine>(
         held.old result
         input.new held.new (W.state writer.new) }
 {
-    if let Some(said) = said_at_hand(input) {
+    if let Some(said) = take_buffered_item(input) {
         return Ok(Ok(Some(said)));
     }
     held.write_out(writer)?;
-    Ok(next_said(input))
+    Ok(next_item(input))
 }

@@ -1,4 +1,4 @@
-//! The programming track of saved decoders.
+//! A function that returns the decoder on the programming track.
 ghost use Rattle.std.specs.Prelude.{◌≡◌, None, Some, MatchResult, false};
 ghost use Rattle.dcc_send.specs.ProgrammingTrack.{first_cvs};
 
@@ -7,8 +7,10 @@ use dcc_packet::PacketFault;
 use dcc_saved::Saved;
 use dcc_service::ServiceDecoder;
 
-/// The first locomotive of a decoder text on the programming track: a decoder out of service with its CVs. Where there
-/// is none, U3 at the text's line of `end`, with P10.
+/// Creates a decoder on the programming track with the CVs of the first locomotive in `decoders`.
+/// The decoder is not in service mode.
+///
+/// Errors: U3 with P10 for the line `end_line` of the decoder text, if there is no locomotive.
 pub fn programming_track(decoders: &[Saved], end_line: u32) -> Result<ServiceDecoder, ToolFault>
     ensures { MatchResult result
         (λ track. (first_cvs decoders.now ≡ Some track.cvs) × (track.in_service ≡ false) × (track.pending ≡ None))

@@ -1,4 +1,4 @@
-//! The reading of a variable on the programming track.
+//! The operation `readcv`, which reads a CV on the programming track.
 ghost use Rattle.std.specs.Prelude.{◌≡◌, Option, None, Some, IfSome, OnOk, false};
 ghost use Rattle.std.specs.Option.{option_map, option_map_or, option_copied_mut};
 ghost use Rattle.dcc_service.specs.CvAnswers.{Asks};
@@ -6,7 +6,7 @@ ghost use Rattle.dcc_packet.specs.Cvs.{IsCvs};
 ghost use Rattle.dcc_service.specs.Machine.{ServiceState, is_acknowledged};
 ghost use Rattle.dcc_service.specs.Question.{after_question};
 ghost use Rattle.dcc_send.specs.Loan.{left_in};
-ghost use Rattle.dcc_send.specs.Inner.ProgrammingTrackAnswers.{TakesAnswer, Tells};
+ghost use Rattle.dcc_send.specs.Inner.ProgrammingTrackAnswers.{TakesAnswer, AnswersQuestion};
 ghost use Rattle.dcc_send.specs.ProgrammingTrackReading.{ReadsCv, after_reading};
 
 use crate::programming_track_line::{answered_line, value_line};
@@ -14,13 +14,15 @@ use dcc_io::{Failed, Sink, ToolFault, write_all};
 use dcc_packet::CvNumber;
 use dcc_service::{CvReader, Reading, ServiceDecoder, ServicePacket, ask};
 
-/// Reads a CV of the decoder on the programming track, or finds the track empty, and writes a line for
-/// each of the nine questions, `7800e890 no` or `7800e991 yes`, and then `value 10` or `no answer` (NMRA
-/// S-9.2.3, direct mode).
+/// Reads a CV of the decoder on the programming track, or of an empty track (NMRA S-9.2.3, direct
+/// mode). Writes a line for each of the nine questions, such as `7800e890 no` or `7800e991 yes`.
+/// The last line is `value 10` or `no answer`.
 ///
-/// A question is answered with yes where the decoder acknowledges one of its eight frames. A value is
-/// told only where the decoder has acknowledged it; none is no fault. No CV changes. The decoder may be
-/// in service or not. U5 where the writer failed or took no byte; a front of the text was written then.
+/// The answer to a question is yes if the decoder acknowledges one of its eight frames. The
+/// function returns the value if the decoder acknowledges the last question, and otherwise `None`,
+/// which is no error. No CV changes. Before the call the decoder can be in service mode or not.
+///
+/// Errors: U5 if a write fails or writes no byte. After U5 a prefix of the text was written.
 pub fn readcv<W: Sink>(
     decoder: Option<&mut ServiceDecoder>,
     cv: CvNumber,
@@ -31,7 +33,8 @@ pub fn readcv<W: Sink>(
     ensures cvs { option_map (λ d. d.cvs) (left_in decoder.exit) ≡ option_map (λ d. d.cvs)
         (option_copied_mut decoder.entry) }
 
-    // Where the answer is Ok, the decoder itself has been asked, the byte last.
+    // If the result is Ok, the decoder has heard all questions, of which the last compares the
+    // byte.
     ensures asked { OnOk result
         (left_in decoder.exit ≡ option_map (λ d. after_reading d cv) (option_copied_mut decoder.entry)) }
 {
@@ -41,12 +44,12 @@ pub fn readcv<W: Sink>(
     }
 }
 
-/// A programming track, which has a decoder or none: what questions are put to.
+/// A programming track, with or without a decoder.
 trait ProgrammingTrack {
-    // The decoder on it, where there is one.
+    // the decoder on the track, if there is one
     ghost decoder: { Self → Option ServiceState };
 
-    /// Puts a question, and answers whether it was acknowledged.
+    /// Sends a question to the track. Returns true if the decoder acknowledges the question.
     fn put(&mut self, question: &ServicePacket) -> bool
         ensures answer { result ≡ option_map_or (λ d. is_acknowledged question.now d.cvs) (decoder self.old) false }
         ensures after { decoder self.new ≡ option_map (λ d. after_question d question.now) (decoder self.old) }
@@ -61,7 +64,7 @@ impl ProgrammingTrack for ServiceDecoder {
     }
 }
 
-/// A track without a decoder, where nobody answers.
+/// A track without a decoder, on which no question is acknowledged.
 #[derive(Drop)]
 struct EmptyTrack;
 
@@ -73,7 +76,7 @@ impl ProgrammingTrack for EmptyTrack {
     }
 }
 
-/// Puts the questions about a CV to a track.
+/// Sends the questions about a CV to the track, and writes their lines and the result.
 fn read<T: ProgrammingTrack, W: Sink>(
     track: &mut T,
     cv: CvNumber,
@@ -96,7 +99,7 @@ fn read<T: ProgrammingTrack, W: Sink>(
     }
 }
 
-/// Writes the line of the reader's question, and takes its answer.
+/// Writes the line of the question, and applies the answer `yes` to the reading.
 fn take_answer<W: Sink>(
     reader: CvReader,
     question: &ServicePacket,
@@ -110,9 +113,9 @@ fn take_answer<W: Sink>(
     Ok(reader.answer(yes))
 }
 
-/// Writes the line of a value or of none, and answers it.
+/// Writes the line of the value, or `no answer` if there is no value. Returns the value.
 fn tell<W: Sink>(value: Option<u8>, writer: &mut W) -> Result<Option<u8>, ToolFault>
-    ensures { Tells value (W.state writer.old) result (W.state writer.new) }
+    ensures { AnswersQuestion value (W.state writer.old) result (W.state writer.new) }
 {
     write_all(writer, value_line(value).as_slice())?;
     Ok(value)

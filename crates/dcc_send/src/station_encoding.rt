@@ -1,8 +1,8 @@
-//! What a station writes for the lines that drive it.
+//! Functions of the operation `encode` with a station.
 ghost use Rattle.std.specs.Prelude.{◌≡◌, ◌≤◌, length, None, Some, [], ◌∷◌, replicate, IfSome};
 ghost use Rattle.dcc_packet.specs.Spelling.{spelling};
 ghost use Rattle.dcc_io.specs.Faults.{as_tool_fault};
-ghost use Rattle.dcc_io.specs.InputState.{HasCause};
+ghost use Rattle.dcc_io.specs.InputState.{ReadHasFailure};
 ghost use Rattle.dcc_send.specs.declared.encoding.Encode.{Encode};
 ghost use Rattle.dcc_io.specs.StationLines.{asked_by, Command, Next};
 ghost use Rattle.dcc_send.specs.StationEncoded.{StationText, refusal_line};
@@ -15,8 +15,8 @@ use dcc_io::{Failed, HeldLines, Input, Sink, Source, StationLine, ToolFault};
 use dcc_packet::Packet;
 use dcc_station::{Refused, Station};
 
-/// Hands the commands of the lines to a station, and writes the packets that it sends where a line asks for them. At the
-/// end of the input it sends nothing more.
+/// Gives the commands of the lines to a station, and writes the packets that the lines request. At
+/// the end of the input the station sends no further packet.
 pub(crate) fn encode_by_station<R: Source, W: Sink>(
     station: &mut Station,
     input: &mut Input<R>,
@@ -25,7 +25,7 @@ pub(crate) fn encode_by_station<R: Source, W: Sink>(
 ) -> Result<(), ToolFault>
     ensures kept { IfSome input.old.fault
         (λ fault. (result ≡ Err (as_tool_fault fault)) × (input.new ≡ input.old) × (writer.new ≡ writer.old)) }
-    ensures cause { HasCause input.old.fault input.old.failures }
+    ensures cause { ReadHasFailure input.old.fault input.old.failures }
     ensures answers { input.old.fault ≡ None
         → StationText how station.old input.old (W.state writer.old) result
         input.new (W.state writer.new) }
@@ -33,27 +33,28 @@ pub(crate) fn encode_by_station<R: Source, W: Sink>(
     if let Some(fault) = input.fault() {
         return Err(ToolFault::from(fault));
     }
-    let written = FrameLines::new(how);
+    let mut written = FrameLines::new(how);
     let mut held = HeldLines::new();
     'lines: loop {
         match next_line::<R, W, StationLine>(input, &mut held, writer)?? {
-            Some(line) => answer(station, &mut held, &written, line, writer)?,
+            Some(line) => answer(station, &mut held, &mut written, line, writer)?,
             None => return Ok(()),
         }
     }
 }
 
-/// Does what a line asks.
+/// Executes the request of a line: a command to the station, or a number of packets to send.
 fn answer<W: Sink>(
     station: &mut Station,
     held: &mut HeldLines,
-    written: &FrameLines,
+    written: &mut FrameLines,
     line: StationLine,
     writer: &mut W,
 ) -> Result<(), Failed>
-    ensures { HoldsAnswersOrFails written.now.how station.old (asked_by line) (W.state writer.old)
+    ensures answers { HoldsAnswersOrFails written.old.how station.old (asked_by line) (W.state writer.old)
         held.old result
         station.new held.new (W.state writer.new) }
+    ensures how { written.new.how ≡ written.old.how }
 {
     match line {
         StationLine::Command(packet) => take_command(station, held, packet, writer),
@@ -61,7 +62,8 @@ fn answer<W: Sink>(
     }
 }
 
-/// Hands a command to the station, and holds the line that says why where it is refused.
+/// Gives a command to the station. If the station rejects the command, the function appends the
+/// line with the error to the buffered lines.
 fn take_command<W: Sink>(
     station: &mut Station,
     held: &mut HeldLines,
@@ -78,17 +80,18 @@ fn take_command<W: Sink>(
     }
 }
 
-/// Holds the lines of so many packets that the station sends.
+/// Appends the lines of the next `count` packets of the station to the buffered lines.
 fn send<W: Sink>(
     station: &mut Station,
     held: &mut HeldLines,
-    written: &FrameLines,
+    written: &mut FrameLines,
     count: u16,
     writer: &mut W,
 ) -> Result<(), Failed>
-    ensures { HoldsAnswersOrFails written.now.how station.old (replicate count Next) (W.state writer.old)
+    ensures answers { HoldsAnswersOrFails written.old.how station.old (replicate count Next) (W.state writer.old)
         held.old result
         station.new held.new (W.state writer.new) }
+    ensures how { written.new.how ≡ written.old.how }
 {
     for _ in 0..count {
         send_next(station, held, written, writer)?;
@@ -96,22 +99,23 @@ fn send<W: Sink>(
     Ok(())
 }
 
-/// Holds the line of the packet that the station sends next.
+/// Appends the line of the next packet of the station to the buffered lines.
 fn send_next<W: Sink>(
     station: &mut Station,
     held: &mut HeldLines,
-    written: &FrameLines,
+    written: &mut FrameLines,
     writer: &mut W,
 ) -> Result<(), Failed>
-    ensures { HoldsAnswersOrFails written.now.how station.old (Next ∷ []) (W.state writer.old) held.old
+    ensures answers { HoldsAnswersOrFails written.old.how station.old (Next ∷ []) (W.state writer.old) held.old
         result
         station.new held.new (W.state writer.new) }
+    ensures how { written.new.how ≡ written.old.how }
 {
     let packet = station.next();
     written.hold(held, &packet.frame(), writer)
 }
 
-/// The line of a refused command.
+/// Returns the line for a command that the station rejected: `# refused C3` or `# refused C4`.
 fn refusal_line(refused: Refused) -> &'static [u8]
     ensures line { result.now ≡ refusal_line refused }
     ensures short { length result.now ≤ 4096 }

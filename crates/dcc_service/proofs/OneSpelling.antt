@@ -1,11 +1,11 @@
--- No two service packets have one spelling.
+-- No two service packets have one service_spelling.
 use Rattle.std.proofs.Common.{◌≡◌, ℕ, ◌+◌, ◌-◌, ◌*◌, ◌/◌, ◌%◌, ◌≤◌, Bool, sym, arith}
 use Rattle.dcc_packet.specs.declared.cv.CvNumber.{CvNumber}
 use Rattle.dcc_packet.specs.declared.cv.BitPlace.{BitPlace}
 use Rattle.dcc_packet.specs.Rows.{bit}
 use Rattle.dcc_service.specs.declared.packet.ServicePacket.{ServicePacket}
 use Rattle.dcc_service.specs.declared.packet.ServicePacket.TheVariants.{Write, Verify, BitWrite, BitVerify}
-use Rattle.dcc_service.specs.Table.{access_bytes, instruction_bytes, spelling}
+use Rattle.dcc_service.specs.Table.{access_bytes, service_bytes, service_spelling}
 use Rattle.dcc_packet.proofs.Same.{same_bit, bit_below, same_cv, same_place}
 use Rattle.dcc_packet.proofs.FrameParts.{same_bytes}
 use Rattle.dcc_packet.proofs.OneSpelling.{one_bit}
@@ -23,7 +23,7 @@ apart kind other c d x y below e =
     let high : kind + (c.number - 1) / 256 ≡ other + (d.number - 1) / 256 = cc in
     omega arith
 
-pub one_instruction : (p q : ServicePacket) → instruction_bytes p ≡ instruction_bytes q → p ≡ q
+pub one_instruction : (p q : ServicePacket) → service_bytes p ≡ service_bytes q → p ≡ q
 one_instruction (Write c x) (Write d y) e = let same = one_cv 0x7C c d x y e in cc
 one_instruction (Verify c x) (Verify d y) e = let same = one_cv 0x74 c d x y e in cc
 one_instruction (BitWrite c p a) (BitWrite d q b) e =
@@ -51,5 +51,5 @@ one_instruction (BitWrite d q b) (Verify c x) e = absurd (apart 0x74 0x78 c d x 
 one_instruction (BitVerify d q b) (Write c x) e = absurd (apart 0x78 0x7C d c _ x (omega arith) e)
 one_instruction (BitVerify d q b) (Verify c x) e = absurd (apart 0x74 0x78 c d x _ (omega arith) (sym e))
 
-pub one_packet : (p q : ServicePacket) → spelling p ≡ spelling q → p ≡ q
-one_packet p q e = one_instruction p q (same_bytes (instruction_bytes p) (instruction_bytes q) e)
+pub one_packet : (p q : ServicePacket) → service_spelling p ≡ service_spelling q → p ≡ q
+one_packet p q e = one_instruction p q (same_bytes (service_bytes p) (service_bytes q) e)

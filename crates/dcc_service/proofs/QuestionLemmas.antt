@@ -9,7 +9,7 @@ use Rattle.dcc_service.specs.declared.packet.ServicePacket.TheVariants.{Write, V
 use Rattle.dcc_packet.specs.Cvs.{is_writable}
 use Rattle.dcc_service.specs.Machine.{ServiceState, Step, reset_bytes, acted_on, is_acknowledged}
 use Rattle.dcc_service.specs.Question.{question_bytes, Steps, after_question, four_no_then}
-use Rattle.dcc_service.specs.Table.{spelling}
+use Rattle.dcc_service.specs.Table.{service_spelling}
 use Rattle.dcc_packet.specs.Bits.{with_bit}
 use Rattle.dcc_packet.proofs.BitLemmas.{with_bit-again}
 
@@ -22,11 +22,11 @@ after_reset : (before after : ServiceState) (answer : Bool) → Step before rese
 after_reset before after answer step = step.reset refl
 
 after_first : (packet : ServicePacket) (cvs : List ℕ) (after : ServiceState) (answer : Bool)
-    → Step (waiting None cvs) (spelling packet) after answer → (after ≡ waiting (Some packet) cvs) × (answer ≡ false)
+    → Step (waiting None cvs) (service_spelling packet) after answer → (after ≡ waiting (Some packet) cvs) × (answer ≡ false)
 after_first packet cvs after answer step = step.first packet refl refl (λ e. cc)
 
 after_again : (packet : ServicePacket) (cvs : List ℕ) (after : ServiceState) (answer : Bool)
-    → Step (waiting (Some packet) cvs) (spelling packet) after answer
+    → Step (waiting (Some packet) cvs) (service_spelling packet) after answer
     → (after ≡ waiting (Some packet) (acted_on packet cvs)) × (answer ≡ is_acknowledged packet cvs)
 after_again packet cvs after answer step = step.again packet refl refl refl
 
@@ -90,7 +90,7 @@ acknowledged-again (Write cv value) cvs = refl
 acknowledged-again question cvs = refl
 
 after_settled : (packet : ServicePacket) (cvs : List ℕ) → length cvs ≡ 1024 → (after : ServiceState) (answer : Bool)
-    → Step (waiting (Some packet) (acted_on packet cvs)) (spelling packet) after answer
+    → Step (waiting (Some packet) (acted_on packet cvs)) (service_spelling packet) after answer
     → (after ≡ waiting (Some packet) (acted_on packet cvs)) × (answer ≡ is_acknowledged packet cvs)
 after_settled packet cvs count after answer step =
     let e = after_again packet (acted_on packet cvs) after answer step in
@@ -109,15 +109,15 @@ answers_of packet before after answers count steps =
     a.2 in
     let c = known (waiting None cvs) reset_bytes _ after b.0 (waiting None cvs) false (after_reset (waiting None cvs))
     b.2 in
-    let d = known (waiting None cvs) (spelling packet) _ after c.0 (waiting (Some packet) cvs) false
+    let d = known (waiting None cvs) (service_spelling packet) _ after c.0 (waiting (Some packet) cvs) false
     (after_first packet cvs) c.2 in
-    let e = known (waiting (Some packet) cvs) (spelling packet) _ after d.0 (waiting (Some packet) done) truth
+    let e = known (waiting (Some packet) cvs) (service_spelling packet) _ after d.0 (waiting (Some packet) done) truth
     (after_again packet cvs) d.2 in
-    let f = known (waiting (Some packet) done) (spelling packet) _ after e.0 (waiting (Some packet) done) truth
+    let f = known (waiting (Some packet) done) (service_spelling packet) _ after e.0 (waiting (Some packet) done) truth
     (after_settled packet cvs count) e.2 in
-    let g = known (waiting (Some packet) done) (spelling packet) _ after f.0 (waiting (Some packet) done) truth
+    let g = known (waiting (Some packet) done) (service_spelling packet) _ after f.0 (waiting (Some packet) done) truth
     (after_settled packet cvs count) f.2 in
-    let h = known (waiting (Some packet) done) (spelling packet) _ after g.0 (waiting (Some packet) done) truth
+    let h = known (waiting (Some packet) done) (service_spelling packet) _ after g.0 (waiting (Some packet) done) truth
     (after_settled packet cvs count) g.2 in
     let end = nothing (waiting (Some packet) done) after h.0 h.2 in
     let all : answers ≡ false ∷ false ∷ false ∷ false ∷ truth ∷ truth ∷ truth ∷ truth ∷ [] =

@@ -17,8 +17,8 @@ use Rattle.dcc_service.specs.CvAnswers.{CvAnswers, Asks, question_frame}
 use Rattle.dcc_packet.specs.Cvs.{IsCvs, cv_in}
 use Rattle.dcc_service.specs.Machine.{is_acknowledged, acted_on}
 use Rattle.dcc_service.specs.ReadingLaws.{true_answers, AreFirstOf}
-use Rattle.dcc_service.specs.Readings.{Comes}
-use Rattle.dcc_service.specs.Table.{access_bytes, spelling}
+use Rattle.dcc_service.specs.Readings.{ReadingEnds}
+use Rattle.dcc_service.specs.Table.{access_bytes, service_spelling}
 use Rattle.dcc_service.proofs.BitsLemmas.{length-bits_from_lowest, number-bits_from_lowest}
 
 -- the next bit of a number
@@ -130,7 +130,7 @@ next_is_true so_far (Verify cv value) cvs ok asks first =
 
 -- the true answers come to the value
 pub truth_is_the_value : (cv : CvNumber) (value : ℕ) (reading : Reading) → value < 256
-    → Comes cv (true_answers value) reading → reading ≡ Value value
+    → ReadingEnds cv (true_answers value) reading → reading ≡ Value value
 truth_is_the_value cv value (More reader) byte comes =
     let count = length-bits_from_lowest 8 value in
     absurd (omega (arith, comes.0, length-append (bits_from_lowest 8 value) (true ∷ []), count))
@@ -142,7 +142,7 @@ truth_is_the_value cv value NoAnswer byte comes =
     let contrary : true ≡ false = parts.1 in absurd (cc)
 
 -- nine times no comes to no answer
-pub silence_is_no_answer : (cv : CvNumber) (reading : Reading) → Comes cv (replicate 9 false) reading
+pub silence_is_no_answer : (cv : CvNumber) (reading : Reading) → ReadingEnds cv (replicate 9 false) reading
     → reading ≡ NoAnswer
 silence_is_no_answer cv (More reader) comes = absurd (omega (arith, comes.0))
 silence_is_no_answer cv (Value told) comes =
@@ -155,7 +155,7 @@ below_eight n h = search rules
 
 -- the frame of the question of a reading
 pub frame_asked : (so_far : CvAnswers) (question : ServicePacket) → Asks so_far question
-    → spelling question ≡ question_frame so_far
+    → service_spelling question ≡ question_frame so_far
 frame_asked so_far (Write cv value) asks = absurd asks
 frame_asked so_far (BitWrite cv bits one) asks = absurd asks
 frame_asked so_far (Verify cv value) asks =

@@ -9,15 +9,16 @@ use Rattle.dcc_service.specs.declared.reader.Reading.{Reading}
 use Rattle.dcc_service.specs.declared.reader.Reading.TheVariants.{Value, NoAnswer}
 use Rattle.dcc_service.specs.Bits.{bits_from_lowest}
 use Rattle.dcc_service.specs.CvAnswers.{CvAnswers, Asks}
-use Rattle.dcc_service.specs.Readings.{Comes}
-use Rattle.dcc_service.specs.ReadingLaws.{true_answers, AreFirstOf, IsPut, IsReading, ReadingBegins, ReadingGoesOn}
+use Rattle.dcc_service.specs.Readings.{ReadingEnds}
+use Rattle.dcc_service.specs.ReadingLaws.{true_answers, AreFirstOf, IsPut, IsReadingUnderWay, ReadingBegins}
+use Rattle.dcc_service.specs.ReadingLaws.{ReadingGoesOn}
 use Rattle.dcc_service.specs.ReadingLaws.{ReadingKeepsTheCvs, ReadingTellsTheValue, ReadingIsAnswered}
 use Rattle.dcc_service.proofs.BitsLemmas.{length-bits_from_lowest}
 use Rattle.dcc_service.proofs.ReadingLemmas.{asks_only, next_is_true, truth_is_the_value}
 
 pub reading_begins : ReadingBegins
 reading_begins cv cvs so_far is =
-    let P : CvAnswers → Type 0 = λ a. IsReading cv cvs cvs a in
+    let P : CvAnswers → Type 0 = λ a. IsReadingUnderWay cv cvs cvs a in
     subst P (sym is) (record { same_cv = refl; kept = refl; first = refl })
 
 -- the CVs behind a question are those of the start
@@ -27,7 +28,7 @@ reading_keeps_the_cvs cv cvs now after so_far question answer s asks put =
 
 -- the next answer is true
 next_answer : (cv : CvNumber) (cvs now after : List ℕ) (so_far : CvAnswers) (question : ServicePacket) (answer : Bool)
-    → IsReading cv cvs now so_far → Asks so_far question → IsPut question now after answer
+    → IsReadingUnderWay cv cvs now so_far → Asks so_far question → IsPut question now after answer
     → AreFirstOf (so_far.answers ++ answer ∷ []) (true_answers (cv_in cvs cv.number))
 next_answer cv cvs now after so_far question answer s asks put =
     let all : true_answers (cv_in now so_far.cv.number) ≡ true_answers (cv_in cvs cv.number) =
@@ -40,7 +41,7 @@ next_answer cv cvs now after so_far question answer s asks put =
 
 pub reading_goes_on : ReadingGoesOn
 reading_goes_on cv cvs now after so_far next question answer s asks put comes =
-    let P : CvAnswers → Type 0 = λ a. IsReading cv cvs after a in
+    let P : CvAnswers → Type 0 = λ a. IsReadingUnderWay cv cvs after a in
     subst P (sym comes.1) (record {
       same_cv = s.same_cv;
       kept = reading_keeps_the_cvs cv cvs now after so_far question answer s asks put;
@@ -59,14 +60,14 @@ all_of answers value many first =
 
 -- what a reading comes to behind its ninth answer is what the true answers come to
 comes_true : (cv : CvNumber) (cvs now after : List ℕ) (so_far : CvAnswers) (question : ServicePacket) (answer : Bool)
-    (reading : Reading) → IsReading cv cvs now so_far → Asks so_far question → IsPut question now after answer
-    → length (so_far.answers ++ answer ∷ []) ≡ 9 → Comes so_far.cv (so_far.answers ++ answer ∷ []) reading
+    (reading : Reading) → IsReadingUnderWay cv cvs now so_far → Asks so_far question → IsPut question now after answer
+    → length (so_far.answers ++ answer ∷ []) ≡ 9 → ReadingEnds so_far.cv (so_far.answers ++ answer ∷ []) reading
     → reading ≡ Value (cv_in cvs cv.number)
 comes_true cv cvs now after so_far question answer reading s asks put many comes =
     let value : ℕ = cv_in cvs cv.number in
     let all : so_far.answers ++ answer ∷ [] ≡ true_answers value =
     all_of (so_far.answers ++ answer ∷ []) value many (next_answer cv cvs now after so_far question answer s asks put) in
-    let P : List Bool → Type 0 = λ xs. Comes so_far.cv xs reading in
+    let P : List Bool → Type 0 = λ xs. ReadingEnds so_far.cv xs reading in
     let bytes : IsCvs cvs = subst IsCvs s.kept put.bytes in
     truth_is_the_value so_far.cv value reading (bytes.bytes (cv.number - 1)) (subst P all comes)
 

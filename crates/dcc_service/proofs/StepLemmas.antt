@@ -6,7 +6,7 @@ use Rattle.std.proofs.lemmas.Bool.Decides.{Decides-eqb}
 use lib.Pointwise.{pointwise, pointwise_decides}
 use Rattle.dcc_service.specs.declared.packet.ServicePacket.{ServicePacket}
 use Rattle.dcc_service.specs.Machine.{ServiceState, Step, reset_bytes}
-use Rattle.dcc_service.specs.Table.{spelling}
+use Rattle.dcc_service.specs.Table.{service_spelling}
 use Rattle.dcc_service.proofs.OneSpelling.{one_packet}
 
 -- two outcomes are one
@@ -17,20 +17,20 @@ both_are : {known after other : ServiceState} {truth answer reply : Bool} → Sa
     → Same other known reply truth → Same after other answer reply
 both_are a b = (a.0 ∙ sym b.0, a.1 ∙ sym b.1)
 
-compared : (t : Bool) (q p : ServicePacket) → Decides t (spelling q ≡ spelling p)
+compared : (t : Bool) (q p : ServicePacket) → Decides t (service_spelling q ≡ service_spelling p)
     → (Some q ≡ Some p) ⊎ (Some q ≢ Some p)
 compared true q p decides = inl (ap Some (one_packet q p (decides.0 refl)))
 compared false q p decides = inr (λ same.
     let is : q ≡ p = cc in
-    let contrary : false ≡ true = decides.1 (ap spelling is) in absurd (cc))
+    let contrary : false ≡ true = decides.1 (ap service_spelling is) in absurd (cc))
 
 is_pending : (pending : Option ServicePacket) (p : ServicePacket) → (pending ≡ Some p) ⊎ (pending ≢ Some p)
 is_pending None p = inr (λ e. absurd (cc))
 is_pending (Some q) p =
-    compared (pointwise eqb (spelling q) (spelling p)) q p (pointwise_decides Decides-eqb (spelling q) (spelling p))
+    compared (pointwise eqb (service_spelling q) (service_spelling p)) q p (pointwise_decides Decides-eqb (service_spelling q) (service_spelling p))
 
 by_pending : (packet : ServicePacket) (frame : List ℕ) (before after other : ServiceState) (answer reply : Bool)
-    → frame ≡ spelling packet → before.in_service ≡ true
+    → frame ≡ service_spelling packet → before.in_service ≡ true
     → (before.pending ≡ Some packet) ⊎ (before.pending ≢ Some packet) → Step before frame after answer
     → Step before frame other reply → Same after other answer reply
 by_pending packet frame before after other answer reply e on (inl is) step again =
@@ -40,13 +40,13 @@ by_pending packet frame before after other answer reply e on (inr isnt) step aga
 
 by_service : (on : Bool) (read : Option ServicePacket) (frame : List ℕ) (before after other : ServiceState)
     (answer reply : Bool) → before.in_service ≡ on → frame ≢ reset_bytes
-    → IfSome read (λ packet. spelling packet ≡ frame)
-    → ((packet : ServicePacket) → spelling packet ≡ frame → read ≡ Some packet)
+    → IfSome read (λ packet. service_spelling packet ≡ frame)
+    → ((packet : ServicePacket) → service_spelling packet ≡ frame → read ≡ Some packet)
     → Step before frame after answer → Step before frame other reply → Same after other answer reply
 by_service false read frame before after other answer reply on no_reset spelled only step again =
     both_are (step.ignored no_reset on) (again.ignored no_reset on)
 by_service true None frame before after other answer reply on no_reset spelled only step again =
-    let none : (packet : ServicePacket) → frame ≢ spelling packet = λ packet e. let bad = only packet (sym e) in absurd (cc) in
+    let none : (packet : ServicePacket) → frame ≢ service_spelling packet = λ packet e. let bad = only packet (sym e) in absurd (cc) in
     both_are (step.other no_reset none on) (again.other no_reset none on)
 by_service true (Some packet) frame before after other answer reply on no_reset spelled only step again =
     by_pending packet frame before after other answer reply (sym spelled) on (is_pending before.pending packet) step
@@ -54,8 +54,8 @@ by_service true (Some packet) frame before after other answer reply on no_reset 
 
 pub other_step : (read : Option ServicePacket) (frame : List ℕ) (before after other : ServiceState)
     (answer reply : Bool) → frame ≢ reset_bytes
-    → IfSome read (λ packet. spelling packet ≡ frame)
-    → ((packet : ServicePacket) → spelling packet ≡ frame → read ≡ Some packet)
+    → IfSome read (λ packet. service_spelling packet ≡ frame)
+    → ((packet : ServicePacket) → service_spelling packet ≡ frame → read ≡ Some packet)
     → Step before frame after answer → Step before frame other reply → Same after other answer reply
 other_step read frame before after other answer reply =
     by_service before.in_service read frame before after other answer reply refl

@@ -8,7 +8,7 @@ use Rattle.dcc_service.specs.CvAnswers.{question_frame}
 use Rattle.dcc_packet.specs.Bits.{with_bit}
 use Rattle.dcc_service.specs.Machine.{reset_bytes, acted_on, is_acknowledged}
 use Rattle.dcc_service.specs.ReadingLaws.{true_answers}
-use Rattle.dcc_service.specs.Table.{spelling}
+use Rattle.dcc_service.specs.Table.{service_spelling}
 
 abbrev cv1 : CvNumber
 cv1 = record { number = 1; in_range = (lit≤ tt, lit≤ tt) }
@@ -24,11 +24,11 @@ place5 = record { place = 5; in_range = lit≤ tt }
 
 record Rows : Type 0 where
   the_reset : reset_bytes ≡ 0x00 ∷ 0x00 ∷ 0x00 ∷ []
-  write_of_cv1 : spelling (Write cv1 10) ≡ 0x7C ∷ 0x00 ∷ 0x0A ∷ 0x76 ∷ []
-  write_of_cv8 : spelling (Write cv8 8) ≡ 0x7C ∷ 0x07 ∷ 0x08 ∷ 0x73 ∷ []
-  verify_of_cv1 : spelling (Verify cv1 10) ≡ 0x74 ∷ 0x00 ∷ 0x0A ∷ 0x7E ∷ []
-  bit_write_of_cv1024 : spelling (BitWrite cv1024 place5 true) ≡ 0x7B ∷ 0xFF ∷ 0xFD ∷ 0x79 ∷ []
-  bit_verify_of_cv1024 : spelling (BitVerify cv1024 place5 false) ≡ 0x7B ∷ 0xFF ∷ 0xE5 ∷ 0x61 ∷ []
+  write_of_cv1 : service_spelling (Write cv1 10) ≡ 0x7C ∷ 0x00 ∷ 0x0A ∷ 0x76 ∷ []
+  write_of_cv8 : service_spelling (Write cv8 8) ≡ 0x7C ∷ 0x07 ∷ 0x08 ∷ 0x73 ∷ []
+  verify_of_cv1 : service_spelling (Verify cv1 10) ≡ 0x74 ∷ 0x00 ∷ 0x0A ∷ 0x7E ∷ []
+  bit_write_of_cv1024 : service_spelling (BitWrite cv1024 place5 true) ≡ 0x7B ∷ 0xFF ∷ 0xFD ∷ 0x79 ∷ []
+  bit_verify_of_cv1024 : service_spelling (BitVerify cv1024 place5 false) ≡ 0x7B ∷ 0xFF ∷ 0xE5 ∷ 0x61 ∷ []
   question_of_bit_0 : question_frame (record { cv = cv1; answers = [] }) ≡ 0x78 ∷ 0x00 ∷ 0xE8 ∷ 0x90 ∷ []
   question_of_bit_3 : question_frame
       (record { cv = cv1; answers = false ∷ true ∷ false ∷ [] }) ≡ 0x78 ∷ 0x00 ∷ 0xEB ∷ 0x93 ∷ []

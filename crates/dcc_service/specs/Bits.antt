@@ -3,12 +3,12 @@ use Rattle.std.specs.Prelude.{ℕ, ◌+◌, ◌*◌, ◌/◌, ◌%◌, ◌==◌,
 use Rattle.std.proofs.Common.{zero, suc}
 use Rattle.dcc_packet.specs.Rows.{bit}
 
--- the n lowest bits of a number, the lowest first
+-- the lowest `n` bits of `number`, the lowest first
 unfoldable pub bits_from_lowest : ℕ → ℕ → List Bool
 bits_from_lowest zero number = []
 bits_from_lowest (suc n) number = (number % 2 == 1) ∷ bits_from_lowest n (number / 2)
 
--- the number that has these bits, the lowest first
+-- the number whose bits are the list, the lowest first
 unfoldable pub number_from_lowest : List Bool → ℕ
 number_from_lowest [] = 0
 number_from_lowest (one ∷ bits) = bit one + 2 * number_from_lowest bits

@@ -1,4 +1,4 @@
--- The questions by which a CV is read (NMRA S-9.2.3).
+-- The questions that read a CV (NMRA S-9.2.3).
 use Rattle.std.specs.Prelude.{◌≡◌, ℕ, ◌+◌, ◌==◌, if◌then◌else◌, Bool, true, List, length}
 use Rattle.dcc_wire.specs.Frames.{with_error_byte}
 use Rattle.dcc_packet.specs.declared.cv.CvNumber.{CvNumber}
@@ -7,12 +7,14 @@ use Rattle.dcc_service.specs.declared.packet.ServicePacket.TheVariants.{Write, V
 use Rattle.dcc_service.specs.Bits.{number_from_lowest}
 use Rattle.dcc_service.specs.Table.{access_bytes}
 
--- a CV that is being read, and the answers so far
+-- the CV that is being read, and the answers to the questions so far
 pub record CvAnswers : Type 0 where
   pub cv : CvNumber
   pub answers : List Bool
 
--- The next question: behind k answers whether bit k is one, behind eight whether the byte is that of the answers.
+-- The packet is the next question of the reading `so_far`. After k answers, with k below 8, it
+-- compares bit k of the CV with one. After eight answers it compares the CV with the value whose
+-- bits are the answers.
 abbrev pub Asks : CvAnswers → ServicePacket → Type 0
 Asks so_far (BitVerify cv bits one) = (cv ≡ so_far.cv) × (bits.place ≡ length so_far.answers) × (one ≡ true)
 Asks so_far (Verify cv value) =
@@ -20,7 +22,7 @@ Asks so_far (Verify cv value) =
 Asks so_far (Write cv value) = ⊥
 Asks so_far (BitWrite cv bits one) = ⊥
 
--- the bytes of the frame of that question
+-- the bytes of the frame of the next question of the reading `so_far`
 abbrev pub question_frame : CvAnswers → List ℕ
 question_frame so_far =
     if length so_far.answers == 8

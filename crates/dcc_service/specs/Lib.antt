@@ -7,5 +7,5 @@ pub mod CvAnswers
 pub mod Readings
 pub mod QuestionLaws
 pub mod ReadingLaws
--- what the clauses of this crate cite from below
+-- Definitions of lower crates that the contracts of this crate use.
 pub use Rattle.dcc_packet.specs.Cvs

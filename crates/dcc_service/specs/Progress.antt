@@ -1,8 +1,8 @@
--- What a decoder on the programming track holds besides its CVs.
+-- The state of a decoder on the programming track, without its CVs.
 use Rattle.std.specs.Prelude.{List, ℕ}
 use Rattle.dcc_service.specs.declared.progress.ServiceProgress.{ServiceProgress}
 use Rattle.dcc_service.specs.Machine.{ServiceState}
 
--- a decoder that is so far, with these CVs
-abbrev pub with_cvs : ServiceProgress → List ℕ → ServiceState
-with_cvs p cvs = record { in_service = p.in_service; pending = p.pending; cvs = cvs }
+-- the state of a decoder with the progress `p` and the CVs `cvs`
+abbrev pub state_with_cvs : ServiceProgress → List ℕ → ServiceState
+state_with_cvs p cvs = record { in_service = p.in_service; pending = p.pending; cvs = cvs }

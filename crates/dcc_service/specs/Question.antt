@@ -1,14 +1,15 @@
--- A service packet that is sent as a question, and what a decoder answers.
+-- The frames of a question about a service packet, and the acknowledgements of a decoder.
 use Rattle.std.specs.Prelude.{◌≡◌, ℕ, Bool, true, false, Some, List, [], ◌∷◌, ◌++◌, replicate}
 use Rattle.dcc_service.specs.declared.packet.ServicePacket.{ServicePacket}
 use Rattle.dcc_service.specs.Machine.{ServiceState, Step, reset_bytes, acted_on}
-use Rattle.dcc_service.specs.Table.{spelling}
+use Rattle.dcc_service.specs.Table.{service_spelling}
 
--- three resets, then five copies
+-- the frames of a question: three resets, and then five copies of the service packet `packet`
 abbrev pub question_bytes : ServicePacket → List (List ℕ)
-question_bytes packet = replicate 3 reset_bytes ++ replicate 5 (spelling packet)
+question_bytes packet = replicate 3 reset_bytes ++ replicate 5 (service_spelling packet)
 
--- frames, one after the other, take a decoder from one state to another, with these acknowledgements
+-- a decoder in state `before` that gets a list of frames, one after the other, is then in state
+-- `after`. The list of answers has its acknowledgement of each frame.
 unfoldable pub Steps : ServiceState → List (List ℕ) → ServiceState → List Bool → Type 0
 Steps before [] after [] = after ≡ before
 Steps before [] after (answer ∷ answers) = ⊥
@@ -16,10 +17,12 @@ Steps before (frame ∷ frames) after [] = ⊥
 Steps before (frame ∷ frames) after (answer ∷ answers) =
     (next : ServiceState) × Step before frame next answer × Steps next frames after answers
 
--- behind a question: in service, and the packet was acted on and is still pending
+-- the state of a decoder after a question, if `before` is its state before it. The decoder is in
+-- service mode and has executed `packet`, which is still pending.
 abbrev pub after_question : ServiceState → ServicePacket → ServiceState
 after_question before packet = record { in_service = true; pending = Some packet; cvs = acted_on packet before.cvs }
 
--- four times no, for the resets and the first copy, then four times this answer
+-- the acknowledgements of the eight frames of a question: four times no for the three resets and
+-- the first copy, and then four times `answer`
 abbrev pub four_no_then : Bool → List Bool
 four_no_then answer = replicate 4 false ++ replicate 4 answer

@@ -1,4 +1,4 @@
--- What the frames of a question come to, from any state of a decoder.
+-- Theorems about the frames of a question to a decoder in any state.
 use Rattle.std.specs.Prelude.{◌≡◌, ◌≢◌, ℕ, ◌==◌, Bool, true, false, List, replicate}
 use Rattle.std.specs.Int.{bit_at}
 use Rattle.dcc_packet.specs.Rows.{bit}
@@ -10,56 +10,62 @@ use Rattle.dcc_packet.specs.Cvs.{IsCvs, cv_in, is_read_only}
 use Rattle.dcc_service.specs.Machine.{ServiceState, Step, is_acknowledged}
 use Rattle.dcc_service.specs.Question.{Steps, question_bytes, after_question, four_no_then}
 
--- the eight frames of a question take a decoder from one state to another, with these acknowledgements
+-- a decoder in state `before` that gets the eight frames of `question` is then in state `after`,
+-- and `answers` are its acknowledgements
 pub record IsAsked (question : ServicePacket) (before after : ServiceState) (answers : List Bool) : Type 0 where
   pub cvs : IsCvs before.cvs
   pub steps : Steps before (question_bytes question) after answers
 
--- four times no, then four times whether the packet is acknowledged
+-- a decoder answers the frames of a question four times with no. It then answers four times with
+-- yes if it acknowledges the packet, otherwise with no.
 abbrev pub QuestionsAreAnswered : Type 0
 QuestionsAreAnswered =
     (question : ServicePacket) (before after : ServiceState) (answers : List Bool)
     → IsAsked question before after answers
     → (after ≡ after_question before question) × (answers ≡ four_no_then (is_acknowledged question before.cvs))
 
--- a frame takes a decoder from a state to one state, with one answer
+-- `frame` leads a decoder from a state to at most one state, with at most one answer
 abbrev pub OneStep : List ℕ → Type 0
 OneStep frame =
     (before after other : ServiceState) (answer reply : Bool) → Step before frame after answer
     → Step before frame other reply
     → (after ≡ other) × (answer ≡ reply)
 
--- of a verify: whether the CV has the value, and every CV stays
+-- a decoder acknowledges a question that verifies a CV if and only if `cv` has the value `value`,
+-- and no CV changes
 abbrev pub VerifiesTell : Type 0
 VerifiesTell =
     (cv : CvNumber) (value : ℕ) (before after : ServiceState) (answers : List Bool)
     → IsAsked (Verify cv value) before after answers
     → (answers ≡ four_no_then (cv_in before.cvs cv.number == value)) × (after.cvs ≡ before.cvs)
 
--- of a verify of a bit: whether the bit of the CV is as asked, and every CV stays
+-- a decoder acknowledges a question that verifies a bit of `cv` if and only if the bit has the
+-- value `one`, and no CV changes
 abbrev pub BitVerifiesTell : Type 0
 BitVerifiesTell = (cv : CvNumber) (bits : BitPlace) (one : Bool) (before after : ServiceState) (answers : List Bool)
     → IsAsked (BitVerify cv bits one) before after answers
     → (answers ≡ four_no_then (bit_at (cv_in before.cvs cv.number) bits.place == bit one)) × (after.cvs ≡ before.cvs)
 
--- the other CVs have the values that they had
+-- all CVs except `cv` have the same value in the CVs `before` and `after`
 abbrev pub OtherCvsStay : CvNumber → List ℕ → List ℕ → Type 0
 OtherCvsStay cv before after =
     (other : CvNumber) → other.number ≢ cv.number → cv_in after other.number ≡ cv_in before other.number
 
--- the other bits of a byte are as they were
+-- all bits except the bit `bits` are equal in the bytes `before` and `after`
 abbrev pub OtherBitsStay : BitPlace → ℕ → ℕ → Type 0
 OtherBitsStay bits before after =
     (other : BitPlace) → other.place ≢ bits.place → bit_at after other.place ≡ bit_at before other.place
 
--- of a write to another CV: yes, and the CV has the value
+-- if a question writes `value` to a CV except CV7 and CV8, a decoder acknowledges it and the CV
+-- then has this value. All other CVs are unchanged.
 abbrev pub WritesAreDone : Type 0
 WritesAreDone =
     (cv : CvNumber) (value : ℕ) (before after : ServiceState) (answers : List Bool) → is_read_only cv.number ≡ false
     → IsAsked (Write cv value) before after answers
     → (answers ≡ four_no_then true) × (cv_in after.cvs cv.number ≡ value) × OtherCvsStay cv before.cvs after.cvs
 
--- of a write to a bit of another CV: yes, and the bit is as written
+-- if a question writes a bit of a CV except CV7 and CV8, a decoder acknowledges it and the bit then
+-- has the value `one`. All other bits of this CV and all other CVs are unchanged.
 abbrev pub BitWritesAreDone : Type 0
 BitWritesAreDone =
     (cv : CvNumber) (bits : BitPlace) (one : Bool) (before after : ServiceState) (answers : List Bool)
@@ -68,7 +74,7 @@ BitWritesAreDone =
     → (answers ≡ four_no_then true) × (bit_at (cv_in after.cvs cv.number) bits.place ≡ bit one)
     × OtherBitsStay bits (cv_in before.cvs cv.number) (cv_in after.cvs cv.number) × OtherCvsStay cv before.cvs after.cvs
 
--- of a write to CV7 or CV8, or to a bit of them: eight times no, and every CV stays
+-- a decoder answers all eight frames of `question` with no, and no CV changes
 abbrev pub Refuses : ServicePacket → Type 0
 Refuses question = (before after : ServiceState) (answers : List Bool) → IsAsked question before after answers
     → (answers ≡ replicate 8 false) × (after.cvs ≡ before.cvs)

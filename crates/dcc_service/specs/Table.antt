@@ -1,5 +1,6 @@
--- The table of service packets: the bytes of each row (NMRA S-9.2.3, direct mode).
--- A row's comment is its bit pattern, the highest bit first; A is the CV's number less 1, so CV1 is 0.
+-- The table of service packets: the bytes of each row (NMRA S-9.2.3, direct mode). The comment of a
+-- row is its bit pattern, the highest bit first. A is the CV number less 1, so that it is 0 for
+-- CV1.
 use Rattle.std.specs.Prelude.{ℕ, ◌+◌, ◌-◌, ◌*◌, ◌/◌, ◌%◌, List, [], ◌∷◌}
 use Rattle.dcc_wire.specs.Frames.{with_error_byte}
 use Rattle.dcc_packet.specs.Rows.{bit}
@@ -7,20 +8,21 @@ use Rattle.dcc_packet.specs.declared.cv.CvNumber.{CvNumber}
 use Rattle.dcc_service.specs.declared.packet.ServicePacket.{ServicePacket}
 use Rattle.dcc_service.specs.declared.packet.ServicePacket.TheVariants.{Write, Verify, BitWrite, BitVerify}
 
--- a kind of access with the two high bits of A, the eight low bits of A, and a last byte
+-- the bytes of an access: `kind` with the two high bits of A, the eight low bits of A, and the byte
+-- `last`
 abbrev pub access_bytes : ℕ → CvNumber → ℕ → List ℕ
 access_bytes kind cv last = (kind + (cv.number - 1) / 256) ∷ ((cv.number - 1) % 256) ∷ last ∷ []
 
-abbrev pub instruction_bytes : ServicePacket → List ℕ
+abbrev pub service_bytes : ServicePacket → List ℕ
 -- write byte: 011111AA AAAAAAAA DDDDDDDD
-instruction_bytes (Write cv value) = access_bytes 0x7C cv value
+service_bytes (Write cv value) = access_bytes 0x7C cv value
 -- verify byte: 011101AA AAAAAAAA DDDDDDDD
-instruction_bytes (Verify cv value) = access_bytes 0x74 cv value
--- bit manipulation, write: 011110AA AAAAAAAA 1111DBBB, D is the bit, BBB its place
-instruction_bytes (BitWrite cv bits one) = access_bytes 0x78 cv (0xF0 + 8 * bit one + bits.place)
--- bit manipulation, verify: 011110AA AAAAAAAA 1110DBBB
-instruction_bytes (BitVerify cv bits one) = access_bytes 0x78 cv (0xE0 + 8 * bit one + bits.place)
+service_bytes (Verify cv value) = access_bytes 0x74 cv value
+-- bit manipulation, write: 011110AA AAAAAAAA 1111DBBB, D is the bit, BBB is its place
+service_bytes (BitWrite cv bits one) = access_bytes 0x78 cv (0xF0 + 8 * bit one + bits.place)
+-- bit manipulation, verify: 011110AA AAAAAAAA 1110DBBB, D is the bit, BBB is its place
+service_bytes (BitVerify cv bits one) = access_bytes 0x78 cv (0xE0 + 8 * bit one + bits.place)
 
--- the bytes of a service packet's frame
-abbrev pub spelling : ServicePacket → List ℕ
-spelling packet = with_error_byte (instruction_bytes packet)
+-- the bytes of the frame of the service packet `packet`
+abbrev pub service_spelling : ServicePacket → List ℕ
+service_spelling packet = with_error_byte (service_bytes packet)

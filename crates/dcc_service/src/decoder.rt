@@ -4,12 +4,12 @@ ghost use Rattle.std.specs.Prelude.{◌≡◌, ◌↔◌, IsTrue};
 ghost use Rattle.dcc_service.specs.Machine.{reset_bytes};
 
 use crate::progress::ServiceProgress;
-use dcc_packet::are_cvs;
+use dcc_packet::lemma_cvs;
 use dcc_wire::Frame;
 use std::marker::Model;
 
-/// A decoder on the programming track, in direct mode (NMRA S-9.2.3): in service or not, with a service
-/// packet pending or none, and its CVs.
+/// A decoder on the programming track, in direct mode (NMRA S-9.2.3). The decoder has its CVs, is
+/// in service mode or not, and can have a pending service packet.
 #[derive(Drop)]
 pub struct ServiceDecoder {
     pub(crate) progress: ServiceProgress,
@@ -18,11 +18,11 @@ pub struct ServiceDecoder {
 
 impl Model for ServiceDecoder {
     ghost use Rattle.dcc_service.specs.Machine.{ServiceState};
-    ghost use Rattle.dcc_service.specs.Progress.{with_cvs};
+    ghost use Rattle.dcc_service.specs.Progress.{state_with_cvs};
 
     ghost Value = { ServiceState };
 
-    ghost view = { λ d. with_cvs d.progress d.cvs };
+    ghost view = { λ d. state_with_cvs d.progress d.cvs };
 }
 
 impl ServiceDecoder {
@@ -30,7 +30,8 @@ impl ServiceDecoder {
     ghost use Rattle.dcc_packet.specs.Cvs.{IsCvs};
     ghost use Rattle.dcc_service.specs.Machine.{Step, acted_on, is_acknowledged};
 
-    /// A decoder out of service with these CVs, that of CV1 first.
+    /// Creates a decoder that is not in service mode, with these CVs. The first byte of `cvs` is
+    /// CV1.
     pub fn new(cvs: &[u8; 1024]) -> ServiceDecoder
         ensures { result ≡ record { in_service = false; pending = None; cvs = cvs.now } }
     {
@@ -40,20 +41,23 @@ impl ServiceDecoder {
         }
     }
 
-    /// The CVs, that of CV1 first.
+    /// Returns the CVs of the decoder. The first byte of the result is CV1.
     pub fn cvs(&self) -> &[u8; 1024]
         ensures value { result.now ≡ self.now.cvs }
         ensures bytes { IsCvs self.now.cvs }
     {
-        are_cvs(&self.cvs);
+        lemma_cvs(&self.cvs);
         &self.cvs
     }
 
-    /// Takes a frame, and answers whether the decoder acknowledges it.
+    /// Applies a frame. Returns true if the decoder acknowledges the frame.
     ///
-    /// The reset `00 00 00` puts it in service. There a service packet is acted on where it comes a
-    /// second time, and each time that it comes again; any other packet ends service. Acknowledged are
-    /// a write that was done and a verify that is true. CV7 and CV8 are not written.
+    /// The reset `00 00 00` enters service mode. In service mode the decoder executes a service
+    /// packet when the second copy comes, and again for each further copy that follows directly. A
+    /// packet that is neither the reset nor a service packet leaves service mode.
+    ///
+    /// The decoder acknowledges a write that it executes, and a comparison that holds. The decoder
+    /// never writes CV7 or CV8.
     pub fn apply(&mut self, frame: &Frame) -> bool
         ensures { Step self.old frame.now self.new result }
     {

@@ -1,7 +1,7 @@
-//! Frames as service packets.
+//! Functions that return the service packet that a frame encodes.
 
 ghost use Rattle.std.specs.Prelude.{◌≡◌, ◌≢◌, ◌≤◌, ◌<◌, ◌+◌, ◌*◌, ◌∷◌, [], Some, IfSome, IfNone};
-ghost use Rattle.dcc_service.specs.Table.{access_bytes, instruction_bytes, spelling};
+ghost use Rattle.dcc_service.specs.Table.{access_bytes, service_bytes, service_spelling};
 ghost use Rattle.dcc_service.specs.declared.packet.ServicePacket.{ServicePacket};
 
 use crate::ServicePacket;
@@ -9,11 +9,11 @@ use dcc_packet::{BitPlace, CvNumber};
 use dcc_wire::Frame;
 
 impl ServicePacket {
-    /// The service packet that the frame spells, or none where it is in no row. No frame has two readings
-    /// (NMRA S-9.2.3, direct mode).
+    /// Returns the service packet that the frame encodes. Returns `None` if the frame is in no row
+    /// of the table. No frame is in two rows (NMRA S-9.2.3, direct mode).
     pub fn read(frame: &Frame) -> Option<ServicePacket>
-        ensures spelled { IfSome result (λ packet. spelling packet ≡ frame.now) }
-        ensures only { (packet : ServicePacket) → spelling packet ≡ frame.now → result ≡ Some packet }
+        ensures spelled { IfSome result (λ packet. service_spelling packet ≡ frame.now) }
+        ensures only { (packet : ServicePacket) → service_spelling packet ≡ frame.now → result ≡ Some packet }
     {
         match *frame.bytes() {
             [first, low, last, _error_byte] => instruction(first, low, last),
@@ -22,10 +22,11 @@ impl ServicePacket {
     }
 }
 
-/// The service packet of the bytes before the error byte.
+/// Returns the service packet of the three bytes before the error byte. Returns `None` if the bytes
+/// encode no service packet.
 fn instruction(first: u8, low: u8, last: u8) -> Option<ServicePacket>
-    ensures found { IfSome result (λ packet. instruction_bytes packet ≡ first ∷ low ∷ last ∷ []) }
-    ensures none { IfNone result ((packet : ServicePacket) → instruction_bytes packet ≢ first ∷ low ∷ last ∷ []) }
+    ensures found { IfSome result (λ packet. service_bytes packet ≡ first ∷ low ∷ last ∷ []) }
+    ensures none { IfNone result ((packet : ServicePacket) → service_bytes packet ≢ first ∷ low ∷ last ∷ []) }
 {
     let cv = cv_at(first & 3, low);
     match first & 0xFC {
@@ -36,10 +37,10 @@ fn instruction(first: u8, low: u8, last: u8) -> Option<ServicePacket>
     }
 }
 
-/// The access to a bit of a CV that the last byte of the instruction names, 111KDBBB.
+/// Returns the bit access whose last byte is 111KDBBB. Returns `None` if `last` has another form.
 fn bit_access(cv: CvNumber, last: u8) -> Option<ServicePacket>
-    ensures found { IfSome result (λ packet. instruction_bytes packet ≡ access_bytes 0x78 cv last) }
-    ensures none { IfNone result ((packet : ServicePacket) → instruction_bytes packet ≢ access_bytes 0x78 cv last) }
+    ensures found { IfSome result (λ packet. service_bytes packet ≡ access_bytes 0x78 cv last) }
+    ensures none { IfNone result ((packet : ServicePacket) → service_bytes packet ≢ access_bytes 0x78 cv last) }
 {
     let place = bit_place(last & 7);
     let one = bit_place(3).is_set(last);
@@ -50,7 +51,7 @@ fn bit_access(cv: CvNumber, last: u8) -> Option<ServicePacket>
     }
 }
 
-/// The CV whose number less 1 has these high and low bits.
+/// Returns the CV whose number minus 1 has the high bits `high` and the low byte `low`.
 fn cv_at(high: u8, low: u8) -> CvNumber
     requires { high < 4 }
     ensures { result.number ≡ 256 * high + low + 1 }
@@ -61,7 +62,7 @@ fn cv_at(high: u8, low: u8) -> CvNumber
     }
 }
 
-/// This place.
+/// Returns the bit place with the number `place`.
 fn bit_place(place: u8) -> BitPlace
     requires { place ≤ 7 }
     ensures { result.place ≡ place }

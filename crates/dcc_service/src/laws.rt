@@ -1,33 +1,36 @@
-//! Laws of service mode.
+//! Theorems about service mode.
 
 ghost use Rattle.std.specs.Prelude.{◌≡◌, Option, Some};
 ghost use Rattle.dcc_service.specs.declared.packet.ServicePacket.{ServicePacket};
-ghost use Rattle.dcc_service.specs.Table.{spelling};
+ghost use Rattle.dcc_service.specs.Table.{service_spelling};
 ghost use Rattle.dcc_service.specs.QuestionLaws.{QuestionsAreAnswered, OneStep, VerifiesTell, BitVerifiesTell};
 ghost use Rattle.dcc_service.specs.QuestionLaws.{WritesAreDone, BitWritesAreDone, KeptCvsStay};
-ghost use Rattle.dcc_service.specs.ReadingLaws.{DecodersTellTheTruth, ReadingLeavesTheCvs, TruthComesToTheValue};
-ghost use Rattle.dcc_service.specs.ReadingLaws.{SilenceComesToNoAnswer, NumbersHaveTheirBits};
-ghost use Rattle.dcc_service.specs.ReadingLaws.{QuestionsHaveTheirFrames, ReadingBegins, ReadingGoesOn, ReadingIsAnswered};
+ghost use Rattle.dcc_service.specs.ReadingLaws.{DecodersTellTheTruth, ReadingLeavesTheCvs, TrueAnswersGiveValue};
+ghost use Rattle.dcc_service.specs.ReadingLaws.{AllNoGivesNoValue, NumbersHaveTheirBits};
+ghost use Rattle.dcc_service.specs.ReadingLaws.{QuestionsHaveTheirFrames, ReadingBegins, ReadingGoesOn};
+ghost use Rattle.dcc_service.specs.ReadingLaws.{ReadingIsAnswered};
 ghost use Rattle.dcc_service.specs.ReadingLaws.{ReadingKeepsTheCvs, ReadingTellsTheValue};
 
 use crate::ServicePacket;
 use crate::progress::is_reset;
 use dcc_wire::Frame;
 
-/// The frame of a service packet is read as the packet.
+/// Theorem: the service packet that `read` returns for the frame of a service packet is this
+/// packet.
 pub fn read_after_frame(packet: &ServicePacket) -> Option<ServicePacket>
     ensures { result ≡ Some packet.now }
 {
     ServicePacket::read(&packet.frame())
 }
 
-/// Service packets with one spelling are one packet, so no frame has two readings.
+/// Theorem: service packets with equal frames are equal, so no frame encodes two service packets.
 #[tactic(auto, using(crate::proofs::OneSpelling::one_packet))]
 pub fn one_reading()
-    ensures { (one other : ServicePacket) → spelling one ≡ spelling other → one ≡ other }
+    ensures { (one other : ServicePacket) → service_spelling one ≡ service_spelling other → one ≡ other }
 {}
 
-/// A frame takes a decoder from a state to one state, with one answer.
+/// Theorem: from each state of a decoder, a frame leads to exactly one state, with exactly one
+/// answer.
 pub fn one_step(frame: &Frame)
     ensures { OneStep frame.now }
 {
@@ -37,53 +40,61 @@ pub fn one_step(frame: &Frame)
     let _ = ServicePacket::read(frame);
 }
 
-/// To the eight frames of a question a decoder in any state answers four times no, and then four times
-/// whether it acknowledges the packet.
+/// Theorem: a decoder in any state does not acknowledge the first four of the eight frames of a
+/// question. The decoder acknowledges each of the last four frames if and only if it acknowledges
+/// the packet.
 pub fn questions_are_answered()
     ensures { QuestionsAreAnswered }
 {}
 
-/// Of a verify these answers are whether it is true, and every CV stays.
+/// Theorem: a decoder answers yes to a question that compares a CV or a bit if and only if the CV
+/// or the bit has this value. No CV changes.
 pub fn verifies_tell_the_truth()
     ensures byte { VerifiesTell }
     ensures bit { BitVerifiesTell }
 {}
 
-/// Of a write they are yes, and the CV or the bit is as written; all other CVs and bits stay.
+/// Theorem: a decoder acknowledges the last four frames of a write to a CV other than CV7 and CV8.
+/// After the write the CV or the bit has the written value, and all other CVs and bits are
+/// unchanged.
 pub fn writes_are_done()
     ensures byte { WritesAreDone }
     ensures bit { BitWritesAreDone }
 {}
 
-/// Of a write to CV7 or CV8 they are no, and every CV stays.
+/// Theorem: a decoder acknowledges no frame of a write to CV7 or CV8, and all CVs are unchanged.
 pub fn cv7_and_cv8_are_kept()
     ensures { KeptCvsStay }
 {}
 
-/// A decoder's answers to the questions of a reading are the bits of the CV, and then yes; no CV changes.
+/// Theorem: let a decoder hear the questions of a reading. The answer of the decoder to question k,
+/// from 0 to 7, is yes if and only if bit k of the CV is one. The answer of the decoder to the last
+/// question is yes. No CV changes.
 pub fn decoders_tell_the_truth()
     ensures answers { DecodersTellTheTruth }
     ensures cvs { ReadingLeavesTheCvs }
 {}
 
-/// Such answers come to the value of the CV, and silence comes to no answer.
+/// Theorem: a reading with the true answers for a value ends with this value. A reading whose
+/// answers are all no ends without a value.
 pub fn readings_tell_the_value()
-    ensures value { TruthComesToTheValue }
-    ensures silence { SilenceComesToNoAnswer }
+    ensures value { TrueAnswersGiveValue }
+    ensures silence { AllNoGivesNoValue }
 {}
 
-/// Bit k of the value that a reading tells is the answer to question k.
+/// Theorem: bit k of the value that a reading returns is the answer to question k, counted from 0.
 pub fn numbers_have_their_bits()
     ensures { NumbersHaveTheirBits }
 {}
 
-/// The question of a reading has this frame.
+/// Theorem: the frame of the next question of a reading is `question_frame` of the answers so far.
 pub fn questions_have_their_frames()
     ensures { QuestionsHaveTheirFrames }
 {}
 
-/// A reading that is under way, for a loop of one's own over a [`CvReader`](crate::CvReader): where nothing was asked yet, behind each
-/// question and its answer, and at the value that it tells, which is that of the CV.
+/// Theorem: if a caller puts each question of a [`CvReader`](crate::CvReader) to a decoder, the
+/// reading ends with the value of the CV, and no CV changes. A caller with its own loop uses this
+/// theorem. The clauses are about the start, each question with its answer, and the end.
 pub fn readings_under_way()
     ensures begins { ReadingBegins }
     ensures goes_on { ReadingGoesOn }

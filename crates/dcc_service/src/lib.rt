@@ -1,6 +1,8 @@
-//! Service mode: configuration variables (CVs) read and written on the programming track, in direct mode
-//! (NMRA S-9.2.3). A station puts questions, and a decoder answers each with an acknowledgement or with
-//! silence. Nothing here takes memory.
+//! Service mode: configuration variables (CVs) that are read and written on the programming track,
+//! in direct mode (NMRA S-9.2.3). A station sends questions, and a decoder acknowledges each
+//! question or stays silent.
+//!
+//! This crate does not allocate memory.
 #![tactic(auto)]
 
 mod decoder;

@@ -1,49 +1,49 @@
-//! Service packets (NMRA S-9.2.3, direct mode).
+//! The type of service packets (NMRA S-9.2.3, direct mode).
 
 ghost use Rattle.std.specs.Prelude.{◌≡◌, ◌↔◌, IsTrue};
 
 use dcc_packet::{BitPlace, CvNumber};
 
-/// What a frame asks of a decoder in service mode.
+/// A service packet, which is an instruction to a decoder in service mode.
 #[derive(Clone, Copy, Debug, PartialEq, Eq)]
 pub enum ServicePacket {
-    /// The CV is to have this value.
+    /// Writes a byte to a CV.
     Write {
-        /// The CV.
+        /// The number of the CV.
         cv: CvNumber,
-        /// Its value, a whole byte.
+        /// The byte that is written, 0 to 255.
         value: u8,
     },
-    /// Has the CV this value?
+    /// Compares a CV with a byte.
     Verify {
-        /// The CV.
+        /// The number of the CV.
         cv: CvNumber,
-        /// The value, a whole byte.
+        /// The byte that the CV is compared with, 0 to 255.
         value: u8,
     },
-    /// The bit of the CV is to be as given.
+    /// Writes a bit of a CV.
     BitWrite {
-        /// The CV.
+        /// The number of the CV.
         cv: CvNumber,
-        /// The place of the bit, counted from the lowest.
+        /// The place of the bit. Place 0 is the lowest bit.
         place: BitPlace,
-        /// Whether it is to be one.
+        /// The value that the bit gets, true for 1.
         one: bool,
     },
-    /// Is the bit of the CV as given?
+    /// Compares a bit of a CV with a value.
     BitVerify {
-        /// The CV.
+        /// The number of the CV.
         cv: CvNumber,
-        /// The place of the bit, counted from the lowest.
+        /// The place of the bit. Place 0 is the lowest bit.
         place: BitPlace,
-        /// Whether it is asked to be one.
+        /// The value that the bit is compared with, true for 1.
         one: bool,
     },
 }
 
 impl ServicePacket {
-    /// Whether this is the same packet as another.
-    // (by what they say: their frames would have to be made for it)
+    /// Returns true if both packets are equal.
+    // (compares fields, since a comparison of frames would have to create both frames)
     pub fn is(&self, other: &ServicePacket) -> bool
         ensures { IsTrue result ↔ (self.now ≡ other.now) }
     {
@@ -83,14 +83,14 @@ impl ServicePacket {
     }
 }
 
-/// Whether a byte for a CV is the same as another for another.
+/// Returns true if the two CVs are equal and the two bytes are equal.
 fn is_same_byte(own: &CvNumber, byte: u8, cv: &CvNumber, value: u8) -> bool
     ensures { IsTrue result ↔ ((own.now ≡ cv.now) × (byte ≡ value)) }
 {
     own.number() == cv.number() && byte == value
 }
 
-/// Whether a bit for a place in a CV is the same as another.
+/// Returns true if the two CVs, the two places and the two bits are equal.
 fn is_same_bit(
     own: &CvNumber,
     at: &BitPlace,

@@ -1,4 +1,5 @@
-//! How far a decoder on the programming track is, and what a frame does to it and to its CVs.
+//! The state of a decoder on the programming track without its CVs, and the effect of a frame on
+//! this state and on the CVs.
 
 ghost use Rattle.std.specs.Prelude.{◌≡◌, ◌↔◌, IsTrue};
 ghost use Rattle.dcc_service.specs.Machine.{reset_bytes, acted_on, is_acknowledged};
@@ -7,21 +8,22 @@ use crate::ServicePacket;
 use dcc_packet::{cv_value, write_cv};
 use dcc_wire::Frame;
 
-/// What a decoder on the programming track holds besides its CVs. These may stand anywhere, and are written where they stand.
+/// The state of a decoder on the programming track, without its CVs. A caller can store the CVs
+/// anywhere.
 #[derive(Clone, Copy)]
 pub struct ServiceProgress {
-    /// Whether it is in service.
+    /// True if the decoder is in service mode.
     pub in_service: bool,
-    /// The service packet that it acts on when it comes again, if there is one.
+    /// The pending service packet, which the decoder executes if the packet comes again.
     pub pending: Option<ServicePacket>,
 }
 
 impl ServiceProgress {
     ghost use Rattle.std.specs.Prelude.{◌≡◌, ◌↔◌, IsTrue, Some, None, true, false};
     ghost use Rattle.dcc_service.specs.Machine.{Step};
-    ghost use Rattle.dcc_service.specs.Progress.{with_cvs};
+    ghost use Rattle.dcc_service.specs.Progress.{state_with_cvs};
 
-    /// Out of service.
+    /// Creates the state of a decoder that is not in service mode.
     pub fn new() -> ServiceProgress
         ensures { result ≡ record { in_service = false; pending = None } }
     {
@@ -31,9 +33,10 @@ impl ServiceProgress {
         }
     }
 
-    /// A decoder with these CVs takes a frame, as `ServiceDecoder::apply` says, and answers whether it acknowledges it.
+    /// Applies a frame to a decoder with these CVs, as `ServiceDecoder::apply` does. Returns true
+    /// if the decoder acknowledges the frame.
     pub fn apply(&mut self, cvs: &mut [u8; 1024], frame: &Frame) -> bool
-        ensures { Step (with_cvs self.old cvs.old) frame.now (with_cvs self.new cvs.new) result }
+        ensures { Step (state_with_cvs self.old cvs.old) frame.now (state_with_cvs self.new cvs.new) result }
     {
         if is_reset(frame) {
             self.begin();
@@ -73,7 +76,7 @@ impl ServiceProgress {
         self.pending = Some(packet);
     }
 
-    /// Whether the packet is the pending one.
+    /// Returns true if the packet equals the pending packet.
     fn awaits(&self, packet: &ServicePacket) -> bool
         ensures { IsTrue result ↔ (self.now.pending ≡ Some packet.now) }
     {
@@ -84,7 +87,7 @@ impl ServiceProgress {
     }
 }
 
-/// Does what the packet asks, and answers whether that is acknowledged.
+/// Executes the packet. Returns true if the decoder acknowledges the packet.
 fn act(cvs: &mut [u8; 1024], packet: &ServicePacket) -> bool
     ensures after { cvs.new ≡ acted_on packet.now cvs.old }
     ensures answer { result ≡ is_acknowledged packet.now cvs.old }
@@ -100,7 +103,7 @@ fn act(cvs: &mut [u8; 1024], packet: &ServicePacket) -> bool
     }
 }
 
-/// Whether the frame is the reset to all decoders.
+/// Returns true if the frame is the broadcast reset `00 00 00`.
 pub(crate) fn is_reset(frame: &Frame) -> bool
     ensures { IsTrue result ↔ (frame.now ≡ reset_bytes) }
 {

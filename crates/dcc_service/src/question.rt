@@ -1,4 +1,4 @@
-//! Service packets sent as questions.
+//! Functions that send questions, which are service packets after resets.
 
 ghost use Rattle.std.specs.Prelude.{◌≡◌};
 ghost use Rattle.dcc_service.specs.Machine.{reset_bytes, is_acknowledged};
@@ -8,8 +8,8 @@ ghost use Rattle.dcc_service.specs.Question.{question_bytes, after_question};
 use crate::{ServiceDecoder, ServicePacket};
 use dcc_wire::Frame;
 
-/// The frames that put a question to a decoder: three resets, which put it in service, then five copies
-/// (NMRA S-9.2.3).
+/// Returns the eight frames of a question: three resets, which enter service mode, and then five
+/// copies of the packet (NMRA S-9.2.3).
 pub fn question_frames(question: &ServicePacket) -> [Frame; 8]
     ensures { result ≡ question_bytes question.now }
 {
@@ -18,7 +18,7 @@ pub fn question_frames(question: &ServicePacket) -> [Frame; 8]
     [reset, reset, reset, copy, copy, copy, copy, copy]
 }
 
-/// The reset to all decoders.
+/// Returns the frame of the broadcast reset `00 00 00`.
 fn reset_frame() -> Frame
     ensures { result ≡ reset_bytes }
 {
@@ -28,7 +28,7 @@ fn reset_frame() -> Frame
     }
 }
 
-/// Puts a question to a decoder, and answers whether it acknowledges one of the eight frames.
+/// Sends a question to a decoder. Returns true if the decoder acknowledges one of the eight frames.
 pub fn ask(decoder: &mut ServiceDecoder, question: &ServicePacket) -> bool
     ensures answer { result ≡ is_acknowledged question.now decoder.old.cvs }
     ensures after { decoder.new ≡ after_question decoder.old question.now }

@@ -1,4 +1,4 @@
-//! A configuration variable read by questions.
+//! A reading of a CV, which asks the decoder questions.
 
 ghost use Rattle.std.specs.Prelude.{◌≡◌, ◌<◌, ◌≤◌, ◌+◌, ◌*◌, ◌^◌, ◌++◌, [], ◌∷◌, length};
 
@@ -6,14 +6,14 @@ use crate::ServicePacket;
 use dcc_packet::{BitPlace, CvNumber};
 use std::marker::Model;
 
-/// A reading that still has questions to put: whether bit 0 of the CV is one, and so on to bit 7, and then
-/// whether the CV has the value of these answers.
+/// A reading of a CV that has questions left. The first eight questions compare the bits 0 to 7 of
+/// the CV with one. The last question compares the CV with the value that the eight answers form.
 #[derive(Drop)]
 pub struct CvReader {
     cv: CvNumber,
-    /// How many bits are known, from the lowest on.
+    /// The number of known bits, which are the bits 0 to `known - 1`.
     known: u8,
-    /// Their value.
+    /// The value of the known bits. The unknown bits are 0.
     value: u8,
 }
 
@@ -29,14 +29,15 @@ impl Model for CvReader {
     ghost invariant = { λ r. (r.known ≤ 8) × (r.value < 2 ^ r.known) };
 }
 
-/// What an answer makes of a reading.
+/// The state of a reading after an answer.
 #[derive(Drop)]
 pub enum Reading {
-    /// There is a further question.
+    /// A question is left, and the reading goes on.
     More(CvReader),
-    /// The CV has this value: the decoder has acknowledged it.
+    /// The reading ended with the value of the CV, which the decoder acknowledged.
     Value(u8),
-    /// S1: the value of the eight answers was not acknowledged, so none is known.
+    /// S1: the decoder did not acknowledge the value that the eight answers form, so the value of
+    /// the CV is unknown.
     NoAnswer,
 }
 
@@ -44,9 +45,9 @@ impl CvReader {
     ghost use Rattle.std.specs.Prelude.{◌≡◌, ◌↔◌, ◌<◌, ◌≤◌, ◌^◌, ◌++◌, [], ◌∷◌, length, IsSome, IfSome};
     ghost use Rattle.dcc_service.specs.Bits.{bits_from_lowest, number_from_lowest};
     ghost use Rattle.dcc_service.specs.CvAnswers.{Asks};
-    ghost use Rattle.dcc_service.specs.Readings.{Comes};
+    ghost use Rattle.dcc_service.specs.Readings.{ReadingEnds};
 
-    /// A reading of this CV, of which nothing is known.
+    /// Creates a reading of the CV `cv` without answers.
     pub fn new(cv: CvNumber) -> CvReader
         ensures { result ≡ record { cv = cv; answers = [] } }
     {
@@ -57,8 +58,9 @@ impl CvReader {
         }
     }
 
-    /// A reading that was put away: of this CV, with so many answers, which are the bits of this value, the lowest first. None where
-    /// there are more than 8 of them, or where the value has more bits.
+    /// Creates the reading of the CV `cv` in which `known` questions were answered. The answers are
+    /// the bits of `value`, the lowest bit first. Returns `None` if `known` is above 8, or if
+    /// `value` has more than `known` bits.
     pub fn restore(cv: CvNumber, known: u8, value: u8) -> Option<CvReader>
         ensures valid { IsSome result ↔ ((known ≤ 8) × (value < 2 ^ known)) }
         ensures reading { IfSome result (λ r. r ≡ record { cv = cv; answers = bits_from_lowest known value }) }
@@ -69,14 +71,15 @@ impl CvReader {
         Some(CvReader { cv, known, value })
     }
 
-    /// The CV that is read.
+    /// Returns the CV that is read.
     pub fn cv(&self) -> CvNumber
         ensures { result ≡ self.now.cv }
     {
         self.cv
     }
 
-    /// How many answers there are, 0 to 8: as many bits of the CV are known, from the lowest on.
+    /// Returns the number of answers, 0 to 8. After n answers, the bits 0 to n - 1 of the CV are
+    /// known.
     pub fn known(&self) -> u8
         ensures known { result ≡ length self.now.answers }
         ensures few { result ≤ 8 }
@@ -84,14 +87,14 @@ impl CvReader {
         self.known
     }
 
-    /// The value of these bits.
+    /// Returns the value of the known bits. The unknown bits are 0.
     pub fn value(&self) -> u8
         ensures { result ≡ number_from_lowest self.now.answers }
     {
         self.value
     }
 
-    /// The next question.
+    /// Returns the service packet of the next question.
     pub fn question(&self) -> ServicePacket
         ensures question { Asks self.now result }
         ensures few { length self.now.answers ≤ 8 }
@@ -109,9 +112,10 @@ impl CvReader {
         }
     }
 
-    /// Takes the answer to the question, yes where one of its frames was acknowledged.
+    /// Applies the answer to the next question, and returns the state of the reading. The parameter
+    /// `yes` is true if the decoder acknowledged one of the eight frames.
     pub fn answer(self, yes: bool) -> Reading
-        ensures { Comes self.cv (self.answers ++ yes ∷ []) result }
+        ensures { ReadingEnds self.cv (self.answers ++ yes ∷ []) result }
     {
         if self.known < 8 {
             return Reading::More(CvReader {

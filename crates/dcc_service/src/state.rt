@@ -1,11 +1,13 @@
-//! A decoder on the programming track that is put away and taken up again.
+//! Functions that convert a decoder on the programming track to and from its state.
 
 use crate::{ServiceDecoder, ServicePacket, ServiceProgress};
 
 impl ServiceDecoder {
     ghost use Rattle.std.specs.Prelude.{◌≡◌};
 
-    /// A decoder in this state: in service or not, with this packet pending or none, and with these CVs, that of CV1 first.
+    /// Creates a decoder in this state. The parameter `in_service` is true if the decoder is in
+    /// service mode, and `pending` is its pending packet, if there is one. The first byte of `cvs`
+    /// is CV1.
     pub fn restore(
         in_service: bool,
         pending: Option<ServicePacket>,
@@ -22,14 +24,15 @@ impl ServiceDecoder {
         }
     }
 
-    /// Whether the decoder is in service.
+    /// Returns true if the decoder is in service mode.
     pub fn is_in_service(&self) -> bool
         ensures { result ≡ self.now.in_service }
     {
         self.progress.in_service
     }
 
-    /// The packet that is acted on where it comes again, if one is pending.
+    /// Returns the pending packet, which the decoder executes if the packet comes again. Returns
+    /// `None` if no packet is pending.
     pub fn pending(&self) -> Option<ServicePacket>
         ensures { result ≡ self.now.pending }
     {

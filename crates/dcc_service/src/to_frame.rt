@@ -1,18 +1,18 @@
-//! Service packets as frames.
+//! Functions that return the frame of a service packet.
 
 ghost use Rattle.std.specs.Prelude.{◌≡◌, ◌≤◌};
 ghost use Rattle.dcc_wire.specs.Frames.{with_error_byte};
-ghost use Rattle.dcc_service.specs.Table.{access_bytes, spelling};
+ghost use Rattle.dcc_service.specs.Table.{access_bytes, service_spelling};
 
 use crate::ServicePacket;
 use dcc_packet::CvNumber;
 use dcc_wire::Frame;
 
 impl ServicePacket {
-    /// The frame that spells the packet: the bytes of its row and the error byte (NMRA S-9.2.3).
-    /// Reading it gives the packet again.
+    /// Returns the frame that encodes the packet: the bytes of the row that has this packet, and
+    /// the error byte (NMRA S-9.2.3). `ServicePacket::read` returns the packet for this frame.
     pub fn frame(&self) -> Frame
-        ensures { result ≡ spelling self.now }
+        ensures { result ≡ service_spelling self.now }
     {
         match self {
             ServicePacket::Write { cv, value } => access(0x7C, cv, *value),
@@ -27,7 +27,8 @@ impl ServicePacket {
     }
 }
 
-/// An access to a CV, with the last byte of the instruction.
+/// Returns the frame of an access to a CV. The parameter `kind` has the upper six bits of the first
+/// byte, and `last` is the last byte before the error byte.
 fn access(kind: u8, cv: &CvNumber, last: u8) -> Frame
     requires { kind ≤ 0x7C }
     ensures { result ≡ with_error_byte (access_bytes kind cv.now last) }

@@ -1,6 +1,9 @@
-//! The program `dcc_show`: it lists the capture on standard input as `dcc show` does, with packets in words where it is given the
-//! word `--words`. It stands on what reads a capture and on nothing else, so it is the first that a newcomer has proved, and it is
-//! what a program over these crates takes: words, streams, a call, an exit status.
+//! The program `dcc_show` lists the capture on standard input, as `dcc show` does. With the
+//! argument `--words` packets are written as packet lines.
+//!
+//! The program depends only on the crates that read a capture, so it is the program with the
+//! shortest proof time. The program also shows the parts of a program over these crates: arguments,
+//! streams, an operation, and an exit status.
 #![tactic(auto)]
 
 mod program;

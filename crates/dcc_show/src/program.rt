@@ -1,17 +1,18 @@
-//! One call of the program, over any words, streams and standard error.
+//! One run of the program, over any arguments, input, writer and standard error.
 ghost use Rattle.std.specs.Prelude.{◌≡◌, None, Bool, Result};
-ghost use Rattle.dcc_show.specs.Program.{DoesAsAsked, IsAsked, status_of};
+ghost use Rattle.dcc_show.specs.Program.{DoesAsAsked, RequestsListing, listing_status};
 
 use dcc_capture::show;
 use dcc_io::{Input, Sink, Source, ToolFault, Usage};
 use std::env::{Env, FillError};
 
-/// Lists the capture in the input, and answers the exit status. A fault is told on standard error.
+/// Lists the capture of the input, and returns the exit status. The function writes an error to
+/// standard error.
 pub fn run<T: Env + Eprint, R: Source, W: Sink>(rt: &T, input: &mut Input<R>, writer: &mut W) -> u8
     requires { input.old.fault ≡ None }
-    ensures { (asked : Result Bool ToolFault) × IsAsked asked × (outcome : Result (Unit {0}) ToolFault)
+    ensures { (asked : Result Bool ToolFault) × RequestsListing asked × (outcome : Result (Unit {0}) ToolFault)
         × DoesAsAsked asked input.old (W.state writer.old) outcome input.new (W.state writer.new)
-        × (result ≡ status_of outcome) }
+        × (result ≡ listing_status outcome) }
 {
     let outcome = list(in_words(rt), input, writer);
     if let Err(fault) = &outcome {
@@ -20,7 +21,8 @@ pub fn run<T: Env + Eprint, R: Source, W: Sink>(rt: &T, input: &mut Input<R>, wr
     exit_status(&outcome)
 }
 
-/// Does what was asked for: packets in words or in hex, or a refusal of the words.
+/// Lists the capture, with packets as packet lines if `asked` is true. If `asked` is an error of
+/// the arguments, returns this error.
 fn list<R: Source, W: Sink>(
     asked: Result<bool, ToolFault>,
     input: &mut Input<R>,
@@ -35,9 +37,11 @@ fn list<R: Source, W: Sink>(
     }
 }
 
-/// Whether packets are listed in words: the words behind the program's name are `--words` or none.
+/// Returns true if the only argument is `--words`, and false if there is no argument.
+///
+/// Errors: U1 for other arguments.
 fn in_words<T: Env>(rt: &T) -> Result<bool, ToolFault>
-    ensures { IsAsked result }
+    ensures { RequestsListing result }
 {
     let mut word = [0; 8];
     let len = match rt.arg(1, &mut word) {
@@ -51,9 +55,10 @@ fn in_words<T: Env>(rt: &T) -> Result<bool, ToolFault>
     }
 }
 
-/// The exit status of `dcc`: 0 where all is written, 2 for words that are none of its own, 3 for any other fault.
+/// Returns the exit status: 0 if the whole listing was written, 2 for wrong arguments, 3 for any
+/// other error.
 fn exit_status(outcome: &Result<(), ToolFault>) -> u8
-    ensures { result ≡ status_of outcome.now }
+    ensures { result ≡ listing_status outcome.now }
 {
     match outcome {
         Ok(()) => 0,

@@ -12,3 +12,5 @@ pub mod ResetLeft
 pub mod LeftByAll
 pub mod LeftByOne
 pub mod LeftToldRight
+pub mod StationRuns
+pub mod WaitingLemmas

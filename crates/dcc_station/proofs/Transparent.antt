@@ -22,8 +22,8 @@ use Rattle.dcc_regs.specs.Setting.{value_over, mode_in}
 use Rattle.dcc_regs.proofs.ResultByParts.{read, read-state_after, State, step, state_after, start}
 use Rattle.dcc_station.specs.Sending.{Sending, copies, Displaces, Leaves, with_entry, Refreshes, EntriesAfter, HandsOut}
 use Rattle.dcc_station.specs.Commands.{is_refreshed}
-use Rattle.dcc_station.specs.Refresh.{StandsFor, made, accepts, hands_out, intended, RefreshIsTransparent}
-use Rattle.dcc_station.specs.Refresh.{TransparentWhereNothingWaits, WaitingIsTheEnd}
+use Rattle.dcc_station.specs.Refresh.{StationRepresents, made, accepts, hands_out, intended, RefreshIsTransparent}
+use Rattle.dcc_station.specs.Refresh.{TransparentWhereNothingWaits, WaitingIsSuffix}
 use Rattle.dcc_station.proofs.Tables.{refreshed_address, refreshed_is_no_write}
 use Rattle.dcc_regs.proofs.LawLemmas.{idle_is_unheard, values_are_decided}
 use Rattle.dcc_regs.proofs.ConflictLemmas.{conflict_from}
@@ -241,7 +241,7 @@ module _ (who : Who) where
         → Progress sent waiting done c s → Progress sent (waiting ++ p ∷ []) done c s
     more_waits sent waiting done c s p progress = grind arith
 
-    stands : (s : Sending) (commands packets : List Packet) → StandsFor s commands packets
+    stands : (s : Sending) (commands packets : List Packet) → StationRepresents s commands packets
         → Invariant s commands packets
     stands _ _ _ (made queue slots repeats some) =
         record { done = []; target = core (start m); split = refl; progress = (refl, refl); entries = tt; some = some }
@@ -288,6 +288,6 @@ refresh_all s commands packets from none who m r other =
         → Progress who m sent waiting done c now → sent ≡ 0
     none_sent sent waiting done c now e progress = grind arith
 
-pub waiting_is_the_end : WaitingIsTheEnd
+pub waiting_is_the_end : WaitingIsSuffix
 waiting_is_the_end s commands packets from =
     let inv = stands (Loco None) (λ r. None) s commands packets from in (inv.done, inv.split)

@@ -1,4 +1,4 @@
--- Which packets a station sends, and which it refreshes.
+-- The packets that a station sends, and the packets that it refreshes.
 use Rattle.std.specs.Prelude.{Bool, true, false, not}
 use Rattle.dcc_packet.specs.declared.address.Address.TheVariants.{Broadcast, Short, Long}
 use Rattle.dcc_packet.specs.declared.instruction.What.{What}
@@ -8,7 +8,7 @@ use Rattle.dcc_packet.specs.Instruction.{is_cv_access}
 use Rattle.dcc_packet.specs.declared.packet.Packet.{Packet}
 use Rattle.dcc_packet.specs.declared.packet.Packet.TheVariants.{Idle, Loco, Accessory, Signal, Other}
 
--- an instruction that sets the speed or functions
+-- true if the instruction sets the speed or a function group
 abbrev pub sets_speed_or_functions : What → Bool
 sets_speed_or_functions Reset = false
 sets_speed_or_functions (Speed28 forward bits) = true
@@ -20,7 +20,7 @@ sets_speed_or_functions (CvVerify cv value) = false
 sets_speed_or_functions (CvBitWrite cv place one) = false
 sets_speed_or_functions (CvBitVerify cv place one) = false
 
--- a packet that is refreshed: it sets the speed or functions of one locomotive
+-- true if a station refreshes the packet: it sets the speed or a function group of one locomotive
 unfoldable pub is_refreshed : Packet → Bool
 is_refreshed Idle = false
 is_refreshed (Loco Broadcast what) = false
@@ -30,7 +30,8 @@ is_refreshed (Accessory board output on) = false
 is_refreshed (Signal address aspect) = false
 is_refreshed (Other frame) = false
 
--- a command that can be sent: not Idle, no frame that is in no row, no CV access under the broadcast address
+-- true if a station sends the packet: it is no idle packet, no other packet, and no CV access with
+-- the broadcast address
 unfoldable pub is_sendable : Packet → Bool
 is_sendable Idle = false
 is_sendable (Loco Broadcast what) = not (is_cv_access what)

@@ -1,2 +1,2 @@
--- What the contracts of private functions cite, and no public one.
+-- Definitions that only contracts of private functions use.
 pub mod Kept

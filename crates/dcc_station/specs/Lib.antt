@@ -2,6 +2,7 @@ pub mod Commands
 pub mod Sending
 pub mod Limits
 pub mod Refresh
+pub mod WaitingTimes
 pub mod FaultNumbers
 pub mod States
 pub mod Rings

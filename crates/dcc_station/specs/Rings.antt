@@ -4,11 +4,13 @@ use Rattle.circular_buffer.specs.Buffer.{Buffer}
 use Rattle.dcc_packet.specs.declared.packet.Packet.{Packet}
 use Rattle.dcc_station.specs.Sending.{Sending}
 
--- so many items of a ring from its start on; behind the last place comes the first
+-- the `len` items of a ring with the slots `places`, from slot `start` on. The first slot follows
+-- the last slot.
 abbrev pub ring_items : {X : Type 0} → ℕ → ℕ → List X → List X
 ring_items start len places = take len (drop start places ++ take start places)
 
--- what a station has whose commands wait in one ring, and whose entries stand in another
+-- the state of a station with its queue in the ring `commands` and its entries in the ring
+-- `entries`
 abbrev pub sending_over : Buffer Packet → ℕ → Buffer Packet → ℕ → Sending
 sending_over commands sent entries repeats = record {
   waiting = commands.items;

@@ -1,4 +1,4 @@
--- What a command station sends: the commands that wait, then the packets that it refreshes.
+-- The packets that a command station sends: the commands of the queue, then the entries.
 use Rattle.std.specs.Prelude.{ℕ, ◌+◌, ◌≡◌, ◌⊎◌, true, List, [], ◌∷◌, ◌++◌, if◌then◌else◌, nat_le}
 use Rattle.std.proofs.Common.{zero, suc}
 use Rattle.dcc_packet.specs.declared.packet.Packet.{Packet}
@@ -9,8 +9,8 @@ use Rattle.dcc_regs.specs.Writes.{is_own_write, writes_cv29}
 use Rattle.circular_buffer.specs.Buffer.{keep_last}
 use Rattle.dcc_station.specs.Commands.{is_refreshed}
 
--- what a station has: the commands that wait, how often the first of them was sent, the entries to refresh, and its
--- sizes
+-- the state of a station: its queue `waiting`, the number `sent` of copies of the first command
+-- that were sent, its `entries`, and its sizes
 pub record Sending : Type 0 where
   pub waiting : List Packet
   pub sent : ℕ
@@ -19,54 +19,60 @@ pub record Sending : Type 0 where
   pub slots : ℕ
   pub repeats : ℕ
 
--- a station that has no command yet
+-- the state of a new station with the sizes `queue`, `slots` and `repeats`
 abbrev pub idle_sending : ℕ → ℕ → ℕ → Sending
 idle_sending queue slots repeats =
     record { waiting = []; sent = 0; entries = []; queue = queue; slots = slots; repeats = repeats }
 
--- how often a command is sent in a row: a CV write once more, since it acts at the second of two copies
+-- the number of copies of the command `p` that are sent in a row. An own write is sent once more
+-- than other commands, since it takes effect at its second copy.
 abbrev pub copies : ℕ → Packet → ℕ
 copies repeats p = if is_own_write p then repeats + 1 else repeats
 
--- an entry that a command puts an end to: the same packet, one that conflicts with it or, where it writes CV29, one to
--- its address
+-- the command `p` displaces `entry`: they are equal, they conflict, or `p` writes CV29 and both
+-- have one address
 abbrev pub Displaces : Packet → Packet → Type 0
 Displaces p entry = (entry ≡ p) ⊎ (Conflict p entry ⊎ ((writes_cv29 p ≡ true) × (address_of entry ≡ address_of p)))
 
--- kept is what a command leaves of the entries
+-- `kept` are the entries of a list that the command `p` does not displace, in order
 abbrev pub Leaves : Packet → List Packet → List Packet → Type 0
 Leaves p [] kept = kept ≡ []
 Leaves p (entry ∷ entries) kept =
     (Displaces p entry × Leaves p entries kept)
     ⊎ (¬ Displaces p entry × ((rest : List Packet) × (kept ≡ entry ∷ rest) × Leaves p entries rest))
 
--- entries with one more behind them. Where they are full, the front one goes
+-- the list `entries` with the entry `p` added at its end. If the list would be longer than `slots`,
+-- its first entry is removed.
 abbrev pub with_entry : ℕ → List Packet → Packet → List Packet
 with_entry slots entries p = keep_last slots (entries ++ p ∷ [])
 
--- the entries after the first copy of a command
+-- `new` are the entries of a station after the first copy of the command `p`, if `entries` are its
+-- entries before
 abbrev pub Refreshes : ℕ → Packet → List Packet → List Packet → Type 0
 Refreshes slots p entries new =
     (kept : List Packet) × Leaves p entries kept × (new ≡ (if is_refreshed p then with_entry slots kept p else kept))
 
--- a command is accepted
+-- the state of a station after it has accepted the command `p`
 abbrev pub with_command : Sending → Packet → Sending
 with_command s p = record s { waiting = s.waiting ++ p ∷ [] }
 
--- one more copy of the first command was sent. It leaves the queue after its last copy
+-- the state of a station after one more copy of the command `p`, which leaves the queue after its
+-- last copy; `rest` are the commands after `p`
 abbrev pub sent_once_more : Sending → Packet → List Packet → List Packet → Sending
 sent_once_more s p rest entries =
     if nat_le (copies s.repeats p) (s.sent + 1)
     then record s { waiting = rest; sent = 0; entries = entries }
     else record s { sent = s.sent + 1; entries = entries }
 
--- the first copy of a command changes the entries, and no other copy does
+-- `after` are the entries of a station after one more copy of the command `p`; only the first copy
+-- changes the entries
 abbrev pub EntriesAfter : ℕ → ℕ → Packet → List Packet → List Packet → Type 0
 EntriesAfter zero slots p entries after = Refreshes slots p entries after
 EntriesAfter (suc sent) slots p entries after = after ≡ entries
 
--- a station hands out a packet: a copy of the first command that waits, else the front entry, which goes to the end,
--- else Idle
+-- a station in state `s` returns the packet `out` and is then in state `new`. This is a copy of the
+-- first command in the queue. If no command waits, it is the first entry, which moves to the end.
+-- If there is no entry either, it is an idle packet.
 abbrev pub HandsOut : List Packet → List Packet → Sending → Packet → Sending → Type 0
 HandsOut (p ∷ rest) entries s out new =
     (out ≡ p)
@@ -77,7 +83,8 @@ HandsOut [] [] s out new = (out ≡ Idle) × (new ≡ s)
 abbrev pub Next : Sending → Packet → Sending → Type 0
 Next s out new = HandsOut s.waiting s.entries s out new
 
--- a station hands out these packets one after the other
+-- a station in state `s` returns the packets of a list, one after the other, and is then in state
+-- `new`
 abbrev pub NextAll : Sending → List Packet → Sending → Type 0
 NextAll s [] new = new ≡ s
 NextAll s (p ∷ later) new = (between : Sending) × Next s p between × NextAll between later new

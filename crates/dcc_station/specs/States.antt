@@ -1,4 +1,4 @@
--- Binary states and the entries of a station.
+-- Theorems about binary states and the entries of a station.
 use Rattle.std.specs.Prelude.{Bool, true, false, ◌≡◌}
 use Rattle.dcc_packet.specs.declared.address.Address.{Address}
 use Rattle.dcc_packet.specs.declared.instruction.What.TheVariants.{BinaryState}
@@ -8,12 +8,12 @@ use Rattle.dcc_packet.specs.declared.state.StateNumber.{StateNumber}
 use Rattle.dcc_regs.specs.Conflict.{Conflict}
 use Rattle.dcc_station.specs.Commands.{is_refreshed}
 
--- a binary state is never an entry
+-- a station never refreshes a packet that sets a binary state
 abbrev pub StatesAreNoEntries : Type 0
 StatesAreNoEntries =
     (to : Address) (number : StateNumber) (on : Bool) → is_refreshed (Loco to (BinaryState number on)) ≡ false
 
--- a binary state conflicts with no packet that is refreshed
+-- a packet that sets a binary state conflicts with no packet that a station refreshes
 abbrev pub StatesConflictWithNoEntry : Type 0
 StatesConflictWithNoEntry =
     (to : Address) (number : StateNumber) (on : Bool) (entry : Packet) → is_refreshed entry ≡ true

@@ -1,4 +1,4 @@
-//! Which packets a station sends, and how.
+//! Functions that say which packets a station sends, and how often.
 
 ghost use Rattle.std.specs.Prelude.{◌≡◌, ◌≤◌};
 ghost use Rattle.dcc_packet.specs.declared.packet.Packet.TheVariants.{Loco as ToLoco};
@@ -9,7 +9,7 @@ ghost use Rattle.dcc_station.specs.Sending as sending;
 use dcc_packet::{Address, Packet, What};
 use dcc_regs::is_own_write;
 
-/// Whether a packet is a command that can be sent.
+/// Returns true if the packet is a command that a station sends.
 #[tactic(auto, unfolding(crate::specs::Commands::is_sendable))]
 pub fn is_sendable(packet: &Packet) -> bool
     ensures { result ≡ commands.is_sendable packet.now }
@@ -25,7 +25,8 @@ pub fn is_sendable(packet: &Packet) -> bool
     }
 }
 
-/// Whether a command is refreshed: it sets the speed or functions of one locomotive.
+/// Returns true if the station refreshes the command: the command sets the speed or functions of
+/// one locomotive.
 #[tactic(auto, unfolding(crate::specs::Commands::is_refreshed))]
 pub fn is_refreshed(command: &Packet) -> bool
     ensures { result ≡ commands.is_refreshed command.now }
@@ -36,7 +37,7 @@ pub fn is_refreshed(command: &Packet) -> bool
     }
 }
 
-/// The same of an instruction to an address.
+/// Returns true if the station refreshes the instruction `what` to the address `to`.
 #[tactic(auto, unfolding(crate::specs::Commands::is_refreshed))]
 pub fn is_refreshed_at(to: &Address, what: &What) -> bool
     ensures { result ≡ commands.is_refreshed (ToLoco to.now what.now) }
@@ -52,7 +53,7 @@ pub fn is_refreshed_at(to: &Address, what: &What) -> bool
     }
 }
 
-/// Whether a command writes CV29, as a byte or a bit.
+/// Returns true if the command writes CV29 or a bit of CV29.
 pub fn writes_cv29(command: &Packet) -> bool
     ensures { result ≡ writes.writes_cv29 command.now }
 {
@@ -65,7 +66,8 @@ pub fn writes_cv29(command: &Packet) -> bool
     }
 }
 
-/// How often a command is sent in a row.
+/// Returns the number of copies of a command that are sent in a row: `repeats`, or one more for an
+/// own write.
 pub fn copies(repeats: u8, command: &Packet) -> u8
     requires { repeats ≤ 8 }
     ensures { result ≡ sending.copies repeats command.now }

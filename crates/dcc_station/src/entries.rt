@@ -1,4 +1,5 @@
-//! The packets that a station refreshes, and what a command leaves of them.
+//! The entries of a station, which are the packets that it refreshes, and the effect of a command
+//! on them.
 
 ghost use Rattle.std.specs.Prelude.{◌≡◌, IsTrue, ◌↔◌, slice_get, drop, ◌++◌, ◌∷◌, [], IfSome, IfNone};
 ghost use Rattle.circular_buffer.specs.Buffer.{buffer};
@@ -12,7 +13,7 @@ use crate::ring::PacketRing;
 use dcc_packet::{Address, Packet, What};
 use dcc_regs::{address_of, conflict};
 
-/// The front entry, which goes to the end. Nothing changes where there is none.
+/// Moves the first entry to the end and returns this entry. Returns `None` if there is no entry.
 pub fn rotated<R: PacketRing>(entries: &mut R) -> Option<Packet>
     ensures front { result ≡ slice_get (R.buffer entries.old).items 0 }
     ensures entries { IfSome result (λ entry. R.buffer entries.new
@@ -24,8 +25,9 @@ pub fn rotated<R: PacketRing>(entries: &mut R) -> Option<Packet>
     front
 }
 
-/// What the first copy of a command does to the entries: those that it puts an end to are removed, and then it is one
-/// itself, the last, where it sets the speed or functions of one locomotive.
+/// Updates the entries after the first copy of a command. The function removes the entries that the
+/// command displaces. A command that sets the speed or functions of one locomotive then becomes the
+/// last entry.
 pub fn refresh_after<R: PacketRing>(entries: &mut R, command: &Packet)
     ensures entries { Refreshes (R.buffer entries.old).capacity command.now
         (R.buffer entries.old).items (R.buffer entries.new).items }
@@ -37,7 +39,7 @@ pub fn refresh_after<R: PacketRing>(entries: &mut R, command: &Packet)
     }
 }
 
-/// Removes the entries that a command puts an end to. The others are moved to the front, each once.
+/// Removes the entries that a command displaces. The function moves each other entry at most once.
 fn remove_displaced<R: PacketRing>(entries: &mut R, command: &Packet)
     ensures entries { Leaves command.now (R.buffer entries.old).items (R.buffer entries.new).items }
     ensures capacity { (R.buffer entries.new).capacity ≡ (R.buffer entries.old).capacity }
@@ -52,7 +54,7 @@ fn remove_displaced<R: PacketRing>(entries: &mut R, command: &Packet)
     entries.truncate(kept);
 }
 
-/// Whether a command puts an end to an entry.
+/// Returns true if the station removes the entry when it sends the command.
 pub fn displaces(command: &Packet, entry: &Packet) -> bool
     ensures { IsTrue result ↔ Displaces command.now entry.now }
 {
@@ -62,7 +64,8 @@ pub fn displaces(command: &Packet, entry: &Packet) -> bool
     }
 }
 
-/// The same of an entry that is this instruction to this address.
+/// Returns true if the station removes the entry with the instruction `what` to the address `to`
+/// when it sends the command.
 pub fn displaces_loco(command: &Packet, to: &Address, what: &What) -> bool
     ensures { IsTrue result ↔ Displaces command.now (ToLoco to.now what.now) }
 {
@@ -78,7 +81,8 @@ pub fn displaces_loco(command: &Packet, to: &Address, what: &What) -> bool
     }
 }
 
-/// The same of any two packets, which takes longer.
+/// Returns the result of [`displaces`] for any two packets. The function compares registers, which
+/// takes longer.
 fn displaces_by_registers(command: &Packet, entry: &Packet) -> bool
     ensures { IsTrue result ↔ Displaces command.now entry.now }
 {
@@ -94,7 +98,7 @@ fn displaces_by_registers(command: &Packet, entry: &Packet) -> bool
     has_address_of(entry, command)
 }
 
-/// Whether an entry is sent to the address of a command.
+/// Returns true if an entry and a command have the same address.
 fn has_address_of(entry: &Packet, command: &Packet) -> bool
     ensures { IsTrue result ↔ (heard.address_of entry.now ≡ heard.address_of command.now) }
 {

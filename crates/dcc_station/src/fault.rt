@@ -1,24 +1,24 @@
-//! What a station refuses.
+//! The errors of stations.
 
 ghost use Rattle.std.specs.Prelude.{◌≡◌};
 ghost use Rattle.dcc_station.specs.FaultNumbers.{refused_number, station_fault_number};
 
 use thiserror::Error;
 
-/// Why a station is not made.
+/// An error in the creation of a station.
 #[derive(Clone, Copy, Debug, PartialEq, Eq, Error)]
 pub enum StationFault {
-    /// C1: a size is past the limits: 1 to 64 commands that wait, 1 to 128 packets that are refreshed, each
-    /// command sent 1 to 8 times.
+    /// C1: a size is out of its limits. The limits are 1 to 64 commands in the queue, 1 to 128
+    /// entries, and 1 to 8 copies of a command.
     #[error("C1: a size of the station is past its limits")]
     Limit,
-    /// C2: there is no memory for it.
+    /// C2: an allocation failed.
     #[error("C2: no memory for the station")]
     NoMemory,
 }
 
 impl StationFault {
-    /// The number by which the refusal is told.
+    /// Returns the number of the error code: 1 for C1, 2 for C2.
     pub fn number(&self) -> u8
         ensures { result ≡ station_fault_number self.now }
     {
@@ -29,10 +29,11 @@ impl StationFault {
     }
 }
 
-/// Why a command is not accepted.
+/// An error of a command, which the station rejects.
 #[derive(Clone, Copy, Debug, PartialEq, Eq, Error)]
 pub enum Refused {
-    /// C3: a station does not send it: an idle packet, a frame of no row, or a CV access to all decoders.
+    /// C3: a station does not send the packet: an idle packet, a frame in no row of the table, or a
+    /// broadcast CV access.
     #[error("C3: the packet is no command")]
     NotSendable,
     /// C4: the queue is full.
@@ -41,7 +42,7 @@ pub enum Refused {
 }
 
 impl Refused {
-    /// The number by which the refusal is told.
+    /// Returns the number of the error code: 3 for C3, 4 for C4.
     pub fn number(&self) -> u8
         ensures { result ≡ refused_number self.now }
     {

@@ -1,4 +1,4 @@
-//! Rings in an array.
+//! A ring of packets in an array.
 
 ghost use Rattle.std.specs.Prelude.{◌≡◌, ◌≤◌, ◌<◌, ◌∷◌, ◌++◌, [], length, drop, slice_get, Some};
 ghost use Rattle.circular_buffer.specs.Buffer.{buffer};
@@ -9,7 +9,7 @@ use crate::ring::PacketRing;
 use dcc_packet::Packet;
 use std::marker::Model;
 
-/// A ring of at most `CAP` packets, which lie in the ring itself: it takes no memory.
+/// A ring of at most `CAP` packets in an array. A ring does not allocate.
 #[derive(Drop)]
 pub struct FixedRing<const CAP: usize> {
     packets: [Packet; CAP],
@@ -28,11 +28,12 @@ impl<const CAP: usize> Model for FixedRing<CAP> {
 
     ghost view = { λ r. buffer (ring_items r.start r.len r.packets) r.capacity };
 
-    ghost invariant = { λ r. (r.start < CAP) × (r.len ≤ r.capacity) × (r.capacity ≤ CAP) × (0 < r.capacity) × (length r.packets ≡ CAP) };
+    ghost invariant = { λ r. (r.start < CAP) × (r.len ≤ r.capacity) × (r.capacity ≤ CAP) × (0 < r.capacity)
+        × (length r.packets ≡ CAP) };
 }
 
 impl<const CAP: usize> FixedRing<CAP> {
-    /// A ring with no packet, for so many.
+    /// Creates an empty ring with the capacity `capacity`, which is at least 1 and at most `CAP`.
     pub(crate) fn new(capacity: usize) -> FixedRing<CAP>
         requires some { 0 < capacity }
         requires room { capacity ≤ CAP }
@@ -46,7 +47,7 @@ impl<const CAP: usize> FixedRing<CAP> {
         }
     }
 
-    /// Takes the front one away. There is one.
+    /// Removes and returns the first packet. The ring must not be empty.
     fn take_front(&mut self) -> Packet
         requires { 0 < length self.old.items }
         ensures front { slice_get self.old.items 0 ≡ Some result }
@@ -58,7 +59,7 @@ impl<const CAP: usize> FixedRing<CAP> {
         front
     }
 
-    /// Adds one at the end. There is room.
+    /// Appends a packet. The ring must not be full.
     fn add(&mut self, packet: Packet)
         requires { length self.old.items < self.old.capacity }
         ensures { self.new ≡ buffer (self.old.items ++ packet ∷ []) self.old.capacity }
@@ -69,7 +70,7 @@ impl<const CAP: usize> FixedRing<CAP> {
     }
 }
 
-/// The place so many places behind another. Behind the last of all places comes the first.
+/// Returns the place that is `by` places after `place`. The first place follows the last place.
 fn place_behind(place: usize, by: usize, places: usize) -> usize
     requires inside { place < places }
     requires once { by ≤ places }
@@ -82,7 +83,8 @@ fn place_behind(place: usize, by: usize, places: usize) -> usize
 impl<const CAP: usize> PacketRing for FixedRing<CAP> {
     ghost buffer = { λ r. r };
 
-    // (here and in the next the packets are named since the checker takes no method of the numbers alone)
+    // this method and the next method name the packets, since the checker rejects a method that
+    // reads only the numbers
     fn len(&self) -> usize {
         let FixedRing {
             packets: _packets,

@@ -1,44 +1,98 @@
-//! Laws of refreshing.
+//! Theorems about the packets that a station sends.
 
-ghost use Rattle.dcc_station.specs.Refresh.{EntriesAreHandedOutInTurn, HeardIsIntended, NothingHandedOut, OneMoreAccepted};
+ghost use Rattle.dcc_station.specs.Refresh.{EntriesAreHandedOutInTurn, HeardIsIntended, NothingHandedOut};
+ghost use Rattle.dcc_station.specs.Refresh.{OneMoreAccepted};
 ghost use Rattle.dcc_station.specs.Refresh.{OneMoreHandedOut, RefreshIsTransparent};
-ghost use Rattle.dcc_station.specs.Refresh.{TransparentWhereNothingWaits, WaitingIsTheEnd};
+ghost use Rattle.dcc_station.specs.Refresh.{TransparentWhereNothingWaits, WaitingIsSuffix};
 ghost use Rattle.dcc_station.specs.States.{StatesAreNoEntries, StatesConflictWithNoEntry};
+ghost use Rattle.dcc_station.specs.WaitingTimes.{CommandsAreSentInMicroseconds, CommandsAreSentInTime};
+ghost use Rattle.dcc_station.specs.WaitingTimes.{CommandsAreSentInTurn, CommandsWaitForFewPackets};
+ghost use Rattle.dcc_station.specs.WaitingTimes.{ReturnedPacketsAreRuns, RunsGoOnByCommands};
+ghost use Rattle.dcc_station.specs.WaitingTimes.{RunsGoOnByPackets};
+ghost use Rattle.dcc_station.specs.WaitingTimes.{SentPacketsAreShort, SentPacketsTakeFewMicroseconds};
+ghost use Rattle.dcc_station.specs.WaitingTimes.{longest_time};
+ghost use Rattle.dcc_wire.specs.NominalTimings.{main_timing};
+ghost use Rattle.std.specs.Prelude.{◌≡◌};
 
-/// Whenever no command is partly sent, a decoder that heard every packet holds, in each register but its pending
-/// write, what the commands that no longer wait ask for: each taken once, each CV write twice.
+/// Theorem: if no command is partly sent, a decoder that heard every packet has the result of the
+/// commands that left the queue. This result counts each command once and each CV write twice, and
+/// covers each register except Pending.
 pub fn refresh_is_transparent()
     ensures { RefreshIsTransparent }
 {}
 
-/// Where nothing waits, these are all the accepted commands.
+/// Theorem: if the queue is empty, a decoder that heard every packet has the result of all accepted
+/// commands, in each register except Pending.
 pub fn refresh_is_transparent_where_nothing_waits()
     ensures { TransparentWhereNothingWaits }
 {}
 
-/// Where nothing waits, the entries are handed out in order, each once, and the station is as before.
+/// Theorem: if the queue is empty, the station returns each entry once, in order. After these
+/// packets the state of the station is as before.
 pub fn entries_are_handed_out_in_turn()
     ensures { EntriesAreHandedOutInTurn }
 {}
 
-/// The commands that wait are the last of those that were accepted.
+/// Theorem: the commands in the queue are a suffix of the list of accepted commands.
 pub fn waiting_is_the_end()
-    ensures { WaitingIsTheEnd }
+    ensures { WaitingIsSuffix }
 {}
 
-/// A binary state is sent like any command, and never refreshed.
+/// Theorem: the packets that a station returns, and the commands that it accepts between them, are
+/// a run. The clauses are about packets without commands between them, about one more packet, and
+/// about one more command. A caller with its own loop uses this theorem as the premise of
+/// [`commands_are_sent_in_turn`] and [`commands_are_sent_in_time`].
+pub fn runs_go_on()
+    ensures returned { ReturnedPacketsAreRuns }
+    ensures handed_out { RunsGoOnByPackets }
+    ensures accepted { RunsGoOnByCommands }
+{}
+
+/// Theorem: the next packets of a station are the remaining copies of the first commands of the
+/// queue, and then a copy of the command that follows them. So the number of packets before the
+/// first copy of a command is the number of these remaining copies. Commands that the station
+/// accepts later do not change this number. The theorem is about the states and steps of `Sending`.
+/// `Station`, `FixedStation` and the station in C all have these states and steps.
+pub fn commands_are_sent_in_turn()
+    ensures { CommandsAreSentInTurn }
+{}
+
+/// Theorem: if `k` commands wait when a station accepts a command, the first copy of this command
+/// follows after at most `n = k * (repeats + 1)` packets. Let `preamble` be the number of ones
+/// before each packet. Then the first copy is complete within `(n + 1) * 2 * (preamble + 55)`
+/// half-bits, counted from the end of the packet that the station returned last before the command.
+/// The clause `microseconds` bounds this time by the durations of the half-bits. The theorem is
+/// about `Station`, `FixedStation` and the station in C.
+pub fn commands_are_sent_in_time()
+    ensures packets { CommandsWaitForFewPackets }
+    ensures half_bits { CommandsAreSentInTime }
+    ensures microseconds { CommandsAreSentInMicroseconds }
+{}
+
+/// Theorem: each packet has at most `2 * (preamble + 55)` half-bits: its preamble, 6 bytes of 9
+/// bits, and its end bit. It takes no more time than a packet of 6 bytes whose bits before the end
+/// bit are all zeros. In the nominal timing of the main track this is 12,540 µs.
+pub fn sent_packets_are_short()
+    ensures half_bits { SentPacketsAreShort }
+    ensures microseconds { SentPacketsTakeFewMicroseconds }
+    ensures nominal { longest_time main_timing ≡ 12540 }
+{}
+
+/// Theorem: a station sends a packet that switches a binary state as a command, and never refreshes
+/// it.
 pub fn states_are_no_entries()
     ensures { StatesAreNoEntries }
 {}
 
-/// A binary state conflicts with no packet that is refreshed.
+/// Theorem: a packet that switches a binary state conflicts with no packet that is refreshed.
 pub fn states_conflict_with_no_entry()
     ensures { StatesConflictWithNoEntry }
 {}
 
-/// A decoder that hears what a station hands out, for a loop of one's own over a [`Station`](crate::Station): where nothing was handed out
-/// yet, behind each packet that it hears and each command that is accepted, and where nothing waits: it holds then what the commands
-/// ask for.
+/// Theorem: let a decoder hear each packet of a [`Station`](crate::Station). If the queue is empty,
+/// the decoder has the result of the commands. A caller with its own loop uses this theorem. The
+/// clauses are about the start, each packet that the decoder hears, each accepted command, and the
+/// time when the queue is empty.
 pub fn stations_are_heard()
     ensures begins { NothingHandedOut }
     ensures handed_out { OneMoreHandedOut }

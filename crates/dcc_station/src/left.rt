@@ -1,4 +1,4 @@
-//! Which entries a command leaves, told from the two instructions.
+//! Functions that decide from two instructions if an entry stays after a command.
 
 ghost use Rattle.std.specs.Prelude.{◌≡◌};
 ghost use Rattle.dcc_station.specs.Inner.Kept as kept;
@@ -7,8 +7,9 @@ use crate::commands::is_refreshed_at;
 use dcc_packet::{Address, GroupBits, Packet, What};
 use dcc_regs::first_function;
 
-/// Whether a command leaves an entry that is this instruction to this address, where the two instructions tell it: the entry
-/// sets the speed or functions of one locomotive, as all entries of a station do, and not both are speeds for that one.
+/// Returns true if the entry with the instruction `set` to the address `own` stays after the
+/// command. Returns `None` if the station does not refresh this instruction, or if both packets set
+/// the speed of one locomotive.
 pub fn is_left(command: &Packet, own: &Address, set: &What) -> Option<bool>
     ensures { result ≡ kept.kept_in command.now own.now set.now }
 {
@@ -21,7 +22,8 @@ pub fn is_left(command: &Packet, own: &Address, set: &What) -> Option<bool>
     }
 }
 
-/// The same of an instruction to locomotives.
+/// Returns the result of `is_left` for a command that is the instruction `what` to the address
+/// `to`.
 fn is_left_at(to: &Address, what: &What, own: &Address, set: &What) -> Option<bool>
     ensures { result ≡ kept.kept_of to.now what.now own.now set.now }
 {
@@ -35,7 +37,7 @@ fn is_left_at(to: &Address, what: &What, own: &Address, set: &What) -> Option<bo
     }
 }
 
-/// Whether a command to all locomotives leaves an entry.
+/// Returns true if an entry with the instruction `set` stays after a command to all locomotives.
 fn is_left_by_all(what: &What, set: &What) -> bool
     ensures { result ≡ kept.kept_by_all what.now set.now }
 {
@@ -48,7 +50,8 @@ fn is_left_by_all(what: &What, set: &What) -> bool
     }
 }
 
-/// Whether a command to the entry's own locomotive leaves it. Of a speed over a speed it is not told.
+/// Returns true if an entry with the instruction `set` stays after a command to its locomotive.
+/// Returns `None` if both instructions set the speed.
 fn is_left_by_one(what: &What, set: &What) -> Option<bool>
     ensures { result ≡ kept.kept_by_one what.now set.now }
 {
@@ -67,7 +70,8 @@ fn is_left_by_one(what: &What, set: &What) -> Option<bool>
     }
 }
 
-/// Whether a speed of 28 steps to all locomotives leaves an entry. It is a stop, or nothing.
+/// Returns true if an entry stays after a broadcast that sets the speed in 28 steps. A broadcast
+/// that sets the speed in 28 steps takes effect only if it is a stop.
 fn is_left_by_stop(forward: bool, bits: u8, set: &What) -> bool
     ensures { result ≡ kept.stop_kept forward bits set.now }
 {
@@ -82,7 +86,8 @@ fn is_left_by_stop(forward: bool, bits: u8, set: &What) -> bool
     has_speed(set, bits / 2, way)
 }
 
-/// Whether an entry sets no other speed than that of these bits of 128 steps, and no other direction.
+/// Returns true if the entry sets no speed, or if it sets this speed (in the bits of 128 steps) and
+/// this direction.
 fn has_speed(set: &What, bits: u8, way: Option<bool>) -> bool
     ensures { result ≡ kept.speed_kept bits way set.now }
 {
@@ -95,7 +100,7 @@ fn has_speed(set: &What, bits: u8, way: Option<bool>) -> bool
     }
 }
 
-/// Whether a direction is the one that is asked for, if one is.
+/// Returns true if `way` is `None` or equals `forward`.
 fn is_way(way: Option<bool>, forward: bool) -> bool
     ensures { result ≡ kept.way_kept way forward }
 {
@@ -106,7 +111,8 @@ fn is_way(way: Option<bool>, forward: bool) -> bool
     }
 }
 
-/// Whether a reset leaves an entry: it stops, forward, or turns no function on.
+/// Returns true if an entry stays after a reset. A speed stays if it is a stop with direction
+/// forward, and a function group stays if all its functions are off.
 fn is_left_by_reset(set: &What) -> bool
     ensures { result ≡ kept.reset_kept set.now }
 {
@@ -118,8 +124,9 @@ fn is_left_by_reset(set: &What) -> bool
     }
 }
 
-/// Whether the functions of a group leave an entry: it is of another group or, unless it may be the same command, of the
-/// same bits.
+/// Returns true if an entry stays after a command that switches a function group. The entry stays
+/// if it does not switch this group, or if the command is to all locomotives and the bits are
+/// equal.
 fn is_left_by_group(one: bool, bits: &GroupBits, set: &What) -> bool
     ensures { result ≡ kept.group_kept one bits.now set.now }
 {

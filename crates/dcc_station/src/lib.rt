@@ -1,4 +1,4 @@
-//! A command station: commands that wait, and packets that are sent again and again.
+//! A command station with a queue of commands, and with entries that it sends again and again.
 #![tactic(auto)]
 
 mod commands;

@@ -1,4 +1,4 @@
-//! The steps of a station, over any two rings: one of the commands that wait, one of the entries.
+//! Functions that execute the steps of a station, over any rings for the queue and the entries.
 
 ghost use Rattle.std.specs.Prelude.{◌≡◌, ◌≤◌, ◌<◌, true, false, [], ◌∷◌, ◌++◌, length, drop, slice_get};
 ghost use Rattle.std.specs.Prelude.{OnOk, OnErr, IfErr, IsTrue, ◌↔◌, ℕ};
@@ -13,7 +13,7 @@ use crate::fault::Refused;
 use crate::ring::PacketRing;
 use dcc_packet::Packet;
 
-/// A command waits behind those of a ring, and is refused as `Station::command` says.
+/// Appends a command to the queue. The errors of `take_command` are those of `Station::command`.
 pub fn take_command<Q: PacketRing>(waiting: &mut Q, packet: Packet) -> Result<(), (Refused, Packet)>
     ensures ok { OnOk result (Q.buffer waiting.new
         ≡ buffer ((Q.buffer waiting.old).items ++ packet ∷ []) (Q.buffer waiting.old).capacity) }
@@ -51,8 +51,9 @@ fn add<Q: PacketRing>(waiting: &mut Q, packet: Packet)
     waiting.push_back(packet);
 }
 
-/// The packet that is sent next, as `Station::next` says, by a station that has these commands and entries, sent its first
-/// command so often, and sends each so often.
+/// Returns the next packet, as `Station::next` does, for a station with these commands and entries.
+/// The parameter `sent` is the number of copies of the first command that were sent. The parameter
+/// `repeats` is the number of copies of each command.
 pub fn hand_out<Q: PacketRing, S: PacketRing>(
     waiting: &mut Q,
     sent: &mut u8,
@@ -71,7 +72,7 @@ pub fn hand_out<Q: PacketRing, S: PacketRing>(
     }
 }
 
-/// A copy of the first command.
+/// Returns a copy of the first command of the queue, and updates the queue and the entries.
 fn send<Q: PacketRing, S: PacketRing>(
     waiting: &mut Q,
     sent: &mut u8,
@@ -91,7 +92,7 @@ fn send<Q: PacketRing, S: PacketRing>(
     command
 }
 
-/// The first copy of a command changes the entries.
+/// Updates the entries if no copy of the command was sent before.
 fn change_entries<S: PacketRing>(entries: &mut S, sent: u8, command: &Packet)
     ensures entries { EntriesAfter sent (S.buffer entries.old).capacity command.now
         (S.buffer entries.old).items (S.buffer entries.new).items }
@@ -102,7 +103,7 @@ fn change_entries<S: PacketRing>(entries: &mut S, sent: u8, command: &Packet)
     }
 }
 
-/// One more copy of the first command was sent.
+/// Counts one more copy of the first command, and removes this command after its last copy.
 fn count_copy<Q: PacketRing>(waiting: &mut Q, sent: &mut u8, repeats: u8, command: &Packet)
     requires few { repeats ≤ 8 }
     requires sent { sent.old ≤ 8 }
@@ -120,7 +121,8 @@ fn count_copy<Q: PacketRing>(waiting: &mut Q, sent: &mut u8, repeats: u8, comman
     }
 }
 
-/// The front entry, which goes to the end, or Idle where there is none.
+/// Moves the first entry to the end and returns this entry. Returns an idle packet if there is no
+/// entry.
 fn refresh<S: PacketRing>(entries: &mut S) -> Packet
     ensures { (waiting : Buffer Packet) (sent repeats : ℕ) → waiting.items ≡ []
         → Next (sending_over waiting sent (S.buffer entries.old) repeats) result

@@ -1,6 +1,7 @@
-//! Rings of packets.
+//! The trait of rings of packets.
 
-ghost use Rattle.std.specs.Prelude.{◌≡◌, ◌≤◌, ◌<◌, ◌∷◌, ◌++◌, [], length, take, drop, set, slice_get, Some, IsTrue, ◌↔◌};
+ghost use Rattle.std.specs.Prelude.{◌≡◌, ◌≤◌, ◌<◌, ◌∷◌, ◌++◌, [], length, take, drop, set, slice_get, Some, IsTrue};
+ghost use Rattle.std.specs.Prelude.{◌↔◌};
 ghost use Rattle.dcc_packet.specs.declared.packet.Packet.{Packet};
 ghost use Rattle.circular_buffer.specs.Buffer.{Buffer, keep_last};
 ghost use Rattle.circular_buffer.specs.Buffer as rings;
@@ -10,55 +11,56 @@ use crate::entries::displaces;
 use circular_buffer::HeapCircularBuffer;
 use dcc_packet::Packet;
 
-/// A list of packets of at most so many, to which one is added at the end and from which one is taken at the front. A
-/// station has two of them, one for the commands that wait and one for its entries.
+/// A list of packets with a capacity. Packets are appended at the end and removed from the front. A
+/// station has two rings: one for the queue of commands, and one for the entries.
 pub trait PacketRing: Drop {
-    /// The packets, from the front to the end, and how many there may be.
+    /// The packets of the ring from the front to the end, and its capacity.
     ghost buffer: { Self → Buffer Packet };
 
-    /// How many there are.
+    /// Returns the number of packets.
     fn len(&self) -> usize
         ensures len { result ≡ length (buffer self.now).items }
         ensures within { result ≤ (buffer self.now).capacity };
 
-    /// How many there may be.
+    /// Returns the capacity of the ring.
     fn capacity(&self) -> usize
         ensures capacity { result ≡ (buffer self.now).capacity }
         ensures within { length (buffer self.now).items ≤ result };
 
-    /// The front one.
+    /// Returns the first packet. Returns `None` if the ring is empty.
     fn front(&self) -> Option<Packet>
         ensures { result ≡ slice_get (buffer self.now).items 0 };
 
-    /// Takes the front one away.
+    /// Removes and returns the first packet. Returns `None` if the ring is empty.
     fn pop_front(&mut self) -> Option<Packet>
         ensures value { result ≡ slice_get (buffer self.old).items 0 }
         ensures items { buffer self.new ≡ rings.buffer (drop 1 (buffer self.old).items) (buffer self.old).capacity };
 
-    /// Adds one at the end. Where there are as many as there may be, the front one goes.
+    /// Appends a packet. If the ring is full, the function removes the first packet.
     fn push_back(&mut self, packet: Packet)
         ensures { buffer self.new ≡ rings.buffer
-            (keep_last (buffer self.old).capacity ((buffer self.old).items ++ packet ∷ [])) (buffer self.old).capacity };
+            (keep_last (buffer self.old).capacity ((buffer self.old).items
+            ++ packet ∷ [])) (buffer self.old).capacity };
 
-    /// The front one goes to the end.
+    /// Moves the first packet to the end. An empty ring does not change.
     fn rotate(&mut self)
         ensures { buffer self.new ≡ rings.buffer
             (drop 1 (buffer self.old).items ++ take 1 (buffer self.old).items) (buffer self.old).capacity };
 
-    /// Whether a command puts an end to the one so many behind the front one.
+    /// Returns true if a command displaces the packet at place `at`, counted from the front.
     fn is_displaced(&self, at: usize, command: &Packet) -> bool
         requires inside { at < length (buffer self.now).items }
         ensures displaces { (entry : Packet) → slice_get (buffer self.now).items at ≡ Some entry
             → (IsTrue result ↔ Displaces command.now entry) };
 
-    /// Writes one over one before it, or over itself.
+    /// Copies the packet at place `from` to place `to`, which must not come after `from`.
     fn move_forward(&mut self, from: usize, to: usize)
         requires order { to ≤ from }
         requires inside { from < length (buffer self.old).items }
         ensures items { (packet : Packet) → slice_get (buffer self.old).items from ≡ Some packet
             → buffer self.new ≡ rings.buffer (set (buffer self.old).items to packet) (buffer self.old).capacity };
 
-    /// Keeps the first so many.
+    /// Removes all packets after the first `len` packets.
     fn truncate(&mut self, len: usize)
         ensures { buffer self.new ≡ rings.buffer (take len (buffer self.old).items) (buffer self.old).capacity };
 }
@@ -87,7 +89,8 @@ impl PacketRing for HeapCircularBuffer<Packet> {
     }
 
     fn rotate(&mut self) {
-        // The length is within the capacity, so there is room behind once the front one is taken.
+        // the length is at most the capacity, so the ring has a free place after the first packet
+        // was removed
         let _len = HeapCircularBuffer::len(self);
         if let Some(front) = HeapCircularBuffer::pop_front(self) {
             HeapCircularBuffer::push_back(self, front);

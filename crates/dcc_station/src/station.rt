@@ -1,11 +1,12 @@
-//! A command station.
+//! The type of command stations.
 
-ghost use Rattle.std.specs.Prelude.{◌≡◌, ◌≤◌, ◌<◌, ◌&&◌, nat_le, true, false, List, [], ◌∷◌, ◌++◌, length, IfOk, IfErr, IsOk};
+ghost use Rattle.std.specs.Prelude.{◌≡◌, ◌≤◌, ◌<◌, ◌&&◌, nat_le, true, false, List, [], ◌∷◌, ◌++◌, length, IfOk, IfErr};
+ghost use Rattle.std.specs.Prelude.{IsOk};
 ghost use Rattle.std.specs.Prelude.{OnOk, OnErr, ◌↔◌};
 ghost use Rattle.dcc_packet.specs.declared.packet.Packet.{Packet};
 ghost use Rattle.dcc_station.specs.Commands as commands;
 ghost use Rattle.dcc_station.specs.Limits.{is_within_limits};
-ghost use Rattle.dcc_station.specs.Refresh.{StandsFor};
+ghost use Rattle.dcc_station.specs.Refresh.{StationRepresents};
 ghost use Rattle.dcc_station.specs.Sending.{idle_sending, with_command, Next};
 
 use crate::fault::{Refused, StationFault};
@@ -17,10 +18,14 @@ use dcc_packet::Packet;
 use std::alloc::{AllocError, Global};
 use std::marker::Model;
 
-/// A command station: a queue of commands and a list of entries that it refreshes, over a ring for each. The first command
-/// of the queue is sent so many times in a row, a write of a configuration variable once more, with nothing between, and
-/// then leaves the queue. While nothing waits, the entries are sent in turn, as packets may be lost on the track and are
-/// to be repeated (NMRA S-9.2). It takes no memory once it is made.
+/// A command station, with a queue of commands and a list of entries that it refreshes. The queue
+/// and the list are rings.
+///
+/// The station sends the first command of the queue several times in a row, and a CV write once
+/// more, without another packet between the copies. After its last copy the command leaves the
+/// queue. While the queue is empty, the station sends the entries in turn, because packets can be
+/// lost on the track and must be repeated (NMRA S-9.2). After its creation a station does not
+/// allocate.
 #[derive(Drop)]
 pub struct StationOver<Q: PacketRing, S: PacketRing> {
     commands: Q,
@@ -29,10 +34,11 @@ pub struct StationOver<Q: PacketRing, S: PacketRing> {
     repeats: u8,
 }
 
-/// A command station whose sizes are chosen where it is made, and which takes memory there.
+/// A command station whose sizes are chosen when it is created. The creation allocates.
 pub type Station = StationOver<HeapCircularBuffer<Packet>, HeapCircularBuffer<Packet>>;
 
-/// A command station that takes no memory: it has room in itself for `QUEUE` commands that wait and `SLOTS` entries.
+/// A command station that does not allocate. A `FixedStation` contains the arrays for `QUEUE`
+/// commands and `SLOTS` entries.
 pub type FixedStation<const QUEUE: usize, const SLOTS: usize> = StationOver<
     FixedRing<QUEUE>,
     FixedRing<SLOTS>,
@@ -50,7 +56,8 @@ impl<Q: PacketRing, S: PacketRing> Model for StationOver<Q, S> {
     ghost invariant = { λ s. (0 < s.repeats) × (s.repeats ≤ 8) × (s.sent ≤ 8) };
 }
 
-/// Whether a station may have these sizes.
+/// Returns true if a station can have these sizes. The limits are 1 to 64 commands in the queue, 1
+/// to 128 entries, and 1 to 8 copies of a command.
 pub fn are_within_limits(queue: usize, slots: usize, repeats: u8) -> bool
     ensures { result ≡ is_within_limits queue slots repeats }
 {
@@ -58,8 +65,12 @@ pub fn are_within_limits(queue: usize, slots: usize, repeats: u8) -> bool
 }
 
 impl StationOver<HeapCircularBuffer<Packet>, HeapCircularBuffer<Packet>> {
-    /// A station with no command, for at most so many commands that wait, so many entries, and so many copies of a
-    /// command. C1 where one of them is past its limits: 1 to 64, 1 to 128, 1 to 8. Then C2 for want of memory.
+    /// Creates a station with an empty queue and without entries. The parameter `queue` is the
+    /// capacity of the queue, `slots` is the capacity of the entries, and `repeats` is the number
+    /// of copies of a command.
+    ///
+    /// Errors: C1 if `queue` is not 1 to 64, `slots` is not 1 to 128, or `repeats` is not 1 to 8.
+    /// C2 if an allocation fails.
     pub fn new(
         alloc: Global,
         queue: usize,
@@ -68,7 +79,7 @@ impl StationOver<HeapCircularBuffer<Packet>, HeapCircularBuffer<Packet>> {
     ) -> Result<Station, StationFault>
         ensures limit { (result ≡ Err StationFault.Limit) ↔ (is_within_limits queue slots repeats ≡ false) }
         ensures made { IfOk result (λ s. s ≡ idle_sending queue slots repeats) }
-        ensures stands { IfOk result (λ s. StandsFor s [] []) }
+        ensures stands { IfOk result (λ s. StationRepresents s [] []) }
     {
         if !are_within_limits(queue, slots, repeats) {
             return Err(StationFault::Limit);
@@ -88,7 +99,7 @@ impl StationOver<HeapCircularBuffer<Packet>, HeapCircularBuffer<Packet>> {
         requires some { 0 < repeats }
         requires few { repeats ≤ 8 }
         ensures made { IfOk result (λ s. s ≡ idle_sending queue slots repeats) }
-        ensures stands { IfOk result (λ s. StandsFor s [] []) }
+        ensures stands { IfOk result (λ s. StationRepresents s [] []) }
     {
         let commands = HeapCircularBuffer::with_capacity(alloc, queue)?;
         let entries = HeapCircularBuffer::with_capacity(alloc, slots)?;
@@ -97,9 +108,12 @@ impl StationOver<HeapCircularBuffer<Packet>, HeapCircularBuffer<Packet>> {
 }
 
 impl<const QUEUE: usize, const SLOTS: usize> StationOver<FixedRing<QUEUE>, FixedRing<SLOTS>> {
-    /// A station with no command, for at most so many commands that wait, so many entries, and so many copies of a
-    /// command. C1 where one of them is past its limits: 1 to 64 and no more than `QUEUE`, 1 to 128 and no more than
-    /// `SLOTS`, 1 to 8. It never wants memory.
+    /// Creates a station with an empty queue and without entries. The parameter `queue` is the
+    /// capacity of the queue, `slots` is the capacity of the entries, and `repeats` is the number
+    /// of copies of a command.
+    ///
+    /// Errors: C1 if `queue` is not 1 to 64 or is above `QUEUE`. C1 if `slots` is not 1 to 128 or
+    /// is above `SLOTS`, or if `repeats` is not 1 to 8. The function never returns C2.
     pub fn new(
         queue: usize,
         slots: usize,
@@ -109,7 +123,7 @@ impl<const QUEUE: usize, const SLOTS: usize> StationOver<FixedRing<QUEUE>, Fixed
             ↔ ((is_within_limits queue slots repeats && nat_le queue QUEUE && nat_le slots SLOTS) ≡ false) }
         ensures no_other { IfErr result (λ fault. fault ≡ StationFault.Limit) }
         ensures made { IfOk result (λ s. s ≡ idle_sending queue slots repeats) }
-        ensures stands { IfOk result (λ s. StandsFor s [] []) }
+        ensures stands { IfOk result (λ s. StationRepresents s [] []) }
     {
         if !are_within_limits(queue, slots, repeats) || queue > QUEUE || slots > SLOTS {
             return Err(StationFault::Limit);
@@ -119,14 +133,14 @@ impl<const QUEUE: usize, const SLOTS: usize> StationOver<FixedRing<QUEUE>, Fixed
 }
 
 impl<Q: PacketRing, S: PacketRing> StationOver<Q, S> {
-    /// A station with no command over two empty rings.
+    /// Creates a station over two empty rings, with `repeats` copies of each command.
     fn over(commands: Q, entries: S, repeats: u8) -> StationOver<Q, S>
         requires some { 0 < repeats }
         requires few { repeats ≤ 8 }
         requires none_waits { (Q.buffer commands).items ≡ [] }
         requires no_entries { (S.buffer entries).items ≡ [] }
         ensures made { result ≡ idle_sending (Q.buffer commands).capacity (S.buffer entries).capacity repeats }
-        ensures stands { StandsFor result [] [] }
+        ensures stands { StationRepresents result [] [] }
     {
         StationOver {
             commands,
@@ -136,9 +150,12 @@ impl<Q: PacketRing, S: PacketRing> StationOver<Q, S> {
         }
     }
 
-    /// A command waits behind the others. C3 where it is none that a station sends: an idle packet, a frame of no row, or
-    /// a CV access to all decoders. Then C4, exactly where as many commands wait as the queue holds. A command that is
-    /// refused comes back, and the station is unchanged. A command that is partly sent still waits.
+    /// Appends a command to the queue.
+    ///
+    /// Errors: C3 if a station does not send the packet: an idle packet, a frame in no row of the
+    /// table, or a broadcast CV access. C4 if a station sends the packet, but the queue is full. If
+    /// the function returns an error, it returns the packet too, and the station is unchanged. A
+    /// command that is partly sent is still in the queue.
     pub fn command(&mut self, packet: Packet) -> Result<(), (Refused, Packet)>
         ensures ok { OnOk result (self.new ≡ with_command self.old packet) }
         ensures err { OnErr result (self.new ≡ self.old) }
@@ -147,36 +164,38 @@ impl<Q: PacketRing, S: PacketRing> StationOver<Q, S> {
             ((commands.is_sendable packet ≡ true) × (length self.old.waiting ≡ self.old.queue)) }
         ensures comes_back { IfErr result (λ refused. refused.1 ≡ packet) }
         ensures stands { OnOk result
-            ((commands packets : List Packet) → StandsFor self.old commands packets
-            → StandsFor self.new (commands ++ packet ∷ []) packets) }
+            ((commands packets : List Packet) → StationRepresents self.old commands packets
+            → StationRepresents self.new (commands ++ packet ∷ []) packets) }
     {
         take_command(&mut self.commands, packet)
     }
 
-    /// How many commands wait.
+    /// Returns the number of commands in the queue.
     pub fn waiting(&self) -> usize
         ensures { result ≡ length self.now.waiting }
     {
         self.commands.len()
     }
 
-    /// How many entries are refreshed.
+    /// Returns the number of entries.
     pub fn entries(&self) -> usize
         ensures { result ≡ length self.now.entries }
     {
         self.entries.len()
     }
 
-    /// The packet that is sent next: a copy of the first command that waits; where none waits the front entry, which
-    /// goes to the end; where there is none either, Idle.
+    /// Returns the next packet. The packet is a copy of the first command of the queue. If the
+    /// queue is empty, the packet is the first entry, which moves to the end. If there is no entry
+    /// either, the packet is an idle packet.
     ///
-    /// The first copy of a command removes the entries that equal it or conflict with it and, where it writes CV29, those
-    /// of its address. A speed or function command to one locomotive is then an entry itself, the last one. Where the
-    /// entries are full, the front one goes first.
+    /// The first copy of a command removes the entries that equal the command or conflict with it.
+    /// If the command writes CV29, the entries with the address of the command are removed too. A
+    /// command that sets the speed or functions of one locomotive then becomes the last entry. If
+    /// the entries are full, the first entry is removed.
     pub fn next(&mut self) -> Packet
         ensures next { Next self.old result self.new }
-        ensures stands { (commands packets : List Packet) → StandsFor self.old commands packets
-            → StandsFor self.new commands (packets ++ result ∷ []) }
+        ensures stands { (commands packets : List Packet) → StationRepresents self.old commands packets
+            → StationRepresents self.new commands (packets ++ result ∷ []) }
     {
         hand_out(
             &mut self.commands,

@@ -1,9 +1,11 @@
-//! Readers and writers of std that fail, or take a part, seen call by call through `Counted`.
+//! Tests of `Counted` over readers and writers of std that fail, or that take only a part of the
+//! bytes.
 
 use dcc_io::{Counted, Failed, Sink, Source};
 use std::io;
 
-/// A reader of which one call is interrupted: the one behind so many others.
+/// A reader that returns at most `each` bytes in a call. The call after `good_calls` calls returns
+/// `Interrupted`.
 #[derive(Drop)]
 struct Halting<'a> {
     bytes: &'a [u8],
@@ -64,7 +66,8 @@ fn a_read_that_is_interrupted_between_two_fails_alone(rt: HostRuntime) {
     assert!(rt; (reader.failures, reader.inner.calls) == (1, 3));
 }
 
-/// A writer that takes some bytes at each call, of which one is interrupted: the one behind so many others.
+/// A writer that takes at most `each` bytes in a call. The call after `good_calls` calls returns
+/// `Interrupted`.
 #[derive(Drop)]
 struct Sipping {
     taken: [u8; 8],
@@ -73,7 +76,7 @@ struct Sipping {
     good_calls: u32,
     calls: u32,
 
-    /// How many bytes the last call was handed.
+    /// The number of bytes that the caller passed to the last call.
     handed: usize,
 }
 

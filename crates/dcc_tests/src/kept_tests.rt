@@ -1,12 +1,13 @@
-//! What is put away and taken up again: framers, and decoders in service.
+//! Tests of framers and of decoders in service mode that are saved and restored.
 
 use dcc_packet::CvNumber;
 use dcc_service::{ServiceDecoder, ServicePacket};
 use dcc_wire::{Frame, Framer, Halves, Timing};
 use std::test::Fail;
 
-/// Two framers are given the same halves, one of them put away behind each. Of one list no half is bad, of the other
-/// the hundredth.
+/// Checks that a framer that is saved and restored after each half-bit returns the outcomes of a
+/// framer that runs on. One list of half-bits has no bad half-bit, and in the other list the
+/// hundredth half-bit is bad.
 #[test]
 fn a_framer_is_taken_up_behind_each_half(rt: HostRuntime) -> Result<(), Fail> {
     let frame = Frame::of(&[0xC3, 0xE8, 0x3F, 0x7F, 0x6B])?;

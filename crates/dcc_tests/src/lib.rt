@@ -1,11 +1,13 @@
-//! Worked examples and hostile tracks: tests of what the crates below `dcc_tool` give out to a caller. It has no
-//! items of its own.
+//! Tests with worked examples and with noisy tracks, for the public functions of the crates on
+//! which `dcc_tool` depends. This crate has no public items.
 #![tactic(auto)]
 
 #[cfg(test)]
 mod io_counted_tests;
 #[cfg(test)]
 mod kept_tests;
+#[cfg(test)]
+mod noise;
 #[cfg(test)]
 mod order_hearing_tests;
 #[cfg(test)]
@@ -25,6 +27,8 @@ mod regs_loco_tests;
 #[cfg(test)]
 mod regs_restore_tests;
 #[cfg(test)]
+mod regs_safety_tests;
+#[cfg(test)]
 mod regs_tests;
 #[cfg(test)]
 mod rows;
@@ -33,7 +37,11 @@ mod service_tests;
 #[cfg(test)]
 mod station_tests;
 #[cfg(test)]
+mod station_waiting_tests;
+#[cfg(test)]
 mod wire_noise_tests;
+#[cfg(test)]
+mod wire_recovery_tests;
 #[cfg(test)]
 mod wire_run_tests;
 #[cfg(test)]

@@ -1,5 +1,6 @@
-//! Fleets that hear packets: call by call, in runs, in pieces, and two fleets of other types that hear whole tracks.
-//! What one fleet is written as behind a track stands in `examples/rows/run.txt`.
+//! Tests of fleets that hear packets: half-bit by half-bit, in runs and in pieces. In one test two
+//! fleets of different types hear whole tracks. `examples/rows/run.txt` has decoder texts of fleets
+//! after a track.
 
 use crate::rows::push_halves;
 use dcc_order::*;
@@ -13,7 +14,7 @@ use std::alloc::Global;
 use std::process::Abort;
 use std::test::Fail;
 
-/// A locomotive decoder of short address 3 that reads 28 steps.
+/// Returns a locomotive decoder at short address 3 with 28 speed steps.
 fn s3() -> LocoDecoder {
     let mut cvs = [0; 1024];
     cvs[0] = 3;
@@ -34,7 +35,7 @@ fn fleets_may_be_written_where_they_hear(rt: HostRuntime) -> Result<(), Fail> {
     Ok(())
 }
 
-/// The runs of `03 62 61` in the timing of the main track, 84 halves.
+/// The runs of the packet `03 62 61` in the timing of the main track, which have 84 half-bits.
 const SPEED_STEP_1: [(u16, u32); 11] = [
     (58, 28),
     (100, 14),
@@ -87,8 +88,9 @@ fn a_track_may_come_in_halves_and_pieces(rt: HostRuntime) -> Result<(), Fail> {
     Ok(())
 }
 
-/// Two tracks, and whether two locomotives and two boards that hear them are the same then. Those
-/// of the third row set a speed, a function, a pending write, an output and its side.
+/// The columns of a row are two tracks, true if the locomotive decoders that hear the tracks end
+/// equal, and true if the accessory decoders end equal. The tracks of the third row set a speed, a
+/// function, a pending write, an output and the position of its pair.
 const TRACKS: [(&str, &str, bool, bool); 6] = [
     ("", "", true, true),
     (
@@ -115,7 +117,8 @@ const TRACKS: [(&str, &str, bool, bool); 6] = [
         false,
         true,
     ),
-    // the packet of long 3, a wrong error byte, and bad halves
+    // the second track also has a packet to long address 3, a packet with a wrong error byte, and
+    // bad half-bits
     (
         "=036261 =8cfd71",
         "=036261 =8cfd71 =c00362a1 70*9 58*28 100*14 58*4 100*4 58*4 100*6 58*2 100*6 58*4 100*10 58*2",
@@ -124,8 +127,10 @@ const TRACKS: [(&str, &str, bool, bool); 6] = [
     ),
 ];
 
-/// Two fleets of a locomotive and a board each, of other types, hear two tracks, the second of them in pieces. The
-/// answer is whether each pair of decoders is equal then.
+/// Creates two fleets of a locomotive decoder and an accessory decoder, whose decoders have
+/// different types. The first fleet hears `track`, and the second fleet hears `other` in pieces.
+/// Returns true for the locomotive decoders if they end equal, and true for the accessory decoders
+/// if they end equal.
 fn end_equal(
     rt: &impl Abort,
     alloc: Global,

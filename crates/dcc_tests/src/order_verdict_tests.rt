@@ -1,4 +1,5 @@
-//! Lists of packets in a text, compared whole and step by step. `examples/rows/same.txt` has them as captures.
+//! Tests that compare lists of packets, as whole lists and packet by packet.
+//! `examples/rows/same.txt` has these lists as captures.
 
 use crate::rows::{column, number};
 use dcc_order::*;
@@ -10,33 +11,33 @@ use std::alloc::Global;
 use std::process::Abort;
 use std::test::Fail;
 
-/// The line of a packet, by its letter.
+/// Returns the packet line for which a letter stands.
 fn line_of(letter: u8) -> &'static str {
     match letter {
-        // a speed for locomotive 3 that sets F0 where it is read for 14 steps
+        // a speed for locomotive 3, which turns F0 on in 14 speed steps
         b'X' => "frame 037477",
-        // bit 1 of CV29 of locomotive 3 is to be 0, so that speeds are read for 14 steps
+        // sets bit 1 of CV29 of locomotive 3 to 0, which selects 14 speed steps
         b'C' => "frame 03e81cf106",
-        // that bit is to be 1
+        // sets bit 1 of CV29 of locomotive 3 to 1, which selects 28 speed steps
         b'D' => "frame 03e81cf90e",
         // two more speeds for locomotive 3
         b'P' => "frame 036261",
         b'Q' => "frame 037f7c",
-        // functions of locomotive 3, a speed for locomotive 4, a reset of all
+        // functions of locomotive 3, a speed for locomotive 4, and a reset of all decoders
         b'F' => "frame 038182",
         b'O' => "frame 046266",
         b'R' => "frame 000000",
-        // outputs 5 and 4 of board 12 switched on: one pair
+        // turns on output 5 of board 12, and then output 4, which is in the same pair
         b'1' => "frame 8cfd71",
         b'2' => "frame 8cf579",
-        // state 5 of locomotive 3 is turned on and off
+        // turns binary state 5 of locomotive 3 on, and then off
         b'U' => "frame 03dd855b",
         b'V' => "frame 03dd05db",
         _ => "idle",
     }
 }
 
-/// The packets of these letters.
+/// Returns the list of the packets for which these letters stand.
 fn packets_of(alloc: Global, letters: &str) -> Result<Vec<Packet>, Fail> {
     let mut packets = Vec::new(alloc);
     for letter in letters.as_bytes() {
@@ -45,7 +46,7 @@ fn packets_of(alloc: Global, letters: &str) -> Result<Vec<Packet>, Fail> {
     Ok(packets)
 }
 
-/// Whether a verdict is told by these words.
+/// Returns true if the text `words` is the text of the verdict.
 fn is_told(verdict: Verdict, words: &str) -> bool {
     let (kind, block) = match verdict {
         Verdict::Alike => ("alike", 0),
@@ -59,7 +60,8 @@ fn is_told(verdict: Verdict, words: &str) -> bool {
     }
 }
 
-/// The verdict on two lists, given whole and given step by step, and the most that is held of them.
+/// Compares two lists as a whole and packet by packet, and checks that both verdicts are equal.
+/// Returns the verdict and the greatest number of packets that the comparer stored.
 fn compared(
     rt: &impl Abort,
     alloc: Global,
@@ -88,7 +90,8 @@ fn compared(
     panic!(rt; "no verdict");
 }
 
-/// What a row shows, for which decoder, two lists, their verdict, and the most that is held where that is said.
+/// The columns of a row are the name, the decoder, two lists, the verdict, and the greatest number
+/// of stored packets. If the last column is empty, this number is not checked.
 const ROWS: &str = "\
     two_empty_lists | s3 | | | alike | 0
     speed_and_functions_in_either_order | s3 | XF | FX | alike
@@ -146,7 +149,8 @@ fn nothing_changes_once_it_is_done(rt: HostRuntime) -> Result<(), Fail> {
     Ok(())
 }
 
-/// A block of a thousand of 256 speeds for locomotive 3, any two of which conflict, and two more behind it.
+/// Returns a block of 1,000 packets with 256 different speeds for locomotive 3, and two more speeds
+/// at its end. Each two different speeds for one locomotive conflict.
 fn block(alloc: Global, first: u8, second: u8) -> Result<Vec<Packet>, Fail> {
     let mut packets = Vec::new(alloc);
     let mut number = 7u8;

@@ -1,5 +1,5 @@
-//! What a caller sees of packets. Which bytes are which line, and which lines are none, stands in
-//! `examples/rows/packets.txt`.
+//! Tests of the public functions on packets. `examples/rows/packets.txt` has packet lines with
+//! their bytes, and lines with an error.
 
 use dcc_packet::*;
 use dcc_wire::Frame;
@@ -22,11 +22,13 @@ fn every_frame_of_three_bytes_is_written_again(rt: HostRuntime) {
             }
         }
     }
-    // idle; 128 addresses with reset, 64 speeds and 64 function bytes; 64 times 128 accessory packets
+    // Packets of three bytes: idle, a reset, 64 speeds and 64 instructions for functions at each of
+    // 128 addresses, and 64 times 128 accessory packets.
     assert!(rt; others == 65536 - 1 - 128 * 129 - 64 * 128);
 }
 
-/// Lines, and as what each is written: one in capitals, and the longest, of 33 bytes.
+/// Packet lines, each with the packet line that is written for its packet. One line has capitals,
+/// and the longest line has 33 bytes.
 const WRITTEN: [(&str, &str); 2] = [
     ("frame 7C000A76", "frame 7c000a76"),
     (
@@ -44,7 +46,7 @@ fn lines_are_read_and_written(rt: HostRuntime) -> Result<(), Fail> {
         assert!(rt; line.len() == 14 || line.len() == 33);
     }
     assert!(rt; Packet::from_line_bytes(b"idle") == Ok(Packet::Idle));
-    // what is no text is a wrong word, or a wrong number
+    // bytes that are no text are a wrong word or a wrong number
     for (line, fault) in [
         (b"".as_slice(), 10),
         (b" \t\r".as_slice(), 10),
@@ -71,7 +73,7 @@ fn same_numbers_of_two_kinds_are_two_addresses(rt: HostRuntime) -> Result<(), Fa
     Ok(())
 }
 
-/// Lines, and whether they access a CV.
+/// Packet lines, with true if the packet accesses a CV.
 const CV_ACCESS: [(&str, bool); 9] = [
     ("loco s3 reset", false),
     ("loco s3 speed28 f 4", false),
@@ -97,7 +99,8 @@ fn cv_access_is_told_from_the_rest(rt: HostRuntime) -> Result<(), Fail> {
     Ok(())
 }
 
-/// A byte, a place, whether the bit is one there, the byte with a one there and with a zero there.
+/// A byte, the number of a bit place, true if this bit is one, and the byte with this bit set to
+/// one and to zero.
 const BITS: [(u8, u8, bool, u8, u8); 5] = [
     (0b0000_0001, 0, true, 0b0000_0001, 0b0000_0000),
     (0b0000_0001, 7, false, 0b1000_0001, 0b0000_0001),
@@ -106,7 +109,8 @@ const BITS: [(u8, u8, bool, u8, u8); 5] = [
     (0b0000_1010, 3, true, 0b0000_1010, 0b0000_0010),
 ];
 
-/// From the lowest bit up. An access to bit 5 ends in its state and 5.
+/// Checks the functions of bit places, which count from the lowest bit. The last four bits of an
+/// access to bit 5 are the value of the bit and the number 5.
 #[test]
 fn bits_of_a_byte(rt: HostRuntime) -> Result<(), Fail> {
     for (byte, number, is_one, with_one, with_zero) in BITS {
@@ -120,7 +124,7 @@ fn bits_of_a_byte(rt: HostRuntime) -> Result<(), Fail> {
     Ok(())
 }
 
-/// Refusals and their texts.
+/// Errors of packets, with the text of each error.
 const TEXTS: [(PacketFault, &str); 4] = [
     (PacketFault::Short, "P1: a short address is 1 to 127"),
     (PacketFault::Word, "P10: wrong word"),

@@ -1,10 +1,11 @@
-//! What a list of halves shows, by a plain and slow program over the whole list, to compare the framer with.
+//! A simple and slow search for the outcomes in a list of half-bits. Tests compare the framer with
+//! this search.
 
 use crate::rows::{is_hex, number};
 use dcc_wire::{Fault, Framer, Half, Seen};
 use std::alloc::{AllocError, Global};
 
-/// An outcome: the number of its refusal, 0 for a packet, and the bytes that are told with it.
+/// An outcome, which has the number of the refusal (0 for a packet) and its bytes.
 #[derive(Clone, Copy, PartialEq)]
 pub struct Outcome {
     refusal: u8,
@@ -13,7 +14,7 @@ pub struct Outcome {
 }
 
 impl Outcome {
-    /// The outcome that a framer answered.
+    /// Returns the outcome that a framer returned. Returns `None` for `Seen::Nothing`.
     pub fn of(seen: &Seen) -> Option<Outcome> {
         match seen {
             Seen::Nothing => None,
@@ -23,8 +24,9 @@ impl Outcome {
         }
     }
 
-    /// Whether a word tells it: the bytes of a packet, or `H`, the number of the refusal and, behind a colon, the
-    /// bytes.
+    /// Returns true if `word` stands for this outcome. The word for a packet is its bytes in hex.
+    /// The word for a refusal is `H` and the number of the refusal, and then a colon and the bytes
+    /// if there are bytes.
     fn is_told(&self, word: &str) -> bool {
         let (refusal, bytes) = match word.strip_prefix('H') {
             None => ("0", word),
@@ -63,7 +65,7 @@ impl Outcome {
         }
     }
 
-    /// What so many bytes come to where an end bit follows them.
+    /// Returns the outcome of a body with these bytes and an end bit.
     fn closed(bytes: [u8; 6], len: usize) -> Outcome {
         if len < 3 {
             return Outcome::refused(3);
@@ -79,7 +81,8 @@ impl Outcome {
         }
     }
 
-    /// The halves of its end bit, which count for the next preamble too.
+    /// Returns the number of half-bits of the outcome that count for the next preamble: those of
+    /// the end bit, or 0.
     fn end_halves(&self) -> usize {
         match self.refusal {
             0 | 3 | 5 => 2,
@@ -88,7 +91,8 @@ impl Outcome {
     }
 }
 
-/// Whether outcomes are those of a text of words such as `84:036261` and `66:H3`.
+/// Returns true if the outcomes are those of `text`, which has words such as `84:036261` and
+/// `66:H3`.
 pub fn are_told(outcomes: &[(usize, Outcome)], text: &str) -> bool {
     let mut told = 0;
     for word in text.split_whitespace() {
@@ -105,7 +109,7 @@ pub fn are_told(outcomes: &[(usize, Outcome)], text: &str) -> bool {
     told == outcomes.len()
 }
 
-/// Whether a word tells an outcome and the number of its half.
+/// Returns true if `word` stands for this outcome and the number `half` of its last half-bit.
 fn is_told_at(half: usize, outcome: &Outcome, word: &str) -> bool {
     match word.split_once(':') {
         None => false,
@@ -113,7 +117,8 @@ fn is_told_at(half: usize, outcome: &Outcome, word: &str) -> bool {
     }
 }
 
-/// What a new framer answers to durations, each answer with the number of its half, from 1.
+/// Returns the outcomes that a new framer returns for `durations`, each with the number of its last
+/// half-bit, counted from 1.
 pub fn answers(alloc: Global, durations: &[u16]) -> Result<Vec<(usize, Outcome)>, AllocError> {
     let mut framer = Framer::new();
     let mut answers = Vec::new(alloc);
@@ -125,7 +130,8 @@ pub fn answers(alloc: Global, durations: &[u16]) -> Result<Vec<(usize, Outcome)>
     Ok(answers)
 }
 
-/// The outcomes in a list of durations, each with the number of its last half, from 1.
+/// Returns the outcomes that the simple search finds in `durations`, each with the number of its
+/// last half-bit, counted from 1.
 pub fn outcomes(alloc: Global, durations: &[u16]) -> Result<Vec<(usize, Outcome)>, AllocError> {
     let mut outcomes = Vec::new(alloc);
     let mut unused = 0;
@@ -144,7 +150,8 @@ pub fn outcomes(alloc: Global, durations: &[u16]) -> Result<Vec<(usize, Outcome)
     Ok(outcomes)
 }
 
-/// Whether a half is a zero directly behind twenty ones.
+/// Returns true if `us` is a half-bit of a zero, and at least twenty half-bits of ones come
+/// directly before it.
 fn begins_body(before: &[u16], us: u16) -> bool {
     let ones = before
         .iter()
@@ -154,10 +161,10 @@ fn begins_body(before: &[u16], us: u16) -> bool {
     Half::of(us) == Half::Zero && ones >= 20
 }
 
-/// What stands where a bit is wanted.
+/// The two half-bits at the place of a bit in a body.
 enum Pair {
     Bit(bool),
-    /// The first or the second half is bad.
+    /// The first (1) or the second (2) half-bit of the pair is bad.
     Bad(usize),
     Split,
     Cut,
@@ -185,7 +192,8 @@ fn pair_at(halves: &[u16], at: usize) -> Pair {
     }
 }
 
-/// The outcome of a body that begins with the first of these halves, and how many of them it takes.
+/// Returns the number of half-bits in the body at the beginning of `halves`, and its outcome.
+/// Returns `None` if the body is unfinished.
 fn body(halves: &[u16]) -> Option<(usize, Outcome)> {
     let mut bytes = [0u8; 6];
     for number in 0..55usize {

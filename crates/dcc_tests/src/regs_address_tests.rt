@@ -1,19 +1,19 @@
-//! Worked examples of active addresses, on the plain and the packed type.
+//! Tests of active addresses with worked examples, for both types of locomotive decoders.
 
 use crate::regs_examples::*;
 use dcc_packet::{Address, Packet};
 use dcc_regs::{Decoder, LocoDecoder, PackedLoco, Register, Speed, Value, Who, same_registers};
 use std::test::Fail;
 
-/// Packets to short 3 and short 10, after CV1 was made 10.
+/// Sets speed step 1 at short address 3. The next constant sets this step at short address 10.
 const AS_3: &str = "frame 036261";
 
 const AS_10: &str = "frame 0a6268";
 
-/// A written address waits for the next power-up; after it, it is the active one.
+/// Checks that an address that was written to CV1 is active only after the next power-up.
 #[test]
 fn address_at_power_up(rt: HostRuntime) -> Result<(), Fail> {
-    // (a decoder holds one, and the toolchain asks where its type stands)
+    // (names the type of the pending packet of a decoder, as the toolchain requires)
     let _pending: Option<Packet> = None;
     let before = [TO_S10, TO_S10, AS_10];
     let mut plain = heard_by_loco(&rt, &cvs(2), &before)?;
@@ -38,10 +38,10 @@ fn address_at_power_up(rt: HostRuntime) -> Result<(), Fail> {
     Ok(())
 }
 
-/// CV29 = 34 asks for a long address, from the next power-up on.
+/// Checks that CV29 = 34, which selects the long address, takes effect only at the next power-up.
 #[test]
 fn address_kind_at_power_up(rt: HostRuntime) -> Result<(), Fail> {
-    // (a decoder holds one, and the toolchain asks where its type stands)
+    // (names the type of the pending packet of a decoder, as the toolchain requires)
     let _pending: Option<Packet> = None;
     let lines = ["frame 03e81cfd0a", "frame 03e81cfd0a"];
     let three = Who::Loco(Some(Address::short(3)?));
@@ -52,7 +52,7 @@ fn address_kind_at_power_up(rt: HostRuntime) -> Result<(), Fail> {
     Ok(())
 }
 
-/// CV1, CV17, CV18 and CV29.
+/// Returns CVs with these values of CV1, CV17, CV18 and CV29, and 0 in all others.
 fn address_cvs(cv1: u8, cv17: u8, cv18: u8, cv29: u8) -> [u8; 1024] {
     let mut bytes = cvs(cv29);
     bytes[0] = cv1;
@@ -61,7 +61,8 @@ fn address_cvs(cv1: u8, cv17: u8, cv18: u8, cv29: u8) -> [u8; 1024] {
     bytes
 }
 
-/// CV1, CV17, CV18 and CV29 give this active address.
+/// The values of CV1, CV17, CV18 and CV29, and the active address that a decoder with these values
+/// must have.
 type AddressRow = ([u8; 4], Option<Address>);
 
 #[test]
@@ -87,7 +88,7 @@ fn active_addresses(rt: HostRuntime) -> Result<(), Fail> {
 
 #[test]
 fn heard_by_address(rt: HostRuntime) -> Result<(), Fail> {
-    // (a decoder holds one, and the toolchain asks where its type stands)
+    // (names the type of the pending packet of a decoder, as the toolchain requires)
     let _pending: Option<Packet> = None;
     let long = address_cvs(3, 195, 232, 34);
     let decoder = heard_by_loco(&rt, &long, &["frame c3e83f7f6b"])?;

@@ -1,11 +1,11 @@
-//! Worked examples of accessory decoders, on the plain and the packed type.
+//! Tests of accessory decoders with worked examples, for both types.
 
 use crate::regs_examples::*;
 use dcc_packet::Board;
 use dcc_regs::{BoardDecoder, Decoder, PackedBoard, Register, Value, same_registers};
 use std::test::Fail;
 
-/// Outputs of board 12, and of all boards.
+/// Turns on output 4 of board 12. The next two packets are for all boards.
 const FOUR_ON: &str = "frame 8cfc70";
 
 const ZERO_ON_FOR_ALL: &str = "frame bf8837";
@@ -18,7 +18,7 @@ const SIDE_0: Value = Value::Number(0);
 
 const SIDE_1: Value = Value::Number(1);
 
-/// Board 12 hears the lines, then holds the value in the register.
+/// Packet lines that board 12 hears, a register, and the value that this register must then have.
 type BoardRow = (&'static [&'static str], Register, Value);
 
 const BOARDS: [BoardRow; 24] = [
@@ -67,13 +67,13 @@ const BOARDS: [BoardRow; 24] = [
         SIDE_0,
     ),
     (&[FIVE_ON, RESET], Register::Position(2), SIDE_1),
-    // a reset of one locomotive is not for boards
+    // a board does not hear a reset to one locomotive
     (&[FIVE_ON, "frame 030003"], Register::Out(5), ON),
     (&[ASPECTS_FOR_ALL], Register::Aspect(0), Value::Number(5)),
     (&[ASPECTS_FOR_ALL], Register::Aspect(1), Value::Number(5)),
     (&[ASPECTS_FOR_ALL], Register::Aspect(2), Value::Number(5)),
     (&[ASPECTS_FOR_ALL], Register::Aspect(3), Value::Number(5)),
-    // signal 51 is the fourth of board 12, signal 52 the first of board 13
+    // signal 51 is the fourth signal of board 12, and signal 52 is the first signal of board 13
     (
         &["signal 51 7", "signal 52 9"],
         Register::Aspect(3),
@@ -94,7 +94,7 @@ fn boards(rt: HostRuntime) -> Result<(), Fail> {
     Ok(())
 }
 
-/// Power-up turns the outputs off, and leaves all else.
+/// Checks that power-up turns the outputs off and leaves all other registers unchanged.
 #[test]
 fn boards_at_power_up(rt: HostRuntime) -> Result<(), Fail> {
     let board = Board::new(12)?;

@@ -1,4 +1,5 @@
-//! What the worked examples share. A packet is written as a line: `frame` and its bytes in hex.
+//! Functions and packets that several worked examples use. A packet is written as the packet line
+//! `frame` with its bytes in hex.
 
 use dcc_packet::{Board, Packet, PacketFault};
 use dcc_regs::{
@@ -21,16 +22,16 @@ pub const STOP: Value = Value::Speed(Speed::Stop);
 
 pub const STEP_1: Value = Value::Speed(Speed::Step28(1));
 
-/// CV29 of locomotive 3 is made 6.
+/// The packet that writes 6 to CV29 of locomotive 3.
 pub const WRITE: &str = "frame 03ec1c06f5";
 
-/// CV1 of locomotive 3 is made 10.
+/// The packet that writes 10 to CV1 of locomotive 3.
 pub const TO_S10: &str = "frame 03ec000ae5";
 
-/// Output 5 of board 12 is turned on.
+/// The packet that turns on output 5 of board 12.
 pub const FIVE_ON: &str = "frame 8cfd71";
 
-/// CV1 = 3, CV29 as given, all others 0.
+/// Returns CVs with 3 in CV1, `cv29` in CV29, and 0 in all other CVs.
 pub fn cvs(cv29: u8) -> [u8; 1024] {
     let mut cvs = [0; 1024];
     cvs[0] = 3;
@@ -38,7 +39,7 @@ pub fn cvs(cv29: u8) -> [u8; 1024] {
     cvs
 }
 
-/// A decoder hears the packets of these lines, in turn.
+/// Applies the packets of these packet lines to a decoder, one after the other.
 pub fn hear(decoder: &mut dyn Decoder, lines: &[&str]) -> Result<(), PacketFault> {
     for line in lines {
         let packet = Packet::from_line(line)?;
@@ -47,7 +48,8 @@ pub fn hear(decoder: &mut dyn Decoder, lines: &[&str]) -> Result<(), PacketFault
     Ok(())
 }
 
-/// A plain locomotive decoder with these CVs that has heard the lines. A packed one holds the same in each register.
+/// Returns a `LocoDecoder` with these CVs that has heard the packets of these lines. Asserts that a
+/// `PackedLoco` has equal registers after these packets.
 pub fn heard_by_loco(
     rt: &impl Abort,
     cvs: &[u8; 1024],
@@ -61,7 +63,8 @@ pub fn heard_by_loco(
     Ok(plain)
 }
 
-/// A plain decoder of board 12 that has heard the lines. A packed one holds the same in each register.
+/// Returns a `BoardDecoder` for board 12 that has heard the packets of these lines. Asserts that a
+/// `PackedBoard` has equal registers after these packets.
 pub fn heard_by_board(rt: &impl Abort, lines: &[&str]) -> Result<BoardDecoder, PacketFault> {
     let board = Board::new(12)?;
     let mut plain = BoardDecoder::new(board)?;
@@ -72,12 +75,12 @@ pub fn heard_by_board(rt: &impl Abort, lines: &[&str]) -> Result<BoardDecoder, P
     Ok(plain)
 }
 
-/// The register holds the value.
+/// Asserts that the register of the decoder has this value.
 pub fn holds(rt: &impl Abort, decoder: &dyn Decoder, register: Register, value: Value) {
     assert!(rt; decoder.get(register) == Some(value), "{register:?}");
 }
 
-/// The decoder has none of these registers.
+/// Asserts that the decoder has none of the registers in the list.
 pub fn lacks(rt: &impl Abort, decoder: &dyn Decoder, registers: &[Register]) {
     for register in registers {
         assert!(rt; decoder.get(*register) == None, "{register:?}");

@@ -1,17 +1,18 @@
-//! Worked examples of locomotive decoders, on the plain and the packed type.
+//! Tests of locomotive decoders with worked examples, for both types.
 
 use crate::regs_examples::*;
 use dcc_packet::{CvNumber, Packet};
 use dcc_regs::{Decoder, LocoDecoder, PackedLoco, Register, Speed, Value, same_registers};
 use std::test::Fail;
 
-/// Forward at the bits 9: step 3 of 14 with F0 on, or step 6 of 28.
+/// A speed with direction forward and bits 01001: step 3 of 14 with F0 on, or step 6 of 28.
 const STEP: &str = "frame 037477";
 
-/// Group 0: F1 on, all others off.
+/// Turns F1 on and the other functions of group 0 off.
 const F1_ON: &str = "frame 038182";
 
-/// Bit 1 of CV29 is made zero, for 14 steps, and one, for 28.
+/// Sets bit 1 of CV29 to 0, which selects 14 speed steps. The next packet sets it to 1, which
+/// selects 28 speed steps.
 const TO_14: &str = "frame 03e81cf106";
 
 const TO_28: &str = "frame 03e81cf90e";
@@ -54,17 +55,18 @@ fn new_locomotives(rt: HostRuntime) -> Result<(), Fail> {
     Ok(())
 }
 
-/// Starts with CV29 as given, hears the lines, then holds the value in the register.
+/// The value of CV29 of a decoder, packet lines that it hears, a register, and the value that this
+/// register must then have.
 type LocoRow = (u8, &'static [&'static str], Register, Value);
 
 const REGISTERS: [LocoRow; 34] = [
     (2, &["frame 036261"], Register::Speed, STEP_1),
     (2, &["frame 036261"], Register::Direction, FORWARD),
     (2, &["frame 037f7c"], Register::Speed, STEP_28),
-    // another address: long 3 is not short 3
+    // a packet to long address 3 or to short address 4 is for another decoder
     (2, &["frame c00362a1"], Register::Speed, STOP),
     (2, &["frame 046266"], Register::Speed, STOP),
-    // the same bits in each mode
+    // one packet in both speed modes
     (2, &[STEP], Register::Speed, STEP_6),
     (2, &[STEP], Register::Function(0), OFF),
     (0, &[STEP, F1_ON], Register::Speed, STEP_3_OF_14),
@@ -72,7 +74,8 @@ const REGISTERS: [LocoRow; 34] = [
     (0, &[STEP, F1_ON], Register::Function(1), ON),
     (0, &[F1_ON, STEP], Register::Function(0), ON),
     (0, &[F1_ON, STEP], Register::Function(1), ON),
-    // a broadcast stop with C = 1 leaves the direction, one with C = 0 sets it
+    // a broadcast stop leaves the direction unchanged if its bit C is 1, and sets the direction if
+    // C is 0
     (2, &["frame 005151"], Register::Speed, EMERGENCY),
     (2, &["frame 005151"], Register::Direction, FORWARD),
     (2, &["frame 005151", "frame 004040"], Register::Speed, STOP),
@@ -91,13 +94,13 @@ const REGISTERS: [LocoRow; 34] = [
         Register::Function(4),
         OFF,
     ),
-    // group 0 leaves F0 where the speed instruction has it
+    // in 14 speed steps group 0 does not set F0
     (0, &["frame 039093"], Register::Function(0), OFF),
     (2, &["frame 03de815c"], Register::Function(13), ON),
     (2, &["frame 03de815c"], Register::Function(14), OFF),
     (2, &["frame 03de815c"], Register::Function(20), ON),
     (2, &["frame 03dc805f"], Register::Function(68), ON),
-    // a reset turns all off
+    // a reset turns all functions off and sets the speed to stop
     (
         2,
         &["frame 03dc805f", "frame 030003"],
@@ -117,7 +120,7 @@ const REGISTERS: [LocoRow; 34] = [
         Register::Direction,
         FORWARD,
     ),
-    // F1 to F4 are turned off by the group that turns F0 on
+    // the packet that turns F0 on turns F1 to F4 off
     (
         2,
         &["frame 039f9c", "frame 039093"],
@@ -136,7 +139,7 @@ const REGISTERS: [LocoRow; 34] = [
         Register::Function(3),
         OFF,
     ),
-    // the mode of the moment
+    // the speed mode at the time of a packet decides how the packet is read
     (
         2,
         &[STEP, TO_14, TO_14, STEP, TO_28, TO_28, STEP],
@@ -164,7 +167,7 @@ fn registers(rt: HostRuntime) -> Result<(), Fail> {
     Ok(())
 }
 
-/// Short 3 with F0, F13, F20 and F68 on, and state 5.
+/// Packets that turn F0, F13, F20, F68 and binary state 5 on, for the decoder at short address 3.
 const MANY_ON: [&str; 4] = [
     "frame 039093",
     "frame 03de815c",
@@ -172,10 +175,11 @@ const MANY_ON: [&str; 4] = [
     "frame 03dd855b",
 ];
 
-/// A reset turns all functions and states off, and a packet to long 3 is none to short 3.
+/// Checks that a reset turns all functions and binary states off. A decoder at short address 3 must
+/// not hear a packet to long address 3.
 #[test]
 fn a_reset_leaves_a_new_locomotive(rt: HostRuntime) -> Result<(), Fail> {
-    // (a decoder holds one, and the toolchain asks where its type stands)
+    // (names the type of the pending packet of a decoder, as the toolchain requires)
     let _pending: Option<Packet> = None;
     let new = LocoDecoder::new(&cvs(2));
     let mut decoder = heard_by_loco(&rt, &cvs(2), &MANY_ON)?;
@@ -191,7 +195,9 @@ fn a_reset_leaves_a_new_locomotive(rt: HostRuntime) -> Result<(), Fail> {
     Ok(())
 }
 
-/// The states of short 3 that are on: those of the list, or all but those of the list.
+/// The value of CV29, packet lines that the decoder at short address 3 hears, and a list of binary
+/// states. If the third value is true, exactly the states of the list must be on, otherwise exactly
+/// the other states.
 type StateRow = (u8, &'static [&'static str], bool, &'static [u8]);
 
 const STATES: [StateRow; 12] = [
@@ -208,10 +214,10 @@ const STATES: [StateRow; 12] = [
         true,
         &[5, 127],
     ),
-    // in 14 steps too, and for all
+    // a decoder with 14 speed steps hears binary states too, and a broadcast sets them too
     (0, &["frame 03dd855b"], true, &[5]),
     (2, &["frame 00dd8558"], true, &[5]),
-    // another locomotive, and packets of other kinds
+    // packets to other locomotives, and packets of other kinds, change no binary state
     (2, &["loco s4 state 5 on", "loco l3 state 5 on"], true, &[]),
     (
         2,
@@ -243,16 +249,17 @@ fn states(rt: HostRuntime) -> Result<(), Fail> {
     Ok(())
 }
 
-/// Starts with CV29 = 2, hears the lines, then has this value in the CV of this number.
+/// Packet lines that a decoder with CV29 = 2 hears, the number of a CV, and the value that this CV
+/// must then have.
 type CvRow = (&'static [&'static str], u16, u8);
 
 const WRITES: [CvRow; 13] = [
     (&[WRITE], 29, 2),
     (&[WRITE, WRITE], 29, 6),
     (&[WRITE, WRITE, WRITE], 29, 6),
-    // what the decoder does not hear leaves the write pending
+    // a packet that the decoder does not hear leaves the write pending
     (&[WRITE, "frame ff00ff", "frame 046266", WRITE], 29, 6),
-    // any packet that it hears clears it
+    // each packet that the decoder hears cancels the pending write
     (&[WRITE, F1_ON, WRITE], 29, 2),
     (&[WRITE, "frame 006060", WRITE], 29, 2),
     (&[WRITE, "frame 006262", WRITE], 29, 2),

@@ -1,4 +1,5 @@
-//! States that are put away and taken up again, by the plain and the packed type, and states that are no decoder's.
+//! Tests that save and restore states with the plain and the packed type of each decoder, and tests
+//! of states that no decoder can have.
 
 use crate::regs_examples::*;
 use dcc_packet::{Address, Board, CvNumber, Packet, PacketFault};
@@ -9,10 +10,12 @@ use dcc_regs::{
 use std::process::Abort;
 use std::test::Fail;
 
-/// An address, a speed, functions and states as bits, and the line of a pending packet; empty where none is.
+/// An address, a speed, functions and binary states as bits, and the packet line of the pending
+/// packet. The line is empty if no packet is pending.
 type StateRow = (Option<Address>, Speed, u128, u128, &'static str);
 
-/// Going forward if none of its functions is on; CV29 is 2, CV1024 is 200.
+/// Returns the state of a row. CV29 is 2 and CV1024 is 200. The direction is forward if and only if
+/// no function is on.
 fn state_of(row: StateRow) -> Result<LocoState, PacketFault> {
     let (address, speed, functions, states, line) = row;
     let pending = match line {
@@ -32,10 +35,10 @@ fn state_of(row: StateRow) -> Result<LocoState, PacketFault> {
     })
 }
 
-/// Neither type takes these.
+/// Checks that both types reject states that no decoder can have.
 #[test]
 fn refused_locomotives(rt: HostRuntime) -> Result<(), Fail> {
-    // (a decoder holds one, and the toolchain asks where its type stands)
+    // (names the type of the pending packet of a decoder, as the toolchain requires)
     let _pending: Option<Packet> = None;
     let short = Some(Address::short(3)?);
     let stop = Speed::Stop;
@@ -67,10 +70,10 @@ fn refused_locomotives(rt: HostRuntime) -> Result<(), Fail> {
     Ok(())
 }
 
-/// Both types take these, and give them again.
+/// Checks that both types accept possible states and return them unchanged.
 #[test]
 fn restored_locomotives(rt: HostRuntime) -> Result<(), Fail> {
-    // (a decoder holds these, and the toolchain asks where their types stand)
+    // (names the types of fields of a decoder, as the toolchain requires)
     let _held: (Option<Packet>, Option<LocoRegisters>) = (None, None);
     let short = Some(Address::short(3)?);
     let long = Some(Address::long(1000)?);
@@ -101,7 +104,8 @@ fn restored_locomotives(rt: HostRuntime) -> Result<(), Fail> {
     Ok(())
 }
 
-/// The decoder is in this state, in which functions 0, 2 and 68 and the states 1, 5 and 127 alone may be on.
+/// Asserts that the decoder is in this state. Only the functions 0, 2 and 68 and the binary states
+/// 1, 5 and 127 can be on.
 fn is_in(rt: &impl Abort, decoder: &LocoDecoder, state: &LocoState) -> Result<(), PacketFault> {
     assert!(rt; decoder.who() == Who::Loco(state.address));
     assert!(rt; decoder.cv(CvNumber::new(1)?) == 3 && decoder.cv(CvNumber::new(1024)?) == 200);
@@ -136,7 +140,8 @@ fn is_same(rt: &impl Abort, one: &LocoState, other: &LocoState) {
     assert!(rt; one.cvs == other.cvs);
 }
 
-/// The outputs 0 and 7 are on, the pairs 1 and 3 at side 1.
+/// Returns a state of a board in which the outputs 0 and 7 are on and the positions of the pairs 1
+/// and 3 are true.
 fn board_state(board: Board) -> BoardState {
     BoardState {
         board,
@@ -146,7 +151,7 @@ fn board_state(board: Board) -> BoardState {
     }
 }
 
-/// No type takes board 511, which is every board.
+/// Checks that both types reject board 511, which is the broadcast.
 #[test]
 fn refused_boards(rt: HostRuntime) -> Result<(), Fail> {
     let all = Board::new(511)?;
@@ -166,7 +171,7 @@ fn refused_boards(rt: HostRuntime) -> Result<(), Fail> {
     Ok(())
 }
 
-/// The registers of board 12 in that state.
+/// The registers of board 12 in the state `board_state`, with their values.
 const RESTORED: [(Register, Value); 8] = [
     (Register::Out(0), ON),
     (Register::Out(1), OFF),

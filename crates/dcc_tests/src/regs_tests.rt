@@ -1,4 +1,5 @@
-//! Worked examples of the definitions: who hears what, what is told, which packets conflict.
+//! Tests of the definitions with worked examples: which decoders hear a packet, which callback is
+//! called for a packet, and which packets conflict.
 
 use crate::rows::column;
 use dcc_packet::Packet;
@@ -6,7 +7,7 @@ use dcc_regs::*;
 use dcc_saved::read_who;
 use std::test::Fail;
 
-/// A row: a packet, and which of five decoders hear it.
+/// The columns of a row are a packet, and those of five decoders that hear it.
 const HEARD_BY: &str = "\
     idle |
     loco all reset | s3 s124 l1000 none b12
@@ -66,8 +67,9 @@ fn notes(rt: HostRuntime) -> Result<(), Fail> {
     Ok(())
 }
 
-/// Whether two packets conflict, and their lines. A step to the broadcast address sets nothing. In 14 steps F0 is off
-/// in the one and on in the other; it is set by the one in 28 steps and by the other in 14.
+/// The columns of a row are `yes` if the two packets conflict, otherwise `no`, and the packet lines
+/// of the packets. A broadcast speed above stop sets no register. `functions 0 16` sets F0 only in
+/// 28 speed steps, and `speed28 f 4` only in 14 speed steps. So these two packets do not conflict.
 const CONFLICTS: &str = "\
     yes | loco s3 speed28 f 4 | loco s3 speed28 f 31
     no | loco s3 speed28 f 4 | loco s3 speed28 f 4

@@ -1,12 +1,14 @@
-//! Tables of worked examples: a row a line, its columns between bars.
+//! Functions that read tables of worked examples. Each line of a table is a row, and bars separate
+//! the columns.
 //!
-//! `column` and `number` stand in `dcc_tool_tests` too: tests give no items to another crate, and a crate below both
-//! would be one more to prove.
+//! `dcc_tool_tests` has copies of `column` and `number`. Tests export no items to another crate,
+//! and a crate for both would be one more crate to prove.
 
 use dcc_wire::{Frame, Halves, Timing};
 use std::alloc::AllocError;
 
-/// The column of this number, from 0, without the blanks around it: an empty one where the row has fewer.
+/// Returns the column with the number `number`, counted from 0, without spaces around it. The
+/// result is empty if the row has fewer columns.
 pub fn column(row: &str, number: usize) -> &str {
     let mut rest = row;
     for _ in 0..number {
@@ -15,7 +17,7 @@ pub fn column(row: &str, number: usize) -> &str {
     split(rest).0.trim()
 }
 
-/// What stands before the first bar and behind it.
+/// Returns the text before the first bar of a row and the text after it.
 fn split(row: &str) -> (&str, &str) {
     match row.split_once('|') {
         Some(parts) => parts,
@@ -23,7 +25,7 @@ fn split(row: &str) -> (&str, &str) {
     }
 }
 
-/// The number that a word is, the largest one where it is none.
+/// Returns the number that a word gives, or the greatest number if the word is no number.
 pub fn number(word: &str) -> u32 {
     match word.parse() {
         Ok(number) => number,
@@ -31,7 +33,7 @@ pub fn number(word: &str) -> u32 {
     }
 }
 
-/// Whether bytes are these in lower case hex, six of them at most.
+/// Returns true if `hex` is the text of these bytes, at most six, in hex digits of lower case.
 pub fn is_hex(bytes: &[u8], hex: &str) -> bool {
     let mut digits = [0; 12];
     match digits.get_mut(..bytes.len().saturating_mul(2)) {
@@ -42,7 +44,7 @@ pub fn is_hex(bytes: &[u8], hex: &str) -> bool {
     }
 }
 
-/// The frame of bytes in hex.
+/// Returns the frame whose bytes `hex` gives. Returns `None` if the bytes form no frame.
 pub fn frame_of(hex: &str) -> Option<Frame> {
     let mut bytes = [0; 6];
     let bytes = bytes.get_mut(..hex.len() / 2)?;
@@ -52,8 +54,8 @@ pub fn frame_of(hex: &str) -> Option<Frame> {
     }
 }
 
-/// Adds the halves of a text of words, each a duration in microseconds, a run such as `58*28`, or a packet on the
-/// main track such as `=036261`.
+/// Appends the half-bits of a text. A word of the text is a duration in microseconds, or a run such
+/// as `58*28`, or a packet such as `=036261` in the timing of the main track.
 pub fn push_halves(halves: &mut Vec<u16>, text: &str) -> Result<(), AllocError> {
     for word in text.split_whitespace() {
         match word.strip_prefix('=') {

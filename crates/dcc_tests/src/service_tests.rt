@@ -1,4 +1,5 @@
-//! Worked frames and their answers, and every frame of four bytes held against the patterns of the table.
+//! Tests of service mode: worked examples, and a comparison of frames of four bytes with the bit
+//! patterns of the table.
 
 use crate::rows::{column, frame_of, is_hex, number};
 use dcc_packet::{BitPlace, CvNumber};
@@ -7,16 +8,16 @@ use dcc_wire::Frame;
 use std::process::Abort;
 use std::test::Fail;
 
-/// A decoder, just made, whose CV1 has this value, and all others 0.
+/// Returns a new decoder with `value` in CV1 and 0 in all other CVs.
 fn with_cv1(value: u8) -> ServiceDecoder {
     let mut cvs = [0; 1024];
     cvs[0] = value;
     ServiceDecoder::new(&cvs)
 }
 
-/// What a row shows, CV1 at the start, frames that a decoder gets, each behind `+` where it is acknowledged and `-`
-/// where it is not, and CV1 then. A write of CV1 is 7c000a76, one of CV8 7c070873, a check of CV1 74000a7e. CV8 is
-/// not written.
+/// The columns of a row are the name, CV1 at the start, frames, and CV1 at the end. A frame follows
+/// `+` if the decoder acknowledges it, and `-` if it does not. 7c000a76 writes CV1, 7c070873 writes
+/// CV8, and 74000a7e verifies CV1. A decoder never writes CV8.
 const STEPS: &str = "\
     the second copy of a write | 3 | -000000 -7c000a76 +7c000a76 +7c000a76 | 10
     an idle packet ends service | 3 | -000000 -7c000a76 +7c000a76 +7c000a76 -ff00ff -7c000a76 -7c000a76 | 10
@@ -45,7 +46,7 @@ fn frames_in_turn(rt: HostRuntime) -> Result<(), Fail> {
     Ok(())
 }
 
-/// Three resets and five copies.
+/// Checks questions, which send three resets and then the frame of a packet five times.
 #[test]
 fn questions(rt: HostRuntime) -> Result<(), Fail> {
     let (cv, last) = (CvNumber::new(1)?, CvNumber::new(8)?);
@@ -116,7 +117,8 @@ fn packets_have_their_frames(rt: HostRuntime) -> Result<(), Fail> {
     Ok(())
 }
 
-/// Whether the bytes before the error byte are in the table: its patterns, each as a mask and a value.
+/// Returns true if the first and the last byte before the error byte match a pattern of the table.
+/// Each pattern is a mask and a value.
 fn is_in_table(first: u8, last: u8) -> bool {
     let is_byte = first & 0b1111_1100 == 0b0111_1100 || first & 0b1111_1100 == 0b0111_0100;
     let is_bit = first & 0b1111_1100 == 0b0111_1000 && last & 0b1110_0000 == 0b1110_0000;
@@ -145,7 +147,8 @@ fn exactly_the_frames_of_the_table_are_read(rt: HostRuntime) -> Result<(), Fail>
     Ok(())
 }
 
-/// Reads CV1 of a decoder, or of an empty track, and counts the questions.
+/// Reads CV1 of a decoder, or of an empty track if `decoder` is `None`. Returns the value and the
+/// number of questions.
 fn read_cv1(mut reader: CvReader, mut decoder: Option<ServiceDecoder>) -> (Option<u8>, u32) {
     for count in 1..=9u32 {
         let question = reader.question();
@@ -162,7 +165,8 @@ fn read_cv1(mut reader: CvReader, mut decoder: Option<ServiceDecoder>) -> (Optio
     (None, 10)
 }
 
-/// Nine questions tell every value; eight bits without the byte are none.
+/// Checks that nine questions find each value of a CV, and that a reading whose last answer is no
+/// has no value.
 #[test]
 fn readings(rt: HostRuntime) -> Result<(), Fail> {
     let cv = CvNumber::new(1)?;

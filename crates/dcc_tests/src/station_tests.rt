@@ -1,4 +1,4 @@
-//! Worked examples of stations, step by step.
+//! Tests of stations with worked examples.
 
 use crate::rows::{column, number};
 use dcc_packet::Packet;
@@ -6,23 +6,24 @@ use dcc_station::*;
 use std::process::Abort;
 use std::test::Fail;
 
-/// The line of a packet, by its letter.
+/// Returns the packet line for which a letter stands.
 fn line_of(letter: &str) -> &'static str {
     match letter {
-        // speeds and functions for locomotive 3: a speed, functions 5 to 8, functions 9 to 12
+        // for locomotive 3: a speed, functions 5 to 8, and functions 9 to 12
         "A" => "frame 036261",
         "B" => "frame 03b1b2",
         "C" => "frame 03a1a2",
         // a speed for locomotive 1000
         "L" => "frame c3e86249",
-        // stop, for all decoders
+        // a stop for all locomotive decoders
         "S" => "frame 006060",
-        // CV29 of locomotive 3 is to be 2; its bit 5 is to be 1; CV29 of all is verified, and is to be 2
+        // `W` writes 2 to CV29 of locomotive 3, and `T` writes 1 to bit 5 of this CV. `V` verifies
+        // CV29 of all locomotives, and `X` writes this CV.
         "W" => "frame 03ec1c02f1",
         "T" => "frame 03e81cfd0a",
         "V" => "loco all cv verify 29 2",
         "X" => "loco all cv write 29 2",
-        // state 5 of locomotive 3 is turned on, and of all
+        // turns on binary state 5 of locomotive 3, and of all locomotives
         "U" => "frame 03dd855b",
         "Z" => "frame 00dd8558",
         "F" => "frame 7c000a76",
@@ -30,8 +31,9 @@ fn line_of(letter: &str) -> &'static str {
     }
 }
 
-/// A station goes a step: `+A` this command is accepted, `-A:4` it is refused as C4 and comes back, `=A` this packet
-/// is sent next, `0:1` so many commands wait, and so many packets are refreshed.
+/// Makes one step of a station and asserts the result. `+A`: the station accepts command A. `-A:4`:
+/// the station rejects command A with error C4 and returns it. `=A`: the station sends packet A.
+/// `0:1`: no command waits, and the station has one entry.
 fn go<Q: PacketRing, S: PacketRing>(
     rt: &impl Abort,
     station: &mut StationOver<Q, S>,
@@ -62,7 +64,8 @@ fn go<Q: PacketRing, S: PacketRing>(
     Ok(())
 }
 
-/// What a row shows, a station's queue, slots and repeats, and its steps.
+/// The columns of a row are the name, the capacities of the queue and of the entries, the number of
+/// copies of a command, and the steps.
 const STATIONS: &str = "\
     nothing_to_send | 4 | 4 | 1 | =I =I 0:0
     sent_and_refreshed | 4 | 4 | 1 | +A 1:0 =A 0:1 =A =A
@@ -94,7 +97,8 @@ fn stations(rt: HostRuntime) -> Result<(), Fail> {
     Ok(())
 }
 
-/// A queue, slots and repeats, and the number of the refusal, 0 where there is a station of them.
+/// The capacity of a queue, the capacity of the entries, the number of copies, and the number of
+/// the error. The last number is 0 if such a station can be created.
 const LIMITS: [(usize, usize, u8, u8); 8] = [
     (0, 4, 1, 1),
     (65, 4, 1, 1),
@@ -113,7 +117,7 @@ fn limits(rt: HostRuntime) {
             Ok(_) => assert!(rt; refusal == 0),
             Err(fault) => assert!(rt; fault.number() == refusal),
         }
-        // with more room than a station may have, it has the same limits
+        // larger arrays do not change the limits
         let made = FixedStation::<100, 200>::new(queue, slots, repeats);
         assert!(rt; number_of(made) == refusal);
     }
@@ -121,7 +125,7 @@ fn limits(rt: HostRuntime) {
     assert!(rt; Refused::NotSendable.number() == 3 && Refused::QueueFull.number() == 4);
 }
 
-/// The number of the refusal, 0 where there is a station.
+/// Returns 0 if the station was created, otherwise the number of the error.
 fn number_of<const QUEUE: usize, const SLOTS: usize>(
     made: Result<FixedStation<QUEUE, SLOTS>, StationFault>,
 ) -> u8 {

@@ -1,34 +1,14 @@
-//! Tracks full of noise: the framer compared with a plain program over the whole list.
+//! Tests with noisy tracks, on which the framer is compared with a simple search of the whole list.
 
+use crate::noise::Noise;
 use crate::plain::{answers, outcomes};
 use dcc_wire::{Frame, Halves, Timing};
 use std::alloc::{AllocError, Global};
 use std::process::Abort;
 use std::test::Fail;
 
-/// Numbers that look like noise, the same at each run.
-#[derive(Drop)]
-struct Noise {
-    state: u32,
-}
-
-impl Noise {
-    ghost use Rattle.std.specs.Prelude.{◌<◌};
-
-    /// The next number, below this one.
-    fn below(&mut self, n: u32) -> u32
-        requires { 0 < n }
-        ensures { result < n }
-    {
-        self.state = self
-            .state
-            .wrapping_mul(1_664_525)
-            .wrapping_add(1_013_904_223);
-        (self.state >> 16) % n
-    }
-}
-
-/// Asserts that the framer and the plain program say the same, and answers how many outcomes there are.
+/// Asserts that the framer and the simple search find equal outcomes. Returns the number of
+/// outcomes.
 fn agree(rt: &impl Abort, alloc: Global, durations: &[u16]) -> Result<usize, AllocError> {
     let answers = answers(alloc, durations)?;
     let wanted = outcomes(alloc, durations)?;
@@ -57,7 +37,7 @@ fn each_half_of_two_packets_is_changed_in_turn(rt: HostRuntime) -> Result<(), Fa
 #[test]
 fn every_list_of_eight_halves_behind_a_preamble(rt: HostRuntime) -> Result<(), Fail> {
     let mut lists = 0u32;
-    // how many lists there are of each length
+    // the number of lists of each length
     let lengths = [1u32, 3, 9, 27, 81, 243, 729, 2187, 6561];
     for (len, count) in lengths.iter().enumerate() {
         for number in 0..*count {
@@ -80,7 +60,8 @@ fn every_list_of_eight_halves_behind_a_preamble(rt: HostRuntime) -> Result<(), F
     Ok(())
 }
 
-/// A preamble of 18 to 25 ones, up to seven bytes, and an end bit. Of four last bytes three make the exclusive or 0.
+/// Appends a preamble of 18 to 25 ones, up to seven bytes, and an end bit. Three of four packets
+/// have the right error byte.
 fn push_packet(durations: &mut Vec<u16>, noise: &mut Noise) -> Result<(), AllocError> {
     let ones = noise.below(8) + 18;
     for _ in 0..ones {
@@ -99,7 +80,7 @@ fn push_packet(durations: &mut Vec<u16>, noise: &mut Noise) -> Result<(), AllocE
     push_bit(durations, true)
 }
 
-/// The halves of a zero and a byte.
+/// Appends the half-bits of a zero and of the eight bits of a byte.
 fn push_byte(durations: &mut Vec<u16>, byte: u8) -> Result<(), AllocError> {
     push_bit(durations, false)?;
     for place in 0..8u8 {
@@ -108,7 +89,7 @@ fn push_byte(durations: &mut Vec<u16>, byte: u8) -> Result<(), AllocError> {
     Ok(())
 }
 
-/// The halves of a bit.
+/// Appends the two half-bits of a bit.
 fn push_bit(durations: &mut Vec<u16>, bit: bool) -> Result<(), AllocError> {
     let us = if bit { 58 } else { 100 };
     durations.push(us)?;
@@ -116,7 +97,8 @@ fn push_bit(durations: &mut Vec<u16>, bit: bool) -> Result<(), AllocError> {
     Ok(())
 }
 
-/// 5,000 packets, of whose halves one in so many has some other duration, most of them near the two bands.
+/// Returns the half-bits of 5,000 packets. One in `one_in` half-bits has another duration, mostly
+/// near the limits of ones and zeros.
 fn noisy(alloc: Global, one_in: u32) -> Result<Vec<u16>, AllocError> {
     let mut durations = Vec::new(alloc);
     let mut noise = Noise { state: 1 };

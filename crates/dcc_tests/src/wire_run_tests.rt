@@ -1,13 +1,14 @@
-//! Runs of halves: worked rows, and runs compared with their halves one by one.
+//! Tests of runs of half-bits: worked examples, and runs compared with single half-bits.
 
 use dcc_wire::{Fault, Frame, Framer, Halves, RunSeen, Seen, Timing};
 use std::process::Abort;
 use std::test::Fail;
 
-/// A duration, and how many halves of it.
+/// A duration in microseconds, and the number of half-bits with this duration.
 type Run = (u16, u32);
 
-/// Runs, a run behind them, what it shows and at which of its halves.
+/// The columns of a row are runs, and one more run after these runs. Then come the outcome of the
+/// last run, and the number of the half-bit of this run with which the outcome ends.
 const RUNS: [(&[Run], Run, Seen, u32); 11] = [
     (&[], (58, 4_294_967_295), Seen::Nothing, 4_294_967_295),
     (&[], (100, 4_294_967_295), Seen::Nothing, 4_294_967_295),
@@ -50,7 +51,7 @@ fn a_run_shows_a_refusal_at_the_number_of_its_half_or_nothing(rt: HostRuntime) {
     }
 }
 
-/// The runs of `03 62 61` in the timing of the main track.
+/// The runs of the packet `03 62 61` in the timing of the main track.
 const SPEED_STEP_1: [(u16, u32); 11] = [
     (58, 28),
     (100, 14),
@@ -88,7 +89,7 @@ fn ones_behind_the_end_bit_of_a_run_are_counted(rt: HostRuntime) -> Result<(), F
         for (us, n) in &SPEED_STEP_1[..10] {
             framer.push_run(*us, *n);
         }
-        // four ones end the packet, two of them its end bit
+        // four half-bits of ones end the packet, and the last two of them are its end bit
         let run = framer.push_run(58, n);
         assert!(rt; run.at == 4);
         assert!(rt; !run.seen.is_nothing());
@@ -99,7 +100,7 @@ fn ones_behind_the_end_bit_of_a_run_are_counted(rt: HostRuntime) -> Result<(), F
     Ok(())
 }
 
-/// A run as single halves.
+/// Pushes a run to the framer as single half-bits. Returns the outcome that ends in the run.
 fn push_one_by_one(rt: &impl Abort, framer: &mut Framer, us: u16, n: u32) -> RunSeen {
     let mut shown = RunSeen {
         seen: Seen::Nothing,
@@ -131,7 +132,7 @@ fn a_run_shows_what_its_halves_show_one_by_one(rt: HostRuntime) -> Result<(), Fa
                     in_runs.push_run(us, n) == push_one_by_one(&rt, &mut one_by_one, us, n),
                     "{n} of {us} behind {cut}"
                 );
-                // a packet behind the run is seen by both or by none
+                // a packet after the run is found by both framers or by neither
                 for half in Halves::new(frame, Timing::main()) {
                     assert!(rt; in_runs.push(half) == one_by_one.push(half));
                 }

@@ -1,4 +1,5 @@
-//! What the standard's rules give, the halves written out in runs; `examples/rows/show.txt` has most of it as captures.
+//! Tests of the rules of the standard with worked examples, whose half-bits are written as runs.
+//! `examples/rows/show.txt` has most of these examples as captures.
 
 use crate::plain::{answers, are_told, outcomes};
 use crate::rows::{column, frame_of, push_halves};
@@ -7,8 +8,9 @@ use std::alloc::{AllocError, Global};
 use std::process::Abort;
 use std::test::Fail;
 
-/// Asserts that a new framer, and the plain program, which looks at the whole list, see just this in these halves.
-/// What is seen is told as `84:036261`, with the number of its last half from 1.
+/// Asserts that a new framer and the simple search find exactly the outcomes `want` in these
+/// half-bits. An outcome is written as `84:036261`, with the number of its last half-bit, counted
+/// from 1.
 fn halves_show(
     rt: &impl Abort,
     alloc: Global,
@@ -25,9 +27,12 @@ fn halves_show(
     Ok(())
 }
 
-/// What a row shows, halves, and what is seen in them. The body of `03 62 61`, of `03 7F 7C`, of `FF 00 FF`, of `03
-/// 62 60`, of `03 03`, and six bytes `01` with the zero of a seventh are written out in runs. Of the preamble behind
-/// a body that is cut off only the last 12 halves are left, so the packet after that is the next one to be seen.
+/// The columns of a row are the name, half-bits, and the expected outcomes. The runs of some rows
+/// are the bodies `03 62 61`, `03 7F 7C`, `FF 00 FF`, `03 62 60` and `03 03`. The runs of one row
+/// are six bytes `01` and the zero of a seventh byte.
+///
+/// After a body that is cut off, only 12 half-bits of the next preamble are left. So the framer
+/// does not find the next packet, and finds the packet after it.
 const SEEN: &str = "\
     no halves | |
     a packet at its last half | 58*28 100*14 58*4 100*4 58*4 100*6 58*2 100*6 58*4 100*8 58*4 | 84:036261
@@ -71,7 +76,8 @@ fn a_packet_that_is_cut_shows_nothing(rt: HostRuntime) -> Result<(), Fail> {
     Ok(())
 }
 
-/// The halves of a packet are its preamble and its body, on each track.
+/// Checks that the half-bits of a packet are those of its preamble and its body, in the timings of
+/// both tracks.
 #[test]
 fn what_is_sent(rt: HostRuntime) -> Result<(), Fail> {
     for (timing, ones) in [(Timing::main(), "58*28"), (Timing::service(), "58*40")] {
@@ -87,7 +93,7 @@ fn what_is_sent(rt: HostRuntime) -> Result<(), Fail> {
     Ok(())
 }
 
-/// Durations and the class of a half so long.
+/// Durations in microseconds, and the class of a half-bit with each duration.
 const CLASSES: [(u16, Half); 10] = [
     (0, Half::Bad),
     (51, Half::Bad),
@@ -108,7 +114,7 @@ fn halves_are_told_apart_by_their_length(rt: HostRuntime) {
     }
 }
 
-/// Bytes, and the number of the refusal where they are no frame, 0 where they are one.
+/// Bytes, and the number of the error, or 0 if the bytes form a frame.
 const FRAMES: [(&[u8], u8); 5] = [
     (&[3, 0x61], 1),
     (&[1, 2, 3, 4, 5, 6, 0], 1),
@@ -117,7 +123,8 @@ const FRAMES: [(&[u8], u8); 5] = [
     (&[1, 2, 3, 4, 5, 1], 0),
 ];
 
-/// Bytes, and the frame that they are with their error byte, in hex; none of one byte and of six.
+/// Bytes, and the frame of these bytes with their error byte, in hex. The text is empty if these
+/// bytes have no such frame.
 const WITH_ERROR_BYTE: [(&[u8], &str); 5] = [
     (&[0xFF, 0x00], "ff00ff"),
     (&[0x03, 0x62], "036261"),
@@ -143,7 +150,9 @@ fn frames_are_checked_for_length_and_then_for_their_error_byte(rt: HostRuntime) 
     }
 }
 
-/// The duration of a one, the two of a zero and a preamble, and the number of the refusal, 0 where they are a timing.
+/// The columns of a row are the values of a timing, and the number of its error, or 0 without an
+/// error. The values are the duration of a half-bit of a one, the durations of the two half-bits of
+/// a zero, and the number of ones in a preamble.
 const TIMINGS: [(u16, u16, u16, u8, u8); 7] = [
     (54, 94, 100, 14, 6),
     (58, 94, 100, 14, 7),

@@ -1,5 +1,6 @@
 -- The bits of some halves, added one by one.
-use Rattle.std.proofs.Common.{◌≡◌, ℕ, ◌+◌, ◌<◌, ◌≤◌, List, [], ◌∷◌, ◌++◌, length, refl, sym, ap, ◌∙◌, arith, append_assoc}
+use Rattle.std.proofs.Common.{◌≡◌, ℕ, ◌+◌, ◌<◌, ◌≤◌, List, [], ◌∷◌, ◌++◌, length, refl, sym, ap, ◌∙◌, arith}
+use Rattle.std.proofs.Common.{append_assoc}
 use Rattle.std.proofs.Common.{◌-◌, append-nil, subst, drop, get_or}
 use Rattle.std.proofs.lemmas.List.{drop_more}
 use Rattle.dcc_timing.specs.declared.bits.Bits.{Bits}

@@ -1,6 +1,8 @@
 -- How the figures of a list of half-bits grow.
-use Rattle.std.proofs.Common.{◌≡◌, ◌≢◌, ℕ, ◌+◌, ◌-◌, ◌*◌, ◌<◌, ◌≤◌, List, [], ◌∷◌, ◌++◌, length, take, map, sum, replicate}
-use Rattle.std.proofs.Common.{Option, Some, None, IfSome, refl, sym, ap, ◌∙◌, subst, arith, append_assoc, append-nil, length-append}
+use Rattle.std.proofs.Common.{◌≡◌, ◌≢◌, ℕ, ◌+◌, ◌-◌, ◌*◌, ◌<◌, ◌≤◌, List, [], ◌∷◌, ◌++◌, length, take, map, sum}
+use Rattle.std.proofs.Common.{replicate}
+use Rattle.std.proofs.Common.{Option, Some, None, IfSome, refl, sym, ap, ◌∙◌, subst, arith, append_assoc, append-nil}
+use Rattle.std.proofs.Common.{length-append}
 use Rattle.std.specs.List.{filter_map, flat_map}
 use Rattle.std.proofs.lemmas.List.{length-replicate, replicate-append-replicate, take-append-le, take_at, map-append}
 use Rattle.std.proofs.lemmas.Grind.{flat_map-append}
@@ -20,7 +22,8 @@ use Rattle.dcc_timing.specs.declared.packets.Packets.{Packets}
 use Rattle.dcc_timing.specs.Numbers.{keep_last}
 use Rattle.dcc_timing.specs.Classes.{AreClasses}
 use Rattle.dcc_timing.specs.Outcomes.{AreOutcomes}
-use Rattle.dcc_timing.specs.PacketBits.{AreBits, bits_in, bits_of, packet_length, packet_of, packets_in, pairs}
+use Rattle.dcc_timing.specs.PacketBits.{AreBits, packet_bits_in, packet_bits_of, packet_length, packet_at, packets_in}
+use Rattle.dcc_timing.specs.PacketBits.{pairs}
 use Rattle.dcc_timing.specs.Inner.Steps.{bits_among, bits_shown, end_among}
 use Rattle.dcc_timing.specs.Gaps.{ends_in}
 use Rattle.dcc_timing.specs.KeptGaps.{AreGaps}
@@ -72,9 +75,9 @@ places_within halves = within_seen [] halves (rw seen-none tt)
 -- what more halves leave of the packets before
 
 bits_same : (halves more : List ℕ) (outcomes : List (ℕ × Seen)) → Within (length halves) outcomes
-    → flat_map (bits_of (halves ++ more)) (filter_map packet_of outcomes)
-    ≡ flat_map (bits_of halves) (filter_map packet_of outcomes)
-unfolding Within bits_of
+    → flat_map (packet_bits_of (halves ++ more)) (filter_map packet_at outcomes)
+    ≡ flat_map (packet_bits_of halves) (filter_map packet_at outcomes)
+unfolding Within packet_bits_of
 bits_same halves more [] within = refl
 bits_same halves more ((place, Nothing) ∷ outcomes) within = bits_same halves more outcomes within.1
 bits_same halves more ((place, Refused fault) ∷ outcomes) within = bits_same halves more outcomes within.1
@@ -82,13 +85,13 @@ bits_same halves more ((place, Packet bytes) ∷ outcomes) within =
     let same : take (place + 1) (halves ++ more) ≡ take (place + 1) halves =
     take-append-le (place + 1) halves more (omega (arith, within.0)) in
     ap (λ l. pairs (keep_last (packet_length (length bytes)) l)
-    ++ flat_map (bits_of (halves ++ more)) (filter_map packet_of outcomes)) same
+    ++ flat_map (packet_bits_of (halves ++ more)) (filter_map packet_at outcomes)) same
     ∙ ap (λ l. pairs (keep_last (packet_length (length bytes)) (take (place + 1) halves)) ++ l)
     (bits_same halves more outcomes within.1)
 
 ends_same : (halves more : List ℕ) (outcomes : List (ℕ × Seen)) → Within (length halves) outcomes
-    → map (λ packet. sum (take packet.0 (halves ++ more))) (filter_map packet_of outcomes)
-    ≡ map (λ packet. sum (take packet.0 halves)) (filter_map packet_of outcomes)
+    → map (λ packet. sum (take packet.0 (halves ++ more))) (filter_map packet_at outcomes)
+    ≡ map (λ packet. sum (take packet.0 halves)) (filter_map packet_at outcomes)
 unfolding Within
 ends_same halves more [] within = refl
 ends_same halves more ((place, Nothing) ∷ outcomes) within = ends_same halves more outcomes within.1
@@ -96,7 +99,7 @@ ends_same halves more ((place, Refused fault) ∷ outcomes) within = ends_same h
 ends_same halves more ((place, Packet bytes) ∷ outcomes) within =
     let same : take (place + 1) (halves ++ more) ≡ take (place + 1) halves =
     take-append-le (place + 1) halves more (omega (arith, within.0)) in
-    ap (λ l. sum l ∷ map (λ packet. sum (take packet.0 (halves ++ more))) (filter_map packet_of outcomes)) same
+    ap (λ l. sum l ∷ map (λ packet. sum (take packet.0 (halves ++ more))) (filter_map packet_at outcomes)) same
     ∙ ap (λ l. sum (take (place + 1) halves) ∷ l) (ends_same halves more outcomes within.1)
 
 -- what these halves show, behind others
@@ -104,34 +107,34 @@ abbrev pub Shows : List ℕ → List ℕ → ℕ → Seen → Type 0
 Shows halves more place shown = seen (halves ++ more) ≡ seen halves ++ report_at place shown
 
 bits_more : (halves more : List ℕ) (place : ℕ) (shown : Seen) → Shows halves more place shown
-    → bits_in (halves ++ more)
-    ≡ bits_in halves ++ flat_map (bits_of (halves ++ more)) (filter_map packet_of (report_at place shown))
-unfolding bits_in packets_in
+    → packet_bits_in (halves ++ more)
+    ≡ packet_bits_in halves ++ flat_map (packet_bits_of (halves ++ more)) (filter_map packet_at (report_at place shown))
+unfolding packet_bits_in packets_in
 bits_more halves more place shown shows =
-    ap (λ l. flat_map (bits_of (halves ++ more)) (filter_map packet_of l)) shows
-    ∙ ap (flat_map (bits_of (halves ++ more))) (filter_map-append packet_of (seen halves) (report_at place shown))
-    ∙ flat_map-append (bits_of (halves ++ more)) (filter_map packet_of (seen halves))
-    (filter_map packet_of (report_at place shown))
-    ∙ ap (λ l. l ++ flat_map (bits_of (halves ++ more)) (filter_map packet_of (report_at place shown)))
+    ap (λ l. flat_map (packet_bits_of (halves ++ more)) (filter_map packet_at l)) shows
+    ∙ ap (flat_map (packet_bits_of (halves ++ more))) (filter_map-append packet_at (seen halves) (report_at place shown))
+    ∙ flat_map-append (packet_bits_of (halves ++ more)) (filter_map packet_at (seen halves))
+    (filter_map packet_at (report_at place shown))
+    ∙ ap (λ l. l ++ flat_map (packet_bits_of (halves ++ more)) (filter_map packet_at (report_at place shown)))
     (bits_same halves more (seen halves) (places_within halves))
 
 ends_more : (halves more : List ℕ) (place : ℕ) (shown : Seen) → Shows halves more place shown
     → ends_in (halves ++ more)
     ≡ ends_in halves
-    ++ map (λ packet. sum (take packet.0 (halves ++ more))) (filter_map packet_of (report_at place shown))
+    ++ map (λ packet. sum (take packet.0 (halves ++ more))) (filter_map packet_at (report_at place shown))
 unfolding ends_in packets_in
 ends_more halves more place shown shows =
     let end : ℕ × List ℕ → ℕ = λ packet. sum (take packet.0 (halves ++ more)) in
-    ap (λ l. map end (filter_map packet_of l)) shows
-    ∙ ap (map end) (filter_map-append packet_of (seen halves) (report_at place shown))
-    ∙ map-append end (filter_map packet_of (seen halves)) (filter_map packet_of (report_at place shown))
-    ∙ ap (λ l. l ++ map end (filter_map packet_of (report_at place shown)))
+    ap (λ l. map end (filter_map packet_at l)) shows
+    ∙ ap (map end) (filter_map-append packet_at (seen halves) (report_at place shown))
+    ∙ map-append end (filter_map packet_at (seen halves)) (filter_map packet_at (report_at place shown))
+    ∙ ap (λ l. l ++ map end (filter_map packet_at (report_at place shown)))
     (ends_same halves more (seen halves) (places_within halves))
 
 bits_here : (halves front later : List ℕ) (place : ℕ) (shown : Seen) → halves ≡ front ++ later
     → length front ≡ place + 1
-    → flat_map (bits_of halves) (filter_map packet_of (report_at place shown)) ≡ bits_among (bits_shown shown) front
-unfolding bits_of report_at
+    → flat_map (packet_bits_of halves) (filter_map packet_at (report_at place shown)) ≡ bits_among (bits_shown shown) front
+unfolding packet_bits_of report_at
 bits_here halves front later place Nothing whole last = refl
 bits_here halves front later place (Refused fault) whole last = refl
 bits_here halves front later place (Packet bytes) whole last =
@@ -141,7 +144,7 @@ bits_here halves front later place (Packet bytes) whole last =
 
 ends_here : (halves front later : List ℕ) (place : ℕ) (shown : Seen) → halves ≡ front ++ later
     → length front ≡ place + 1
-    → map (λ packet. sum (take packet.0 halves)) (filter_map packet_of (report_at place shown))
+    → map (λ packet. sum (take packet.0 halves)) (filter_map packet_at (report_at place shown))
     ≡ end_among (bits_shown shown) (sum front)
 unfolding report_at
 ends_here halves front later place Nothing whole last = refl
@@ -154,7 +157,7 @@ ends_here halves front later place (Packet bytes) whole last =
 pub measures_none : (classes : Classes) (outcomes : Outcomes) (packets : Packets) (framer : Rest) (recent : List ℕ)
     → AreClasses classes [] → AreOutcomes outcomes [] → AreBits packets.bits [] → AreGaps packets.gaps []
     → StandsFor framer [] → recent ≡ [] → AreMeasured 0 0 classes outcomes packets framer recent []
-unfolding bits_in packets_in ends_in
+unfolding packet_bits_in packets_in ends_in
 measures_none classes outcomes packets framer recent by_class by_outcome bits gaps stands none = record {
   count = refl;
   time = refl;
@@ -199,10 +202,10 @@ module _ (halves : List ℕ) (us n at : ℕ) (shown : Seen) (some : 1 ≤ at) (w
 
   pub bits_run : (recent : List ℕ) → recent ≡ keep_last 130 (halves ++ replicate at us)
       → IfSome (bits_shown shown) (λ count. count ≤ 130)
-      → bits_in (halves ++ replicate n us) ≡ bits_in halves ++ bits_among (bits_shown shown) recent
+      → packet_bits_in (halves ++ replicate n us) ≡ packet_bits_in halves ++ bits_among (bits_shown shown) recent
   bits_run recent is few =
       bits_more halves (replicate n us) (length halves + at - 1) shown shows
-      ∙ ap (λ l. bits_in halves ++ l)
+      ∙ ap (λ l. packet_bits_in halves ++ l)
       (bits_here (halves ++ replicate n us) (halves ++ replicate at us) (replicate (n - at) us) (length halves + at - 1)
       shown whole last
       ∙ sym (few_count (bits_shown shown) (halves ++ replicate at us) few)

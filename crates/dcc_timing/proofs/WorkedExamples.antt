@@ -1,10 +1,9 @@
 -- Figures of given lists, computed on the definitions.
-use Rattle.std.proofs.Common.{◌≡◌, refl, List, ℕ, [], ◌∷◌, Some, None, Bool, true, false, map}
+use Rattle.std.proofs.Common.{◌≡◌, refl, [], ◌∷◌, Some, None, true, false, map}
 use Rattle.dcc_timing.specs.Numbers.{keep_last, least, most, steps}
-use Rattle.dcc_timing.specs.KeptGaps.{last}
 use Rattle.dcc_timing.specs.Tallies.{mean}
-use Rattle.dcc_timing.specs.Classes.{is_above, is_below, is_between, is_one, is_zero}
-use Rattle.dcc_timing.specs.PacketBits.{bits_in, difference, packet_length, packets_in, pairs, whole}
+use Rattle.dcc_timing.specs.Classes.{is_above, is_below, is_between, is_half_of_one, is_half_of_zero}
+use Rattle.dcc_timing.specs.PacketBits.{packet_bits_in, difference, packet_length, packets_in, pairs, bit_duration}
 use Rattle.dcc_timing.specs.Gaps.{ends_in, longest_gap}
 use Rattle.dcc_wire.specs.Framing.{seen, starts_below, outcomes_at}
 
@@ -12,13 +11,13 @@ use Rattle.dcc_wire.specs.Framing.{seen, starts_below, outcomes_at}
 below_ends_at_51 : map is_below (51 ∷ 52 ∷ []) ≡ true ∷ false ∷ []
 below_ends_at_51 = refl
 
-ones_are_52_to_64 : map is_one (51 ∷ 52 ∷ 64 ∷ 65 ∷ []) ≡ false ∷ true ∷ true ∷ false ∷ []
+ones_are_52_to_64 : map is_half_of_one (51 ∷ 52 ∷ 64 ∷ 65 ∷ []) ≡ false ∷ true ∷ true ∷ false ∷ []
 ones_are_52_to_64 = refl
 
 between_is_65_to_89 : map is_between (64 ∷ 65 ∷ 89 ∷ 90 ∷ []) ≡ false ∷ true ∷ true ∷ false ∷ []
 between_is_65_to_89 = refl
 
-zeros_are_90_to_10000 : map is_zero (89 ∷ 90 ∷ 10000 ∷ 10001 ∷ []) ≡ false ∷ true ∷ true ∷ false ∷ []
+zeros_are_90_to_10000 : map is_half_of_zero (89 ∷ 90 ∷ 10000 ∷ 10001 ∷ []) ≡ false ∷ true ∷ true ∷ false ∷ []
 zeros_are_90_to_10000 = refl
 
 above_begins_at_10001 : map is_above (10000 ∷ 10001 ∷ 65535 ∷ []) ≡ false ∷ true ∷ true ∷ []
@@ -58,7 +57,7 @@ two_bits = refl
 how_far_they_differ : map difference ((58, 57) ∷ (55, 61) ∷ []) ≡ 1 ∷ 6 ∷ []
 how_far_they_differ = refl
 
-how_long_they_are : map whole ((100, 99) ∷ (95, 9900) ∷ []) ≡ 199 ∷ 9995 ∷ []
+how_long_they_are : map bit_duration ((100, 99) ∷ (95, 9900) ∷ []) ≡ 199 ∷ 9995 ∷ []
 how_long_they_are = refl
 
 -- a packet of three bytes: 20 halves of ones and 56 of its body
@@ -69,8 +68,8 @@ last_two : keep_last 2 (1 ∷ 2 ∷ 3 ∷ []) ≡ 2 ∷ 3 ∷ []
 last_two = refl
 
 -- no halves have no packets, no bits and no gap
-nothing_in_nothing : bits_in [] ≡ []
-unfolding bits_in packets_in seen starts_below outcomes_at
+nothing_in_nothing : packet_bits_in [] ≡ []
+unfolding packet_bits_in packets_in seen starts_below outcomes_at
 nothing_in_nothing = refl
 
 no_gap_in_nothing : longest_gap [] ≡ None

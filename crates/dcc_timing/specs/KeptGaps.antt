@@ -1,13 +1,14 @@
--- What is kept of the ends of packets for the longest gap between them.
+-- The stored part of the times at which packets end. It is enough to compute the longest gap.
 use Rattle.std.specs.Prelude.{◌≡◌, ℕ, List, fold, Option, None, Some}
 use Rattle.dcc_timing.specs.declared.gaps.Gaps.{Gaps}
 use Rattle.dcc_timing.specs.Numbers.{most, steps}
 
--- the last number of a list, none of an empty one
+-- the last number of a list, or `None` if the list is empty
 unfoldable pub last : List ℕ → Option ℕ
 last numbers = fold (λ (before : Option ℕ) number. Some number) None numbers
 
--- the longest step between these numbers, and the last one
+-- `gaps` holds the last number of `ends`, and the greatest difference of two numbers in `ends` that
+-- follow each other
 pub record AreGaps (gaps : Gaps) (ends : List ℕ) : Type 0 where
   pub end : gaps.end ≡ last ends
   pub longest : gaps.longest ≡ most (steps ends)

@@ -1,4 +1,4 @@
--- What the parts of a `Timings` say of a list of half-bits.
+-- The parts of a `Timings` as statistics of a list of half-bits.
 use Rattle.std.specs.Prelude.{◌≡◌, ℕ, List, length, sum}
 use Rattle.dcc_wire.specs.Framing.{Rest, seen, StandsFor}
 use Rattle.dcc_timing.specs.declared.classes.Classes.{Classes}
@@ -7,19 +7,21 @@ use Rattle.dcc_timing.specs.declared.packets.Packets.{Packets}
 use Rattle.dcc_timing.specs.Numbers.{keep_last}
 use Rattle.dcc_timing.specs.Classes.{AreClasses}
 use Rattle.dcc_timing.specs.Outcomes.{AreOutcomes}
-use Rattle.dcc_timing.specs.PacketBits.{AreBits, bits_in}
+use Rattle.dcc_timing.specs.PacketBits.{AreBits, packet_bits_in}
 use Rattle.dcc_timing.specs.Gaps.{ends_in}
 use Rattle.dcc_timing.specs.KeptGaps.{AreGaps}
 
--- A count of half-bits, their time in microseconds, tallies by class, counts of outcomes, figures of packets, the state of a
--- framer and the last half-bits are those of this whole list of half-bits.
-pub record AreMeasured (counted microseconds : ℕ) (by_class : Classes) (by_outcome : Outcomes) (packets : Packets) (rest : Rest)
+-- the statistics are those of the list `halves`: the number of half-bits, their time in
+-- microseconds, the tallies by class, the counts of outcomes, and the statistics of packets. `rest`
+-- is the state of a framer after `halves`, and `last` are the last 130 of them.
+pub record AreMeasured (counted microseconds : ℕ) (by_class : Classes) (by_outcome : Outcomes) (packets : Packets)
+    (rest : Rest)
     (last halves : List ℕ) : Type 0 where
   pub count : counted ≡ length halves
   pub time : microseconds ≡ sum halves
   pub classes : AreClasses by_class halves
   pub outcomes : AreOutcomes by_outcome (seen halves)
-  pub bits : AreBits packets.bits (bits_in halves)
+  pub bits : AreBits packets.bits (packet_bits_in halves)
   pub gaps : AreGaps packets.gaps (ends_in halves)
   pub framer : StandsFor rest halves
   pub recent : last ≡ keep_last 130 halves

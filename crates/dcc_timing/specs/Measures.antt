@@ -1,9 +1,9 @@
--- The figures of a list of half-bits.
+-- The statistics of a list of half-bits.
 use Rattle.std.specs.Prelude.{ℕ, List}
 use Rattle.dcc_timing.specs.declared.timings.Timings.{Timings}
 use Rattle.dcc_timing.specs.Measured.{AreMeasured}
 
--- each figure of timings is that of the whole list of half-bits
+-- `timings` are the statistics of the list `halves`
 abbrev pub Measures : Timings → List ℕ → Type 0
 Measures timings halves =
     AreMeasured timings.halves timings.time timings.classes timings.outcomes timings.packets timings.framer timings.recent

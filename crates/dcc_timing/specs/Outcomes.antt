@@ -1,4 +1,4 @@
--- The packets and the refusals in a list of half-bits, by their cause.
+-- The numbers of packets and of refusals in a list of half-bits.
 use Rattle.std.specs.Prelude.{◌≡◌, ℕ, ◌==◌, Bool, true, false, List}
 use Rattle.std.specs.List.{count_by}
 use Rattle.dcc_wire.specs.declared.seen.Seen.{Seen}
@@ -6,19 +6,19 @@ use Rattle.dcc_wire.specs.declared.seen.Seen.TheVariants.{Nothing, Packet, Refus
 use Rattle.dcc_wire.specs.FaultNumbers.{fault_number}
 use Rattle.dcc_timing.specs.declared.outcomes.Outcomes.{Outcomes}
 
--- a packet
+-- true if the outcome is a packet
 abbrev pub is_packet : ℕ × Seen → Bool
 is_packet (place, Packet bytes) = true
 is_packet (place, Refused fault) = false
 is_packet (place, Nothing) = false
 
--- a refusal of this number, 1 for H1 to 5 for H5
+-- true if the outcome is a refusal with the error `number`, from 1 for H1 to 5 for H5
 abbrev pub is_refused : ℕ → ℕ × Seen → Bool
 is_refused number (place, Refused fault) = fault_number fault == number
 is_refused number (place, Packet bytes) = false
 is_refused number (place, Nothing) = false
 
--- how many of each there are among these outcomes
+-- `counts` are the numbers of packets, and of refusals with each error, in the list `outcomes`
 pub record AreOutcomes (counts : Outcomes) (outcomes : List (ℕ × Seen)) : Type 0 where
   pub packets : counts.packets ≡ count_by is_packet outcomes
   pub bad_halves : counts.bad_halves ≡ count_by (is_refused 1) outcomes

@@ -7,53 +7,55 @@ use Rattle.dcc_wire.specs.declared.seen.Seen.TheVariants.{Nothing, Packet, Refus
 use Rattle.dcc_wire.specs.Framing.{seen}
 use Rattle.dcc_timing.specs.declared.bits.Bits.{Bits}
 use Rattle.dcc_timing.specs.Numbers.{keep_last}
-use Rattle.dcc_timing.specs.Classes.{is_one, is_zero}
+use Rattle.dcc_timing.specs.Classes.{is_half_of_one, is_half_of_zero}
 use Rattle.dcc_timing.specs.Tallies.{IsTally}
 
--- the packet of an outcome: how many halves of the list come up to and with its last one, and its bytes
-abbrev pub packet_of : ℕ × Seen → Option (ℕ × List ℕ)
-packet_of (place, Packet bytes) = Some (place + 1, bytes)
-packet_of (place, Refused fault) = None
-packet_of (place, Nothing) = None
+-- the number of half-bits from the beginning of the list to the end of a packet, and its bytes;
+-- `None` if the outcome is no packet
+abbrev pub packet_at : ℕ × Seen → Option (ℕ × List ℕ)
+packet_at (place, Packet bytes) = Some (place + 1, bytes)
+packet_at (place, Refused fault) = None
+packet_at (place, Nothing) = None
 
--- the packets in a list of halves
+-- the packets in the list `halves`, each with the number of half-bits from its beginning to the end
+-- of the packet
 unfoldable pub packets_in : List ℕ → List (ℕ × List ℕ)
-packets_in halves = filter_map packet_of (seen halves)
+packets_in halves = filter_map packet_at (seen halves)
 
--- how many halves the bits of a packet with so many bytes have: the ten ones directly before its start bit, without which it is
--- none, a start bit and eight bits for each byte, and the end bit
+-- the number of half-bits of a packet with `bytes` bytes: those of the ten ones before its start
+-- bit, of nine bits for each byte, and of the end bit
 abbrev pub packet_length : ℕ → ℕ
 packet_length bytes = 22 + 18 * bytes
 
--- two halves each, as far as they go
+-- the items of a list in pairs, without the last item if their number is odd
 unfoldable pub pairs : List ℕ → List (ℕ × ℕ)
 pairs (first ∷ second ∷ halves) = (first, second) ∷ pairs halves
 pairs _ = []
 
--- the bits of a packet
-unfoldable pub bits_of : List ℕ → ℕ × List ℕ → List (ℕ × ℕ)
-bits_of halves packet = pairs (keep_last (packet_length (length packet.1)) (take packet.0 halves))
+-- the bits of `packet` in the list `halves`, each as a pair of half-bits
+unfoldable pub packet_bits_of : List ℕ → ℕ × List ℕ → List (ℕ × ℕ)
+packet_bits_of halves packet = pairs (keep_last (packet_length (length packet.1)) (take packet.0 halves))
 
--- the bits of all packets in a list of halves, in order
-unfoldable pub bits_in : List ℕ → List (ℕ × ℕ)
-bits_in halves = flat_map (bits_of halves) (packets_in halves)
+-- the bits of all packets in the list `halves`, in order
+unfoldable pub packet_bits_in : List ℕ → List (ℕ × ℕ)
+packet_bits_in halves = flat_map (packet_bits_of halves) (packets_in halves)
 
--- a one has two halves of a one, a zero two of a zero
-abbrev pub is_one_bit : ℕ × ℕ → Bool
-is_one_bit bit = is_one bit.0 && is_one bit.1
+-- true if both half-bits of `bit` have the class of a half of a one
+abbrev pub is_one_pair : ℕ × ℕ → Bool
+is_one_pair bit = is_half_of_one bit.0 && is_half_of_one bit.1
 
-abbrev pub is_zero_bit : ℕ × ℕ → Bool
-is_zero_bit bit = is_zero bit.0 && is_zero bit.1
+abbrev pub is_zero_pair : ℕ × ℕ → Bool
+is_zero_pair bit = is_half_of_zero bit.0 && is_half_of_zero bit.1
 
--- by how much its halves differ
+-- the difference of the durations of the two half-bits of `bit`
 abbrev pub difference : ℕ × ℕ → ℕ
 difference bit = max bit.0 bit.1 - min bit.0 bit.1
 
--- how long both take
-abbrev pub whole : ℕ × ℕ → ℕ
-whole bit = bit.0 + bit.1
+-- the sum of the durations of the two half-bits of `bit`
+abbrev pub bit_duration : ℕ × ℕ → ℕ
+bit_duration bit = bit.0 + bit.1
 
--- the tallies of these bits: the differences in the ones, and the zeros
+-- `tallies` are the tallies of `bits`: of the differences in ones, and of the durations of zeros
 pub record AreBits (tallies : Bits) (bits : List (ℕ × ℕ)) : Type 0 where
-  pub differences : IsTally tallies.differences (map difference (filter is_one_bit bits))
-  pub sums : IsTally tallies.sums (map whole (filter is_zero_bit bits))
+  pub differences : IsTally tallies.differences (map difference (filter is_one_pair bits))
+  pub sums : IsTally tallies.sums (map bit_duration (filter is_zero_pair bits))

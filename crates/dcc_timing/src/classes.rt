@@ -1,19 +1,23 @@
-//! The half-bits of a list, by class.
+//! The statistics of the half-bits of a list, for each class of half-bits.
 
 use crate::tally::Tally;
 
-/// The halves of a list by how a decoder takes them (NMRA S-9.1), in microseconds.
+/// The statistics of the durations of half-bits, for each class in which a decoder puts them (NMRA
+/// S-9.1).
 #[derive(Clone, Copy, Debug, PartialEq, Eq)]
 pub struct Classes {
-    /// Shorter than half of a one: 51 at most.
+    /// The statistics of the half-bits that are shorter than half of a one: at most 51
+    /// microseconds.
     pub below: Tally,
-    /// Halves of ones: 52 to 64.
+    /// The statistics of the half-bits of the class One: 52 to 64 microseconds.
     pub ones: Tally,
-    /// Neither: 65 to 89.
+    /// The statistics of the half-bits between half of a one and half of a zero: 65 to 89
+    /// microseconds.
     pub between: Tally,
-    /// Halves of zeros: 90 to 10000.
+    /// The statistics of the half-bits of the class Zero: 90 to 10000 microseconds.
     pub zeros: Tally,
-    /// Longer than half of a zero: 10001 at least.
+    /// The statistics of the half-bits that are longer than half of a zero: at least 10001
+    /// microseconds.
     pub above: Tally,
 }
 
@@ -22,7 +26,7 @@ impl Classes {
     ghost use Rattle.dcc_timing.specs.Classes.{AreClasses};
     ghost use Rattle.dcc_timing.specs.Inner.Counts.{classes_count};
 
-    /// Of no halves.
+    /// Creates the statistics of the empty list of half-bits.
     pub(crate) fn new() -> Classes
         ensures classes { AreClasses result [] }
         ensures count { classes_count result ≡ 0 }
@@ -36,12 +40,13 @@ impl Classes {
         }
     }
 
-    /// Adds n halves of this many microseconds.
+    /// Adds `n` half-bits of `us` microseconds.
     #[inline(always)]
     pub(crate) fn add(&mut self, us: u16, n: u32)
         requires some { 0 < n }
         requires room { classes_count self.old + n < 2 ^ 40 }
-        ensures classes { (halves : List ℕ) → AreClasses self.old halves → AreClasses self.new (halves ++ replicate n us) }
+        ensures classes { (halves : List ℕ) → AreClasses self.old halves
+            → AreClasses self.new (halves ++ replicate n us) }
         ensures count { classes_count self.new ≡ classes_count self.old + n }
     {
         match us {

@@ -1,11 +1,11 @@
-//! The times between packets.
+//! The longest time between packets.
 
 use crate::numbers::greater;
 
-/// The longest time between the ends of packets.
+/// The longest time from the end of a packet to the end of the next packet.
 #[derive(Clone, Copy, Debug)]
 pub(crate) struct Gaps {
-    /// When the last one ended.
+    /// The time at which the last packet ended, in microseconds, or `None` before the first packet.
     end: Option<u64>,
     pub(crate) longest: Option<u64>,
 }
@@ -14,7 +14,7 @@ impl Gaps {
     ghost use Rattle.std.specs.Prelude.{ℕ, List, [], ◌∷◌, ◌++◌};
     ghost use Rattle.dcc_timing.specs.KeptGaps.{AreGaps};
 
-    /// Of no packets.
+    /// Creates the state before the first packet.
     pub(crate) fn new() -> Gaps
         ensures { AreGaps result [] }
     {
@@ -24,7 +24,7 @@ impl Gaps {
         }
     }
 
-    /// Adds a packet that ends at this time.
+    /// Adds a packet that ends at the time `end`, in microseconds.
     pub(crate) fn add(&mut self, end: u64)
         ensures { (ends : List ℕ) → AreGaps self.old ends → AreGaps self.new (ends ++ end ∷ []) }
     {

@@ -1,6 +1,9 @@
-//! How near a track is to its limits: the figures of a list of half-bits (NMRA S-9.1).
+//! Statistics of a list of half-bits, which show how near a track is to the limits of NMRA S-9.1.
 //!
-//! Each figure is that of the whole list, which may come half by half or run by run. Nothing here takes memory.
+//! Each value is the value for the whole list. The list can be given half-bit by half-bit or run by
+//! run.
+//!
+//! This crate does not allocate memory.
 #![tactic(auto)]
 
 mod bits;

@@ -1,9 +1,10 @@
-//! The lesser and the greater of two numbers.
+//! Functions that return the smaller or the greater of two numbers.
 
 ghost use Rattle.std.specs.Prelude.{◌≡◌};
 ghost use Rattle.dcc_timing.specs.Inner.Steps.{lesser, greater};
 
-/// The lesser of a number and another, if there is one.
+/// Returns the smaller of `number` and the number in `other`. Returns `number` if `other` is
+/// `None`.
 #[inline(always)]
 pub(crate) fn lesser(other: Option<u64>, number: u64) -> u64
     ensures { result ≡ lesser other number }
@@ -14,7 +15,8 @@ pub(crate) fn lesser(other: Option<u64>, number: u64) -> u64
     }
 }
 
-/// The greater of a number and another, if there is one.
+/// Returns the greater of `number` and the number in `other`. Returns `number` if `other` is
+/// `None`.
 #[inline(always)]
 pub(crate) fn greater(other: Option<u64>, number: u64) -> u64
     ensures { result ≡ greater other number }

@@ -1,21 +1,22 @@
-//! The packets and the refusals in a list of half-bits.
+//! The counts of packets and of refusals in a list of half-bits.
 
 use dcc_wire::{Fault, Seen};
 
-/// How many packets a list of halves has, and how many refusals of each cause (NMRA S-9.2).
+/// The number of packets in a list of half-bits, and the number of refusals with each error (NMRA
+/// S-9.2).
 #[derive(Clone, Copy, Debug, PartialEq, Eq)]
 pub struct Outcomes {
-    /// Packets.
+    /// The number of packets.
     pub packets: u32,
-    /// Refusals H1.
+    /// The number of refusals H1, because of a bad half-bit.
     pub bad_halves: u32,
-    /// Refusals H2.
+    /// The number of refusals H2, because the half-bits of a bit differ in their class.
     pub split_bits: u32,
-    /// Refusals H3.
+    /// The number of refusals H3, because the body has fewer than 3 bytes.
     pub too_short: u32,
-    /// Refusals H4.
+    /// The number of refusals H4, because the body has more than 6 bytes.
     pub too_long: u32,
-    /// Refusals H5.
+    /// The number of refusals H5, because the error byte is wrong.
     pub error_bytes: u32,
 }
 
@@ -26,7 +27,7 @@ impl Outcomes {
     ghost use Rattle.dcc_timing.specs.Outcomes.{AreOutcomes};
     ghost use Rattle.dcc_timing.specs.Inner.Counts.{outcomes_count};
 
-    /// Of no halves.
+    /// Creates the counts of an empty list, which are all 0.
     pub(crate) fn new() -> Outcomes
         ensures outcomes { AreOutcomes result [] }
         ensures count { outcomes_count result ≡ 0 }
@@ -41,7 +42,7 @@ impl Outcomes {
         }
     }
 
-    /// Counts what some halves showed.
+    /// Counts the outcome of a half-bit. `Nothing` changes no count.
     #[tactic(auto, unfolding(dcc_wire::specs::Framing::report_at))]
     pub(crate) fn add(&mut self, seen: &Seen)
         requires { outcomes_count self.old + 1 < 2 ^ 32 }

@@ -1,4 +1,4 @@
-//! The packets in half-bits that come many at a time.
+//! The statistics of the packets in a list of half-bits.
 
 ghost use Rattle.std.specs.Prelude.{◌≡◌, ◌≤◌, IfSome};
 ghost use Rattle.dcc_timing.specs.Inner.Steps.{bits_shown};
@@ -8,7 +8,8 @@ use crate::gaps::Gaps;
 use crate::recent::Recent;
 use dcc_wire::Seen;
 
-/// The bits of the packets in a list of halves, and the times between them.
+/// The statistics of the bits of the packets in a list of half-bits, and the longest time between
+/// packets.
 #[derive(Clone, Copy, Debug)]
 pub(crate) struct Packets {
     pub(crate) bits: Bits,
@@ -22,7 +23,7 @@ impl Packets {
     ghost use Rattle.dcc_timing.specs.Inner.Steps.{bits_shown, bits_among, end_among};
     ghost use Rattle.dcc_timing.specs.KeptGaps.{AreGaps};
 
-    /// Of no halves.
+    /// Creates the statistics of the empty list of half-bits.
     pub(crate) fn new() -> Packets
         ensures bits { AreBits result.bits [] }
         ensures gaps { AreGaps result.gaps [] }
@@ -34,7 +35,8 @@ impl Packets {
         }
     }
 
-    /// Adds what was shown, at this time, with these halves up to its last one.
+    /// Adds an outcome that ends at the time `end`, in microseconds. The list `recent` ends with
+    /// the last half-bit of this outcome.
     pub(crate) fn add(&mut self, seen: &Seen, end: u64, recent: &Recent)
         requires { bits_count self.old.bits + 130 < 2 ^ 40 }
         ensures bits { (bits : List (ℕ × ℕ)) → AreBits self.old.bits bits
@@ -54,7 +56,8 @@ impl Packets {
     }
 }
 
-/// How many halves the bits of a packet have that was shown; none where none was.
+/// Returns the number of half-bits of a packet that the statistics cover: the last ten ones of the
+/// preamble, and the body. Returns `None` if the outcome is no packet.
 fn bits_of(seen: &Seen) -> Option<usize>
     ensures bits { result ≡ bits_shown seen.now }
     ensures few { IfSome result (λ halves. halves ≤ 130) }

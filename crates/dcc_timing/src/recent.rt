@@ -1,4 +1,4 @@
-//! The halves that came last.
+//! The last 130 half-bits of a list.
 
 ghost use Rattle.std.specs.Prelude.{◌≡◌, ◌<◌};
 ghost use Rattle.arrayvec.specs.ArrayVec.{array_vec_len};
@@ -7,10 +7,11 @@ ghost use Rattle.dcc_timing.specs.Numbers.{keep_last};
 use arrayvec::ArrayVec;
 use std::marker::Model;
 
-/// The last 130 halves of a list: as many as the bits of the longest packet have.
+/// The last 130 half-bits of a list. The longest packet has 130 half-bits with the last ten ones of
+/// its preamble.
 #[derive(Drop)]
 pub(crate) struct Recent {
-    /// These, and at times some before them.
+    /// The last 130 half-bits of the list, and sometimes half-bits before them.
     halves: Halves,
 }
 
@@ -29,7 +30,7 @@ impl Recent {
     ghost use Rattle.std.specs.Prelude.{◌≡◌, ◌≤◌, ℕ, List, [], ◌∷◌, ◌++◌, replicate};
     ghost use Rattle.dcc_timing.specs.Numbers.{keep_last};
 
-    /// Of no halves.
+    /// Creates an empty list.
     pub(crate) fn new() -> Recent
         ensures { result ≡ [] }
     {
@@ -38,9 +39,10 @@ impl Recent {
         }
     }
 
-    /// Takes n halves of this many microseconds.
+    /// Appends `n` half-bits of `us` microseconds to the list.
     pub(crate) fn take(&mut self, us: u16, n: u32)
-        ensures { (halves : List ℕ) → self.old ≡ keep_last 130 halves → self.new ≡ keep_last 130 (halves ++ replicate n us) }
+        ensures { (halves : List ℕ) → self.old ≡ keep_last 130 halves
+            → self.new ≡ keep_last 130 (halves ++ replicate n us) }
     {
         let mut left = n.min(130);
         'halves: while left > 0 {
@@ -49,7 +51,7 @@ impl Recent {
         }
     }
 
-    /// Takes a half.
+    /// Appends a half-bit of `us` microseconds to the list.
     #[inline(always)]
     fn take_one(&mut self, us: u16)
         ensures { self.new ≡ keep_last 130 (self.old ++ us ∷ []) }
@@ -60,7 +62,7 @@ impl Recent {
         self.halves.push(us);
     }
 
-    /// The last n halves.
+    /// Returns the last `n` half-bits of the list, or all of them if there are fewer.
     pub(crate) fn last(&self, n: usize) -> &[u16]
         requires { n ≤ 130 }
         ensures { result.now ≡ keep_last n self.now }
@@ -70,7 +72,7 @@ impl Recent {
     }
 }
 
-/// The last 130 halves alone.
+/// Returns the last 130 half-bits of `halves`, or all of them if there are fewer.
 fn last_of(halves: &[u16]) -> Halves
     ensures items { result.items ≡ keep_last 130 halves.now }
     ensures room { array_vec_len result < 512 }

@@ -1,10 +1,10 @@
-//! The figures of a list of numbers.
+//! The statistics of a list of numbers.
 
 ghost use Rattle.std.specs.Prelude.{◌<◌, ◌≤◌, ◌*◌, ◌^◌};
 
 use crate::numbers::{greater, lesser};
 
-/// How many numbers a list has, their sum, the least and the most of them.
+/// The count, the sum, the least and the greatest of a list of numbers.
 #[derive(Clone, Copy, Debug, PartialEq, Eq)]
 pub struct Tally {
     count: u64,
@@ -15,12 +15,12 @@ pub struct Tally {
     ghost fits: { sum ≤ 131072 * count },
 }
 
-/// A mean, rounded down to hundredths.
+/// The mean of numbers, rounded down to hundredths.
 #[derive(Clone, Copy, Debug, PartialEq, Eq)]
 pub struct Mean {
-    /// The whole number.
+    /// The whole number of the mean.
     pub whole: u64,
-    /// The hundredths beside it, below 100.
+    /// The hundredths after the whole number, 0 to 99.
     pub hundredths: u64,
 }
 
@@ -29,7 +29,7 @@ impl Tally {
     ghost use Rattle.dcc_timing.specs.Numbers.{least, most};
     ghost use Rattle.dcc_timing.specs.Tallies.{IsTally, mean};
 
-    /// Of no numbers.
+    /// Creates the statistics of the empty list.
     pub(crate) fn new() -> Tally
         ensures tally { IsTally result [] }
         ensures count { result.count ≡ 0 }
@@ -42,13 +42,14 @@ impl Tally {
         }
     }
 
-    /// Adds a number n times.
+    /// Appends the number `number` `n` times to the list.
     #[inline(always)]
     pub(crate) fn add(&mut self, number: u64, n: u32)
         requires some { 0 < n }
         requires room { self.old.count + n < 2 ^ 40 }
         requires small { number ≤ 131072 }
-        ensures tally { (numbers : List ℕ) → IsTally self.old numbers → IsTally self.new (numbers ++ replicate n number) }
+        ensures tally { (numbers : List ℕ) → IsTally self.old numbers
+            → IsTally self.new (numbers ++ replicate n number) }
         ensures count { self.new.count ≡ self.old.count + n }
     {
         self.count += u64::from(n);
@@ -57,28 +58,28 @@ impl Tally {
         self.most = Some(greater(self.most, number));
     }
 
-    /// How many numbers there are.
+    /// Returns how many numbers the list has.
     pub fn count(&self) -> u64
         ensures { (numbers : List ℕ) → IsTally self.now numbers → result ≡ length numbers }
     {
         self.count
     }
 
-    /// The least number, none of an empty list.
+    /// Returns the least number of the list. Returns `None` if the list is empty.
     pub fn least(&self) -> Option<u64>
         ensures { (numbers : List ℕ) → IsTally self.now numbers → result ≡ least numbers }
     {
         self.least
     }
 
-    /// The greatest number, none of an empty list.
+    /// Returns the greatest number of the list. Returns `None` if the list is empty.
     pub fn most(&self) -> Option<u64>
         ensures { (numbers : List ℕ) → IsTally self.now numbers → result ≡ most numbers }
     {
         self.most
     }
 
-    /// Their mean, none of an empty list.
+    /// Returns the mean of the numbers. Returns `None` if the list is empty.
     pub fn mean(&self) -> Option<Mean>
         ensures mean { (numbers : List ℕ) → IsTally self.now numbers → result ≡ mean numbers }
         ensures below { IfSome result (λ mean. mean.hundredths < 100) }

@@ -1,4 +1,5 @@
-//! The figures of half-bits that come one at a time, or many.
+//! The statistics of a list of half-bits, which grows by one half-bit or by a run of equal
+//! half-bits.
 
 ghost use Rattle.std.specs.Prelude.{◌≤◌, ◌*◌, ℕ, List};
 ghost use Rattle.dcc_timing.specs.Inner.Counts.{classes_count, outcomes_count, bits_count};
@@ -11,9 +12,13 @@ use crate::packets::Packets;
 use crate::recent::Recent;
 use dcc_wire::Framer;
 
-/// The figures of a list of half-bits: how near a track is to the limits of NMRA S-9.1.
+/// The statistics of a list of half-bits, which show how near a track is to the limits of NMRA
+/// S-9.1.
 ///
-/// The list comes half by half, or run by run, and each figure is that of the whole list so far. Invariant: there is such a list.
+/// The list grows by runs of equal half-bits, and each value is the value for the whole list so
+/// far.
+///
+/// Invariant: a list of half-bits has these statistics.
 #[derive(Drop)]
 pub struct Timings {
     halves: u32,
@@ -35,11 +40,11 @@ impl Timings {
     ghost use Rattle.dcc_wire.specs.Framing.{seen};
     ghost use Rattle.dcc_timing.specs.Classes.{AreClasses};
     ghost use Rattle.dcc_timing.specs.Outcomes.{AreOutcomes};
-    ghost use Rattle.dcc_timing.specs.PacketBits.{AreBits, bits_in};
+    ghost use Rattle.dcc_timing.specs.PacketBits.{AreBits, packet_bits_in};
     ghost use Rattle.dcc_timing.specs.Gaps.{longest_gap};
     ghost use Rattle.dcc_timing.specs.Measures.{Measures};
 
-    /// Of no halves.
+    /// Creates the statistics of the empty list of half-bits.
     pub fn new() -> Timings
         ensures { Measures result [] }
     {
@@ -54,15 +59,18 @@ impl Timings {
         }
     }
 
-    /// Takes n halves of this many microseconds. There may be fewer than 2^32 halves in all.
+    /// Appends `n` half-bits of `us` microseconds to the list. The longer list must have fewer than
+    /// 2^32 half-bits.
     ///
-    /// However many there are, no more of them are looked at one by one than the longest packet has.
+    /// The time of a call does not depend on `n`. The function reads at most as many half-bits one
+    /// by one as the longest packet has.
     #[inline(always)]
     pub fn take(&mut self, us: u16, n: u32)
         requires { self.old.halves + n < 2 ^ 32 }
-        // For every list that was measured, of which there is at least one,
+        // Some list has the old statistics.
         ensures history { ∥ ((halves : List ℕ) × Measures self.old halves) ∥₁ }
-        // the list with these half-bits behind it is measured.
+        // If a list has the old statistics, the list with these half-bits at its end has the new
+        // statistics.
         ensures measures { (halves : List ℕ) → Measures self.old halves → Measures self.new (halves ++ replicate n us) }
     {
         if n == 0 {
@@ -79,42 +87,44 @@ impl Timings {
         self.time += u64::from(n) * u64::from(us);
     }
 
-    /// How many halves there are.
+    /// Returns the number of half-bits in the list.
     pub fn halves(&self) -> u32
         ensures { (halves : List ℕ) → Measures self.now halves → result ≡ length halves }
     {
         self.halves
     }
 
-    /// How long they take together, in microseconds.
+    /// Returns the duration of all half-bits together, in microseconds.
     pub fn time(&self) -> u64
         ensures { (halves : List ℕ) → Measures self.now halves → result ≡ sum halves }
     {
         self.time
     }
 
-    /// The halves by class: how many, the least, the most and the mean.
+    /// Returns the number, the least, the greatest and the mean duration of the half-bits of each
+    /// class.
     pub fn classes(&self) -> &Classes
         ensures { (halves : List ℕ) → Measures self.now halves → AreClasses result.now halves }
     {
         &self.classes
     }
 
-    /// How many packets they hold, and how many refusals of each cause.
+    /// Returns the number of packets, and the number of refusals by each error.
     pub fn outcomes(&self) -> &Outcomes
         ensures { (halves : List ℕ) → Measures self.now halves → AreOutcomes result.now (seen halves) }
     {
         &self.outcomes
     }
 
-    /// The bits of their packets.
+    /// Returns the statistics of the bits of all packets.
     pub fn bits(&self) -> &Bits
-        ensures { (halves : List ℕ) → Measures self.now halves → AreBits result.now (bits_in halves) }
+        ensures { (halves : List ℕ) → Measures self.now halves → AreBits result.now (packet_bits_in halves) }
     {
         &self.packets.bits
     }
 
-    /// The longest time from the end of a packet to the end of the next, in microseconds; none with fewer than two.
+    /// Returns the longest time from the end of a packet to the end of the next packet, in
+    /// microseconds. Returns `None` if there are fewer than two packets.
     #[tactic(auto, unfolding(crate::specs::Gaps::longest_gap))]
     pub fn longest_gap(&self) -> Option<u64>
         ensures { (halves : List ℕ) → Measures self.now halves → result ≡ longest_gap halves }

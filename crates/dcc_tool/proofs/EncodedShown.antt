@@ -1,6 +1,7 @@
 -- What `encode` writes, `show` lists.
-use Rattle.std.proofs.Common.{◌≡◌, ℕ, ◌+◌, ◌-◌, ◌<◌, ◌≤◌, List, [], ◌∷◌, ◌++◌, length, Bool, true, false, Option, None, Some}
-use Rattle.std.proofs.Common.{IfSome, cond, refl, sym, ap, ◌∙◌, subst, arith, length-append, append_assoc}
+use Rattle.std.proofs.Common.{◌≡◌, ℕ, ◌+◌, ◌-◌, ◌<◌, ◌≤◌, List, [], ◌∷◌, ◌++◌, length, Bool, true, false, Option, None}
+use Rattle.std.proofs.Common.{Some}
+use Rattle.std.proofs.Common.{Ok, IfSome, cond, refl, sym, ap, ◌∙◌, subst, arith, length-append, append_assoc}
 use Rattle.std.specs.Fmt.{decimal}
 use Rattle.std.specs.List.{flat_map, AllByRecursion}
 use Rattle.dcc_wire.specs.declared.seen.Seen.{Seen}
@@ -11,21 +12,22 @@ use Rattle.dcc_wire.specs.Frames.{IsFrame}
 use Rattle.dcc_wire.specs.Sending.{AllFrames, durations_of, sent_bits, sent, sent_all}
 use Rattle.dcc_wire.proofs.SendingLemmas.{seen-sent_all}
 use Rattle.dcc_io.specs.Spaced.{behind_space}
-use Rattle.dcc_io.specs.InputState.{closed_text}
 use Rattle.dcc_io.specs.Items.{Items, items_behind, EndsWith, in_text}
 use Rattle.dcc_io.specs.PacketLines.{packet_lines}
-use Rattle.dcc_io.specs.Words.{Word, ended_words}
+use Rattle.dcc_io.specs.Words.{PlacedWord, ended_words}
+use Rattle.dcc_io.specs.InputState.{InputState, closed_text}
+use Rattle.dcc_io.specs.WriterState.{WriterState}
 use Rattle.dcc_io.proofs.FramesSaid.{packet_lines_say_frames}
 use Rattle.dcc_io.proofs.HandLemmas.{outside}
 use Rattle.dcc_io.proofs.NumberWords.{IsSmall, number_words, numbers_back, empty_line_back}
-use Rattle.dcc_capture.specs.Capture.{capture_in, halves_of}
+use Rattle.dcc_capture.specs.Capture.{capture_in, halves_of_words}
 use Rattle.dcc_capture.specs.Listing.{IsListing}
 use Rattle.dcc_capture.proofs.CaptureLemmas.{enough}
 use Rattle.dcc_capture.proofs.NumbersTaken.{numbers_taken}
-use Rattle.dcc_capture.specs.Shown.{Lists}
+use Rattle.dcc_capture.specs.Shown.{WritesListing, Shows}
 use Rattle.dcc_send.specs.declared.encoding.Encode.{Encode}
-use Rattle.dcc_send.specs.Encoded.{spaced_numbers, timing_of, encoding}
-use Rattle.dcc_tool.specs.EncodedShown.{to_send, halves_to_send, closed_encoding, EncodingsAreCaptures}
+use Rattle.dcc_send.specs.Encoded.{frame_line, spaced_numbers, timing_of, encoding}
+use Rattle.dcc_tool.specs.EncodedShown.{TakesText, ListsSent, to_send, halves_to_send, EncodingsAreCaptures}
 use Rattle.dcc_tool.specs.EncodedShown.{EncodedFramesAreSeen, EncodingsAreShown, PacketLinesAreShown}
 use Rattle.dcc_tool.proofs.Written.{encode_writes_the_encoding}
 
@@ -66,43 +68,73 @@ line_back line (n ∷ ns) more small =
     ∙ append_assoc (decimal n) (flat_map behind_space ns) (10 ∷ more))
     ∙ numbers_back line n ns more small
 
--- line by line
-pub lines_back : (how : Encode) (most line : ℕ) (frames : List (List ℕ)) → how.hex ≡ false
-    → length (halves_to_send how frames) ≤ most
-    → halves_of most (ended_words (outside line) (closed_encoding how frames)) None ≡ record {
-      said = halves_to_send how frames;
-      fault = None;
-    }
+-- a capture with this text and the line feed that closes it holds just the half-bits of these frames
+abbrev pub SaysHalves : Encode → List ℕ → List (List ℕ) → Type 0
+SaysHalves how text frames = (most line : ℕ) → how.hex ≡ false → length (halves_to_send how frames) ≤ most
+    → halves_of_words most (ended_words (outside line) (text ++ 10 ∷ [])) None ≡ record { said = halves_to_send how frames; fault = None }
+
+pub empty_text_says : (how : Encode) → SaysHalves how [] []
 unfolding sent_all
-lines_back how most line [] in_halves fits =
-    ap (λ (ws : List Word). halves_of most ws None) (empty_line_back line [])
-lines_back how most line (frame ∷ frames) in_halves fits =
-    ap (λ (t : List ℕ). halves_of most (ended_words (outside line) ((t ++ encoding how frames) ++ 10 ∷ [])) None)
-    (rw in_halves refl)
-    ∙ ap (λ (t : List ℕ). halves_of most (ended_words (outside line) t) None)
-    (append_assoc (spaced_numbers (sent frame (timing_of how)) ++ 10 ∷ []) (encoding how frames) (10 ∷ []))
-    ∙ ap (λ (ws : List Word). halves_of most ws None)
-    (line_back line (sent frame (timing_of how)) (closed_encoding how frames) (sent_small how frame))
-    ∙ numbers_taken most line (sent frame (timing_of how))
-    (ended_words (outside (line + 1)) (closed_encoding how frames)) None
+empty_text_says how most line in_halves fits =
+    ap (λ (ws : List PlacedWord). halves_of_words most ws None) (empty_line_back line [])
+
+pub frame_line_says : (how : Encode) (frame rest : List ℕ) (frames : List (List ℕ)) → SaysHalves how rest frames
+    → SaysHalves how (frame_line how frame ++ rest) (frame ∷ frames)
+unfolding sent_all
+frame_line_says how frame rest frames says most line in_halves fits =
+    ap (λ (t : List ℕ). halves_of_words most (ended_words (outside line) ((t ++ rest) ++ 10 ∷ [])) None) (rw in_halves refl)
+    ∙ ap (λ (t : List ℕ). halves_of_words most (ended_words (outside line) t) None)
+    (append_assoc (spaced_numbers (sent frame (timing_of how)) ++ 10 ∷ []) rest (10 ∷ []))
+    ∙ ap (λ (ws : List PlacedWord). halves_of_words most ws None)
+    (line_back line (sent frame (timing_of how)) (rest ++ 10 ∷ []) (sent_small how frame))
+    ∙ numbers_taken most line (sent frame (timing_of how)) (ended_words (outside (line + 1)) (rest ++ 10 ∷ [])) None
     (sent_small how frame) (omega (arith, both))
     ∙ ap (items_behind (sent frame (timing_of how)))
-    (lines_back how (most - length (sent frame (timing_of how))) (line + 1) frames in_halves (omega (arith, both)))
+    (says (most - length (sent frame (timing_of how))) (line + 1) in_halves (omega (arith, both)))
   where
     both : length (sent frame (timing_of how)) + length (halves_to_send how frames) ≤ most
     both = subst (λ n. n ≤ most) (length-append (sent frame (timing_of how)) (halves_to_send how frames)) fits
 
+encoding_says : (how : Encode) (frames : List (List ℕ)) → SaysHalves how (encoding how frames) frames
+encoding_says how [] = empty_text_says how
+encoding_says how (frame ∷ frames) = frame_line_says how frame (encoding how frames) frames (encoding_says how frames)
+
+captured : (how : Encode) (frames : List (List ℕ)) (text : List ℕ) (input : InputState) → SaysHalves how text frames
+    → TakesText how frames text input
+    → capture_in input (text ++ 10 ∷ []) ≡ record { said = halves_to_send how frames; fault = None }
+captured how frames text input says takes =
+    rw (enough (length (text ++ 10 ∷ [])) input.bytes (within takes.bytes))
+    (ap (λ (in_comment : Bool).
+    halves_of_words input.halves
+    (ended_words (record { line = input.place.line; in_comment = in_comment }) (text ++ 10 ∷ [])) None)
+    takes.in_no_comment
+    ∙ says input.halves input.place.line takes.in_halves takes.halves)
+  where
+    within : length text < input.bytes → length (text ++ 10 ∷ []) ≤ input.bytes
+    within fewer = omega (arith, fewer, length-append text (10 ∷ []))
+
+pub shown : (how : Encode) (frames : List (List ℕ)) (text : List ℕ) (words : Bool) (old new : InputState)
+    (before after : WriterState) → SaysHalves how text frames → TakesText how frames text old → AllFrames (to_send how frames)
+    → old.text ≡ closed_text false (Some text) → Shows words old before (Ok tt) new after
+    → ListsSent words before after (to_send how frames)
+shown how frames text words old new before after says takes are whole shows =
+    let ends = subst
+    (λ (text : Option (List ℕ)).
+    IfSome text (λ text. EndsWith None
+    (λ halves. WritesListing words before after halves × (new.halves + length halves ≡ old.halves)) (capture_in old text)))
+    whole shows.0.items.0 in
+    let lists = ends.1.0 in (
+      lists.0,
+      subst (λ (outcomes : List (ℕ × Seen)). IsListing words outcomes lists.0)
+          (ap (λ (items : Items ℕ). seen items.said) (captured how frames text old says takes)
+          ∙ seen-sent_all (to_send how frames) are)
+          lists.1,
+      lists.2,
+    )
+
 pub encodings_are_captures : EncodingsAreCaptures
 encodings_are_captures how frames input takes =
-    rw (enough (length (closed_encoding how frames)) input.bytes (within takes.bytes))
-    (ap (λ (in_comment : Bool).
-    halves_of input.halves
-    (ended_words (record { line = input.place.line; in_comment = in_comment }) (closed_encoding how frames)) None)
-    takes.in_no_comment
-    ∙ lines_back how input.halves input.place.line frames takes.in_halves takes.halves)
-  where
-    within : length (encoding how frames) < input.bytes → length (closed_encoding how frames) ≤ input.bytes
-    within fewer = omega (arith, fewer, length-append (encoding how frames) (10 ∷ []))
+    captured how frames (encoding how frames) input (encoding_says how frames) takes
 
 pub encoded_frames_are_seen : EncodedFramesAreSeen
 encoded_frames_are_seen how frames input takes are =
@@ -111,17 +143,7 @@ encoded_frames_are_seen how frames input takes are =
 
 pub encodings_are_shown : EncodingsAreShown
 encodings_are_shown how frames words old new before after takes are whole shows =
-    let ends = subst
-    (λ (text : Option (List ℕ)).
-    IfSome text (λ text. EndsWith None
-    (λ halves. Lists words before after halves × (new.halves + length halves ≡ old.halves)) (capture_in old text)))
-    whole shows.0.items.0 in
-    let lists = ends.1.0 in (
-      lists.0,
-      subst (λ (outcomes : List (ℕ × Seen)). IsListing words outcomes lists.0)
-          (encoded_frames_are_seen how frames old takes are) lists.1,
-      lists.2,
-    )
+    shown how frames (encoding how frames) words old new before after (encoding_says how frames) takes are whole shows
 
 pub all_frames : (how : Encode) (frames : List (List ℕ)) → AllByRecursion IsFrame frames → AllFrames (to_send how frames)
 unfolding AllFrames

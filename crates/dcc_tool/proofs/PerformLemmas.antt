@@ -11,7 +11,7 @@ use Rattle.dcc_io.specs.declared.fault.ToolFault.{ToolFault}
 use Rattle.dcc_io.specs.declared.fault.ToolFault.TheVariants as told
 use Rattle.dcc_saved.specs.declared.saved.Saved.{Saved}
 use Rattle.dcc_io.specs.Faults.{as_tool_fault}
-use Rattle.dcc_io.specs.InputState.{InputState, HasCause}
+use Rattle.dcc_io.specs.InputState.{InputState, ReadHasFailure}
 use Rattle.dcc_io.specs.WriterState.{WriterState}
 use Rattle.dcc_io.specs.declared.fault.Usage.TheVariants as usages
 use Rattle.dcc_station.specs.Sending.{idle_sending}
@@ -21,7 +21,7 @@ use Rattle.dcc_send.specs.EncodeStation.{is_past_limits, has_begun}
 use Rattle.dcc_send.specs.StationEncoded.{StationText}
 use Rattle.dcc_saved.specs.DecoderText.{decoder_text}
 use Rattle.dcc_saved.specs.PossibleLines.{is_possible}
-use Rattle.dcc_saved.specs.TextRead.{Answers, UsedWholeLines}
+use Rattle.dcc_saved.specs.TextRead.{ReadsValue, UsedWholeLines}
 use Rattle.dcc_listen.specs.FleetRun.{Fleet, Runs}
 use Rattle.dcc_tool.specs.Performs.{Streams, EncodesLines, SavesThese, RunsText, decoder_of}
 
@@ -34,7 +34,7 @@ none_kept x (Some fault) P kept = let e = kept.0 in absurd (cc)
 module _ {A : Type 0} (x : A) (old left : InputState) (decoders : List Saved)
     (kept : IfSome old.fault
     (λ fault. (◌≡◌ {A = Result A ToolFault} (Ok x) (Err (as_tool_fault fault))) × (left ≡ old)))
-    (reads : old.fault ≡ None → Answers decoder_text old (Ok decoders) left) (lines : UsedWholeLines old left)
+    (reads : old.fault ≡ None → ReadsValue decoder_text old (Ok decoders) left) (lines : UsedWholeLines old left)
     (possible : All (λ decoder. is_possible decoder ≡ true) decoders)
     (writer : WriterState) where
   abbrev before : Streams
@@ -119,7 +119,7 @@ module _ {S : Type 0} (state : S → WriterState) (how : Encode) (old new : Inpu
       → (has_begun answer ≡ false → (new ≡ old) × (writer' ≡ writer))
       → (has_begun answer ≡ true
       → IfSome old.fault (λ fault. (answer ≡ Err (as_tool_fault fault)) × (new ≡ old) × (writer' ≡ writer)))
-      → (has_begun answer ≡ true → HasCause old.fault old.failures)
+      → (has_begun answer ≡ true → ReadHasFailure old.fault old.failures)
       → (how.station ≡ None → old.fault ≡ None
       → EncodesText how old (state writer) answer new (state writer'))
       → (has_begun answer ≡ true → old.fault ≡ None

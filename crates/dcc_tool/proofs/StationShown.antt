@@ -1,7 +1,8 @@
 -- What `encode` with a station writes, `show` lists.
 use Rattle.std.proofs.Common.{◌≡◌, ℕ, ◌+◌, ◌-◌, ◌<◌, ◌≤◌, ◌⊎◌, inl, inr, zero, suc, Bool, true, false, ◌||◌, ◌&&◌}
 use Rattle.std.proofs.Common.{List, [], ◌∷◌, ◌++◌, length, drop, Option, Some, None, IfSome, Result, Ok}
-use Rattle.std.proofs.Common.{if◌then◌else◌, refl, sym, ap, ◌∙◌, subst, arith, length-append, append_assoc, nat_le, codes}
+use Rattle.std.proofs.Common.{if◌then◌else◌, refl, sym, ap, ◌∙◌, subst, arith, length-append, append_assoc, nat_le}
+use Rattle.std.proofs.Common.{codes}
 use Rattle.std.proofs.lemmas.Bool.{and_parts}
 use Rattle.std.specs.List.{AllByRecursion}
 use Rattle.dcc_wire.specs.declared.seen.Seen.{Seen}
@@ -12,6 +13,7 @@ use Rattle.dcc_wire.proofs.SendingLemmas.{seen-sent_all}
 use Rattle.dcc_packet.specs.declared.packet.Packet.{Packet}
 use Rattle.dcc_packet.specs.declared.packet.Packet.TheVariants.{Idle}
 use Rattle.dcc_packet.specs.Spelling.{spelling}
+use Rattle.dcc_packet.proofs.AllLemmas.{all_append, all_dropped}
 use Rattle.dcc_packet.proofs.FrameSpellings.{spellings_are_frames}
 use Rattle.dcc_station.specs.Commands.{is_refreshed}
 use Rattle.dcc_station.specs.Sending as sending
@@ -22,22 +24,22 @@ use Rattle.dcc_io.specs.InputState.{InputState, closed_text}
 use Rattle.dcc_io.specs.Items.{Items, items_behind, EndsWith, in_text}
 use Rattle.dcc_io.specs.StationLines.{Asked, Command, Next, station_lines}
 use Rattle.dcc_io.specs.TextPlace.{TextPlace}
-use Rattle.dcc_io.specs.Words.{Word, ended_words, is_gap, comments}
+use Rattle.dcc_io.specs.Words.{PlacedWord, ended_words, is_gap, comments}
 use Rattle.dcc_io.specs.WriterState.{WriterState}
 use Rattle.dcc_io.proofs.FramesSaid.{station_lines_say_frames}
 use Rattle.dcc_io.proofs.HandLemmas.{outside}
 use Rattle.dcc_io.proofs.WordsLemmas.{behind, opened-gap, opened-none}
-use Rattle.dcc_capture.specs.Capture.{capture_in, halves_of}
+use Rattle.dcc_capture.specs.Capture.{capture_in, halves_of_words}
 use Rattle.dcc_capture.specs.Listing.{IsListing}
-use Rattle.dcc_capture.specs.Shown.{Lists, Shows}
+use Rattle.dcc_capture.specs.Shown.{WritesListing, Shows}
 use Rattle.dcc_capture.proofs.CaptureLemmas.{enough}
 use Rattle.dcc_capture.proofs.NumbersTaken.{numbers_taken}
 use Rattle.dcc_send.specs.declared.encoding.Encode.{Encode}
 use Rattle.dcc_send.specs.Encoded.{frame_line, spaced_numbers, timing_of}
 use Rattle.dcc_send.specs.StationEncoded.{Answers, AnswersAll, after_command, command_line, refusal, refusal_line}
-use Rattle.dcc_tool.specs.EncodedShown.{ListsSent, halves_to_send, to_send}
-use Rattle.dcc_tool.specs.StationShown.{HandsOutFrames, StationPacketsAreShown, TakesAnswers}
-use Rattle.dcc_tool.proofs.EncodedShown.{all_frames, line_back, lines_back, sent_small}
+use Rattle.dcc_tool.specs.EncodedShown.{halves_to_send}
+use Rattle.dcc_tool.specs.StationShown.{HandsOutFrames, StationPacketsAreShown}
+use Rattle.dcc_tool.proofs.EncodedShown.{SaysHalves, all_frames, empty_text_says, frame_line_says, shown}
 use Rattle.dcc_tool.proofs.Written.{station_writes_its_answers}
 
 -- a packet whose spelling is a frame
@@ -48,15 +50,6 @@ IsSpelled packet = IsFrame (spelling packet)
 record SpellsFrames (s : sending.Sending) : Type 0 where
   waiting : AllByRecursion IsSpelled s.waiting
   entries : AllByRecursion IsSpelled s.entries
-
-all_and_last : {A : Type 0} (P : A → Type 0) (xs : List A) (x : A) → AllByRecursion P xs → P x → AllByRecursion P (xs ++ x ∷ [])
-all_and_last P [] x all is = (is, tt)
-all_and_last P (y ∷ xs) x all is = (all.0, all_and_last P xs x all.1 is)
-
-all_but_first : {A : Type 0} (P : A → Type 0) (n : ℕ) (xs : List A) → AllByRecursion P xs → AllByRecursion P (drop n xs)
-all_but_first P zero xs all = all
-all_but_first P (suc n) [] all = tt
-all_but_first P (suc n) (x ∷ xs) all = all_but_first P n xs all.1
 
 what_is_left : (p : Packet) (entries kept : List Packet) → sending.Leaves p entries kept → AllByRecursion IsSpelled entries
     → AllByRecursion IsSpelled kept
@@ -76,8 +69,8 @@ what_is_refreshed slots p entries after is all refreshes =
     go : (refreshed : Bool)
         → AllByRecursion IsSpelled (if refreshed then sending.with_entry slots refreshes.0 p else refreshes.0)
     go true =
-        all_but_first IsSpelled (length (refreshes.0 ++ p ∷ []) - slots) (refreshes.0 ++ p ∷ [])
-        (all_and_last IsSpelled refreshes.0 p kept is)
+        all_dropped IsSpelled (length (refreshes.0 ++ p ∷ []) - slots) (refreshes.0 ++ p ∷ [])
+        (all_append IsSpelled refreshes.0 (p ∷ []) kept (is, tt))
     go false = kept
 
 entries_after : (sent slots : ℕ) (p : Packet) (entries after : List Packet) → IsSpelled p → AllByRecursion IsSpelled entries
@@ -107,7 +100,7 @@ handed_out (p ∷ rest) entries s out new waits all spells h = (
 handed_out [] (entry ∷ later) s out new waits all spells h = (
   subst IsSpelled (sym h.0) all.0,
   subst SpellsFrames (sym h.1)
-      (record { waiting = spells.waiting; entries = all_and_last IsSpelled later entry all.1 all.0 }),
+      (record { waiting = spells.waiting; entries = all_append IsSpelled later (entry ∷ []) all.1 (all.0, tt) }),
 )
 handed_out [] [] s out new waits all spells h =
     (subst IsSpelled (sym h.0) (spellings_are_frames Idle tt), subst SpellsFrames (sym h.1) spells)
@@ -115,13 +108,8 @@ handed_out [] [] s out new waits all spells h =
 commanded : (s : sending.Sending) (p : Packet) (refused : Option Refused) → IsSpelled p → SpellsFrames s
     → SpellsFrames (after_command s p refused)
 commanded s p None is spells =
-    record { waiting = all_and_last IsSpelled s.waiting p spells.waiting is; entries = spells.entries }
+    record { waiting = all_append IsSpelled s.waiting (p ∷ []) spells.waiting (is, tt); entries = spells.entries }
 commanded s p (Some refused) is spells = spells
-
--- such a text is a capture of the half-bits of these frames
-abbrev SaysHalves : Encode → List ℕ → List (List ℕ) → Type 0
-SaysHalves how text frames = (most line : ℕ) → how.hex ≡ false → length (halves_to_send how frames) ≤ most
-    → halves_of most (ended_words (outside line) (text ++ 10 ∷ [])) None ≡ record { said = halves_to_send how frames; fault = None }
 
 -- each of these bytes is a gap or stands in a comment
 abbrev are_passed : TextPlace → List ℕ → Bool
@@ -151,27 +139,10 @@ behind_command : (how : Encode) (refused : Option Refused) (rest : List ℕ) (fr
     → SaysHalves how (command_line refused ++ rest) frames
 behind_command how None rest frames says most line in_halves fits = says most line in_halves fits
 behind_command how (Some refused) rest frames says most line in_halves fits =
-    ap (λ (text : List ℕ). halves_of most (ended_words (outside line) text) None)
+    ap (λ (text : List ℕ). halves_of_words most (ended_words (outside line) text) None)
     (append_assoc (refusal_line refused) rest (10 ∷ []))
-    ∙ ap (λ (words : List Word). halves_of most words None) (comment_back refused line (rest ++ 10 ∷ []))
+    ∙ ap (λ (words : List PlacedWord). halves_of_words most words None) (comment_back refused line (rest ++ 10 ∷ []))
     ∙ says most (line + 1) in_halves fits
-
-behind_frame : (how : Encode) (frame rest : List ℕ) (frames : List (List ℕ)) → SaysHalves how rest frames
-    → SaysHalves how (frame_line how frame ++ rest) (frame ∷ frames)
-unfolding sent_all
-behind_frame how frame rest frames says most line in_halves fits =
-    ap (λ (t : List ℕ). halves_of most (ended_words (outside line) ((t ++ rest) ++ 10 ∷ [])) None) (rw in_halves refl)
-    ∙ ap (λ (t : List ℕ). halves_of most (ended_words (outside line) t) None)
-    (append_assoc (spaced_numbers (sent frame (timing_of how)) ++ 10 ∷ []) rest (10 ∷ []))
-    ∙ ap (λ (ws : List Word). halves_of most ws None)
-    (line_back line (sent frame (timing_of how)) (rest ++ 10 ∷ []) (sent_small how frame))
-    ∙ numbers_taken most line (sent frame (timing_of how)) (ended_words (outside (line + 1)) (rest ++ 10 ∷ [])) None
-    (sent_small how frame) (omega (arith, both))
-    ∙ ap (items_behind (sent frame (timing_of how)))
-    (says (most - length (sent frame (timing_of how))) (line + 1) in_halves (omega (arith, both)))
-  where
-    both : length (sent frame (timing_of how)) + length (halves_to_send how frames) ≤ most
-    both = subst (λ n. n ≤ most) (length-append (sent frame (timing_of how)) (halves_to_send how frames)) fits
 
 -- the frames that a station hands out, and its text
 record Handed (how : Encode) (s : sending.Sending) (items : List Asked) (text : List ℕ) (new : sending.Sending) : Type 0 where
@@ -188,7 +159,7 @@ answered how s [] text new spells asks answers =
       frames = [];
       hands_out = (refl, answers.1);
       are = tt;
-      says = λ most line in_halves fits. lines_back how most line [] in_halves fits;
+      says = empty_text_says how;
     })
 answered how s (Command frame ∷ items) text new spells asks answers =
     let command = answers.4 in
@@ -215,38 +186,8 @@ answered how s (Next ∷ items) text new spells asks answers =
       frames = spelling next.0 ∷ later.frames;
       hands_out = (next.0, answers.0, later.frames, next.1, refl, later.hands_out);
       are = (out.0, later.are);
-      says = behind_frame how (spelling next.0) answers.2 later.frames later.says;
+      says = frame_line_says how (spelling next.0) answers.2 later.frames later.says;
     })
-
-shown : (how : Encode) (frames : List (List ℕ)) (text : List ℕ) (words : Bool) (old new : InputState)
-    (before after : WriterState) → SaysHalves how text frames → AllByRecursion IsFrame frames
-    → TakesAnswers how frames text old → old.text ≡ closed_text false (Some text)
-    → Shows words old before (Ok tt) new after → ListsSent words before after (to_send how frames)
-shown how frames text words old new before after says are takes whole shows =
-    let ends = subst
-    (λ (text : Option (List ℕ)).
-    IfSome text (λ text. EndsWith None
-    (λ halves. Lists words before after halves × (new.halves + length halves ≡ old.halves)) (capture_in old text)))
-    whole shows.0.items.0 in
-    let lists = ends.1.0 in (
-      lists.0,
-      subst (λ (outcomes : List (ℕ × Seen)). IsListing words outcomes lists.0)
-          (ap (λ (items : Items ℕ). seen items.said) captured ∙ seen-sent_all (to_send how frames) (all_frames how frames are))
-          lists.1,
-      lists.2,
-    )
-  where
-    fits : length text < old.bytes → length (text ++ 10 ∷ []) ≤ old.bytes
-    fits fewer = omega (arith, fewer, length-append text (10 ∷ []))
-
-    captured : capture_in old (text ++ 10 ∷ []) ≡ record { said = halves_to_send how frames; fault = None }
-    captured =
-        rw (enough (length (text ++ 10 ∷ [])) old.bytes (fits takes.bytes))
-        (ap (λ (in_comment : Bool).
-        halves_of old.halves
-        (ended_words (record { line = old.place.line; in_comment = in_comment }) (text ++ 10 ∷ [])) None)
-        takes.in_no_comment
-        ∙ says old.halves old.place.line takes.in_halves takes.halves)
 
 pub station_packets_are_shown : StationPacketsAreShown
 station_packets_are_shown how queue slots repeats lines lines' from to text told answers known empty gained =
@@ -260,5 +201,6 @@ station_packets_are_shown how queue slots repeats lines lines' from to text told
       handed.hands_out,
       λ words capture capture' before after takes whole shows.
           shown how handed.frames told words capture capture' before after
-          (subst (λ (text : List ℕ). SaysHalves how text handed.frames) same handed.says) handed.are takes whole shows,
+          (subst (λ (text : List ℕ). SaysHalves how text handed.frames) same handed.says) takes
+          (all_frames how handed.frames handed.are) whole shows,
     )

@@ -7,7 +7,8 @@ use Rattle.dcc_wire.specs.declared.seen.Seen.TheVariants.{Packet}
 use Rattle.dcc_wire.specs.Bodies.{body_bits, bits_of, number_of}
 use Rattle.dcc_wire.specs.Framing.{seen, outcomes_at, outcome_at, starts_below, is_start, used_up, halves_used}
 use Rattle.dcc_wire.specs.Framing.{ones_at_end, ones_before}
-use Rattle.dcc_wire.specs.Outcomes.{outcome_of, bits_in, behind_bits, bytes_in, body_outcome, by_bits, by_halves, ones_left}
+use Rattle.dcc_wire.specs.Outcomes.{outcome_of, bits_in, behind_bits, bytes_in, body_outcome, by_bits, by_halves}
+use Rattle.dcc_wire.specs.Outcomes.{ones_left}
 use Rattle.dcc_wire.specs.Sending.{sent, sent_bits, durations_of, sent_all}
 use Rattle.dcc_io.specs.InputState.{InputState, fresh}
 use Rattle.dcc_io.specs.Items.{Items, in_text}
@@ -16,7 +17,7 @@ use Rattle.dcc_io.specs.WriterState.{WriterState}
 use Rattle.dcc_capture.specs.Capture.{capture_in, captures}
 use Rattle.dcc_capture.specs.Listing.{IsListing}
 use Rattle.dcc_capture.proofs.WorkedExamples.{speed_is_listed}
-use Rattle.dcc_capture.specs.Shown.{Shows, Lists}
+use Rattle.dcc_capture.specs.Shown.{Shows, WritesListing}
 use Rattle.dcc_send.specs.declared.encoding.Encode.{Encode}
 use Rattle.dcc_send.specs.Encoded.{encoding}
 use Rattle.dcc_tool.specs.EncodedShown.{halves_to_send, closed_encoding}
@@ -60,7 +61,7 @@ unfolding seen outcomes_at outcome_at starts_below is_start used_up halves_used 
 run_is_seen = refl
 
 run_is_written : (before after : WriterState) (out : List ℕ) → before.contents ≡ Some [] → after.contents ≡ Some out
-    → Lists false before after run_halves → out ≡ codes "84 036261\n"
+    → WritesListing false before after run_halves → out ≡ codes "84 036261\n"
 run_is_written before after out empty full lists =
     let listing : IsListing false ((83, Packet (3 ∷ 98 ∷ 97 ∷ [])) ∷ []) lists.0 =
     subst (λ s. IsListing false s lists.0) run_is_seen lists.1 in
@@ -72,7 +73,7 @@ run_is_written before after out empty full lists =
 run_is_shown : (new : InputState) (before after : WriterState) (out : List ℕ) → before.contents ≡ Some []
     → after.contents ≡ Some out → Shows false run_input before (Ok tt) new after → out ≡ codes "84 036261\n"
 run_is_shown new before after out empty full shows =
-    let fact : List ℕ → Type 0 = λ halves. Lists false before after halves × (new.halves + length halves ≡ 1000) in
+    let fact : List ℕ → Type 0 = λ halves. WritesListing false before after halves × (new.halves + length halves ≡ 1000) in
     let read : (None ≡ None) × fact run_halves =
     subst (λ (items : Items ℕ). (items.fault ≡ None) × fact items.said) runs_are_read shows.0.items.0 in
     run_is_written before after out empty full read.1.0

@@ -16,7 +16,8 @@ use Rattle.dcc_listen.specs.TimingText.{timing_text}
 use Rattle.dcc_send.specs.Encoded.{Encodes}
 use Rattle.dcc_send.specs.ProgrammingTrackReading.{reading_text}
 use Rattle.dcc_send.specs.StationEncoded.{Answered}
-use Rattle.dcc_tool.specs.Written.{Gains, halves_said, ShowWritesTheListing, EncodeWritesTheEncoding, RunWritesTheDecoders}
+use Rattle.dcc_tool.specs.Written.{Gains, halves_said, ShowWritesTheListing, EncodeWritesTheEncoding}
+use Rattle.dcc_tool.specs.Written.{RunWritesTheDecoders}
 use Rattle.dcc_tool.specs.Written.{ShowWritesAListing, TimingWritesTheFigures, StationWritesItsAnswers}
 use Rattle.dcc_tool.specs.Written.{ReadcvWritesTheReading}
 use Rattle.dcc_tool.specs.Written.{SameWritesTheVerdict, SameInputWritesTheVerdict}

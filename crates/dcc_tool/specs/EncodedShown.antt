@@ -1,4 +1,4 @@
--- What `encode` writes, `show` lists.
+-- Theorems: `show` lists the packets that `encode` wrote.
 use Rattle.std.specs.Prelude.{◌≡◌, ℕ, ◌<◌, ◌≤◌, ◌++◌, Bool, false, List, [], None, Some, Ok, length, map}
 use Rattle.std.specs.Prelude.{codes}
 use Rattle.std.specs.Io.KnownBytes.{Appends}
@@ -14,53 +14,65 @@ use Rattle.dcc_capture.specs.Shown.{Shows}
 use Rattle.dcc_send.specs.declared.encoding.Encode.{Encode}
 use Rattle.dcc_send.specs.Encoded.{EncodesText, timing_of, encoding}
 
--- half-bits for the main track, without a station
+-- the encoding as half-bits for the main track, without a station
 abbrev pub in_half_bits : Encode
 in_half_bits = record { hex = false; service = false; station = None }
 
--- these frames, each to be sent with the timing of this encoding
+-- each frame of `frames` with the timing of the encoding `how`
 abbrev pub to_send : Encode → List (List ℕ) → List Sent
 to_send how frames = map (λ frame. record { bytes = frame; timing = timing_of how }) frames
 
--- the halves of these frames, one behind the other
+-- the half-bits of `frames`, which are sent one after the other with the timing of the encoding
+-- `how`
 abbrev pub halves_to_send : Encode → List (List ℕ) → List ℕ
 halves_to_send how frames = sent_all (to_send how frames)
 
--- the encoding, and the line feed that closes a text
+-- the encoding of `frames`, followed by the line feed that closes a text
 abbrev pub closed_encoding : Encode → List (List ℕ) → List ℕ
 closed_encoding how frames = encoding how frames ++ codes "\n"
 
--- the encoding is in half-bits, and within the limits of an input that stands in no comment; that line feed is in them
-pub record TakesEncoding (how : Encode) (frames : List (List ℕ)) (input : InputState) : Type 0 where
+-- the encoding `how` is in half-bits, and `input` is not in a comment. Its limits allow the
+-- half-bits of `frames`, the bytes of `text`, and the line feed that closes the text.
+pub record TakesText (how : Encode) (frames : List (List ℕ)) (text : List ℕ) (input : InputState) : Type 0 where
   pub in_halves : how.hex ≡ false
   pub in_no_comment : input.place.in_comment ≡ false
   pub halves : length (halves_to_send how frames) ≤ input.halves
-  pub bytes : length (encoding how frames) < input.bytes
+  pub bytes : length text < input.bytes
 
--- such an encoding is a capture of just the halves that are sent, without a fault
+-- the encoding of `frames` is in half-bits, and the input can read it: the input is not in a
+-- comment, and its limits allow the encoding
+abbrev pub TakesEncoding : Encode → List (List ℕ) → InputState → Type 0
+TakesEncoding how frames = TakesText how frames (encoding how frames)
+
+-- an encoding of `frames` that the input can read is a capture, without an error, of exactly the
+-- half-bits of `frames`
 abbrev pub EncodingsAreCaptures : Type 0
 EncodingsAreCaptures = (how : Encode) (frames : List (List ℕ)) (input : InputState) → TakesEncoding how frames input
     → capture_in input (closed_encoding how frames) ≡ record { said = halves_to_send how frames; fault = None }
 
--- in it each frame is seen at its last half, in order, and nothing else is: no refusal either
+-- in the capture that is the encoding of `frames`, the outcomes are exactly these frames, in order,
+-- each at its last half-bit
 abbrev pub EncodedFramesAreSeen : Type 0
 EncodedFramesAreSeen = (how : Encode) (frames : List (List ℕ)) (input : InputState) → TakesEncoding how frames input
     → AllFrames (to_send how frames)
     → seen (capture_in input (closed_encoding how frames)).said ≡ at_last_halves 0 (to_send how frames)
 
--- a text was written that has one line for each of these frames, in order, at the number of its last half
+-- a listing of `frames` was written: one line for each frame, in order, with the number of its last
+-- half-bit
 abbrev pub ListsSent : Bool → WriterState → WriterState → List Sent → Type 0
 ListsSent words before after frames =
     (text : List ℕ) × IsListing words (at_last_halves 0 frames) text × Appends before.contents after.contents text
 
--- `show` that reads all of such an encoding lists just the frames that are sent
+-- if `show` reads the whole encoding of `frames` without an error, it lists exactly these frames,
+-- each at its last half-bit
 abbrev pub EncodingsAreShown : Type 0
 EncodingsAreShown = (how : Encode) (frames : List (List ℕ)) (words : Bool) (old new : InputState)
     (before after : WriterState) → TakesEncoding how frames old → AllFrames (to_send how frames)
     → old.text ≡ closed_text false (Some (encoding how frames)) → Shows words old before (Ok tt) new after
     → ListsSent words before after (to_send how frames)
 
--- `encode` writes the text of packet lines into memory, and `show` that reads this text lists just the packets of the lines
+-- if `encode` has written the encoding of packet lines into memory, and `show` reads it without an
+-- error, `show` lists exactly the packets of these lines
 abbrev pub PacketLinesAreShown : Type 0
 PacketLinesAreShown = (how : Encode) (words : Bool) (lines lines' capture capture' : InputState)
     (from to before after : WriterState) (text encoded : List ℕ)

@@ -1,4 +1,4 @@
--- What a call of the program does.
+-- The result of a request to the program.
 use Rattle.std.specs.Prelude.{◌≡◌, ◌⊎◌, ◌↔◌, ℕ, List, Bool, true, false, Option, None, Some, Result, Ok, Err, IfSome}
 use Rattle.std.specs.Prelude.{All, map}
 use Rattle.dcc_packet.specs.declared.cv.CvNumber.{CvNumber}
@@ -18,11 +18,11 @@ use Rattle.dcc_io.specs.declared.fault.Usage.TheVariants as usages
 use Rattle.dcc_saved.specs.declared.saved.Saved.{Saved}
 use Rattle.dcc_saved.specs.declared.saved.Saved.TheVariants as saved
 use Rattle.dcc_io.specs.Faults.{as_tool_fault}
-use Rattle.dcc_io.specs.InputState.{InputState, HasCause}
+use Rattle.dcc_io.specs.InputState.{InputState, ReadHasFailure}
 use Rattle.dcc_io.specs.WriterState.{WriterState}
 use Rattle.dcc_saved.specs.DecoderText.{decoder_text}
 use Rattle.dcc_saved.specs.PossibleLines.{is_possible}
-use Rattle.dcc_saved.specs.TextRead.{Answers, UsedWholeLines}
+use Rattle.dcc_saved.specs.TextRead.{ReadsValue, UsedWholeLines}
 use Rattle.dcc_saved.specs.TextReadOrNoMemory.{ReadFails}
 use Rattle.dcc_capture.specs.Shown.{Shows}
 use Rattle.dcc_listen.specs.Timed.{Times}
@@ -39,52 +39,56 @@ use Rattle.dcc_tool.specs.declared.ending.Ending.TheVariants as ending
 use Rattle.dcc_tool.specs.declared.performing.Request.{Request}
 use Rattle.dcc_tool.specs.declared.performing.Request.TheVariants as request
 
--- what a call of the program reads from and writes to
+-- the input and the output of the program
 pub record Streams : Type 0 where
-  -- what is still to come of the input
+  -- the state of the input
   pub input : InputState
-  -- what is known of the writer
+  -- the state of the writer
   pub writer : WriterState
 
--- an ending with no value, and what answered so
+-- the result is an error, or an ending without a verdict and without a value. `holds` is true for
+-- the result of the operation.
 abbrev pub Done : Result Ending ToolFault → (Result (Unit {0}) ToolFault → Type 0) → Type 0
 Done (Ok ending.Done) holds = holds (Ok tt)
 Done (Ok (ending.Verdict verdict)) holds = ⊥
 Done (Ok (ending.Value value)) holds = ⊥
 Done (Err fault) holds = holds (Err fault)
 
--- an ending with a verdict, and what answered it
+-- the result is an error, or an ending with a verdict. `holds` is true for the result of the
+-- operation.
 abbrev pub Judged : Result Ending ToolFault → (Result Verdict ToolFault → Type 0) → Type 0
 Judged (Ok ending.Done) holds = ⊥
 Judged (Ok (ending.Verdict verdict)) holds = holds (Ok verdict)
 Judged (Ok (ending.Value value)) holds = ⊥
 Judged (Err fault) holds = holds (Err fault)
 
--- an ending with a value or none, and what answered it
+-- the result is an error, or an ending with a value or with no value. `holds` is true for the
+-- result of the operation.
 abbrev pub Valued : Result Ending ToolFault → (Result (Option ℕ) ToolFault → Type 0) → Type 0
 Valued (Ok ending.Done) holds = ⊥
 Valued (Ok (ending.Verdict verdict)) holds = ⊥
 Valued (Ok (ending.Value value)) holds = holds (Ok value)
 Valued (Err fault) holds = holds (Err fault)
 
--- a fault that the input keeps is answered again, and nothing is read or written; where it keeps none, this holds
+-- if the input has stored an error, `answer` is this error, and nothing was read or written.
+-- Otherwise `fact` holds.
 pub record KeptOr {A : Type 0} (old : Streams) (answer : Result A ToolFault) (new : Streams) (fact : Type 0) : Type 0
   where
     pub kept : IfSome old.input.fault (λ fault. (answer ≡ Err (as_tool_fault fault)) × (new ≡ old))
-    pub cause : HasCause old.input.fault old.input.failures
+    pub cause : ReadHasFailure old.input.fault old.input.failures
     pub reads : old.input.fault ≡ None → fact
 
--- the listing of the capture is written
+-- `show` has listed the capture, or `answer` is its error
 abbrev pub ShowsCapture : Bool → Streams → Result (Unit {0}) ToolFault → Streams → Type 0
 ShowsCapture words old answer new =
     KeptOr old answer new (Shows words old.input old.writer answer new.input new.writer)
 
--- the figures of the capture are written
+-- `timing` has written the statistics of the capture, or `answer` is its error
 abbrev pub TimesCapture : Streams → Result (Unit {0}) ToolFault → Streams → Type 0
 TimesCapture old answer new =
     KeptOr old answer new (Times old.input old.writer answer new.input new.writer)
 
--- the lines of packets are written: of those that the lines say, or that the station hands out
+-- `encode` has written the encoding of the packet lines; with a station, the answers of the station
 pub record WritesPackets (how : Encode) (old : Streams) (answer : Result (Unit {0}) ToolFault) (new : Streams) : Type 0
   where
     pub packets : how.station ≡ None
@@ -93,7 +97,8 @@ pub record WritesPackets (how : Encode) (old : Streams) (answer : Result (Unit {
         (λ sizes. StationText how (idle_sending sizes.0 sizes.1 sizes.2) old.input old.writer answer
         new.input new.writer)
 
--- the station is made first, where one is asked for; before that nothing is read or written
+-- `encode` creates a requested station before it reads or writes. If this fails, `answer` is the
+-- error, and nothing was read or written.
 pub record EncodesLines (how : Encode) (old : Streams) (answer : Result (Unit {0}) ToolFault) (new : Streams) : Type 0
   where
     pub past_limits : (answer ≡ Err (told.Usage usages.BadStation)) ↔ (is_past_limits how.station ≡ true)
@@ -101,65 +106,73 @@ pub record EncodesLines (how : Encode) (old : Streams) (answer : Result (Unit {0
     pub nothing_done : has_begun answer ≡ false → new ≡ old
     pub encodes : has_begun answer ≡ true → KeptOr old answer new (WritesPackets how old answer new)
 
--- the decoder text at the front of the input saves these decoders, and what stands behind it is left
+-- the decoder text at the beginning of the input contains `decoders`, and `new` is the input after
+-- this text
 pub record SavesThese (old : InputState) (decoders : List Saved) (new : InputState) : Type 0 where
   pub none_kept : old.fault ≡ None
-  pub reads : Answers decoder_text old (Ok decoders) new
+  pub reads : ReadsValue decoder_text old (Ok decoders) new
   pub lines : UsedWholeLines old new
   pub possible : All (λ decoder. is_possible decoder ≡ true) decoders
 
--- the decoder text has this fault, or the input keeps it, or there is no memory; nothing is written
+-- the decoder text has the error `fault`, or the input has stored it, or it is U6 and an allocation
+-- failed. Nothing was written.
 pub record TextFails (old : Streams) (fault : ToolFault) (new : Streams) : Type 0 where
   pub kept : IfSome old.input.fault (λ kept. (fault ≡ as_tool_fault kept) × (new.input ≡ old.input))
-  pub cause : HasCause old.input.fault old.input.failures
+  pub cause : ReadHasFailure old.input.fault old.input.failures
   pub reads : old.input.fault ≡ None → ReadFails old.input fault new.input
   pub writer : new.writer ≡ old.writer
 
--- a decoder as it was saved
+-- the identity and the registers of a decoder with the given saved state
 abbrev pub decoder_of : Saved → Who × RegisterMap
 decoder_of (saved.Loco state) = (who.Loco state.address, loco_registers (loco_content state))
 decoder_of (saved.Board state) = (who.Board state.board, board_registers (board_content state))
 
--- these decoders have heard the capture that is left, and their text is written; or there is no memory for them, and
--- nothing is written
+-- `decoders` have heard the rest `left` of the input as a capture, and their decoder text was
+-- written. If an allocation failed, nothing was written.
 abbrev pub RunsDecoders : List Saved → InputState → Streams → Result (Unit {0}) ToolFault → Streams → Type 0
 RunsDecoders decoders left old answer new =
     ((answer ≡ Err told.NoMemory) × (new.input ≡ left) × (new.writer ≡ old.writer))
     ⊎ ((ends : Fleet)
     × Runs (map decoder_of decoders) left old.writer answer ends new.input new.writer)
 
--- the decoder text has a fault, or the decoders that it saves hear the capture behind it
+-- `run` has read the decoder text at the beginning of the input, and its decoders have heard the
+-- capture after it. If the decoder text has an error, `answer` is this error.
 abbrev pub RunsText : Streams → Result (Unit {0}) ToolFault → Streams → Type 0
 RunsText old answer new =
     ((fault : ToolFault) × (answer ≡ Err fault) × TextFails old fault new)
     ⊎ ((decoders : List Saved) × (left : InputState) × SavesThese old.input decoders left
     × RunsDecoders decoders left old answer new)
 
--- a CV of the decoder with these CVs is read; where there is none, the fault is told on the last line that was read
+-- `readcv` has read the value of `cv` from a decoder with the CVs `cvs`. Without a decoder,
+-- `answer` is an error of the last line that was read.
 abbrev pub ReadsOnTrack : Option (List ℕ) → CvNumber → Streams → Result (Option ℕ) ToolFault → Streams → Type 0
 ReadsOnTrack None cv old answer new =
     (answer ≡ Err (told.Line new.input.lines faults.Word)) × (new.writer ≡ old.writer)
 ReadsOnTrack (Some cvs) cv old answer new =
     ReadsCv (Some cvs) cv old.writer answer new.writer
 
--- the decoder text has a fault, or its first locomotive is on the programming track
+-- `readcv` has read the decoder text, and the value of `cv` from its first locomotive decoder. If
+-- the decoder text has an error, `answer` is this error.
 abbrev pub ReadsFromText : CvNumber → Streams → Result (Option ℕ) ToolFault → Streams → Type 0
 ReadsFromText cv old answer new =
     ((fault : ToolFault) × (answer ≡ Err fault) × TextFails old fault new)
     ⊎ ((decoders : List Saved) × SavesThese old.input decoders new.input
     × ReadsOnTrack (first_cvs decoders) cv old answer new)
 
--- nobody is on the programming track, and nothing is read of the input
+-- `readcv` has asked its questions about `cv` on an empty track, and nothing was read from the
+-- input
 abbrev pub ReadsEmptyTrack : CvNumber → Streams → Result (Option ℕ) ToolFault → Streams → Type 0
 ReadsEmptyTrack cv old answer new =
     (new.input ≡ old.input) × ReadsCv None cv old.writer answer new.writer
 
--- the CV is read on the track that was asked for
+-- `readcv` has asked its questions about `cv`. For `true` the track is empty, otherwise the
+-- questions go to the first locomotive decoder of the decoder text.
 abbrev pub ReadsTrack : Bool → CvNumber → Streams → Result (Option ℕ) ToolFault → Streams → Type 0
 ReadsTrack true cv old answer new = ReadsEmptyTrack cv old answer new
 ReadsTrack false cv old answer new = ReadsFromText cv old answer new
 
--- What was asked for is done, and the call ends as that answers.
+-- The operation that belongs to the subcommand of a request was executed, and `result` is its
+-- result.
 abbrev pub Performs : Request → Streams → Result Ending ToolFault → Streams → Type 0
 Performs (request.Show words) old result new = Done result (λ answer. ShowsCapture words old answer new)
 Performs (request.Encode how) old result new = Done result (λ answer. EncodesLines how old answer new)

@@ -1,6 +1,7 @@
-//! The laws of listings, of decoder texts, of what is encoded, and of what calls write.
+//! Theorems about listings, decoder texts, encodings, and the text that each operation writes.
 
-ghost use Rattle.dcc_tool.specs.EncodedShown.{EncodingsAreCaptures, EncodedFramesAreSeen, EncodingsAreShown, PacketLinesAreShown};
+ghost use Rattle.dcc_tool.specs.EncodedShown.{EncodingsAreCaptures, EncodedFramesAreSeen, EncodingsAreShown};
+ghost use Rattle.dcc_tool.specs.EncodedShown.{PacketLinesAreShown};
 ghost use Rattle.dcc_tool.specs.ListedText.{ShowListsTheText};
 ghost use Rattle.dcc_tool.specs.StationShown.{StationPacketsAreShown};
 ghost use Rattle.dcc_tool.specs.Written.{EncodeWritesTheEncoding, RunWritesTheDecoders, ShowWritesTheListing};
@@ -10,24 +11,30 @@ ghost use Rattle.dcc_tool.specs.Written.{ShowWritesAListing, StationWritesItsAns
 pub use dcc_capture::laws::{outcomes_have_one_listing, without_words_the_listing_is_in_hex};
 pub use dcc_saved::laws::fleets_are_read_back;
 
-/// Theorem: `show` lists what `encode` writes in half-bits. Within the limits of `show` the text of `encode` is a capture of
-/// just the half-bits that are sent, without a fault. Its listing has one line for each packet, in order, at the number of the
-/// packet's last half-bit, and no refusal. With a station the packets are those that the station hands out.
+/// Theorem: `show` lists the packets that `encode` wrote as half-bits. Within the limits of `show`,
+/// the text of `encode` is a capture of exactly the half-bits that are sent, without an error.
+///
+/// The listing of this capture has one line for each packet, in order, and no refusal. The line has
+/// the number of the last half-bit of the packet. With a station, the packets are those that the
+/// station returns.
 pub fn what_is_encoded_is_shown()
-    // The text of some frames.
+    // for the text of a list of frames
     ensures capture { EncodingsAreCaptures }
     ensures seen { EncodedFramesAreSeen }
     ensures shown { EncodingsAreShown }
 
-    // The text that a call of `encode` wrote.
+    // for the text that a call of `encode` wrote
     ensures packet_lines { PacketLinesAreShown }
     ensures station { StationPacketsAreShown }
 {}
 
-/// Theorem: what each call of the program has written if it returns Ok and its reader and writer tell their bytes. `show` writes
-/// a listing of the capture (with words or without), `timing` the figures of the capture, `encode` the encoding of the packets or
-/// the answers of the station, `run` the text of the decoders, which have heard the capture, `same` the line of the verdict, and
-/// `readcv` the questions with their answers and the value.
+/// Theorem: an operation that returns Ok has written exactly the bytes listed below, if the bytes
+/// of its reader and writer are known.
+///
+/// `show` writes a listing of the capture, with words or without words. `timing` writes the
+/// statistics of the capture. `encode` writes the encoding of the packets, or the answers of the
+/// station. `run` writes the decoder text of the fleet, which has heard the capture. `same` writes
+/// the line of the verdict. `readcv` writes the questions with their answers, and the value.
 pub fn what_calls_write()
     ensures show { ShowWritesTheListing }
     ensures show_words { ShowWritesAListing }
@@ -40,8 +47,9 @@ pub fn what_calls_write()
     ensures readcv { ReadcvWritesTheReading }
 {}
 
-/// What `show` has written that answers Ok, of a capture in memory and into memory, as one text. Where `listed_text` unfolds in a proof,
-/// that of a given capture computes.
+/// Theorem: if `show` returns Ok for a capture in memory, it has written `listed_text` of the
+/// capture to an empty writer in memory. A proof that unfolds `listed_text` computes the listing of
+/// a given capture.
 pub fn what_show_lists()
     ensures { ShowListsTheText }
 {}

@@ -1,4 +1,4 @@
-//! The calls that requests ask for.
+//! Functions that execute requests.
 ghost use Rattle.std.specs.Prelude.{◌≡◌, nat_le, true};
 ghost use Rattle.dcc_regs.specs.LocoState.{is_state, loco_map, loco_who};
 ghost use Rattle.dcc_regs.specs.BoardState.{board_map, board_who};
@@ -14,29 +14,30 @@ use dcc_saved::{Saved, read_decoders};
 use dcc_send::{Encode, encode, programming_track, readcv};
 use std::alloc::Global;
 
-/// What a call of the program is asked for.
+/// A request to the program, which names an operation and its options.
 #[derive(Clone, Copy, Debug, PartialEq, Eq)]
 pub enum Request {
-    /// The listing of a capture, with packets as lines where `words` is set.
+    /// The operation `show`: lists a capture, with packets as packet lines if `words` is true.
     Show { words: bool },
 
-    /// The halves or the bytes of the packets of packet lines.
+    /// The operation `encode`: writes the half-bits or the bytes of packet lines.
     Encode(Encode),
 
-    /// A capture is played to the decoders of a decoder text.
+    /// The operation `run`: applies a capture to the decoders of a decoder text.
     Run,
 
-    /// Two captures are compared for this decoder.
+    /// The operation `same_input`: compares two captures for this decoder.
     Same(Who),
 
-    /// A CV is read on a programming track: an empty one, or that of a decoder text.
+    /// The operation `readcv`: reads a CV on a programming track. The track is empty, or has the
+    /// first locomotive of a decoder text.
     ReadCv { cv: CvNumber, empty: bool },
 
-    /// The figures of a capture.
+    /// The operation `timing`: writes the statistics of a capture.
     Timing,
 }
 
-/// Does what is asked for, with this input and writer.
+/// Executes the request with the given input and writer.
 pub fn perform<R: Source, W: Sink>(
     alloc: Global,
     request: Request,
@@ -72,7 +73,7 @@ pub fn perform<R: Source, W: Sink>(
     }
 }
 
-/// `readcv` on an empty track, or for the first locomotive of a decoder text.
+/// Executes `readcv` on an empty track, or for the first locomotive of a decoder text.
 fn read_on_track<R: Source, W: Sink>(
     alloc: Global,
     input: &mut Input<R>,
@@ -92,7 +93,7 @@ fn read_on_track<R: Source, W: Sink>(
     readcv(Some(&mut decoder), cv, writer)
 }
 
-/// The locomotive decoder that was saved.
+/// Creates the locomotive decoder with this state, which must be possible.
 fn loco_of(state: &LocoState) -> PackedLoco
     requires { is_state state.now ≡ true }
     ensures who { ⟦<PackedLoco as Decoder>⟧.who result ≡ loco_who state.now }
@@ -104,7 +105,7 @@ fn loco_of(state: &LocoState) -> PackedLoco
     }
 }
 
-/// The accessory decoder that was saved.
+/// Creates the accessory decoder with this state, whose address must not be 511.
 fn board_of(state: &BoardState) -> PackedBoard
     requires { nat_le state.now.board.number 510 ≡ true }
     ensures who { ⟦<PackedBoard as Decoder>⟧.who result ≡ board_who state.now }
@@ -116,7 +117,7 @@ fn board_of(state: &BoardState) -> PackedBoard
     }
 }
 
-/// `run` for the decoders of a decoder text, with the capture behind it.
+/// Executes `run` for the decoders of a decoder text and the capture after it.
 fn run_saved<R: Source, W: Sink>(
     alloc: Global,
     input: &mut Input<R>,
@@ -128,7 +129,8 @@ fn run_saved<R: Source, W: Sink>(
 {
     let saved = read_decoders(alloc, input)?;
     let mut fleet: Vec<Box<dyn Decoder>> = Vec::new(alloc);
-    // (by `match`: what finds no room hands its value back beside the error, for which `?` has no one `From`)
+    // by `match`, since a failed push returns its value with the error, and `?` has no `From` for
+    // this pair
     'decoders: for decoder in &saved {
         match decoder {
             Saved::Loco(state) => {

@@ -1,11 +1,31 @@
-//! Calls of the program over readers that give little, fail or never end, within limits, and writers that fail or
-//! take little: rows of a table each.
+//! Tests of whole operations. Readers give few bytes, fail or never end, inputs have limits, and
+//! writers fail or take few bytes. Each test has a table.
 //!
-//! The columns of a row: what it shows; the call; the input; how many bytes a read gives, behind how many reads one
-//! fails, and `again` where the input has no end; the limits of halves and of bytes; how many bytes a write takes,
-//! and behind how many writes one fails; what is written; the fault; how many lines the input then has; the fault of
-//! a second call, which writes nothing. An input whose reads are not told is read byte by byte and at once. A fault
-//! that is no failed write is that of a second call too.
+//! Each row of a table has these columns:
+//!
+//! 1. The name of the row.
+//!
+//! 2. The operation.
+//!
+//! 3. The input.
+//!
+//! 4. The number of bytes that a read gives, the number of reads before a read fails, and `again`
+//! if the input never ends. If this column is empty, the input is read byte by byte, and again at
+//! once.
+//!
+//! 5. The limits of half-bits and of bytes of the input.
+//!
+//! 6. The number of bytes that a write takes, and the number of writes before a write fails.
+//!
+//! 7. The text that the operation must have written.
+//!
+//! 8. The error that the operation must return.
+//!
+//! 9. The number of input lines that must have been used.
+//!
+//! 10. The error that a second call must return, which writes nothing. If this column is empty, the
+//! second call must return the error of the first call. After a failed write there is no second
+//! call.
 
 use crate::calls::{call_of, pair, text_of, told};
 use crate::fakes::{Giving, Taking};
@@ -153,7 +173,7 @@ const PLAYED: &str = "\
     a byte a write | run | D | 512 |  | 1 1000 | D
     two writes | run | D | 512 |  | 2 2 | dcc- | U5 write failed";
 
-/// Plays a row's call with so many bytes a read.
+/// Performs the operation of a row and checks the results. Each read gives at most `each` bytes.
 fn play(rt: &impl Abort, alloc: Global, row: &str, each: u32) -> Result<(), Fail> {
     let text = text_of(alloc, column(row, 2))?;
     let written = text_of(alloc, column(row, 6))?;

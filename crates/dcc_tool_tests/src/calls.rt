@@ -1,4 +1,4 @@
-//! The calls of the program over one input, and what a table says of them, in words.
+//! The operations of the program with one input, and the words for them in the tables.
 
 use crate::rows::number;
 use dcc_regs::{BoardDecoder, Decoder, LocoDecoder};
@@ -9,24 +9,26 @@ use dcc_tool::{
 use std::alloc::{AllocError, Global};
 use std::test::Fail;
 
-/// `03 62 61`, an idle packet, and `03 62 60`, whose error byte is wrong.
+/// A capture of the packet `03 62 61`, an idle packet, and `03 62 60`, whose error byte is wrong.
 pub const CAPTURE: &str = "58*28 100*14 58*4 100*4 58*4 100*6 58*2 100*6 58*4 100*8 58*4\n\
     # an idle packet\n58*28 100*2 58*16 100*20 58*18\n\
     58*28 100*14 58*4 100*4 58*4 100*6 58*2 100*6 58*4 100*10 58*2\n";
 
-/// A call over one input.
+/// An operation with one input.
 #[derive(Clone, Copy)]
 pub enum Call {
     Show { words: bool },
     Timing,
     Encode(Encode),
     Run,
-    /// The input is the second capture, behind `CAPTURE`, for locomotive 3.
+    /// The operation `same` for locomotive 3. The input is the second capture, and `CAPTURE` is the
+    /// first.
     Same,
     SameInput,
 }
 
-/// The bytes of packets, of a station of these sizes if they are given.
+/// Returns the operation `encode --hex`. If `station` has sizes, the operation uses a station with
+/// these sizes.
 pub fn hex(station: Option<(usize, usize, u8)>) -> Call {
     Call::Encode(Encode {
         hex: true,
@@ -35,8 +37,8 @@ pub fn hex(station: Option<(usize, usize, u8)>) -> Call {
     })
 }
 
-/// The call of a word: `show`, `timing`, `hex`, `station` of queue and slots 4 and one repeat, `run`, and `both` captures of
-/// an input for locomotive 3.
+/// Returns the operation that a word names. The words are `show`, `timing`, `hex`, `run`, `station`
+/// (with 4 commands, 4 entries and one copy), and `both`, which is `same_input` for locomotive 3.
 pub fn call_of(word: &str) -> Call {
     match word {
         "show" => Call::Show { words: false },
@@ -48,7 +50,7 @@ pub fn call_of(word: &str) -> Call {
     }
 }
 
-/// The fleet of saved decoders.
+/// Creates the fleet of the saved decoders.
 pub fn fleet_of(alloc: Global, saved: &[Saved]) -> Result<Vec<Box<dyn Decoder>>, Fail> {
     let mut fleet: Vec<Box<dyn Decoder>> = Vec::new(alloc);
     for decoder in saved {
@@ -61,7 +63,7 @@ pub fn fleet_of(alloc: Global, saved: &[Saved]) -> Result<Vec<Box<dyn Decoder>>,
     Ok(fleet)
 }
 
-/// The saved decoders, and the capture behind them played to these.
+/// Reads a decoder text, and lets its decoders hear the capture after the text.
 fn play_fleet<R: Source, W: Sink>(
     alloc: Global,
     input: &mut Input<R>,
@@ -102,7 +104,7 @@ impl Call {
     }
 }
 
-/// A fault in words, without `dcc: ` before them; no words where there is none.
+/// Returns the text of an error without `dcc: `. Returns an empty text if there is no error.
 pub fn told(alloc: Global, answer: &Result<(), ToolFault>) -> Result<String, AllocError> {
     match answer {
         Ok(()) => Ok(String::new(alloc)),
@@ -113,7 +115,7 @@ pub fn told(alloc: Global, answer: &Result<(), ToolFault>) -> Result<String, All
     }
 }
 
-/// The first two numbers of a column, these where it is empty.
+/// Returns the first two numbers of a column. Returns `or` if the column is empty.
 pub fn pair(column: &str, or: (u32, u32)) -> (u32, u32) {
     let mut words = column.split_whitespace();
     match (words.next(), words.next()) {
@@ -122,9 +124,12 @@ pub fn pair(column: &str, or: (u32, u32)) -> (u32, u32) {
     }
 }
 
-/// A text of a table. `/` is a line feed, `^` a carriage return, `~` a tab, `%` a vertical tab and `_` a space;
-/// capitals are packets in runs, two speeds `S` and `F`, a write `T`, an idle one `I` and one of a wrong error byte
-/// `B`, and the text of a locomotive and a board, `D`, which is `A` when it has heard `S`.
+/// Returns the bytes for which a text in a table stands. `/` is a line feed, `^` a carriage return,
+/// `~` a tab, `%` a vertical tab and `_` a space.
+///
+/// Capital letters are packets in runs: `S` and `F` are speeds, `T` is a CV write, `I` is idle, and
+/// `B` has a wrong error byte. `D` is the decoder text of a locomotive and a board, and `A` is the
+/// decoder text of these decoders after `S`.
 pub fn text_of(alloc: Global, column: &str) -> Result<Vec<u8>, AllocError> {
     let mut text = Vec::new(alloc);
     for byte in column.as_bytes() {
@@ -149,12 +154,12 @@ pub fn text_of(alloc: Global, column: &str) -> Result<Vec<u8>, AllocError> {
     Ok(text)
 }
 
-/// A locomotive decoder at short 3, and board 12.
+/// The decoder text of a locomotive decoder at short address 3 and of board 12.
 pub const TEXT: &[u8] =
     b"dcc-decoders 2\nloco s3\nspeed stop f\non\nstates\npending none\ncv 1 3\ncv 29 2\n\
     board 12\nout\nposition 0 0 0 0\naspect 0 0 0 0\nend\n";
 
-/// The same behind a packet of speed step 1 of 28.
+/// The decoder text of these decoders after a packet with step 1 of 28 speed steps.
 const AFTER: &[u8] =
     b"dcc-decoders 2\nloco s3\nspeed 28 1 f\non\nstates\npending none\ncv 1 3\ncv 29 2\n\
     board 12\nout\nposition 0 0 0 0\naspect 0 0 0 0\nend\n";

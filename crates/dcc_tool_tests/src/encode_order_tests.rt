@@ -1,4 +1,5 @@
-//! The order of reads and writes of `encode`, with and without a station, which no contract can name.
+//! Tests of the order in which `encode` reads and writes, with and without a station. No contract
+//! states the order of reads and writes.
 
 use crate::fakes::{Counting, Track, WatchingLines};
 use dcc_tool::{Encode, Input, Limits, encode};
@@ -6,7 +7,8 @@ use std::alloc::{AllocError, Global};
 use std::process::Abort;
 use std::test::Fail;
 
-/// A packet line of 5 bytes, and a line that asks a station for a packet, of 7. Each gives a line of 7 bytes.
+/// Two encodings, each with an input line: a packet line of 5 bytes, and a line of 7 bytes that
+/// requests a packet from a station. The output for each line is a line of 7 bytes.
 const LINES: [(Encode, &[u8]); 2] = [
     (
         Encode {
@@ -34,7 +36,8 @@ fn repeated(alloc: Global, line: &[u8], count: u32) -> Result<Vec<u8>, AllocErro
     Ok(lines)
 }
 
-/// Encodes lines that come so many bytes at a time.
+/// Encodes the lines `lines`. The reader sets `late` if a line was not written in time. Each read
+/// gives at most `each` bytes.
 fn watch(
     rt: &impl Abort,
     alloc: Global,

@@ -1,11 +1,11 @@
-//! Faults, and how the program ends with them.
+//! Tests of the exit status, the number and the text of each error.
 
 use crate::calls::told;
 use dcc_packet::PacketFault;
 use dcc_tool::{Ending, ToolFault, Usage, exit_status};
 use std::test::Fail;
 
-/// Faults, their number, the exit status and the text.
+/// Errors, with the number, the exit status and the text of each error.
 const FAULTS: [(ToolFault, u8, u8, &str); 9] = [
     (ToolFault::Usage(Usage::Words), 1, 2, "U1 bad command line"),
     (ToolFault::Usage(Usage::BadWho), 1, 2, "U1 bad who"),

@@ -1,4 +1,5 @@
-//! Readers and writers that fail at each of their calls in turn: what is answered, and what was written.
+//! Tests in which each read and each write fails in turn. The tests check the results and the
+//! written bytes.
 
 use crate::calls::{CAPTURE, Call, hex};
 use crate::fakes::{Giving, Taking};
@@ -11,20 +12,20 @@ const LINES: &[u8] = b"loco s3 speed28 f 4\n# idle\n\nidle\nloco l1000 cv write 
 
 const COMMANDS: &[u8] = b"loco s3 speed28 f 4\nsend 2\nidle\nloco s3 reset\nsend 3\n";
 
-/// A locomotive at short 3, and a capture of `03 62 61`.
+/// The decoder text of a locomotive decoder at short address 3, and a capture of `03 62 61`.
 const FLEET: &[u8] =
     b"dcc-decoders 2\nloco s3\nspeed stop f\non\nstates\npending none\ncv 1 3\ncv 29 2\nend\n\
     58*28 100*14 58*4 100*4 58*4 100*6 58*2 100*6 58*4 100*8 58*4\n";
 
-/// An idle packet more in the second.
+/// Two captures, of which the second has one more packet, which is idle.
 const CAPTURES: &[u8] = b"58*28 100*14 58*4 100*4 58*4 100*6 58*2 100*6 58*4 100*8 58*4\n---\n\
     58*28 100*2 58*16 100*20 58*18\n\
     58*28 100*14 58*4 100*4 58*4 100*6 58*2 100*6 58*4 100*8 58*4\n";
 
-/// Two captures, and a comment behind the dashes between them.
+/// Two captures, with a comment on the line `---` between them.
 const DASHES: &[u8] = b"58 58\n---  #c\n58 58\n";
 
-/// The figures of `CAPTURE`: two packets, and a refusal whose bits are none.
+/// The output of `timing` for `CAPTURE`, which has two packets and one refusal.
 const FIGURES: &[u8] =
     b"halves 252\ntime 18816\npackets 2\nrefused H1 0\nrefused H2 0\nrefused H3 0\nrefused H4 0\nrefused H5 1\ngap most 5796\n\
     ones count 152\nones least 58\nones most 58\nones mean 58.00\nones station 55 61\nones decoder 52 64\n\
@@ -35,7 +36,7 @@ const FIGURES: &[u8] =
     between count 0\nbetween least none\nbetween most none\nbetween mean none\n\
     above count 0\nabove least none\nabove most none\nabove mean none\n";
 
-/// A call, its input, and what it writes for it.
+/// An operation, its input, and the output that it must write.
 type Played = (Call, &'static [u8], &'static [u8]);
 
 fn calls() -> [Played; 9] {
@@ -68,7 +69,8 @@ fn calls() -> [Played; 9] {
     ]
 }
 
-/// Whether all that stood before a fault of the input is written. Else nothing is.
+/// Returns true for `show` and `encode`. If the input has an error, they write the results of the
+/// input that precedes the error. The other operations then write nothing.
 fn lists_up_to_a_fault(call: Call) -> bool {
     match call {
         Call::Show { .. } | Call::Encode(_) => true,
@@ -76,8 +78,9 @@ fn lists_up_to_a_fault(call: Call) -> bool {
     }
 }
 
-/// Plays a call with a reader that fails behind so many calls of some bytes. The answer is whether all was read.
-/// Where it was not, a front of whole lines may be written, and the fault is kept.
+/// Performs an operation with a reader that fails after `calls_left` calls. Returns true if the
+/// whole input was read. If a read fails, the function asserts that only whole lines of the output
+/// were written, and that a second call returns the error again.
 fn play_behind_reads(
     rt: &impl Abort,
     alloc: Global,
@@ -103,7 +106,8 @@ fn play_behind_reads(
     Ok(false)
 }
 
-/// Each read of a call fails in turn, up to the hundredth, behind which the call is done.
+/// Checks each operation with readers that fail after 0 to 99 reads. With 99 reads each operation
+/// reads its whole input.
 #[test]
 fn each_read_fails_in_turn(rt: HostRuntime) -> Result<(), Fail> {
     for played in calls() {
@@ -121,7 +125,8 @@ fn each_read_fails_in_turn(rt: HostRuntime) -> Result<(), Fail> {
     Ok(())
 }
 
-/// Plays a call with this writer. The answer is whether all was written; else what was is a front.
+/// Performs an operation with this writer. Returns true if the whole output was written. If a write
+/// fails, the function asserts that a prefix of the output was written.
 fn play_to(
     rt: &impl Abort,
     alloc: Global,
@@ -141,7 +146,8 @@ fn play_to(
     Ok(false)
 }
 
-/// Each write of so many bytes of a call fails in turn, up to some behind its last byte, behind which the call is done.
+/// Checks each operation with writers that fail after any number of writes, up to a few more than
+/// the operation makes.
 #[test]
 fn each_write_fails_in_turn(rt: HostRuntime) -> Result<(), Fail> {
     for played in calls() {

@@ -1,12 +1,12 @@
-//! Readers and writers for the tests.
+//! Readers and writers for the tests, which fail, count calls, or take few bytes.
 ghost use Rattle.std.specs.Prelude.{None};
 
 use dcc_tool::{Failed, Sink, Source};
 use std::alloc::Global;
 use std::cell::Cell;
 
-/// Gives some bytes at each call, until its call of this number fails; at their end it begins again,
-/// or ends.
+/// A reader that gives at most `each` bytes in a call. The call after `calls_left` calls fails. If
+/// `endless` is true, the reader gives its bytes again after the last byte.
 #[derive(Drop)]
 pub struct Giving<'a> {
     pub bytes: &'a [u8],
@@ -55,7 +55,7 @@ impl<'a> Source for Giving<'a> {
     }
 }
 
-/// Takes so many bytes at each call, until its call of this number fails.
+/// A writer that takes at most `each` bytes in a call. The call after `calls_left` calls fails.
 #[derive(Drop)]
 pub struct Taking {
     pub taken: Vec<u8>,
@@ -92,7 +92,7 @@ impl Sink for Taking {
     }
 }
 
-/// What a reader and a writer of one test see of each other.
+/// Counters that the reader and the writer of one test share.
 #[derive(Drop)]
 pub struct Track {
     pub reads: Cell<usize>,
@@ -112,8 +112,8 @@ impl Track {
     }
 }
 
-/// Gives one word at each call, and notes it where 31 more words were given and
-/// no further line of 14 bytes is out.
+/// A reader that gives one word in a call. The reader sets `late` if 31 more words were given and
+/// no further line of 14 bytes was written.
 #[derive(Drop)]
 pub struct Watching<'a> {
     pub words: &'a [u8],
@@ -139,8 +139,9 @@ impl<'a> Source for Watching<'a> {
     }
 }
 
-/// Gives so many bytes at each call of lines of one length, and notes it where another number of lines of 7 bytes is
-/// out than was given whole.
+/// A reader of lines with equal lengths that gives at most `each` bytes in a call. The reader sets
+/// `late` if the number of written lines, of 7 bytes each, differs from the number of lines that
+/// were given completely.
 #[derive(Drop)]
 pub struct WatchingLines<'a> {
     pub lines: &'a [u8],
@@ -174,14 +175,14 @@ impl<'a> Source for WatchingLines<'a> {
     }
 }
 
-/// Takes all, and counts calls and bytes.
+/// A writer that takes all bytes, and counts the calls and the bytes.
 #[derive(Drop)]
 pub struct Counting<'a> {
     pub track: &'a Track,
 }
 
 impl<'a> Sink for Counting<'a> {
-    // Each call takes all that it is handed.
+    // Each call takes all bytes that the caller passes to it.
     ghost state = { λ _. record { contents = None; failures = 0 } };
 
     fn write(&mut self, bytes: &[u8]) -> Result<usize, Failed> {

@@ -1,5 +1,5 @@
-//! Whole calls of `dcc_tool`, over readers and writers that fail, give little at a time or watch each other. It has
-//! no items of its own.
+//! Tests of whole operations of `dcc_tool`. The readers and writers of the tests fail, give few
+//! bytes, or record the order of calls. This crate has no public items.
 #![tactic(auto)]
 
 #[cfg(test)]

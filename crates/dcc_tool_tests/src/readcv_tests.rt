@@ -1,4 +1,4 @@
-//! Readings of a decoder in service, and writers that fail.
+//! Tests of `readcv`, with a decoder in service mode and with writers that fail.
 
 use crate::fakes::Taking;
 use dcc_packet::CvNumber;
@@ -10,14 +10,15 @@ const TEN: &[u8] =
     b"7800e890 no\n7800e991 yes\n7800ea92 no\n7800eb93 yes\n7800ec94 no\n7800ed95 no\n\
     7800ee96 no\n7800ef97 no\n74000a7e yes\nvalue 10\n";
 
-/// A decoder, just made, whose CV1 has this value, and all others 0.
+/// Returns a new decoder with `value` in CV1 and 0 in all other CVs.
 fn with_cv1(value: u8) -> ServiceDecoder {
     let mut cvs = [0; 1024];
     cvs[0] = value;
     ServiceDecoder::new(&cvs)
 }
 
-/// A write is answered, which leaves the decoder in service. It then tells its value, as often as it is asked.
+/// Checks that each reading returns the value that was written to a CV before, if the decoder is in
+/// service mode. On an empty track the reading returns no value.
 #[test]
 fn a_decoder_in_service_tells_its_value(rt: HostRuntime) -> Result<(), Fail> {
     let mut decoder = with_cv1(3);
@@ -33,8 +34,8 @@ fn a_decoder_in_service_tells_its_value(rt: HostRuntime) -> Result<(), Fail> {
     Ok(())
 }
 
-/// Each write of so many bytes fails in turn, up to the two hundredth, behind which the reading is done. The decoder
-/// keeps its value.
+/// Checks a reading with writers that fail after 0 to 199 writes. The decoder keeps the value of
+/// its CV, and a failed reading has written a prefix of its text.
 #[test]
 fn each_write_of_a_reading_fails_in_turn(rt: HostRuntime) -> Result<(), Fail> {
     let cv = CvNumber::new(1)?;

@@ -1,9 +1,11 @@
-//! Tables of worked examples: a row a line, its columns between bars.
+//! Functions that read tables of worked examples. Each line of a table is a row, and bars separate
+//! the columns.
 //!
-//! `column` and `number` stand in `dcc_tests` too: tests give no items to another crate, and a crate below both
-//! would be one more to prove.
+//! `dcc_tests` has copies of `column` and `number`. Tests export no items to another crate, and a
+//! crate for both would be one more crate to prove.
 
-/// The column of this number, from 0, without the blanks around it: an empty one where the row has fewer.
+/// Returns the column with the number `number`, counted from 0, without spaces around it. The
+/// result is empty if the row has fewer columns.
 pub fn column(row: &str, number: usize) -> &str {
     let mut rest = row;
     for _ in 0..number {
@@ -12,7 +14,7 @@ pub fn column(row: &str, number: usize) -> &str {
     split(rest).0.trim()
 }
 
-/// What stands before the first bar and behind it.
+/// Returns the text before the first bar of a row and the text after it.
 fn split(row: &str) -> (&str, &str) {
     match row.split_once('|') {
         Some(parts) => parts,
@@ -20,7 +22,7 @@ fn split(row: &str) -> (&str, &str) {
     }
 }
 
-/// The number that a word is, the largest one where it is none.
+/// Returns the number that a word gives, or the greatest number if the word is no number.
 pub fn number(word: &str) -> u32 {
     match word.parse() {
         Ok(number) => number,

@@ -1,4 +1,5 @@
-//! A fleet behind a failed read, and decoder texts that are read call by call.
+//! Tests of a fleet after a failed read, of a decoder text without a locomotive, and of a decoder
+//! text with an error.
 
 use crate::calls::{TEXT, fleet_of};
 use crate::fakes::Giving;
@@ -10,7 +11,7 @@ use dcc_tool::{
 use std::alloc::Global;
 use std::test::Fail;
 
-/// The text, and behind it the halves of the packets of these lines.
+/// Returns the decoder text `TEXT`, followed by the half-bits of the packets of these lines.
 fn played(alloc: Global, lines: &[u8]) -> Result<Vec<u8>, Fail> {
     let mut input = Input::new(Counted::new(lines), Limits::full());
     let mut writer = Counted::new(Vec::new(alloc));
@@ -24,7 +25,8 @@ fn played(alloc: Global, lines: &[u8]) -> Result<Vec<u8>, Fail> {
     Ok(writer.inner)
 }
 
-/// The reader fails behind the second of four packets. The two are heard, nothing is written, and the fault is kept.
+/// Checks `run` with a reader that fails after the second of four packets. The fleet has heard two
+/// packets, nothing is written, and a second call returns the same error.
 #[test]
 fn packets_before_a_failed_read_are_heard(rt: HostRuntime) -> Result<(), Fail> {
     let two = played(rt.alloc(), b"frame 036261\nframe 039093\n")?;
@@ -56,7 +58,7 @@ fn packets_before_a_failed_read_are_heard(rt: HostRuntime) -> Result<(), Fail> {
     Ok(())
 }
 
-/// A text without a locomotive, of six lines.
+/// A decoder text of six lines with a board and without a locomotive.
 const BOARD: &[u8] = b"dcc-decoders 1\nboard 12\nout\nposition 0 0 0 0\naspect 0 0 0 0\nend\n";
 
 #[test]
@@ -82,7 +84,8 @@ fn a_text_without_a_locomotive_gives_no_programming_track(rt: HostRuntime) -> Re
     Ok(())
 }
 
-/// A text that is refused in its second line, and refused again.
+/// Checks that a second call returns the same error for a decoder text with an error in its second
+/// line.
 #[test]
 fn a_refused_text_is_refused_again(rt: HostRuntime) {
     let mut input = Input::new(

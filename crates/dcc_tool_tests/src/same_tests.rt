@@ -1,4 +1,4 @@
-//! Two captures, each an input of its own: verdicts, limits, readers and writers that fail.
+//! Tests of the operation `same`: verdicts, limits, and readers and writers that fail.
 
 use crate::calls::{pair, text_of, told};
 use crate::fakes::{Giving, Taking};
@@ -9,9 +9,24 @@ use std::alloc::Global;
 use std::process::Abort;
 use std::test::Fail;
 
-/// What a row shows; a decoder; two captures; the limits of halves and of bytes of the first; how many bytes a read
-/// of the second gives, and behind how many reads one fails; how many bytes a write takes, and behind how many one
-/// fails; what is written; the fault.
+/// Each row has these columns:
+///
+/// 1. The name of the row.
+///
+/// 2. The decoder.
+///
+/// 3. The first and the second capture, in two columns.
+///
+/// 4. The limits of half-bits and of bytes of the first input.
+///
+/// 5. The number of bytes that a read of the second capture gives, and the number of reads before a
+/// read fails.
+///
+/// 6. The number of bytes that a write takes, and the number of writes before a write fails.
+///
+/// 7. The text that the operation must have written.
+///
+/// 8. The error that the operation must return.
 const ROWS: &str = "\
     no packets | s3 | / |  |  |  |  | alike/
     idle and refused ones count for nothing | s3 | S/ | I/S/B |  |  |  | alike/
@@ -30,7 +45,7 @@ const ROWS: &str = "\
     three bytes of a verdict | s3 | S/ | S |  |  | 1 3 | ali | U5 write failed
     no run | s3 | S/ | 58*2/58 58*3 # c/58*0 |  |  |  |  | U2 line 3: bad number";
 
-/// Whether a verdict is told by these words.
+/// Returns true if the text `words` is the text of the verdict.
 fn is_told(verdict: Verdict, words: &str) -> bool {
     let (kind, block) = match verdict {
         Verdict::Alike => ("alike", 0),
@@ -44,7 +59,8 @@ fn is_told(verdict: Verdict, words: &str) -> bool {
     }
 }
 
-/// Two captures are compared, and a second time where that was refused, which is refused alike with nothing written.
+/// Compares the two captures of a row, and checks the results. After an error the function compares
+/// again, and checks that the error is the same and nothing is written.
 fn compare(rt: &impl Abort, alloc: Global, row: &str) -> Result<(), Fail> {
     let left = text_of(alloc, column(row, 2))?;
     let right = text_of(alloc, column(row, 3))?;

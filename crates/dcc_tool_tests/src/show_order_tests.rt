@@ -1,11 +1,14 @@
-//! The order of reads and writes, which no contract can name.
+//! Tests of the order in which `show` reads and writes. No contract states the order of reads and
+//! writes.
 
 use crate::fakes::{Counting, Track, Watching};
 use dcc_tool::{Counted, Input, Limits, show};
 use std::alloc::{AllocError, Global};
 use std::test::Fail;
 
-/// Blocks of 31 halves, a word each, each of which shows a line of 14 bytes.
+/// Returns the text of `count` blocks of 31 half-bits, with one word for each half-bit. The output
+/// has one line for each block. The first three lines have 14 bytes each, and later lines are
+/// longer.
 fn blocks(alloc: Global, count: u32) -> Result<Vec<u8>, AllocError> {
     let mut text = Vec::new(alloc);
     for _ in 0..count {

@@ -9,7 +9,8 @@ use Rattle.std.proofs.Math.ListN.{drop_of_length-le, length-replicate}
 use Rattle.std.proofs.Math.Nat.{pow-suc}
 use Rattle.std.proofs.lemmas.Bool.{cases_lt, lt-ltb, le-ltb, agree_below_at, eqb-true}
 use Rattle.std.proofs.lemmas.Bool.Decides.{nat_tests}
-use Rattle.std.proofs.lemmas.List.{take-append-drop}
+use Rattle.std.proofs.lemmas.List.{take-append-drop, drop-append-le, drop-replicate}
+use Rattle.std.proofs.Math.Seq.{drop-append-add}
 use Rattle.std.proofs.lemmas.Nat.Bits.{bit_at_lowest, bit_at-suc}
 use Rattle.dcc_wire.specs.Bodies.{bits_of, body_bits, number_of}
 use Rattle.dcc_wire.specs.Frames.{AllBytes}
@@ -224,6 +225,32 @@ next_bit (suc n) (false ∷ bits) bit e = elim (cases_lt (length bits) 8) [
         | inr (bytes, whole, is) ↦ inr (b.0 ∷ bytes, omega (arith, whole, ap length b.3), next ∙ rw is)
       ]
 ]
+
+-- nine ones close bytes that are unfinished
+pub nine_ones : (n : ℕ) (bits : List Bool) → bytes_in n bits ≡ None
+    → (bytes : List ℕ) × (bytes_in n (bits ++ replicate 9 true) ≡ Some (bytes, true))
+unfolding bytes_in
+nine_ones n [] e = ([], refl)
+nine_ones n (true ∷ bits) e = cc
+nine_ones zero (false ∷ bits) e = cc
+nine_ones (suc n) (false ∷ bits) e =
+    let all : List Bool = bits ++ replicate 9 true in
+    let many : 8 ≤ length all = omega (arith, length-append bits (replicate 9 true), length-replicate 9 true) in
+    elim (cases_lt (length bits) 8) [
+      | inl short ↦
+          let eight : 8 ≡ length bits + (8 - length bits) = omega (arith, short) in
+          let left : 9 - (8 - length bits) ≡ suc (length bits) = omega (arith, short) in
+          let ones : drop 8 all ≡ true ∷ replicate (length bits) true =
+          ap (λ k. drop k all) eight ∙ drop-append-add bits (replicate 9 true) (8 - length bits)
+          ∙ rw (drop-replicate, left) in
+          (number_of (take 8 all) ∷ [], zero_long n all many ∙ rw ones)
+      | inr long ↦
+          let none = option_map-none _ (bytes_in n (drop 8 bits)) (sym (zero_long n bits long) ∙ e) in
+          let w = nine_ones n (drop 8 bits) none in (
+            number_of (take 8 all) ∷ w.0,
+            zero_long n all many ∙ rw (drop-append-le 8 bits (replicate 9 true) long, w.1),
+          )
+    ]
 
 -- bits that nothing was read from begin some n bytes
 

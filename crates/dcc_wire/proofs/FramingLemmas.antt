@@ -146,7 +146,7 @@ record Step (halves : List Half) (half : Half) (old new : List ℕ) : Type 0 whe
   outcomes : outcomes_at (halves ++ half ∷ []) new ≡ outcomes_at halves old
       ++ report_at (length halves) (answer_to (rest_at halves old) half)
 
-reported_something : (place : ℕ) (outcome : Seen) → outcome ≢ Nothing → report_at place outcome ≡ (place, outcome) ∷ []
+pub reported_something : (place : ℕ) (outcome : Seen) → outcome ≢ Nothing → report_at place outcome ≡ (place, outcome) ∷ []
 unfolding report_at
 reported_something place outcome something = grind arith
 

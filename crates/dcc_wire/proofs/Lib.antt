@@ -5,6 +5,8 @@ pub mod KeptLemmas
 pub mod OpenBodies
 pub mod ByteLemmas
 pub mod SendingLemmas
+pub mod JitterLemmas
+pub mod RecoveryLemmas
 pub mod HalvesLemmas
 pub mod StepLemmas
 pub mod WordLemmas

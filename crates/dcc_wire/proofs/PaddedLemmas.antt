@@ -1,5 +1,5 @@
 -- Up to six bytes, one by one, with zeros behind them.
-use Rattle.std.proofs.Common.{◌≡◌, ℕ, ◌-◌, ◌≤◌, List, [], ◌∷◌, ◌++◌, length, take, get_or, replicate, refl, ap, ◌∙◌, arith}
+use Rattle.std.proofs.Common.{◌≡◌, ℕ, ◌-◌, ◌≤◌, List, [], ◌∷◌, ◌++◌, length, take, get_or, replicate, refl, arith}
 use Rattle.dcc_wire.specs.Padded.{IsPadded}
 
 -- the byte at each of six places, or zero

@@ -38,7 +38,7 @@ module _ (half : Half) (ones : ℕ) where
   unfolding ones_after
   counts_on n = grind arith
 
-replicate_more : (n us : ℕ) (durations : List ℕ)
+pub replicate_more : (n us : ℕ) (durations : List ℕ)
     → durations ++ replicate (suc n) us ≡ (durations ++ us ∷ []) ++ replicate n us
 replicate_more n us durations = sym (append_assoc durations (us ∷ []) (replicate n us))
 
@@ -112,7 +112,7 @@ module _ {old mid : Rest} {us i : ℕ} (k : ℕ) (new : Rest) (shown : Seen) (ru
 
 -- the rest of a run is skipped
 
-run_on : (durations : List ℕ) (us i n : ℕ) → i ≤ n
+pub run_on : (durations : List ℕ) (us i n : ℕ) → i ≤ n
     → (durations ++ replicate i us) ++ replicate (n - i) us ≡ durations ++ replicate n us
 run_on durations us i n h =
     let all : i + (n - i) ≡ n = omega (arith, h) in sym (run_of_both durations us i (n - i)) ∙ rw all

@@ -58,9 +58,9 @@ unfinished bytes front back each few e shorter = elim (cases_Option (outcome_of 
 ]
 
 -- a packet is seen at the last half of a longer list
-record Delivered (durations longer : List ℕ) (bytes : List ℕ) : Type 0 where
-  open_part : rest longer ≡ Hunting 2
-  outcomes : seen longer ≡ seen durations ++ (length longer - 1, Packet bytes) ∷ []
+pub record Delivered (durations longer : List ℕ) (bytes : List ℕ) : Type 0 where
+  pub open_part : rest longer ≡ Hunting 2
+  pub outcomes : seen longer ≡ seen durations ++ (length longer - 1, Packet bytes) ∷ []
 
 -- a body whose first halves have come, of which the last one is us, is taken to its end
 body_arrives : (durations : List ℕ) (us : ℕ) (more : List ℕ) (bytes : List ℕ) (front : List Half) → IsFrame bytes
@@ -103,7 +103,7 @@ map-durations timing [] = refl
 map-durations timing (true ∷ bits) = rw ((classes timing).one, map-durations timing bits)
 map-durations timing (false ∷ bits) = rw ((classes timing).first, (classes timing).second, map-durations timing bits)
 
-durations_of-append : (timing : Timing) (xs ys : List Bool)
+pub durations_of-append : (timing : Timing) (xs ys : List Bool)
     → durations_of timing (xs ++ ys) ≡ durations_of timing xs ++ durations_of timing ys
 unfolding durations_of
 durations_of-append timing [] ys = refl
@@ -127,31 +127,42 @@ unfolding sent sent_bits
 length-sent bytes timing =
     rw (length-durations, length-append, length-replicate, length-body_bits) (omega arith)
 
+-- the half-bits of the preamble, and those of the body
+pub sent-parts : (bytes : List ℕ) (timing : Timing)
+    → sent bytes timing ≡ replicate (2 * timing.preamble) timing.one ++ durations_of timing (body_bits bytes)
+unfolding sent sent_bits
+sent-parts bytes timing =
+    rw (durations_of-append timing (replicate timing.preamble true) (body_bits bytes), durations_of-ones)
+
+-- a body after a preamble
+pub body_delivered : (start : List ℕ) (bytes : List ℕ) (timing : Timing) → IsFrame bytes → rest start ≡ Hunting 20
+    → Delivered start (start ++ durations_of timing (body_bits bytes)) bytes
+unfolding rest_after answer_to report_at durations_of body halves_of body_bits left_of answer_of outcome_of bits_in
+    behind_bits bytes_in by_halves
+body_delivered start [] timing packet twenty = absurd (omega (arith, packet.least))
+body_delivered start (byte ∷ bytes) timing packet twenty =
+    let c = classes timing in
+    let tail : List ℕ = timing.zero_second ∷ durations_of timing (bits_of 8 byte ++ body_bits bytes) in
+    body_arrives start timing.zero_first tail (byte ∷ bytes) (Zero ∷ []) packet
+    (rest-push start timing.zero_first ∙ rw (twenty, c.first)) (seen-push start timing.zero_first ∙ rw twenty)
+    (ap (λ h. h ∷ map class_of tail) (sym c.first) ∙ map-durations timing (body_bits (byte ∷ bytes)))
+
 -- one packet
-sent_delivered : (durations : List ℕ) (bytes : List ℕ) (timing : Timing) (before : ℕ) → IsFrame bytes → before ≤ 20
+pub sent_delivered : (durations : List ℕ) (bytes : List ℕ) (timing : Timing) (before : ℕ) → IsFrame bytes → before ≤ 20
     → rest durations ≡ Hunting before → Delivered durations (durations ++ sent bytes timing) bytes
-unfolding sent sent_bits rest_after answer_to report_at durations_of body halves_of body_bits left_of answer_of outcome_of
-    bits_in behind_bits bytes_in by_halves
-sent_delivered durations [] timing before packet few hunts = absurd (omega (arith, packet.least))
-sent_delivered durations (byte ∷ bytes) timing before packet few hunts =
+sent_delivered durations bytes timing before packet few hunts =
     let c = classes timing in
     let ones : List ℕ = replicate (2 * timing.preamble) timing.one in
-    let start : List ℕ = durations ++ ones in
-    let tail : List ℕ = timing.zero_second ∷ durations_of timing (bits_of 8 byte ++ body_bits bytes) in
     let counted = skips (2 * timing.preamble) timing.one durations before (rw c.one tt) hunts in
-    let twenty : rest start ≡ Hunting 20 =
+    let twenty : rest (durations ++ ones) ≡ Hunting 20 =
     counted.open_part ∙ rw (c.one, ones_after_one before (2 * timing.preamble) (omega (arith, c.preamble)))
     (ap Hunting (omega (arith, c.preamble))) in
-    let arrived = body_arrives start timing.zero_first tail (byte ∷ bytes) (Zero ∷ []) packet
-    (rest-push start timing.zero_first ∙ rw (twenty, c.first)) (seen-push start timing.zero_first ∙ rw twenty)
-    (ap (λ h. h ∷ map class_of tail) (sym c.first) ∙ map-durations timing (body_bits (byte ∷ bytes))) in
-    let all : durations ++ sent (byte ∷ bytes) timing ≡ start ++ timing.zero_first ∷ tail =
-    rw (durations_of-append timing (replicate timing.preamble true) (body_bits (byte ∷ bytes)), durations_of-ones)
-    (sym (append_assoc durations ones (timing.zero_first ∷ tail))) in
-    rw all (record { open_part = arrived.open_part; outcomes = arrived.outcomes ∙ rw counted.outcomes })
+    let arrived = body_delivered (durations ++ ones) bytes timing packet twenty in
+    rw (sent-parts bytes timing, ← append_assoc durations ones (durations_of timing (body_bits bytes)))
+    (record { open_part = arrived.open_part; outcomes = arrived.outcomes ∙ rw counted.outcomes })
 
 -- packets one after the other
-packets_delivered : (durations : List ℕ) (before : ℕ) (packets : List Sent) → AllFrames packets → before ≤ 20
+pub packets_delivered : (durations : List ℕ) (before : ℕ) (packets : List Sent) → AllFrames packets → before ≤ 20
     → rest durations ≡ Hunting before
     → seen (durations ++ sent_all packets) ≡ seen durations ++ at_last_halves (length durations) packets
 unfolding AllFrames sent_all at_last_halves

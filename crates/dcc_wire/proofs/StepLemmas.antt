@@ -1,14 +1,14 @@
 -- A half-bit is taken of those that are left.
-use Rattle.std.proofs.Common.{◌≡◌, ℕ, suc, zero, ◌+◌, ◌-◌, ◌*◌, ◌/◌, ◌%◌, ◌^◌, ◌<◌, ◌≤◌, ◌==◌, Bool, true, false, cond}
-use Rattle.std.proofs.Common.{List, [], ◌∷◌, ◌++◌, length, drop, replicate, refl, sym, ap, ◌∙◌, arith, eqb}
-use Rattle.std.proofs.lemmas.Nat.{shl_below}
+use Rattle.std.proofs.Common.{◌≡◌, ℕ, suc, zero, ◌+◌, ◌-◌, ◌*◌, ◌/◌, ◌%◌, ◌^◌, ◌<◌, ◌≤◌, Bool, true, false, cond}
+use Rattle.std.proofs.Common.{List, [], ◌∷◌, ◌++◌, length, take, get_or, replicate, refl, sym, ap, ◌∙◌, arith, eqb}
 use Rattle.dcc_wire.specs.declared.timing.Timing.{Timing}
 use Rattle.dcc_wire.specs.Bodies.{body_bits, number_of}
+use Rattle.dcc_wire.specs.Frames.{IsFrame}
 use Rattle.dcc_wire.specs.HalvesLeft.{ToSend, highest_bits, durations_in, body_left, halves_left}
 use Rattle.dcc_wire.specs.Packed.{byte_bits}
 use Rattle.dcc_wire.specs.Sending.{durations_of, sent_bits, sent}
 use Rattle.dcc_wire.proofs.ByteBits.{body_bits-end, length-body_bits}
-use Rattle.dcc_wire.proofs.WordLemmas.{end_packed, highest_of, small_number}
+use Rattle.dcc_wire.proofs.WordLemmas.{end_packed, highest_of, byte_placed, none_placed, end_placed}
 
 -- the highest bit of a word
 abbrev pub highest_bit : ℕ → Bool
@@ -104,37 +104,107 @@ preamble_first timing zero bits = refl
 preamble_first timing (suc n) bits =
     let e : 2 * suc n ≡ suc (suc (2 * n)) = omega arith in rw (e, preamble_first timing n bits) refl
 
-module _ (bytes : List ℕ) (few : length bytes ≤ 6) where
-  word_of : ℕ
-  word_of = (2 * number_of (byte_bits bytes) + 1) * 2 ^ (63 - 9 * length bytes)
-
-  whole_body : highest_bits (9 * length bytes + 1) (word_of % 2 ^ 64) ≡ body_bits bytes
-  unfolding word_of
-  whole_body =
+module _ (bytes : List ℕ) where
+  -- the bits of a body are the highest ones of the word of its bytes
+  pub whole_body : length bytes ≤ 6
+      → highest_bits (9 * length bytes + 1) ((2 * number_of (byte_bits bytes) + 1) * 2 ^ (63 - 9 * length bytes))
+      ≡ body_bits bytes
+  whole_body few =
       let n = 63 - 9 * length bytes in
       let bits = body_bits bytes in
       let long : length bits ≡ 9 * length bytes + 1 = length-body_bits bytes in
       let all : length bits + n ≡ 64 = omega (arith, long, few) in
       let number : number_of bits ≡ 2 * number_of (byte_bits bytes) + 1 =
       ap number_of (body_bits-end bytes) ∙ end_packed (byte_bits bytes) in
-      let small : number_of bits * 2 ^ n < 2 ^ 64 =
-      rw all at (shl_below (number_of bits) (length bits) n (small_number bits)) in
-      let whole : number_of bits * 2 ^ n % 2 ^ 64 ≡ number_of bits * 2 ^ n = omega (arith, small) in
-      ap (λ m. highest_bits (9 * length bytes + 1) (m * 2 ^ n % 2 ^ 64)) (sym number)
-      ∙ ap (λ k. highest_bits k (number_of bits * 2 ^ n % 2 ^ 64)) (sym long)
-      ∙ ap (highest_bits (length bits)) whole ∙ highest_of bits n all
+      ap (λ m. highest_bits (9 * length bytes + 1) (m * 2 ^ n)) (sym number)
+      ∙ ap (λ k. highest_bits k (number_of bits * 2 ^ n)) (sym long) ∙ highest_of bits n all
 
-  pub all_left : (timing : Timing) → halves_left (record {
-    bits = (2 * number_of (byte_bits bytes) + 1) * 2 ^ (63 - 9 * length bytes) % 2 ^ 64;
-    one = timing.one;
-    zero_first = timing.zero_first;
-    zero_second = timing.zero_second;
-    ones = 2 * timing.preamble;
-    body = 18 * length bytes + 2;
-  }) ≡ sent bytes timing
-  unfolding halves_left body_left sent sent_bits word_of
-  all_left timing =
+  pub all_left : (timing : Timing) (word : ℕ) → highest_bits (9 * length bytes + 1) word ≡ body_bits bytes
+      → halves_left (record {
+        bits = word;
+        one = timing.one;
+        zero_first = timing.zero_first;
+        zero_second = timing.zero_second;
+        ones = 2 * timing.preamble;
+        body = 18 * length bytes + 2;
+      }) ≡ sent bytes timing
+  unfolding halves_left body_left sent sent_bits
+  all_left timing word of_word =
       let even : (18 * length bytes + 2) % 2 ≡ 0 = omega arith in
       let bits : (18 * length bytes + 2 + 1) / 2 ≡ 9 * length bytes + 1 = omega arith in
-      rw (even, bits, whole_body, durations_same timing (body_bits bytes))
+      rw (even, bits, of_word, durations_same timing (body_bits bytes))
       (sym (preamble_first timing timing.preamble (body_bits bytes)))
+
+-- the word of 3 to 6 bytes
+module _ (bytes : List ℕ) (valid : IsFrame bytes) where
+  word_at : (n place word : ℕ) → n ≡ length bytes → place ≡ 2 ^ (63 - 9 * n)
+      → word ≡ number_of (byte_bits (take n bytes)) * (2 * place)
+      → highest_bits (9 * length bytes + 1) (word + place) ≡ body_bits bytes
+  word_at n place word all at e =
+      ap (highest_bits (9 * length bytes + 1)) (
+      end_placed bytes n word all place e
+      ∙ ap (λ p. (2 * number_of (byte_bits bytes) + 1) * p) (at ∙ ap (λ k. 2 ^ (63 - 9 * k)) all)
+      ) ∙ whole_body bytes valid.most
+
+  module _ (a b c : ℕ) (is_a : a ≡ get_or bytes 0 0) (is_b : b ≡ get_or bytes 1 0) (is_c : c ≡ get_or bytes 2 0) where
+    abbrev word_three : ℕ
+    word_three = a * 2 ^ 55 % 2 ^ 64 + b * 2 ^ 46 % 2 ^ 64 + c * 2 ^ 37 % 2 ^ 64
+
+    three : word_three ≡ number_of (byte_bits (take 3 bytes)) * 2 ^ 37
+    three =
+        let long : 3 ≤ length bytes = valid.least in
+        let one = byte_placed bytes 0 0 (omega (arith, long)) (valid.each 0) (2 ^ 55) (none_placed bytes (2 ^ 64)) in
+        let two = byte_placed bytes 1 _ (omega (arith, long)) (valid.each 1) (2 ^ 46) one in
+        let all = byte_placed bytes 2 _ (omega (arith, long)) (valid.each 2) (2 ^ 37) two in
+        let small_a : a < 256 = omega (arith, is_a, valid.each 0) in
+        let small_b : b < 256 = omega (arith, is_b, valid.each 1) in
+        let small_c : c < 256 = omega (arith, is_c, valid.each 2) in
+        omega (arith, all, is_a, is_b, is_c, small_a, small_b, small_c)
+
+    pub word_of_three : length bytes ≡ 3 → highest_bits (9 * length bytes + 1) (word_three + 2 ^ 36) ≡ body_bits bytes
+    word_of_three all = word_at 3 (2 ^ 36) word_three (sym all) refl three
+
+    module _ (d : ℕ) (is_d : d ≡ get_or bytes 3 0) where
+      abbrev word_four : ℕ
+      word_four = word_three + d * 2 ^ 28 % 2 ^ 64
+
+      small_d : d < 256
+      small_d = omega (arith, is_d, valid.each 3)
+
+      four : 4 ≤ length bytes → word_four ≡ number_of (byte_bits (take 4 bytes)) * 2 ^ 28
+      four long =
+          let more = byte_placed bytes 3 word_three (omega (arith, long)) (valid.each 3) (2 ^ 28) three in
+          omega (arith, more, is_d, small_d)
+
+      pub word_of_four : length bytes ≡ 4 → highest_bits (9 * length bytes + 1) (word_four + 2 ^ 27) ≡ body_bits bytes
+      word_of_four all = word_at 4 (2 ^ 27) word_four (sym all) refl (four (omega (arith, all)))
+
+      module _ (e : ℕ) (is_e : e ≡ get_or bytes 4 0) where
+        abbrev word_five : ℕ
+        word_five = word_four + e * 2 ^ 19 % 2 ^ 64
+
+        small_e : e < 256
+        small_e = omega (arith, is_e, valid.each 4)
+
+        five : 5 ≤ length bytes → word_five ≡ number_of (byte_bits (take 5 bytes)) * 2 ^ 19
+        five long =
+            let more = byte_placed bytes 4 word_four (omega (arith, long)) (valid.each 4) (2 ^ 19) (four (omega (arith, long))) in
+            omega (arith, more, is_e, small_e)
+
+        pub word_of_five : length bytes ≡ 5 → highest_bits (9 * length bytes + 1) (word_five + 2 ^ 18) ≡ body_bits bytes
+        word_of_five all = word_at 5 (2 ^ 18) word_five (sym all) refl (five (omega (arith, all)))
+
+        module _ (f : ℕ) (is_f : f ≡ get_or bytes 5 0) where
+          abbrev word_six : ℕ
+          word_six = word_five + f * 2 ^ 10 % 2 ^ 64
+
+          small_f : f < 256
+          small_f = omega (arith, is_f, valid.each 5)
+
+          six : 6 ≤ length bytes → word_six ≡ number_of (byte_bits (take 6 bytes)) * 2 ^ 10
+          six long =
+              let more = byte_placed bytes 5 word_five (omega (arith, long)) (valid.each 5) (2 ^ 10) (five (omega (arith, long))) in
+              omega (arith, more, is_f, small_f)
+
+          pub word_of_six : length bytes ≡ 6 → highest_bits (9 * length bytes + 1) (word_six + 2 ^ 9) ≡ body_bits bytes
+          word_of_six all = word_at 6 (2 ^ 9) word_six (sym all) refl (six (omega (arith, all)))

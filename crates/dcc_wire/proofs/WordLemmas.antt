@@ -1,15 +1,15 @@
 -- The bits of a body as the highest bits of a word.
-use Rattle.std.proofs.Common.{◌≡◌, ℕ, suc, zero, ◌+◌, ◌-◌, ◌*◌, ◌/◌, ◌%◌, ◌^◌, ◌<◌, ◌≤◌, Bool, true, false, cond, eqb}
+use Rattle.std.proofs.Common.{◌≡◌, ℕ, suc, ◌+◌, ◌*◌, ◌/◌, ◌%◌, ◌^◌, ◌<◌, Bool, true, false, cond, eqb}
 use Rattle.std.proofs.Common.{List, [], ◌∷◌, ◌++◌, length, take, get_or, refl, sym, ap, ◌∙◌, arith, append-nil}
 use Rattle.std.specs.List.{fold}
-use Rattle.std.proofs.Math.Nat.{pow-suc, pow-le-pow_right}
+use Rattle.std.proofs.Math.Nat.{pow-suc}
+use Rattle.std.proofs.lemmas.List.{take_more, take_all}
 use Rattle.std.proofs.lemmas.List.Sums.{fold-append}
 use Rattle.std.proofs.lemmas.Nat.{pow-add, shl_below}
-use Rattle.std.proofs.lemmas.Bool.Decides.{nat_tests}
-use Rattle.dcc_wire.specs.Bodies.{bits_of, body_bits, number_of}
+use Rattle.dcc_wire.specs.Bodies.{bits_of, number_of}
 use Rattle.dcc_wire.specs.HalvesLeft.{highest_bits}
 use Rattle.dcc_wire.specs.Packed.{byte_bits}
-use Rattle.dcc_wire.proofs.ByteBits.{number_of-bits_of, body_bits-end, length-byte_bits, byte_bits-append, length-bits_of}
+use Rattle.dcc_wire.proofs.ByteBits.{number_of-bits_of, byte_bits-append, length-bits_of}
 
 abbrev shifted : ℕ → List Bool → ℕ
 shifted s bits = fold (λ a bit. 2 * a + cond bit 1 0) s bits
@@ -96,10 +96,23 @@ highest_of (bit ∷ bits) n e =
     ∙ ap (λ w. bit ∷ highest_bits (length bits) w) (behind_highest bit x small ∙ next)
     ∙ ap (λ l. bit ∷ l) (highest_of bits (suc n) behind)
 
--- five bytes and the zeros before them
-pub few_bits : (bytes : ℕ) → bytes ≤ 5 → 2 ^ (9 * bytes) ≤ 2 ^ 45
-few_bits bytes few = let most : 9 * bytes ≤ 45 = omega (arith, few) in pow-le-pow_right {n = 2} (omega arith) most
+-- a front of bytes at a place of a word, and a byte behind it
+pub byte_placed : (bytes : List ℕ) (n x : ℕ) → n < length bytes → get_or bytes n 0 < 256
+    → (place : ℕ) → x ≡ number_of (byte_bits (take n bytes)) * (512 * place)
+    → x + get_or bytes n 0 * place ≡ number_of (byte_bits (take (n + 1) bytes)) * place
+byte_placed bytes n x within small place e =
+    let more = ap (λ l. number_of (byte_bits l)) (take_more bytes n 0 within)
+    ∙ byte_packed (take n bytes) (get_or bytes n 0) small in
+    rw more (grind (arith, e))
 
--- nine bits more
-pub nine_more : (bytes : ℕ) → 2 ^ (9 * (bytes + 1)) ≡ 2 ^ (9 * bytes) * 512
-nine_more bytes = let e : 9 * (bytes + 1) ≡ 9 * bytes + 9 = omega arith in rw e (pow-add 2 (9 * bytes) 9)
+pub none_placed : (bytes : List ℕ) (place : ℕ) → 0 ≡ number_of (byte_bits (take 0 bytes)) * place
+unfolding number_of byte_bits
+none_placed bytes place = omega arith
+
+-- the end bit behind all bytes
+pub end_placed : (bytes : List ℕ) (n x : ℕ) → n ≡ length bytes → (place : ℕ)
+    → x ≡ number_of (byte_bits (take n bytes)) * (2 * place)
+    → x + place ≡ (2 * number_of (byte_bits bytes) + 1) * place
+end_placed bytes n x all place e =
+    let whole = ap (λ l. number_of (byte_bits l)) (take_all n bytes (omega (arith, all))) in
+    rw (← whole) (grind (arith, e))

@@ -22,6 +22,12 @@ durations_of (Bad ∷ halves) = 70 ∷ durations_of halves
 seen_behind : ℕ → List Half → List (ℕ × Seen)
 seen_behind ones halves = seen (durations_of (replicate ones One ++ halves))
 
+-- two packets after such noise, the first of them after so many half-bits of ones
+after_noise : ℕ → List (ℕ × Seen)
+after_noise ones =
+    seen_behind 28 (take 38 (body (0 ∷ 255 ∷ 0 ∷ [])) ++ replicate ones One ++ body (3 ∷ 98 ∷ 97 ∷ [])
+    ++ replicate 28 One ++ body (3 ∷ 127 ∷ 124 ∷ []))
+
 record Rows : Type 0 where
   preamble_of_19_halves : seen_behind 19 (body (3 ∷ 98 ∷ 97 ∷ [])) ≡ []
   preamble_of_20_halves : seen_behind 20 (body (3 ∷ 98 ∷ 97 ∷ [])) ≡ (75, Packet (3 ∷ 98 ∷ 97 ∷ [])) ∷ []
@@ -41,10 +47,16 @@ record Rows : Type 0 where
   error_byte_of_ones_and_16_halves : seen_behind 20
       (body (255 ∷ 0 ∷ 255 ∷ []) ++ replicate 16 One ++ body (3 ∷ 127 ∷ 124 ∷ []))
       ≡ (75, Packet (255 ∷ 0 ∷ 255 ∷ [])) ∷ []
+  -- noise that ends with the zero before a third byte: the next preamble completes a packet that nobody sent
+  packet_after_noise_is_lost : after_noise 28
+      ≡ (83, Packet (0 ∷ 255 ∷ 255 ∷ [])) ∷ (233, Packet (3 ∷ 127 ∷ 124 ∷ [])) ∷ []
+  packet_of_18_ones_after_noise : after_noise 36
+      ≡ (83, Packet (0 ∷ 255 ∷ 255 ∷ [])) ∷ (157, Packet (3 ∷ 98 ∷ 97 ∷ []))
+      ∷ (241, Packet (3 ∷ 127 ∷ 124 ∷ [])) ∷ []
 
 rows : Rows
-unfolding seen_behind durations_of seen outcome_at outcomes_at starts_below is_start used_up halves_used ones_at_end
-    ones_before outcome_of bits_in behind_bits bytes_in body_outcome by_bits by_halves ones_left body halves_of
+unfolding after_noise seen_behind durations_of seen outcome_at outcomes_at starts_below is_start used_up halves_used
+    ones_at_end ones_before outcome_of bits_in behind_bits bytes_in body_outcome by_bits by_halves ones_left body halves_of
     body_bits
     bits_of number_of
 rows = assumption

@@ -1,4 +1,4 @@
--- The body of a packet: its bytes as bits and as halves (NMRA S-9.2).
+-- The body of a packet: its bytes as bits and as half-bits (NMRA S-9.2).
 use Rattle.std.specs.Prelude.{ℕ, suc, zero, ◌+◌, ◌*◌, ◌==◌, Bool, true, false, List, [], ◌∷◌, ◌++◌, Option, Some}
 use Rattle.std.specs.Prelude.{None, if◌then◌else◌}
 use Rattle.std.specs.List.{fold}
@@ -6,32 +6,35 @@ use Rattle.std.specs.Int.{bit_at}
 use Rattle.dcc_wire.specs.declared.half.Half.{Half}
 use Rattle.dcc_wire.specs.declared.half.Half.TheVariants.{One, Zero}
 
--- bits as halves: a one is two halves of a one, a zero two halves of a zero
+-- the classes of the half-bits of a list of bits: twice `One` for each one, twice `Zero` for each
+-- zero
 unfoldable pub halves_of : List Bool → List Half
 halves_of [] = []
 halves_of (true ∷ bits) = One ∷ One ∷ halves_of bits
 halves_of (false ∷ bits) = Zero ∷ Zero ∷ halves_of bits
 
--- the first half of a bit, where it has come
+-- the first half-bit of a bit as a list with one class, or an empty list if no half-bit of the bit
+-- has come
 unfoldable pub first_half : Option Bool → List Half
 first_half None = []
 first_half (Some true) = One ∷ []
 first_half (Some false) = Zero ∷ []
 
--- the lowest n bits of a number, the highest first
+-- the lowest `n` bits of `number`, the highest of these bits first
 unfoldable pub bits_of : ℕ → ℕ → List Bool
 bits_of zero number = []
 bits_of (suc n) number = (bit_at number n == 1) ∷ bits_of n number
 
--- the number that bits spell, the highest first
+-- the number whose bits are `bits`, the highest first
 unfoldable pub number_of : List Bool → ℕ
 number_of bits = fold (λ number bit. 2 * number + (if bit then 1 else 0)) 0 bits
 
--- a body as bits: a zero and eight bits for each byte, and the end bit
+-- the bits of the body of a list of bytes: a zero and the eight bits of each byte, then a one as
+-- the end bit
 unfoldable pub body_bits : List ℕ → List Bool
 body_bits [] = true ∷ []
 body_bits (byte ∷ bytes) = false ∷ bits_of 8 byte ++ body_bits bytes
 
--- the body of these bytes
+-- the classes of the half-bits of the body of `bytes`
 unfoldable pub body : List ℕ → List Half
 body bytes = halves_of (body_bits bytes)

@@ -1,18 +1,19 @@
--- The frame of bytes.
+-- The frame that consists of a list of bytes.
 use Rattle.std.specs.Prelude.{ℕ, List, length, nat_lt, ◌==◌, ◌||◌, if◌then◌else◌, Result, Ok, Err}
 use Rattle.dcc_wire.specs.declared.frame.FrameFault.{FrameFault}
 use Rattle.dcc_wire.specs.declared.frame.FrameFault.TheVariants.{Length, XorNotZero}
 use Rattle.dcc_wire.specs.declared.frame.Frame.{Frame}
 use Rattle.dcc_wire.specs.Frames.{xor_of, with_error_byte}
 
--- the frame of some bytes, or the first fault
+-- the frame that consists of `bytes`, or the first error of `bytes` if they form no frame
 abbrev pub frame_of : List ℕ → Result Frame FrameFault
 frame_of bytes =
     if nat_lt (length bytes) 3 || nat_lt 6 (length bytes) then Err Length
     else if xor_of bytes == 0 then Ok bytes
     else Err XorNotZero
 
--- the frame of some bytes and the error byte that follows them, of which it has 3 to 6
+-- the frame of `bytes` followed by their error byte, or the error L1 if it would not have 3 to 6
+-- bytes
 abbrev pub frame_with_error_byte : List ℕ → Result Frame FrameFault
 frame_with_error_byte bytes =
     if nat_lt (length bytes) 2 || nat_lt 5 (length bytes) then Err Length

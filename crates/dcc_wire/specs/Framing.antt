@@ -1,4 +1,4 @@
--- Packets in a list of halves, found by place in the whole list (NMRA S-9.2; RCN-211).
+-- Packets in a list of half-bits, found by place in the whole list (NMRA S-9.2; RCN-211).
 use Rattle.std.specs.Prelude.{◌≡◌, ℕ, suc, zero, ◌+◌, ◌-◌, min, nat_le, Bool, true, false, ◌&&◌, List, [], ◌∷◌, ◌++◌}
 use Rattle.std.specs.Prelude.{map, reverse, length, take, drop, slice_index_or, if◌then◌else◌}
 use Rattle.std.specs.Option.{option_map_or}
@@ -9,7 +9,7 @@ use Rattle.dcc_wire.specs.declared.seen.Seen.TheVariants.{Nothing, Packet, Refus
 use Rattle.dcc_wire.specs.Half.{class_of}
 use Rattle.dcc_wire.specs.Outcomes.{outcome_of, ones_left}
 
--- how many ones halves begin with, and end in
+-- the number of half-bits of ones at the beginning of the list
 unfoldable pub ones_before : List Half → ℕ
 ones_before (One ∷ halves) = suc (ones_before halves)
 ones_before _ = 0
@@ -22,23 +22,25 @@ is_zero One = false
 is_zero Zero = true
 is_zero Bad = false
 
--- How many of these halves, the first of which stands at a start place, that start place uses:
--- those of its outcome but for the end bit, or all of them where it is unfinished.
+-- The number of half-bits that the body at the beginning of `halves` uses. These are the half-bits
+-- of its outcome except the end bit, or all of them if the body is unfinished.
 unfoldable pub halves_used : List Half → ℕ
 halves_used halves = option_map_or (λ p. p.0 - ones_left p.1) (outcome_of halves) (length halves)
 
--- the place behind the halves that start places use, of which the last one comes first
+-- the first place of `halves` after all half-bits that the start places use. The list of start
+-- places has the last one first.
 unfoldable pub used_up : List Half → List ℕ → ℕ
 used_up halves [] = 0
 used_up halves (start ∷ earlier) = start + halves_used (drop start halves)
 
--- whether the place of a half is a start place: a zero behind 20 ones that no earlier one uses
+-- true if `place` is a start place: the half-bit at `place` is a zero after 20 half-bits of ones
+-- that no earlier start place uses
 unfoldable pub is_start : List Half → List ℕ → ℕ → Bool
 is_start halves earlier place =
     is_zero (slice_index_or halves place Bad)
     && nat_le 20 (ones_at_end (drop (used_up halves earlier) (take place halves)))
 
--- the start places below a place, the last one first
+-- the start places in `halves` below the given place, with the last one first
 unfoldable pub starts_below : List Half → ℕ → List ℕ
 starts_below halves zero = []
 starts_below halves (suc place) =
@@ -48,26 +50,30 @@ starts_below halves (suc place) =
 abbrev pub starts : List Half → List ℕ
 starts halves = starts_below halves (length halves)
 
--- the outcome of a start place, with the place of its last half
+-- the outcome of the body that begins at the place `start`, with the place of its last half-bit; an
+-- empty list if the body is unfinished
 unfoldable pub outcome_at : List Half → ℕ → List (ℕ × Seen)
 outcome_at halves start =
     option_map_or (λ p. (start + p.0 - 1, p.1) ∷ []) (outcome_of (drop start halves)) []
 
--- the outcomes of start places, of which the last one comes first, in order
+-- the outcomes of a list of start places in order; the list of start places has the last one first
 unfoldable pub outcomes_at : List Half → List ℕ → List (ℕ × Seen)
 outcomes_at halves [] = []
 outcomes_at halves (start ∷ earlier) = outcomes_at halves earlier ++ outcome_at halves start
 
--- the outcomes in a list of durations, each with the place of its last half
+-- the outcomes in a list of half-bits with these `durations`, each with the place of its last
+-- half-bit
 unfoldable pub seen : List ℕ → List (ℕ × Seen)
 seen durations = let halves = map class_of durations in outcomes_at halves (starts halves)
 
--- what a list of halves leaves open: a number of ones, counted to 20, or an unfinished body
+-- the state of a framer after a list of half-bits: the number of half-bits of ones, at most 20, or
+-- the half-bits of an unfinished body
 pub data Rest : Type 0 where
   Hunting : ℕ → Rest
   InBody : List Half → Rest
 
--- the ones at the end that no start place uses
+-- the state of a framer between two bodies. It counts the half-bits of ones at the end of `halves`,
+-- up to 20, that the start places `places` do not use.
 unfoldable pub hunting : List Half → List ℕ → Rest
 hunting halves places = Hunting (min 20 (ones_at_end (drop (used_up halves places) halves)))
 
@@ -82,12 +88,12 @@ rest_at halves (start ∷ earlier) =
 unfoldable pub rest : List ℕ → Rest
 rest durations = let halves = map class_of durations in rest_at halves (starts halves)
 
--- what one answer adds to what was seen
+-- the answer of a framer to the half-bit at `place`, as a list of at most one outcome
 unfoldable pub report_at : ℕ → Seen → List (ℕ × Seen)
 report_at place Nothing = []
 report_at place (Packet bytes) = (place, Packet bytes) ∷ []
 report_at place (Refused fault) = (place, Refused fault) ∷ []
 
--- a framer stands for these durations where it holds what they leave open
+-- `framer` represents the half-bits `durations`: it is the state of a framer after them
 unfoldable pub StandsFor : Rest → List ℕ → Type 0
 StandsFor framer durations = framer ≡ rest durations

@@ -13,6 +13,8 @@ pub mod FramerState
 pub mod Timings
 pub mod NominalTimings
 pub mod Sending
+pub mod Jitter
+pub mod Recovery
 pub mod HalvesLeft
 pub mod OutcomeTable
 pub mod OutcomeLaws

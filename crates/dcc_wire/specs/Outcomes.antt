@@ -1,4 +1,5 @@
--- What a body comes to (NMRA S-9.2; RCN-211). The table in OutcomeTable says the same without reading along.
+-- The outcome of a body (NMRA S-9.2; RCN-211), as a function that reads half-bits from left to
+-- right. The module `OutcomeTable` gives the same outcomes as a table.
 use Rattle.std.specs.Prelude.{ℕ, suc, zero, ◌+◌, ◌*◌, ◌==◌, nat_lt, Bool, true, false, List, [], ◌∷◌, length, take}
 use Rattle.std.specs.Prelude.{drop, Option, Some, None, if◌then◌else◌}
 use Rattle.std.specs.Option.{option_map, option_or}
@@ -10,20 +11,22 @@ use Rattle.dcc_wire.specs.declared.seen.Seen.TheVariants.{Nothing, Packet, Refus
 use Rattle.dcc_wire.specs.Frames.{xor_of}
 use Rattle.dcc_wire.specs.Bodies.{number_of}
 
--- the bits that halves begin with, up to two halves that are no bit
+-- the bits at the beginning of a list of half-bits, up to the first pair of half-bits that forms no
+-- bit
 unfoldable pub bits_in : List Half → List Bool
 bits_in (One ∷ One ∷ halves) = true ∷ bits_in halves
 bits_in (Zero ∷ Zero ∷ halves) = false ∷ bits_in halves
 bits_in _ = []
 
--- the halves behind those bits
+-- the half-bits of a list from the first pair on that forms no bit
 unfoldable pub behind_bits : List Half → List Half
 behind_bits (One ∷ One ∷ halves) = behind_bits halves
 behind_bits (Zero ∷ Zero ∷ halves) = behind_bits halves
 behind_bits halves = halves
 
--- The bytes up to the bit that closes them, each behind a zero, and that bit: the first one that
--- stands where a zero or the end bit may, or the zero behind n bytes. None where the bits end before.
+-- The bytes at the beginning of a list of bits, and the bit that ends them. A zero precedes each
+-- byte. A one in its place is the end bit. There are at most `n` bytes, and the bit after `n` bytes
+-- ends them too. The result is `None` if the bits end before.
 unfoldable pub bytes_in : ℕ → List Bool → Option (List ℕ × Bool)
 bytes_in n [] = None
 bytes_in n (true ∷ bits) = Some ([], true)
@@ -33,17 +36,18 @@ bytes_in (suc n) (false ∷ bits) =
     then None
     else option_map (λ p. (number_of (take 8 bits) ∷ p.0, p.1)) (bytes_in n (drop 8 bits))
 
--- what bytes with an end bit are
+-- the outcome of a body that consists of `bytes` and an end bit
 unfoldable pub body_outcome : List ℕ → Seen
 body_outcome bytes =
     if nat_lt (length bytes) 3 then Refused TooShort
     else (if xor_of bytes == 0 then Packet bytes else Refused (ErrorByte bytes))
 
--- the outcome of six bytes at most and the bit behind them, and its number of halves
+-- the outcome of a body with the bytes `p.0`, which the bit `p.1` ends, and its number of half-bits
 unfoldable pub by_bits : List ℕ × Bool → ℕ × Seen
 by_bits p = (18 * length p.0 + 2, if p.1 then body_outcome p.0 else Refused TooLong)
 
--- the outcome of the halves behind n halves of whole bits
+-- the outcome of a body, and its number of half-bits. The body has `n` half-bits of whole bits, and
+-- then half-bits that form no bit. `None` if the body is unfinished.
 unfoldable pub by_halves : ℕ → List Half → Option (ℕ × Seen)
 by_halves n [] = None
 by_halves n (Bad ∷ halves) = Some (n + 1, Refused BadHalf)
@@ -51,14 +55,16 @@ by_halves n (half ∷ []) = None
 by_halves n (half ∷ Bad ∷ halves) = Some (n + 2, Refused BadHalf)
 by_halves n (half ∷ other ∷ halves) = Some (n + 2, Refused SplitBit)
 
--- The outcome of a body with these halves, and how many of them it takes. None where it is unfinished.
+-- The outcome of the body at the beginning of `halves`, with its number of half-bits. It is `None`
+-- if the body is unfinished.
 unfoldable pub outcome_of : List Half → Option (ℕ × Seen)
 outcome_of halves =
     option_or
     (option_map by_bits (bytes_in 6 (bits_in halves)))
     (by_halves (2 * length (bits_in halves)) (behind_bits halves))
 
--- the ones that an outcome leaves to the next preamble: the two halves of its end bit
+-- the number of half-bits of ones that count for the next preamble after an outcome: 2 if an end
+-- bit ends the body, otherwise 0
 unfoldable pub ones_left : Seen → ℕ
 ones_left Nothing = 0
 ones_left (Packet bytes) = 2

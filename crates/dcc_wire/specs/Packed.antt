@@ -1,18 +1,20 @@
--- Bits that are kept as whole bytes and the bits behind them.
+-- Bits that are stored as whole bytes and a number with the bits after them.
 use Rattle.std.specs.Prelude.{◌≡◌, ℕ, ◌*◌, ◌^◌, ◌≤◌, ◌<◌, Bool, false, List, [], ◌∷◌, ◌++◌, length}
 use Rattle.dcc_wire.specs.Frames.{xor_of, AllBytes}
 use Rattle.dcc_wire.specs.Bodies.{bits_of}
 
--- the bits of whole bytes, each behind a zero
+-- the bits of a list of bytes, with a zero before each byte
 unfoldable pub byte_bits : List ℕ → List Bool
 byte_bits [] = []
 byte_bits (byte ∷ bytes) = false ∷ bits_of 8 byte ++ byte_bits bytes
 
--- the bits of whole bytes, and the lowest count bits of a number
+-- the bits of `bytes`, with a zero before each byte, and then the lowest `count` bits of the number
+-- `shift`
 unfoldable pub packed_bits : List ℕ → ℕ → ℕ → List Bool
 packed_bits bytes count shift = byte_bits bytes ++ bits_of count shift
 
--- the bits of an unfinished body of six bytes at most, with the exclusive or of the whole ones
+-- `bytes`, `count` and `shift` store the bits of an unfinished body of at most six bytes, and `xor`
+-- is the exclusive or of `bytes`
 pub record IsPacked (bytes : List ℕ) (xor count shift : ℕ) : Type 0 where
   pub few : length bytes ≤ 6
   pub each : AllBytes bytes

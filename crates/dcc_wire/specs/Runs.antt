@@ -1,4 +1,4 @@
--- Many halves that are all alike.
+-- Runs of equal half-bits.
 use Rattle.std.specs.Prelude.{◌≡◌, ◌≢◌, ◌≤◌, ℕ, zero, suc, ◌+◌, ◌-◌, ◌<◌, min, List, ◌++◌, length, replicate}
 use Rattle.dcc_wire.specs.declared.half.Half.{Half}
 use Rattle.dcc_wire.specs.declared.half.Half.TheVariants.{One, Zero, Bad}
@@ -8,7 +8,7 @@ use Rattle.dcc_wire.specs.Framing.{Rest, Hunting, InBody, StandsFor, seen, repor
 use Rattle.dcc_wire.specs.Half.{class_of}
 use Rattle.dcc_wire.specs.Outcomes.{ones_left}
 
--- behind so many ones no number of such halves begins a body
+-- after `ones` half-bits of ones, no run of half-bits of the given class begins a body
 abbrev pub IsQuiet : ℕ → Half → Type 0
 IsQuiet ones One = Unit {0}
 IsQuiet ones Zero = ones < 20
@@ -18,19 +18,21 @@ abbrev pub IsQuietFor : Rest → Half → Type 0
 IsQuietFor (Hunting ones) half = IsQuiet ones half
 IsQuietFor (InBody halves) half = ⊥
 
--- how many ones are counted behind n such halves that begin no body
+-- the number of half-bits of ones, at most 20, after `ones` half-bits of ones and a run of `n`
+-- half-bits of class `half`. The run begins no body.
 unfoldable pub ones_after : ℕ → Half → ℕ → ℕ
 ones_after ones half zero = ones
 ones_after ones One (suc n) = min 20 (ones + suc n)
 ones_after ones Zero (suc n) = 0
 ones_after ones Bad (suc n) = 0
 
--- what such halves leave where there is no body
+-- the state of a framer between two bodies after a run of `n` half-bits of class `half`
 unfoldable pub rest_after_run : Rest → Half → ℕ → Rest
 rest_after_run (Hunting ones) half n = Hunting (ones_after ones half n)
 rest_after_run (InBody halves) half n = InBody halves
 
--- what a framer does with n halves of one duration, and what they show: at most one outcome, at its number in the run
+-- a framer in state `old` that gets `n` half-bits of `us` microseconds goes to state `new` and
+-- returns `shown`. This is an outcome with its number in the run, or `Nothing`.
 pub record PushesRun (old : Rest) (us n : ℕ) (shown : RunSeen) (new : Rest) : Type 0 where
   pub stands : (durations : List ℕ) → StandsFor old durations → StandsFor new (durations ++ replicate n us)
   pub sees : (durations : List ℕ) → StandsFor old durations

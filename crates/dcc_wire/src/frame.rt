@@ -1,4 +1,4 @@
-//! The bytes of a valid packet.
+//! The type of frames, which are the bytes of valid packets.
 
 ghost use Rattle.std.specs.Prelude.{◌≡◌};
 
@@ -6,8 +6,8 @@ use crate::bytes::PacketBytes;
 use std::marker::Model;
 use thiserror::Error;
 
-/// The bytes of a valid packet: 3 to 6, the last of which, the error byte, is the exclusive or of
-/// the others (NMRA S-9.2; RCN-211).
+/// The 3 to 6 bytes of a valid packet. The last byte is the error byte: the exclusive or of the
+/// bytes before it (NMRA S-9.2; RCN-211).
 #[derive(Clone, Copy, Debug, PartialEq, Eq)]
 pub struct Frame {
     bytes: PacketBytes,
@@ -26,13 +26,13 @@ impl Model for Frame {
     ghost inverse = { λ xs. record { bytes = xs } };
 }
 
-/// Why bytes are no frame.
+/// The errors of bytes that do not form a frame.
 #[derive(Clone, Copy, Debug, PartialEq, Eq, Error)]
 pub enum FrameFault {
-    /// Fewer than 3 bytes, or more than 6.
+    /// L1: there are fewer than 3 or more than 6 bytes.
     #[error("L1: a packet has 3 to 6 bytes")]
     Length,
-    /// The exclusive or of the bytes is not zero.
+    /// L2: the exclusive or of the bytes is not zero.
     #[error("L2: the error byte is not the exclusive or of the bytes before it")]
     XorNotZero,
 }
@@ -40,7 +40,7 @@ pub enum FrameFault {
 impl FrameFault {
     ghost use Rattle.dcc_wire.specs.FaultNumbers.{frame_fault_number};
 
-    /// The number by which the refusal is told, 1 for L1 and 2 for L2.
+    /// Returns the number of the error: 1 for L1, 2 for L2.
     pub fn number(&self) -> u8
         ensures { result ≡ frame_fault_number self.now }
     {
@@ -56,39 +56,39 @@ impl Frame {
     ghost use Rattle.dcc_wire.specs.Frames.{IsFrame, frame_fault};
     ghost use Rattle.dcc_wire.specs.FrameOf.{frame_of, frame_with_error_byte};
 
-    /// The frame of these bytes, the error byte last. The number of bytes is looked at first (L1),
-    /// then the error byte (L2).
+    /// Returns the frame of these bytes. The last byte is the error byte (NMRA S-9.2).
+    ///
+    /// Errors: L1 if there are fewer than 3 or more than 6 bytes. L2 if there are 3 to 6 bytes, but
+    /// their exclusive or is not zero.
     pub fn of(bytes: &[u8]) -> Result<Frame, FrameFault>
         ensures exact { result ≡ frame_of bytes.now }
         ensures valid { MatchResult result (λ frame. (IsFrame bytes.now) × (frame ≡ bytes.now))
             (λ fault. frame_fault bytes.now fault) }
     {
-        if bytes.len() < 3 || bytes.len() > 6 {
-            return Err(FrameFault::Length);
-        }
-        if xor(bytes) != 0 {
-            return Err(FrameFault::XorNotZero);
-        }
+        Frame::check(bytes)?;
         Ok(Frame::of_valid(bytes))
     }
 
-    /// Tells whether these bytes are a frame, as [`Frame::of`] does, and copies none of them.
+    /// Returns Ok if these bytes form a frame, without a copy of the bytes. The errors of `check`
+    /// are those of [`Frame::of`].
     #[inline(always)]
     pub fn check(bytes: &[u8]) -> Result<(), FrameFault>
-        ensures exact { MatchResult result (λ _. frame_of bytes.now ≡ Ok bytes.now) (λ fault. frame_of bytes.now ≡ Err fault) }
+        ensures exact { MatchResult result (λ _. frame_of bytes.now ≡ Ok bytes.now) (λ fault. frame_of bytes.now
+            ≡ Err fault) }
         ensures valid { MatchResult result (λ _. IsFrame bytes.now) (λ fault. frame_fault bytes.now fault) }
     {
         if bytes.len() > 6 || bytes.len() < 3 {
             return Err(FrameFault::Length);
         }
-        let sum = xor(bytes);
-        if sum != 0 {
+        if xor(bytes) != 0 {
             return Err(FrameFault::XorNotZero);
         }
         Ok(())
     }
 
-    /// The frame of these bytes with their error byte behind them (NMRA S-9.2). L1 unless there are 2 to 5.
+    /// Returns the frame of these bytes, followed by their error byte (NMRA S-9.2).
+    ///
+    /// Errors: L1 if there are fewer than 2 or more than 5 bytes.
     pub fn with_error_byte(bytes: &[u8]) -> Result<Frame, FrameFault>
         ensures { result ≡ frame_with_error_byte bytes.now }
     {
@@ -100,7 +100,7 @@ impl Frame {
         Ok(Frame { bytes: all })
     }
 
-    /// The frame of bytes that are known to be one.
+    /// Returns the frame of these bytes. The bytes must form a frame.
     pub(crate) fn of_valid(bytes: &[u8]) -> Frame
         requires { IsFrame bytes.now }
         ensures { result ≡ bytes.now }
@@ -110,7 +110,7 @@ impl Frame {
         }
     }
 
-    /// The frame of bytes that are known to be one and lie so already.
+    /// Returns the frame of these bytes without a copy. The bytes must form a frame.
     #[inline(always)]
     pub(crate) fn of_bytes(bytes: PacketBytes) -> Frame
         requires { IsFrame bytes }
@@ -119,7 +119,7 @@ impl Frame {
         Frame { bytes }
     }
 
-    /// The bytes, in the order in which they are sent.
+    /// Returns the bytes of the frame, in the order in which they are sent.
     pub fn bytes(&self) -> &[u8]
         ensures value { result.now ≡ self.now }
         ensures valid { IsFrame self.now }
@@ -128,7 +128,7 @@ impl Frame {
         self.bytes.as_slice()
     }
 
-    /// The bytes with zeros behind them, six in all.
+    /// Returns the bytes of the frame, followed by zeros up to six bytes.
     #[inline(always)]
     pub fn padded(&self) -> [u8; 6]
         ensures { result ≡ self.now ++ replicate (6 - length self.now) 0 }
@@ -136,7 +136,7 @@ impl Frame {
         self.bytes.padded()
     }
 
-    /// Whether this is the same frame as another: whether their bytes are the same.
+    /// Returns true if both frames have equal bytes.
     pub fn is(&self, other: &Frame) -> bool
         ensures { IsTrue result ↔ (self.now ≡ other.now) }
     {
@@ -146,7 +146,7 @@ impl Frame {
 
 ghost use Rattle.dcc_wire.specs.Frames.{xor_of};
 
-/// All the bytes, joined by exclusive or.
+/// Returns the exclusive or of all bytes.
 pub(crate) fn xor(bytes: &[u8]) -> u8
     ensures { result ≡ xor_of bytes.now }
 {

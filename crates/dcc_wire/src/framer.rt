@@ -1,21 +1,22 @@
-//! Packets in halves that come one at a time.
+//! The framer, which finds packets in half-bits.
 
 use crate::open_body::OpenBody;
 use crate::{Half, Seen};
 use std::marker::Model;
 
-/// Finds the packets in halves that come one at a time (NMRA S-9.2; RCN-211).
+/// Finds the packets in half-bits that come one at a time (NMRA S-9.2; RCN-211).
 ///
-/// Between bodies it counts one-halves. Twenty of them or more, directly before a zero-half, make
-/// that zero-half the first half of a start bit, and from there on halves are taken in pairs. So the
-/// phase of the bits comes from the start bit, and not from the first half that was ever pushed.
-/// Whatever comes of a body, the framer hunts for the next preamble after it.
+/// Between bodies the framer counts half-bits of ones. If a half-bit of a zero directly follows 20
+/// or more half-bits of ones, this half-bit is the first of a start bit. From there on, two
+/// half-bits form a bit. So the start bit determines how half-bits pair into bits, and the first
+/// half-bit that was pushed does not. After each outcome the framer looks for the next preamble.
 #[derive(Drop)]
 pub struct Framer {
     pub(crate) state: State,
 }
 
-/// Between bodies, a number of ones, counted to 20; else a body.
+/// The state of a framer: the number of half-bits of ones between bodies, counted up to 20, or an
+/// unfinished body.
 #[derive(Drop)]
 pub enum State {
     Hunting(u8),
@@ -31,7 +32,7 @@ impl Model for Framer {
 
     ghost view = { λ f. rest_of f.state };
 
-    // Some list of halves has led to what a framer holds.
+    // Invariant: some list of half-bits leads to this state.
     ghost invariant = { λ f. (durations : List ℕ) × StandsFor (rest_of f.state) durations };
 }
 
@@ -42,7 +43,7 @@ impl Framer {
     ghost use Rattle.dcc_wire.specs.Inner.Steps.{rest_after, answer_to};
     ghost use Rattle.dcc_wire.specs.Runs.{IsQuietFor, rest_after_run};
 
-    /// A framer that was given no halves.
+    /// Creates a framer that has taken no half-bit.
     #[tactic(auto, using(crate::proofs::FramerSteps::nothing_yet))]
     pub fn new() -> Framer
         ensures { StandsFor result [] }
@@ -52,20 +53,22 @@ impl Framer {
         }
     }
 
-    /// Takes a half of this many microseconds, and answers the outcome whose last half it is, or
+    /// Takes a half-bit of `us` microseconds. Returns the outcome that ends with this half-bit, or
     /// [`Seen::Nothing`].
     ///
-    /// After an outcome the framer hunts, and the two halves of an end bit count towards the next
-    /// preamble.
+    /// After an outcome the framer looks for a preamble. If the outcome ended with an end bit, the
+    /// two half-bits of the end bit count for the next preamble.
     #[tactic(auto, unfolding(crate::specs::Framing::StandsFor), using(crate::proofs::FramerSteps::pushes))]
     #[inline(always)]
     pub fn push(&mut self, us: u16) -> Seen
-        // For every list of halves that the framer stands for, of which there is at least one,
+        // The framer represents at least one list of half-bits.
         ensures history { (durations : List ℕ) × StandsFor self.old durations }
-        // it then stands for the list with this half behind it,
+        // If the framer represents a list before the call, it then represents this list with the
+        // half-bit at the end.
         ensures stands { (durations : List ℕ) → StandsFor self.old durations
             → StandsFor self.new (durations ++ us ∷ []) }
-        // and the answer is what that longer list shows at its last place.
+        // The list with this half-bit has the outcomes of the list before the call, and then the
+        // result, at its last half-bit. `Nothing` adds no outcome.
         ensures sees { (durations : List ℕ) → StandsFor self.old durations →
             seen (durations ++ us ∷ []) ≡ seen durations ++ report_at (length durations) result }
 
@@ -101,8 +104,10 @@ impl Framer {
         }
     }
 
-    /// Takes both halves of a bit of a body at once, where none of that bit has come yet and they are not bad. The first of them
-    /// shows nothing, and the answer is that of the second.
+    /// Takes both half-bits of a bit of a body, if no half-bit of this bit has come and the class
+    /// `half` is not bad. Returns the outcome of the second half-bit. The first of the two
+    /// half-bits has no outcome. Returns `None`, and does not change the framer, if the half-bits
+    /// form no bit.
     #[inline(always)]
     pub(crate) fn take_bit(&mut self, half: Half) -> Option<Seen>
         ensures none { IfNone result (self.new ≡ self.old) }
@@ -127,7 +132,7 @@ impl Framer {
         }
     }
 
-    /// Whether no number of such halves shows anything.
+    /// Returns true if no number of half-bits of the class `half` can begin a body.
     pub(crate) fn is_quiet(&self, half: Half) -> bool
         ensures { IsTrue result ↔ IsQuietFor self.now half }
     {
@@ -137,7 +142,7 @@ impl Framer {
         }
     }
 
-    /// Takes n halves that show nothing.
+    /// Takes `n` half-bits of the class `half`, which have no outcome.
     #[tactic(auto, unfolding(crate::specs::Runs::rest_after_run))]
     pub(crate) fn skip(&mut self, half: Half, n: u32)
         requires { IsQuietFor self.old half }
@@ -154,7 +159,8 @@ ghost use Rattle.dcc_wire.specs.Framing.{Hunting, InBody};
 ghost use Rattle.dcc_wire.specs.Inner.Steps.{rest_after};
 ghost use Rattle.dcc_wire.specs.Runs.{IsQuiet, ones_after};
 
-/// Whether a half is the first one of a start bit, behind so many ones.
+/// Returns true if a half-bit of the class `half` begins a body after `ones` half-bits of ones. The
+/// number `ones` is counted up to 20.
 #[inline(always)]
 #[tactic(auto, unfolding(crate::specs::Inner::Steps::rest_after))]
 pub(crate) fn begins_body(ones: u8, half: Half) -> bool
@@ -164,7 +170,8 @@ pub(crate) fn begins_body(ones: u8, half: Half) -> bool
     half == Half::Zero && ones >= 20
 }
 
-/// Counts a half that begins no body.
+/// Returns the number of half-bits of ones, counted up to 20, after one more half-bit that begins
+/// no body.
 #[inline(always)]
 #[tactic(auto, unfolding(crate::specs::Inner::Steps::rest_after))]
 pub(crate) fn counted(ones: u8, half: Half) -> u8
@@ -177,7 +184,8 @@ pub(crate) fn counted(ones: u8, half: Half) -> u8
     if ones < 20 { ones + 1 } else { 20 }
 }
 
-/// Counts n halves between bodies.
+/// Returns the number of half-bits of ones, counted up to 20, after `n` more half-bits of the class
+/// `half` that begin no body.
 fn count_on(ones: u8, half: Half, n: u32) -> u8
     ensures { result ≡ ones_after ones half n }
 {

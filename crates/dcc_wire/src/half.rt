@@ -1,8 +1,8 @@
-//! A half of a bit, by how long it lasts.
+//! The classes of half-bits.
 
 ghost use Rattle.std.specs.Prelude.{◌≡◌};
 
-/// The class of a half-bit, as a decoder takes it (NMRA S-9.1; RCN-210).
+/// The class of a half-bit for a decoder (NMRA S-9.1; RCN-210).
 #[derive(Clone, Copy, Debug, PartialEq, Eq)]
 pub enum Half {
     /// Half of a one: 52 to 64 microseconds.
@@ -16,7 +16,7 @@ pub enum Half {
 impl Half {
     ghost use Rattle.dcc_wire.specs.Half.{class_of, bit_of};
 
-    /// What a decoder takes a half of this many microseconds for.
+    /// Returns the class of a half-bit of `us` microseconds.
     pub fn of(us: u16) -> Half
         ensures { result ≡ class_of us }
     {
@@ -27,7 +27,7 @@ impl Half {
         }
     }
 
-    /// The bit that it is half of.
+    /// Returns true for half of a one, and false for half of a zero. Returns `None` for `Bad`.
     #[inline(always)]
     pub(crate) fn bit(self) -> Option<bool>
         ensures { result ≡ bit_of self }

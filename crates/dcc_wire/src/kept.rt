@@ -1,31 +1,31 @@
-//! A framer as plain numbers.
+//! A framer that is stored as plain numbers.
 
 ghost use Rattle.std.specs.Prelude.{◌≡◌};
-ghost use Rattle.dcc_wire.specs.Frames.{xor_of};
 ghost use Rattle.dcc_wire.specs.Kept.{kept_rest};
-ghost use Rattle.dcc_wire.specs.Outcomes.{body_outcome};
 
 use crate::bytes::PacketBytes;
 use crate::framer::{State, begins_body, counted};
 use crate::open_body::OpenBody;
 use crate::packed_bits::PackedBits;
-use crate::{Body, Fault, Frame, Framer, Half, Seen};
+use crate::{Fault, Framer, Half, Seen};
 use arrayvec::ArrayVec;
 use std::marker::Model;
 
-/// What a framer holds, as plain numbers. It can be copied, and kept where a [`Framer`] cannot be, as in the memory of a C
-/// program.
+/// The state of a framer as plain numbers. A `KeptFramer` can be copied, and can be stored where a
+/// [`Framer`] cannot be stored, for example in the memory of a C program.
 #[repr(C)]
 #[derive(Clone, Copy)]
 pub struct KeptFramer {
-    /// Whether a body is unfinished.
+    /// True if a body is unfinished.
     in_body: bool,
-    /// Between bodies, the ones counted so far.
+    /// The number of half-bits of ones between bodies, counted up to 20.
     ones: u8,
-    /// In a body, whether the first half of the next bit has come, and that half.
+    /// True if the first half-bit of the next bit of the body has come. The field `first` is the
+    /// bit of this half-bit.
     has_first: bool,
     first: bool,
-    /// In a body, its bits: whole bytes, their exclusive or, and the bits behind them with their number.
+    /// The exclusive or of the complete bytes of the body. The next fields are the bits after these
+    /// bytes, the number of these bits, and the bytes.
     xor: u8,
     shift: u8,
     count: u8,
@@ -48,7 +48,7 @@ impl Model for KeptFramer {
       bytes = k.bytes;
     } };
 
-    // Some framer holds this.
+    // Invariant: some framer has this state.
     ghost invariant = { λ k. IsKept (record {
       in_body = k.in_body;
       ones = k.ones;
@@ -81,7 +81,7 @@ impl KeptFramer {
     ghost use Rattle.dcc_wire.specs.Inner.KeptSteps.{Grows, HasRoomFor};
     ghost use Rattle.dcc_wire.specs.declared.half.Half.{Half as HalfOf};
 
-    /// Takes a half of this many microseconds where the framer lies, with the promise of [`Framer::push`].
+    /// Takes a half-bit of `us` microseconds, with the contract of [`Framer::push`].
     #[tactic(auto, unfolding(crate::specs::Framing::StandsFor), using(crate::proofs::FramerSteps::pushes))]
     #[inline(always)]
     pub fn push(&mut self, us: u16) -> Seen
@@ -95,8 +95,9 @@ impl KeptFramer {
         self.take_half(Half::of(us))
     }
 
-    /// Takes a half of this many microseconds where it shows nothing, as most do, and answers whether it did. Where it shows
-    /// something the framer stays as it is, and [`push`](KeptFramer::push) takes the half.
+    /// Takes a half-bit of `us` microseconds if it has no outcome. Most half-bits of a track have
+    /// no outcome. Returns true if the function took the half-bit. If the result is false, nothing
+    /// changes, and the caller passes the half-bit to [`push`](Self::push).
     #[tactic(auto, unfolding(crate::specs::Framing::StandsFor), using(crate::proofs::FramerSteps::pushes))]
     #[inline(always)]
     pub fn pass(&mut self, us: u16) -> bool
@@ -112,8 +113,8 @@ impl KeptFramer {
         self.pass_half(Half::of(us))
     }
 
-    /// Takes a half of this many microseconds that shows something, with the promise of [`Framer::push`]: one that
-    /// [`pass`](KeptFramer::pass) did not take.
+    /// Takes a half-bit of `us` microseconds that has an outcome: a half-bit for which
+    /// [`pass`](Self::pass) returned false. `push_shown` has the contract of [`Framer::push`].
     #[tactic(auto, unfolding(crate::specs::Framing::StandsFor), using(crate::proofs::FramerSteps::pushes))]
     #[inline(always)]
     pub fn push_shown(&mut self, us: u16) -> Seen
@@ -152,6 +153,22 @@ impl KeptFramer {
         ensures left { result ≡ false → self.new ≡ self.old }
         ensures shows { result ≡ false → answer_to (kept_rest self.old) half ≢ Seen.Nothing }
     {
+        match half {
+            Half::One => self.pass_known(Half::One),
+            Half::Zero => self.pass_known(Half::Zero),
+            Half::Bad => self.pass_known(Half::Bad),
+        }
+    }
+
+    /// Takes a half-bit of a class that the compiler knows, so that each class has its own machine
+    /// code. Returns false if the half-bit ends the body.
+    #[inline(always)]
+    fn pass_known(&mut self, half: Half) -> bool
+        ensures history { (durations : List ℕ) × StandsFor (kept_rest self.old) durations }
+        ensures grows { IsTrue result → Grows self.old half self.new }
+        ensures left { result ≡ false → self.new ≡ self.old }
+        ensures shows { result ≡ false → answer_to (kept_rest self.old) half ≢ Seen.Nothing }
+    {
         if !self.in_body {
             self.hunt(half);
             return true;
@@ -166,7 +183,7 @@ impl KeptFramer {
         true
     }
 
-    /// Takes a half between bodies.
+    /// Takes a half-bit while no body is unfinished.
     #[inline(always)]
     fn hunt(&mut self, half: Half)
         requires { self.old.in_body ≡ false }
@@ -185,7 +202,7 @@ impl KeptFramer {
         }
     }
 
-    /// Whether the body stays unfinished with a half of this bit.
+    /// Returns true if the body is still unfinished after a half-bit of the bit `bit`.
     #[inline(always)]
     fn has_room_for(&self, bit: bool) -> bool
         requires { self.now.in_body ≡ true }
@@ -197,7 +214,7 @@ impl KeptFramer {
         self.first == bit && (self.count > 0 || !bit && self.bytes.has_room())
     }
 
-    /// Takes a half of this bit, for which there is room.
+    /// Takes a half-bit of the bit `bit` that leaves the body unfinished.
     #[inline(always)]
     fn add(&mut self, bit: bool)
         requires in_body { self.old.in_body ≡ true }
@@ -222,7 +239,7 @@ impl KeptFramer {
         }
     }
 
-    /// Takes a half with which the body comes to an outcome.
+    /// Takes a half-bit that ends the body, and returns the outcome.
     fn take_apart(&mut self, half: Half) -> Seen
         requires { answer_to (kept_rest self.old) half ≢ Seen.Nothing }
         ensures history { (durations : List ℕ) × StandsFor (kept_rest self.old) durations }
@@ -236,7 +253,8 @@ impl KeptFramer {
         seen
     }
 
-    /// The outcome to which the body comes with a half: one that is bad, or the second of a bit for which there is no room.
+    /// Returns the outcome of the body, which ends with this half-bit. The half-bit is bad, or is
+    /// the second half-bit of a bit.
     fn outcome(&self, half: Half) -> Seen
         requires { answer_to (kept_rest self.now) half ≢ Seen.Nothing }
         ensures { result ≡ answer_to (kept_rest self.now) half }
@@ -251,10 +269,11 @@ impl KeptFramer {
         if !bit {
             return Seen::Refused(Fault::TooLong);
         }
-        close(&self.bytes, self.xor)
+        Seen::at_end_bit(&self.bytes, self.xor)
     }
 
-    /// The framer, taken up again: it stands for the halves for which the one that was kept stood.
+    /// Returns the framer with this state. The framer represents the lists of half-bits that the
+    /// state represents.
     #[inline(never)]
     pub fn framer(&self) -> Framer
         ensures { result ≡ kept_rest self.now }
@@ -284,7 +303,7 @@ impl Framer {
     ghost use Rattle.std.specs.Prelude.{◌≡◌};
     ghost use Rattle.dcc_wire.specs.Kept.{kept_rest};
 
-    /// What the framer holds, to be put away. The framer stays as it is.
+    /// Returns the state of the framer as plain numbers, and does not change the framer.
     pub fn keep(&self) -> KeptFramer
         ensures { kept_rest result ≡ self.now }
     {
@@ -311,21 +330,4 @@ impl Framer {
             },
         }
     }
-}
-
-/// What bytes with an end bit are.
-#[tactic(auto, unfolding(crate::specs::Outcomes::body_outcome))]
-#[inline(always)]
-fn close(bytes: &PacketBytes, xor: u8) -> Seen
-    requires { xor ≡ xor_of bytes.now }
-    ensures { result ≡ body_outcome bytes.now }
-{
-    let all = bytes.as_slice();
-    if all.len() < 3 {
-        return Seen::Refused(Fault::TooShort);
-    }
-    if xor != 0 {
-        return Seen::Refused(Fault::ErrorByte(Body::of_bytes(*bytes)));
-    }
-    Seen::Packet(Frame::of_bytes(*bytes))
 }

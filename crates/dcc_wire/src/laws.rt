@@ -1,34 +1,92 @@
-//! Laws of the definitions.
+//! Theorems about the outcomes of half-bits.
 
-ghost use Rattle.std.specs.Prelude.{◌≡◌, ℕ, List};
+ghost use Rattle.std.specs.Prelude.{◌≡◌, ℕ, List, ◌++◌, map};
+ghost use Rattle.dcc_wire.specs.Half.{class_of};
 ghost use Rattle.dcc_wire.specs.Framing.{seen};
+ghost use Rattle.dcc_wire.specs.Jitter.{AreWithin};
 ghost use Rattle.dcc_wire.specs.SeenLaws.{SeenOnlyGrows};
 ghost use Rattle.dcc_wire.specs.OutcomeLaws.{OutcomesAreRows, NoOutcomeIsUnfinished, SomeRowFits, OneRowFits};
 ghost use Rattle.dcc_wire.specs.OutcomeLaws.{NoRowIsUnfinished};
+ghost use Rattle.dcc_wire.specs.Recovery.{NoiseCostsNoLaterPacket, NoiseCostsAtMostTheFirst, OpenBodiesEndSoon};
+ghost use Rattle.dcc_wire.specs.Recovery.{NoiseBetweenBodiesCostsNothing, LongPreamblesLoseNothing};
+ghost use Rattle.dcc_wire.specs.Recovery.{OneOfThreeCopiesIsSeen};
 ghost use Rattle.dcc_wire.specs.Sending.{Sent, sent_all, at_last_halves, AllFrames};
 
-/// In the halves of packets that are sent one after the other, each packet is seen at its last
-/// half, and nothing else is.
+/// Theorem: a framer that hears sent packets one after the other sees each packet at its last
+/// half-bit, and sees nothing else.
 #[tactic(auto, using(crate::proofs::FramerSteps::sending))]
 pub fn sent_packets_are_seen()
     ensures { (packets : List Sent) → AllFrames packets → seen (sent_all packets) ≡ at_last_halves 0 packets }
 {}
 
-/// More halves only add to what was seen.
+/// Theorem: two lists of half-bits have the same outcomes if their classes are the same at each
+/// place.
+#[tactic(auto, using(crate::proofs::FramerSteps::classing))]
+pub fn classes_decide_the_outcomes()
+    ensures { (durations others : List ℕ) → map class_of durations ≡ map class_of others
+        → seen durations ≡ seen others }
+{}
+
+/// Theorem: a receiver that measures each half-bit with an error of at most 3 microseconds loses
+/// nothing that a station sends.
+///
+/// A station sends ones of 55 to 61 and zeros of 95 to 9900 microseconds. With such errors they
+/// stay within 52 to 64 and within 90 to 10000 microseconds.
+#[tactic(auto, using(crate::proofs::FramerSteps::measuring))]
+pub fn measured_packets_are_seen()
+    // A framer sees each packet at its last half-bit, and nothing else.
+    ensures exact { (packets : List Sent) (measured : List ℕ) → AllFrames packets
+        → AreWithin 3 (sent_all packets) measured → seen measured ≡ at_last_halves 0 packets }
+    // If other half-bits come before and after the packets, the errors change no outcome.
+    ensures anywhere { (packets : List Sent) (before measured after : List ℕ)
+        → AreWithin 3 (sent_all packets) measured
+        → seen (before ++ measured ++ after) ≡ seen (before ++ sent_all packets ++ after) }
+{}
+
+/// Theorem: noise costs at most the first packet that is sent after it.
+///
+/// Noise is any list of half-bits. If it leaves a body unfinished, the preamble of the first packet
+/// completes this body, and the outcome can be a packet that nobody sent. The first packet is lost
+/// if its preamble has 14 to 17 ones and the body ends in the last 18 half-bits of this preamble.
+#[tactic(auto, using(crate::proofs::FramerSteps::recovering))]
+pub fn noise_costs_at_most_the_first_packet()
+    // A framer sees each packet after the first one at its last half-bit, and nothing else.
+    ensures others { NoiseCostsNoLaterPacket }
+    // Between the noise and those packets it sees at most one outcome of a body that the noise
+    // leaves unfinished, and the first packet unless this packet is lost.
+    ensures first { NoiseCostsAtMostTheFirst }
+    // Such a body ends within the first 18 half-bits of the first preamble.
+    ensures soon { OpenBodiesEndSoon }
+    // If the noise leaves no body unfinished, a framer sees each packet, and nothing else.
+    ensures between { NoiseBetweenBodiesCostsNothing }
+    // If the first preamble has at least 18 ones, as in service mode, a framer sees each packet.
+    ensures long { LongPreamblesLoseNothing }
+{}
+
+/// Theorem: if noise replaces one of three copies of a packet in a row, a framer sees one of the
+/// other two at its last half-bit.
+pub fn one_of_three_copies_is_seen()
+    ensures { OneOfThreeCopiesIsSeen }
+{}
+
+/// Theorem: the outcomes of a list of half-bits are a prefix of the outcomes of each longer list
+/// that begins with it.
 #[tactic(auto, using(crate::proofs::FramerSteps::growing))]
 pub fn more_halves_only_add()
     ensures { SeenOnlyGrows }
 {}
 
-/// From the first half of a start bit on, the outcome is the row of the table that fits, and there
-/// is none where the halves are unfinished.
+/// Theorem: let a list of half-bits begin with a half-bit of a zero. The outcome of the list is
+/// that of the row of the table that fits. The list has no outcome if the row for unfinished bodies
+/// fits.
 pub fn outcomes_are_the_rows_of_the_table()
     ensures rows { OutcomesAreRows }
     ensures unfinished { NoOutcomeIsUnfinished }
 {}
 
-/// From the first half of a start bit on, exactly one of a packet, the five faults and unfinished
-/// holds, and in one way.
+/// Theorem: exactly one row of the table fits a list of half-bits that begins with a half-bit of a
+/// zero. The row is a packet, one of the five errors, or an unfinished body, and fits in exactly
+/// one way.
 pub fn exactly_one_row_of_the_table_fits()
     ensures some { SomeRowFits }
     ensures one { OneRowFits }

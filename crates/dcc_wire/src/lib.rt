@@ -1,7 +1,8 @@
-//! Half-bits, the packets in them, and the half-bits of packets that are sent: the electrical and
-//! the packet layer of Digital Command Control (NMRA S-9.1, S-9.2; RCN-210, RCN-211).
+//! The electrical layer and the packet layer of Digital Command Control (NMRA S-9.1, S-9.2;
+//! RCN-210, RCN-211). The crate finds the packets in half-bits, and computes the half-bits of a
+//! packet that is sent.
 //!
-//! Nothing here takes memory.
+//! This crate does not allocate memory.
 #![tactic(auto)]
 
 mod bytes;

@@ -1,13 +1,14 @@
-//! Halves that come many at a time, all alike.
+//! Functions that push a run of equal half-bits to a framer.
 
 use crate::{Framer, Half, Seen};
 
-/// What a run of halves of one duration shows.
+/// The outcome of a run of equal half-bits.
 #[derive(Clone, Copy, Debug, PartialEq, Eq)]
 pub struct RunSeen {
-    /// The one outcome whose last half is in the run, or [`Seen::Nothing`].
+    /// The outcome that ends in the run, or [`Seen::Nothing`].
     pub seen: Seen,
-    /// The number of that half in the run, from 1; where nothing is seen, the number of all halves.
+    /// The number of the last half-bit of the outcome, counted from 1 in the run. Without an
+    /// outcome `at` is the number of half-bits of the run.
     pub at: u32,
 }
 
@@ -18,14 +19,16 @@ impl Framer {
     ghost use Rattle.dcc_wire.specs.Outcomes.{ones_left};
     ghost use Rattle.dcc_wire.specs.Runs.{PushesRun, rest_after_run};
 
-    /// Takes one half of this many microseconds or two, of n at most: both halves of a bit, where that is what comes next.
+    /// Takes one or two of `n` half-bits of `us` microseconds. The function takes both half-bits of
+    /// a bit if `n` is at least 2 and a bit of a body comes next, otherwise one half-bit.
     #[inline(always)]
     fn push_some(&mut self, us: u16, n: u32) -> RunSeen
         requires { 0 < n }
         ensures stands { (durations : List ℕ) → StandsFor self.old durations
             → StandsFor self.new (durations ++ replicate result.at us) }
         ensures sees { (durations : List ℕ) → StandsFor self.old durations →
-            seen (durations ++ replicate result.at us) ≡ seen durations ++ report_at (length durations + result.at - 1) result.seen }
+            seen (durations ++ replicate result.at us) ≡ seen durations
+            ++ report_at (length durations + result.at - 1) result.seen }
         ensures before { (durations : List ℕ) → StandsFor self.old durations
             → seen (durations ++ replicate (result.at - 1) us) ≡ seen durations }
         ensures some { (1 ≤ result.at) × (result.at ≤ n) }
@@ -40,29 +43,33 @@ impl Framer {
         RunSeen { seen, at: 1 }
     }
 
-    /// Takes n halves of this many microseconds, as n calls of [`Framer::push`] would. At most one of
-    /// these answers an outcome: behind it halves that are all alike bring no preamble with a start bit.
+    /// Takes `n` half-bits of `us` microseconds, as `n` calls of [`Framer::push`] do. At most one
+    /// of these half-bits has an outcome, since equal half-bits cannot form a preamble and a start
+    /// bit.
     ///
-    /// The call takes at most 110 half-bits one by one, those of one body. If no half-bit of the rest begins a body, the
-    /// rest changes only the number of ones.
+    /// The function takes at most the 110 half-bits of one body one or two at a time. If no further
+    /// half-bit begins a body, the rest of the run changes only the number of half-bits of ones.
     #[inline(always)]
     pub fn push_run(&mut self, us: u16, n: u32) -> RunSeen
-        // For every list of halves that the framer stands for, of which there is at least one,
+        // The framer represents at least one list of half-bits.
         ensures history { (durations : List ℕ) × StandsFor self.old durations }
-        // it then stands for the list with these halves behind it,
+        // If the framer represents a list before the call, it then represents this list with the
+        // half-bits at the end.
         ensures stands { (durations : List ℕ) → StandsFor self.old durations
             → StandsFor self.new (durations ++ replicate n us) }
-        // the longer list shows the answer at its number, and nothing else behind the list,
+        // The list with these half-bits has the outcomes of the list before the call, and then
+        // `result.seen`, at half-bit `result.at` of the run. `Nothing` adds no outcome.
         ensures sees { (durations : List ℕ) → StandsFor self.old durations →
-            seen (durations ++ replicate n us) ≡ seen durations ++ report_at (length durations + result.at - 1) result.seen }
-        // and the halves before that number show nothing.
+            seen (durations ++ replicate n us) ≡ seen durations
+            ++ report_at (length durations + result.at - 1) result.seen }
+        // The half-bits of the run before half-bit `result.at` have no outcome.
         ensures before { (durations : List ℕ) → StandsFor self.old durations
             → seen (durations ++ replicate (result.at - 1) us) ≡ seen durations }
 
         ensures nothing { result.seen ≡ Seen.Nothing → result.at ≡ n }
         ensures something { result.seen ≢ Seen.Nothing → (1 ≤ result.at) × (result.at ≤ n) }
 
-        // After an outcome the framer hunts, and takes the halves behind it.
+        // After an outcome the framer looks for a preamble in the rest of the half-bits.
         ensures hunts { result.seen ≢ Seen.Nothing
             → self.new ≡ rest_after_run (Hunting (ones_left result.seen)) (class_of us) (n - result.at) }
     {
@@ -70,12 +77,12 @@ impl Framer {
             let seen = self.push(us);
             return RunSeen { seen, at: 1 };
         }
-        // (the prover knows a type's invariant where one of its fields is named)
+        // the prover knows the invariant of a type if the code names one of the fields
         let _ = &self.state;
         self.push_many(us, n)
     }
 
-    /// The same for any number of halves.
+    /// Takes `n` half-bits of `us` microseconds, one or two at a time.
     fn push_many(&mut self, us: u16, n: u32) -> RunSeen
         ensures { PushesRun self.old us n result self.new }
     {

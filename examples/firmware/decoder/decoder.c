@@ -12,7 +12,7 @@ static dcc_board turnouts;
 static dcc_frame found;
 static atomic_bool waits;
 
-/* Called in the interrupt. docs/C.md has the mean and the worst case of dcc_push for each processor: on a slow one
+/* Called in the interrupt. docs/PERFORMANCE.md has the mean and the worst case of dcc_push for each processor: on a slow one
  * the worst case can last as long as a half-bit, so a timer has to keep the time of the edge that comes meanwhile.
  * To hear a packet takes longer than that, so the main loop does it. A packet that completes while another one
  * waits is lost, as a packet with a spoilt half-bit is: stations repeat packets. */

@@ -1,10 +1,13 @@
-// A locomotive with the short address 3, and board 12. The signal comes to pin 2, through an optocoupler; a motor is at pin 9, a lamp at 13.
+// A locomotive decoder with the short address 3, and board 12. The signal of the track comes through an optocoupler to
+// pin 49 of a Mega, pin 2 of other boards (DccEdges.h). A motor is at pin 3 and a lamp at pin 13. The CVs take two
+// kilobytes of memory, so the sketch needs more than an Uno has.
 #include <DccDecoder.h>
+#include <DccEdges.h>
 
-const uint8_t TRACK = 2, MOTOR = 9, LAMP = 13;
+const uint8_t MOTOR = 3, LAMP = 13;
 DccDecoder decoder;
 
-void onEdge() { decoder.edge(micros()); }
+void onHalfBit(uint16_t us) { decoder.halfBit(us); }
 
 void notifyDccSpeed(uint8_t step, uint8_t of, bool forward) {
     analogWrite(MOTOR, step == 0 ? 0 : 255 * step / of);
@@ -19,7 +22,7 @@ void notifyDccFunc(uint8_t function, bool on) {
     Serial.println(on ? " on" : " off");
 }
 
-// Here a decoder of yours writes into memory that lasts.
+// Your decoder writes the CV into EEPROM or flash here.
 void notifyCVChange(uint16_t cv, uint8_t value) {
     Serial.print("CV");
     Serial.print(cv);
@@ -43,7 +46,7 @@ void setup() {
     Serial.begin(115200);
     pinMode(LAMP, OUTPUT);
     decoder.begin(cvs, micros(), 12);
-    attachInterrupt(digitalPinToInterrupt(TRACK), onEdge, CHANGE);
+    beginEdges();
 }
 
 void loop() { decoder.process(); }

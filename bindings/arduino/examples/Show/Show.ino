@@ -1,15 +1,16 @@
-// Packets and refusals on a track, as `dcc show --words` lists them. The signal comes to pin 2, through an optocoupler.
+// Lists the packets and refusals on a track, as `dcc show --words` does. The signal of the track comes through an
+// optocoupler to pin 8 of an Uno or Nano, pin 49 of a Mega, pin 2 of other boards (DccEdges.h).
+#include <DccEdges.h>
 #include <DccTrack.h>
 
-const uint8_t PIN = 2;
 DccTrack track;
 
-void onEdge() { track.edge(micros()); }
+void onHalfBit(uint16_t us) { track.halfBit(us); }
 
 void setup() {
     Serial.begin(115200);
     track.begin(micros());
-    attachInterrupt(digitalPinToInterrupt(PIN), onEdge, CHANGE);
+    beginEdges();
 }
 
 void loop() {

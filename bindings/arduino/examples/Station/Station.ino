@@ -1,27 +1,12 @@
-// A command station. Lines as `loco s3 speed28 f 4` come over the serial port; pin 5 goes to the booster.
+// A command station. Lines such as `loco s3 speed28 f 4` come over the serial port. The signal for the booster comes from
+// pin 46 of a Mega, pin 9 of other boards with an AVR, pin 5 of an RP2040 (DccSignal.h). A station takes 1.8 kilobytes of
+// memory, so the sketch needs more than an Uno has.
+#include <DccSignal.h>
 #include <DccStation.h>
 
-const uint8_t TRACK = 5;
 DccStation station;
-bool level;
 
-// The track's level turns. Tells for how many microseconds it stays.
-uint16_t turn() {
-    level = !level;
-    digitalWrite(TRACK, level ? HIGH : LOW);
-    return station.half();
-}
-
-// Has `turn` called after so many microseconds, and then each time after as many as it has told. Each board has timers of its own, so this is the one
-// thing to write for yours; it stands here for the RP2040.
-void startTimer(uint16_t us);
-
-#if defined(ARDUINO_ARCH_RP2040) && !defined(ARDUINO_ARCH_MBED)
-#include <pico/time.h>
-// (a negative answer counts from the alarm before, so no delay adds up)
-int64_t onAlarm(alarm_id_t, void *) { return -(int64_t)turn(); }
-void startTimer(uint16_t us) { add_alarm_in_us(us, onAlarm, nullptr, true); }
-#endif
+uint16_t nextHalfBit() { return station.half(); }
 
 // The longest line that is kept. A packet line has 40 bytes at most, without the blanks that you add.
 enum { LINE = 80 };
@@ -39,10 +24,9 @@ void command(const char *line, uint32_t len) {
 
 void setup() {
     Serial.begin(115200);
-    pinMode(TRACK, OUTPUT);
     station.begin();
     station.process();
-    startTimer(station.half());
+    beginSignal();
 }
 
 void loop() {

@@ -1,16 +1,14 @@
-// Each packet on the track, and below it each call of three decoders that hear it. The signal comes to pin 2, through
-// an optocoupler.
+// Each packet on the track, and below it each call of three decoders that hear it.
 #include <DccDecoder.h>
+#include <DccEdges.h>
 
-const uint8_t TRACK = 2;
 DccTrack track;
 DccDecoder decoders[3];
 uint8_t which;
 
-void onEdge() {
-    uint32_t now = micros();
-    track.edge(now);
-    for (DccDecoder &it : decoders) it.edge(now);
+void onHalfBit(uint16_t us) {
+    track.halfBit(us);
+    for (DccDecoder &it : decoders) it.halfBit(us);
 }
 
 // A line of a decoder, a to c: a word and numbers.
@@ -51,7 +49,7 @@ void setup() {
     decoders[0].begin(cvs[0], micros(), 12);
     decoders[1].begin(cvs[1], micros(), 510);
     decoders[2].begin(cvs[2], micros());
-    attachInterrupt(digitalPinToInterrupt(TRACK), onEdge, CHANGE);
+    beginEdges();
 }
 
 void loop() {

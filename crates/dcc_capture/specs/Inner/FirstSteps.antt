@@ -5,9 +5,10 @@ use Rattle.dcc_io.specs.declared.fault.KeptFault.TheVariants.{Number, TooMuch}
 use Rattle.dcc_io.specs.declared.word.Run.{Run}
 use Rattle.dcc_io.specs.InputState.{InputState}
 use Rattle.dcc_io.specs.Words.{run_of}
-use Rattle.dcc_io.specs.LineEnd.{EndsLine}
+use Rattle.dcc_io.specs.LineEnd.{SkipsToLineEnd}
 
--- the word on this line spells a run that is counted, or is refused
+-- the word `bytes` on line `line` is a run, and its half-bits were subtracted from the limit. If it
+-- is no run, the result is the error U2. If the limit does not allow the run, it is the error U7.
 abbrev pub CountsWord : InputState → ℕ → List ℕ → Result (Option (ℕ × Run)) KeptFault → InputState → Type 0
 CountsWord old line bytes (Ok (Some taken)) new =
     (taken.0 ≡ line) × (run_of bytes ≡ Some taken.1) × (taken.1.n ≤ old.halves)
@@ -17,11 +18,12 @@ CountsWord old line bytes (Err fault) new = (new ≡ record old { fault = Some f
     × (((run_of bytes ≡ None) × (fault ≡ Number line))
     ⊎ ((run : Run) × (run_of bytes ≡ Some run) × (fault ≡ TooMuch) × (old.halves < run.n)))
 
--- the line of the word before ended with it, or else it was read to its end or to the end of a further word
+-- the rest of line `line`, after its word `---`, was read. If a further word is on this line, the
+-- result is the error U2.
 abbrev pub EndsMark : InputState → ℕ → Result (Option (ℕ × Run)) KeptFault → InputState → Type 0
 EndsMark old line (Ok None) new =
-    ((new ≡ old) × (old.place.line ≢ line)) ⊎ ((old.place.line ≡ line) × EndsLine old (Ok true) new)
+    ((new ≡ old) × (old.place.line ≢ line)) ⊎ ((old.place.line ≡ line) × SkipsToLineEnd old (Ok true) new)
 EndsMark old line (Ok (Some taken)) new = ⊥
 EndsMark old line (Err fault) new = (old.place.line ≡ line)
-    × (((mid : InputState) × EndsLine old (Ok false) mid × (fault ≡ Number line)
-    × (new ≡ record mid { fault = Some (Number line) })) ⊎ EndsLine old (Err fault) new)
+    × (((mid : InputState) × SkipsToLineEnd old (Ok false) mid × (fault ≡ Number line)
+    × (new ≡ record mid { fault = Some (Number line) })) ⊎ SkipsToLineEnd old (Err fault) new)

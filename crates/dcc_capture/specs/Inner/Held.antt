@@ -1,4 +1,4 @@
--- What is held of a listing.
+-- The buffered part of a listing.
 use Rattle.std.specs.Prelude.{◌≡◌, ℕ, ◌++◌, ◌⊎◌, Bool, List, Option, Result, Ok, Err}
 use Rattle.std.specs.Io.KnownBytes.{Appends}
 use Rattle.dcc_wire.specs.declared.seen.Seen.{Seen}
@@ -15,24 +15,27 @@ use Rattle.dcc_io.specs.WriterState.{WriterState}
 use Rattle.dcc_io.specs.WrittenBytes.{AppendsFront}
 use Rattle.dcc_io.specs.Held.{Holds, HoldsOrFails}
 
--- each of the bytes that were held and of a listing of these outcomes was written or is held, or a
--- write failed or took no byte
+-- if the result is Ok, the bytes `held` and a listing of `outcomes` were written, except for their
+-- suffix `left`, which is buffered. If it is an error, a write failed or wrote no byte, and a
+-- prefix of these bytes was written.
 abbrev pub HoldsListing : Bool → List (ℕ × Seen) → WriterState → List ℕ → Result (Unit {0}) Failed → List ℕ
     → WriterState → Type 0
 HoldsListing words outcomes before held result left after =
     (text : List ℕ) × IsListing words outcomes text × HoldsOrFails before (held ++ text) result left after
 
--- all that was held is written and this is answered, or a write failed or took no byte
+-- all buffered bytes `held` were written and `result` is `answer`, or a write failed or wrote no
+-- byte and `result` is the error U5
 abbrev pub WritesRest : WriterState → List ℕ → Result (Unit {0}) ToolFault → Result (Unit {0}) ToolFault → WriterState
     → Type 0
 WritesRest before held answer result after =
     ((result ≡ answer) × Appends before.contents after.contents held × (after.failures ≡ before.failures))
     ⊎ ((result ≡ Err Write) × AppendsFront before after held × HasRisen before.failures after.failures)
 
--- the next run was answered, behind a write of what was held, or that write failed or took no byte
-abbrev pub TakesRun : InputState → WriterState → List ℕ → Result (Result (Option Run) KeptFault) Failed → InputState
+-- if the result is Ok, the buffered bytes `held` were written except for their suffix `left`, and
+-- the next run was read. If it is an error, a write failed or wrote no byte, and nothing was read.
+abbrev pub ReadsRun : InputState → WriterState → List ℕ → Result (Result (Option Run) KeptFault) Failed → InputState
     → List ℕ → WriterState → Type 0
-TakesRun old before held (Ok answer) new left after =
+ReadsRun old before held (Ok answer) new left after =
     AnswersRun old answer new × Holds before after held left × (after.failures ≡ before.failures)
-TakesRun old before held (Err failed) new left after =
+ReadsRun old before held (Err failed) new left after =
     (new ≡ old) × AppendsFront before after held × HasRisen before.failures after.failures

@@ -1,33 +1,35 @@
--- A line at the front of some bytes.
+-- A line at the beginning of a list of bytes.
 use Rattle.std.specs.Prelude.{◌≡◌, ℕ, ◌<◌, ◌∷◌, ◌++◌, List, true, false, length, take, slice_index_or}
 use Rattle.dcc_io.specs.InputState.{InputState}
-use Rattle.dcc_io.specs.NextLine.{IsOneLine, EndsLine}
+use Rattle.dcc_io.specs.NextLine.{IsOneLine, ReadsLine}
 use Rattle.dcc_io.specs.PacketLines.{is_skipped}
 
--- these bytes begin with a good line, and the line feed that ends it
+-- `bytes` begin with the valid line `line` and the line feed that ends it
 pub record BeginsWithLine (bytes line : List ℕ) : Type 0 where
   pub behind : List ℕ
   pub whole : bytes ≡ line ++ 10 ∷ behind
   pub is_line : IsOneLine line
 
--- such a line, which says something
+-- `bytes` begin with the valid line `line`, which is neither blank nor a comment, and the line feed
+-- that ends it
 pub record IsFrontLine (bytes line : List ℕ) : Type 0 where
   pub begins : BeginsWithLine bytes line
   pub says : is_skipped line ≡ false
 
--- so many bytes are a good line, which a line feed ends
+-- the first `len` of `bytes` are a valid line, and a line feed follows them
 pub record IsEndedLine (bytes : List ℕ) (len : ℕ) : Type 0 where
   pub inside : len < length bytes
   pub ends : slice_index_or bytes len 0 ≡ 10
   pub is_line : IsOneLine (take len bytes)
 
--- so many bytes are such a line, which says nothing
+-- the first `len` of `bytes` are a valid line that is blank or a comment, and a line feed follows
+-- them
 pub record IsSkippedLine (bytes : List ℕ) (len : ℕ) : Type 0 where
   pub ended : IsEndedLine bytes len
   pub skipped : is_skipped (take len bytes) ≡ true
 
--- a line that says nothing was read
+-- from `old` to `new`, a line that is blank or a comment was read
 pub record SkipsLine (old new : InputState) : Type 0 where
   pub line : List ℕ
-  pub ends : EndsLine old old.place.line line new
+  pub ends : ReadsLine old old.place.line line new
   pub skipped : is_skipped line ≡ true

@@ -1,4 +1,4 @@
--- A run of a capture that is pushed into a framer.
+-- A run of a capture that is given to a framer.
 use Rattle.std.specs.Prelude.{◌≡◌, ℕ, ◌+◌, ◌-◌, ◌++◌, List, Option, Some, None, Result, Ok, Err, length, replicate}
 use Rattle.dcc_wire.specs.declared.framer.Framer.{Framer}
 use Rattle.dcc_wire.specs.declared.seen.Seen.{Seen}
@@ -9,21 +9,24 @@ use Rattle.dcc_io.specs.InputState.{InputState}
 use Rattle.dcc_capture.specs.Capture.{AnswersRun}
 use Rattle.dcc_capture.specs.FirstRead.{AnswersFirst}
 
--- a framer took this run, and one of its halves showed this
+-- a framer in state `framer` that gets `run` returns `shown` and is in state `next`
 pub record Pushes (run : Run) (framer : Framer) (shown : Seen) (next : Framer) : Type 0 where
   pub at : ℕ
   pub stands : (halves : List ℕ) → StandsFor framer halves → StandsFor next (halves ++ replicate run.n run.us)
   pub sees : (halves : List ℕ) → StandsFor framer halves
       → seen (halves ++ replicate run.n run.us) ≡ seen halves ++ report_at (length halves + at - 1) shown
 
--- the next run of a capture was pushed, or its end or a fault was met
+-- if the result is an outcome, the next run of a capture was read and given to `framer`. The result
+-- is `None` at the end of the capture, or an error of the capture.
 abbrev pub PushesNext : InputState → Framer → Result (Option Seen) KeptFault → InputState → Framer → Type 0
 PushesNext old framer (Ok (Some shown)) new next =
     (run : Run) × AnswersRun old (Ok (Some run)) new × Pushes run framer shown next
 PushesNext old framer (Ok None) new next = AnswersRun old (Ok None) new
 PushesNext old framer (Err fault) new next = AnswersRun old (Err fault) new
 
--- the same of the first of two captures, with the line of the run
+-- if the result is an outcome and a line, the next run of the first of two captures was read on
+-- this line and given to `framer`. The result is `None` at the end of this capture, or an error of
+-- it.
 abbrev pub PushesFirst : ℕ → InputState → Framer → Result (Option (ℕ × Seen)) KeptFault → InputState → Framer → Type 0
 PushesFirst before old framer (Ok (Some (line, shown))) new next =
     (run : Run) × AnswersFirst before old (Ok (Some (line, run))) new × Pushes run framer shown next

@@ -1,4 +1,5 @@
--- The two sides of a comparison: how far they were taken, of a capture and of held packets.
+-- The states of the two sources of packets of a comparison. A source is a capture that is read, or
+-- a list of stored packets.
 use Rattle.std.specs.Prelude.{◌≡◌, ◌<◌, ◌^◌, ◌++◌, ◌⊎◌, Bool, true, false, List, None, length}
 use Rattle.dcc_packet.specs.declared.packet.Packet.{Packet}
 use Rattle.dcc_wire.specs.declared.framer.Framer.{Framer}
@@ -10,39 +11,45 @@ use Rattle.dcc_listen.specs.declared.side.Progress.{Progress}
 use Rattle.dcc_listen.specs.Gathered.{Gathered}
 use Rattle.dcc_listen.specs.Taking.{Gathering}
 
--- a capture was read so far, or to its end
+-- `packets` were read from a capture, from `start` to `now`. For `true`, the capture was read to
+-- its end.
 abbrev pub SideRead : Bool → InputState → InputState → Framer → List Packet → Type 0
 SideRead false start now framer packets = Gathering start now framer packets
 SideRead true start now framer packets = Gathered start packets now
 
--- these packets of a capture were taken
+-- `packets` were read from a capture, from `start` to `now`, and `progress` is the state of this
+-- reading
 pub record CaptureTook (start now : InputState) (packets : List Packet) (progress : Progress) : Type 0 where
   pub none_kept : start.fault ≡ None
   pub few : start.halves < 2 ^ 32
   pub read : SideRead progress.ended start now progress.framer packets
 
--- these packets were taken of those that are held
+-- `packets` were read from the stored packets `start`, and `now` are the packets that are left. If
+-- `ended` is true, no packet is left.
 pub record HeldTook (start now packets : List Packet) (ended : Bool) : Type 0 where
   pub few : length start < 2 ^ 32
   pub whole : start ≡ packets ++ now
   pub all : MayFollow ended now
 
--- the rest of a side was taken, behind these packets
-pub record TakesRest (Took : List Packet → Progress → Type 0) (packets : List Packet) (ended : Bool) (progress : Progress)
+-- after `packets`, the rest of a source was read to its end, which leads to `progress`. If `ended`
+-- is true, the rest has no packet.
+pub record TakesRest (Took : List Packet → Progress → Type 0) (packets : List Packet) (ended : Bool)
+    (progress : Progress)
     : Type 0 where
   pub more : List Packet
   pub may : MayFollow ended more
   pub took : Took (packets ++ more) progress
   pub all : progress.ended ≡ true
 
--- some packets of a side were taken, or all of them
+-- any number of packets of a source were read
 abbrev pub TakesSome : (List Packet → Progress → Type 0) → Type 0
 TakesSome Took = (packets : List Packet) × (progress : Progress) × Took packets progress
 
 abbrev pub TakesAll : (List Packet → Progress → Type 0) → List Packet → Type 0
 TakesAll Took packets = (progress : Progress) × (progress.ended ≡ true) × Took packets progress
 
--- one side met this fault, or there was no memory
+-- one of two sources has the error `fault`, or `fault` is U6 and an allocation failed. Any number
+-- of packets of the sources without an error were read.
 abbrev pub OneStops : (ToolFault → Type 0) → (List Packet → Progress → Type 0) → (ToolFault → Type 0)
     → (List Packet → Progress → Type 0) → ToolFault → Type 0
 OneStops Fails Took OtherFails OtherTook fault =

@@ -1,23 +1,23 @@
--- A line that has to stand where it is read.
+-- A line that a text must have.
 use Rattle.std.specs.Prelude.{◌≡◌, ◌⊎◌, [], Some, Result, Ok, Err, IfSome}
 use Rattle.dcc_packet.specs.declared.fault.PacketFault.TheVariants as faults
 use Rattle.dcc_io.specs.declared.text_line.TextLine.{TextLine}
 use Rattle.dcc_io.specs.declared.fault.KeptFault.{KeptFault}
 use Rattle.dcc_io.specs.declared.fault.KeptFault.TheVariants.{Number, Line, Read, TooMuch}
 use Rattle.dcc_io.specs.InputState.{InputState}
-use Rattle.dcc_io.specs.NextLine.{EndsLine, IsBadAt, FailsInLine, OverflowsInLine}
+use Rattle.dcc_io.specs.NextLine.{ReadsLine, IsBadAt, FailsInLine, OverflowsInLine}
 use Rattle.dcc_saved.specs.TextRead.{UsesThroughLine}
 
--- the next line is bad, or there is none
+-- the next line of `old` is invalid, or its text has no further line
 pub record MissesLine (old new : InputState) : Type 0 where
   pub text : IfSome old.text (λ text. IsBadAt old text ⊎ (text ≡ []))
   pub lines : UsesThroughLine old old.place.line new
   pub fault : new.fault ≡ Some (Line old.place.line faults.Word)
   pub failures : new.failures ≡ old.failures
 
--- the next line was taken, or why not
+-- the result is the next line of `old`, or the error of a missing or invalid line
 abbrev pub TakesLine : InputState → Result TextLine KeptFault → InputState → Type 0
-TakesLine old (Ok line) new = EndsLine old line.number line.text.bytes new
+TakesLine old (Ok line) new = ReadsLine old line.number line.text.bytes new
 TakesLine old (Err (Line number fault)) new = (fault ≡ faults.Word) × (number ≡ old.place.line) × MissesLine old new
 TakesLine old (Err Read) new = FailsInLine old new
 TakesLine old (Err TooMuch) new = OverflowsInLine old new

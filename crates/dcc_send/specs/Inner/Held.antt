@@ -1,4 +1,4 @@
--- What is held of the lines that were to be written.
+-- Buffered output lines.
 use Rattle.std.specs.Prelude.{◌≡◌, ℕ, ◌++◌, List, [], Option, None, Some, Result, Ok, Err}
 use Rattle.std.specs.Io.KnownBytes.{Appends}
 use Rattle.dcc_station.specs.Sending as sending
@@ -13,13 +13,14 @@ use Rattle.dcc_io.specs.WrittenBytes.{AppendsFront}
 use Rattle.dcc_io.specs.Held.{Holds}
 use Rattle.dcc_send.specs.StationEncoded.{AnswersAll}
 
--- all that was held was written, without a failure
+-- all buffered bytes `held` were written without a failure, so that the buffer `left` is empty
 abbrev pub WritesOut : WriterState → List ℕ → List ℕ → WriterState → Type 0
 WritesOut before held left after =
     (left ≡ []) × Appends before.contents after.contents held × (after.failures ≡ before.failures)
 
--- The next of an input was answered. Before an end or a fault all that was held was written. Where that write failed,
--- or took no byte, nothing was taken of the input.
+-- If `answers` returns an item of the input, a prefix of the buffered bytes `held` was written and
+-- `left` is still buffered. At the end of the input, or at an error of it, all of `held` was
+-- written. If a write failed or wrote no byte, nothing was read of the input.
 abbrev pub TakesNext : {C : Type 0} → (InputState → Result (Option C) KeptFault → InputState → Type 0) → InputState
     → WriterState → List ℕ → Result (Result (Option C) KeptFault) Failed → InputState → List ℕ → WriterState → Type 0
 TakesNext answers old before held (Ok (Ok (Some next))) new left after =
@@ -31,14 +32,16 @@ TakesNext answers old before held (Ok (Err fault)) new left after =
 TakesNext answers old before held (Err failed) new left after =
     (new ≡ old) × AppendsFront before after held × HasRisen before.failures after.failures
 
--- each of the bytes that were held and of what a station answers was written or is held
+-- a station in state `s` that gets the requests `items` is in state `new`. The bytes `held` and its
+-- answers were written, except for their suffix `left`, which is buffered.
 pub record HoldsAnswers (how : Encode) (s : sending.Sending) (items : List Asked) (new : sending.Sending)
     (before after : WriterState) (held left : List ℕ) : Type 0 where
   pub bytes : List ℕ
   pub answers : AnswersAll how s items bytes new
   pub holds : Holds before after (held ++ bytes) left
 
--- a front of what was held and of what a station answers to the first of these items was written
+-- a prefix of the bytes `held` and of the answers of a station in state `s` was written. These are
+-- the answers to the first requests of `items`.
 pub record HeldFront (how : Encode) (s : sending.Sending) (items : List Asked) (before after : WriterState)
     (held : List ℕ) : Type 0 where
   pub first : List Asked
@@ -49,7 +52,8 @@ pub record HeldFront (how : Encode) (s : sending.Sending) (items : List Asked) (
   pub answers : AnswersAll how s first bytes new
   pub written : AppendsFront before after (held ++ bytes)
 
--- what a station answers was held, or a write failed or took no byte
+-- if the result is Ok, `held` and the answers of a station to `items` were written or are buffered.
+-- If it is an error, a write failed or wrote no byte, and a prefix of them was written.
 abbrev pub HoldsAnswersOrFails : Encode → sending.Sending → List Asked → WriterState → List ℕ
     → Result (Unit {0}) Failed → sending.Sending → List ℕ → WriterState → Type 0
 HoldsAnswersOrFails how s items before held (Ok done) new left after =

@@ -1,22 +1,25 @@
--- One half more of a framer that is kept as plain numbers, where it shows nothing.
+-- The effect of one half-bit that completes no outcome on the state of a framer as plain numbers.
 use Rattle.std.specs.Prelude.{◌≡◌, ◌<◌, ◌⊎◌, Bool, false, true, length}
 use Rattle.dcc_wire.specs.declared.half.Half.{Half}
 use Rattle.dcc_wire.specs.declared.seen.Seen.TheVariants.{Nothing}
 use Rattle.dcc_wire.specs.Inner.Steps.{rest_after, answer_to}
 use Rattle.dcc_wire.specs.Kept.{Kept, IsKept, kept_rest}
 
--- a bit, which the first half of a kept body's next bit fits, leaves the body unfinished
+-- the framer `k` stores the first half-bit of `bit`, and the body is still unfinished after the
+-- second half-bit of `bit`
 pub record FitsBehind (k : Kept) (bit : Bool) : Type 0 where
   pub has_first : k.has_first ≡ true
   pub same : k.first ≡ bit
   pub zero_first : k.count ≡ 0 → bit ≡ false
   pub room : length k.bytes < 6
 
--- a half of this bit leaves the body unfinished: it is the first half of a bit, or the second of one that fits
+-- the body of framer `k` is still unfinished after one more half-bit of `bit`, which is the first
+-- half-bit of a bit or completes a bit
 abbrev pub HasRoomFor : Kept → Bool → Type 0
 HasRoomFor k bit = (k.has_first ≡ false) ⊎ FitsBehind k bit
 
--- a framer with one half more, which shows nothing
+-- `new` is the state of framer `k` after one more half-bit of class `half`, which completes no
+-- outcome
 pub record Grows (k : Kept) (half : Half) (new : Kept) : Type 0 where
   pub after : kept_rest new ≡ rest_after (kept_rest k) half
   pub answer : answer_to (kept_rest k) half ≡ Nothing

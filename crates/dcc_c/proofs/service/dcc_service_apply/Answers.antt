@@ -1,5 +1,5 @@
 use Rattle.std.proofs.Common.{refl}
-use Rattle.dcc_service.specs.Progress.{with_cvs}
+use Rattle.dcc_service.specs.Progress.{state_with_cvs}
 use Rattle.dcc_c.proofs.ApplyLemmas.{same_service, same_some, stepped}
 use Rattle.dcc_c.proofs.service.dcc_service_apply.Goals as goal
 
@@ -7,7 +7,7 @@ pub returns-in-Some-clause-steps : goal.returns-in-Some-clause-steps
 returns-in-Some-clause-steps c ok before e =
     let was = same_service c.in-Some.progress c.args.service.now before
     (same_some c.in-Some.progress _ c.progress_of.result c.in-Some.is (c.progress_of.ensures.found before e)) e in (
-      with_cvs c.apply.new.self c.apply.new.cvs,
+      state_with_cvs c.apply.new.self c.apply.new.cvs,
       c.put.ensures,
       refl,
       stepped before _ _ _ _ _ was c.in-Ok.ensures.0 c.apply.ensures,

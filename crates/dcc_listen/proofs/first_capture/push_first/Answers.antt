@@ -8,7 +8,7 @@ pub returns-in-Some : goal.returns-in-Some
 returns-in-Some g c = (
   record { us = c.in-Some.us; n = 1 },
   subst (λ n. AnswersFirst c.args.before c.args.input.now (Ok (Some (n, record { us = c.in-Some.us; n = 1 })))
-      c.half_at_hand.new.input) (sym c.line_of_next_byte-line.ensures) (first_half_taken c.args.before c.requires c.in-Some.ensures.some),
+      c.take_buffered_half.new.input) (sym c.line_of_next_byte-line.ensures) (first_half_taken c.args.before c.requires c.in-Some.ensures.some),
   record {
     at = 1;
     stands = c.push.ensures.stands;

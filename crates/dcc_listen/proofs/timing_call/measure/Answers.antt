@@ -1,5 +1,6 @@
 use Rattle.std.proofs.lemmas.Result.{err_from_is_err_and}
-use Rattle.dcc_listen.proofs.TimingLemmas.{measured_all, measuring_more, measuring_none, measuring_room, measuring_stops}
+use Rattle.dcc_listen.proofs.TimingLemmas.{measured_all, measuring_more, measuring_none, measuring_room}
+use Rattle.dcc_listen.proofs.TimingLemmas.{measuring_stops}
 use Rattle.dcc_listen.proofs.timing_call.measure.Goals as goal
 
 pub runs-init : goal.runs-init

@@ -1,4 +1,5 @@
-use Rattle.dcc_order.proofs.SentAndHeard.{sending_begins, nothing_is_seen, something_is_seen, frame_is_seen, frames_are_heard}
+use Rattle.dcc_order.proofs.SentAndHeard.{sending_begins, nothing_is_seen, something_is_seen, frame_is_seen}
+use Rattle.dcc_order.proofs.SentAndHeard.{frames_are_heard}
 use Rattle.dcc_order.proofs.laws.frames_are_sent.Goals as goal
 
 pub returns : goal.returns

@@ -1,4 +1,5 @@
-use Rattle.dcc_order.proofs.ToldTrackLaws.{no_half_has_come, no_packet_has_come, packet_is_heard_and_told, track_is_heard, track_is_told}
+use Rattle.dcc_order.proofs.ToldTrackLaws.{no_half_has_come, no_packet_has_come, packet_is_heard_and_told}
+use Rattle.dcc_order.proofs.ToldTrackLaws.{track_is_heard, track_is_told}
 use Rattle.dcc_order.proofs.laws.packets_are_told.Goals as goal
 
 pub returns : goal.returns

@@ -6,9 +6,8 @@ use Rattle.dcc_send.proofs.encoded_line.put_halves.Goals as goal
 pub loop-byte-init : goal.loop-byte-init
 loop-byte-init c =
     let texts = c.args.texts.now in record {
-      written = body_begins texts.timing c.args.frame.now texts.timing.preamble _ refl
-          (ap (take texts.preamble_len) c.requires.preamble ∙ texts.preamble_text);
-      few = omega (arith, texts.preamble_short);
+      written = body_begins texts.timing c.args.frame.now texts.timing.preamble _ refl c.requires.preamble;
+      few = omega (arith, c.requires.short);
     }
 
 pub loop-byte-preserved : goal.loop-byte-preserved

@@ -1,4 +1,5 @@
-use Rattle.std.proofs.Common.{◌≡◌, ◌<◌, ◌++◌, ◌∷◌, ◌∙◌, [], ℕ, List, Some, length, length-drop, drop, take, get_or, refl, ap, inl}
+use Rattle.std.proofs.Common.{◌≡◌, ◌<◌, ◌++◌, ◌∷◌, ◌∙◌, [], ℕ, List, Some, length, length-drop, drop, take, get_or}
+use Rattle.std.proofs.Common.{refl, ap, inl}
 use Rattle.std.proofs.Common.{arith}
 use Rattle.std.specs.Prelude.{slice_get}
 use Rattle.circular_buffer.specs.Buffer.{Buffer, buffer}

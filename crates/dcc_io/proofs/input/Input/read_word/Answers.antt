@@ -1,7 +1,8 @@
 use Rattle.std.proofs.Common.{ap}
 use Rattle.std.proofs.lemmas.Result.{err_from_is_err_and}
 use Rattle.dcc_io.specs.InputState.{InputState}
-use Rattle.dcc_io.proofs.PassedLemmas.{Opens-word, Opens-none, Passed-join, Passed-gap, ends_behind_gaps, EndsWord-gap, Passed-end}
+use Rattle.dcc_io.proofs.PassedLemmas.{Opens-word, Opens-none, Passed-join, Passed-gap, ends_behind_gaps, EndsWord-gap}
+use Rattle.dcc_io.proofs.PassedLemmas.{Passed-end}
 use Rattle.dcc_io.proofs.PassedLemmas.{answers_err, takes_noted, open_word}
 use Rattle.dcc_io.proofs.input.Input.read_word.Goals as goal
 
@@ -35,10 +36,10 @@ bytes-preserved g c =
     rw c.in_default.ensures.none
     (Opens-none c.bytes.invariant none (Passed-join (Passed-gap c.bytes.invariant noted none) c.pass_comment.ensures))
 
-pub returns-in-Some-word_at_hand : goal.returns-in-Some-word_at_hand
-returns-in-Some-word_at_hand g c =
+pub returns-in-Some-take_buffered_word : goal.returns-in-Some-take_buffered_word
+returns-in-Some-take_buffered_word g c =
     let noted = takes_noted c.next_byte.new.self c.in-Some.is c.in_ok-byte.ensures c.passes_gap.ensures.place
     c.passes_gap.ensures.gap c.if-not-passes_gap.false in
     let none = open_word c.bytes.invariant c.is_empty.ensures c.if-not-is_empty.false in
     ends_behind_gaps (Passed-join (Passed-gap c.bytes.invariant noted none) c.pass_comment.ensures)
-    c.in-Some-word_at_hand.ensures.some
+    c.in-Some-take_buffered_word.ensures.some

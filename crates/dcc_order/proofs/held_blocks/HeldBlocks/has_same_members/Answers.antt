@@ -4,5 +4,5 @@ use Rattle.dcc_order.proofs.held_blocks.HeldBlocks.has_same_members.Goals as goa
 pub returns-clause-same : goal.returns-clause-same
 returns-clause-same c =
     let tells = members_by_numbers c.self.invariant.0 in
-    let tested = rw c.as_slice.ensures.value at c.has_each_below-same.ensures.each in
+    let tested = rw c.as_slice.ensures.value at c.contains_all_below-same.ensures.each in
     rw (← c.self.view_is) (λ t. tells.0 (tested.0 t), λ same. tested.1 (tells.1 same))

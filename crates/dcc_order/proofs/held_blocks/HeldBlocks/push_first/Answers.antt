@@ -15,7 +15,7 @@ invariant_of-self-then-number-self c =
     let all = push_new (get nat_cmp c.self.inside.index) c.args.packet.now _ _ c.self.invariant.0 c.self.view_is
     c.self.invariant.1 frame.valid frame.number c.number_at-number.ensures (get nat_cmp c.insert.new.self)
     c.in_ok-insert.ensures.updates.0 c.if-number-self.true nowhere in
-    let put = c.set_member.ensures nowhere in
+    let put = c.set_distinct_packet.ensures nowhere in
     let within = c.self.invariant.0.within in
     let longer = c.push_place.ensures.len in (
       rw (put, c.push_place.ensures.items, c.reserve-3.ensures.items) all.held,
@@ -42,7 +42,7 @@ returns-then-number-self-clause-ok c =
     let all = push_new (get nat_cmp c.self.inside.index) c.args.packet.now _ _ c.self.invariant.0 c.self.view_is
     c.self.invariant.1 frame.valid frame.number c.number_at-number.ensures (get nat_cmp c.insert.new.self)
     c.in_ok-insert.ensures.updates.0 c.if-number-self.true nowhere in
-    rw (c.set_member.ensures nowhere, c.push_place.ensures.items, c.reserve-3.ensures.items) all.view
+    rw (c.set_distinct_packet.ensures nowhere, c.push_place.ensures.items, c.reserve-3.ensures.items) all.view
 
 pub returns-else-number-self-clause-ok : goal.returns-else-number-self-clause-ok
 returns-else-number-self-clause-ok c =

@@ -5,7 +5,7 @@ use Rattle.dcc_regs.proofs.loco.LocoDecoder.power_up.Goals as goal
 
 pub returns-clause-who : goal.returns-clause-who
 returns-clause-who c =
-    c.new.ensures.who ∙ who-powered_up (content c.args.self.now) c.args.self.now.cvs c.are_cvs.ensures refl
+    c.new.ensures.who ∙ who-powered_up (content c.args.self.now) c.args.self.now.cvs c.lemma_cvs.ensures refl
 
 pub returns-clause-registers : goal.returns-clause-registers
 returns-clause-registers c = c.new.ensures.registers ∙ powered_up-loco (content c.args.self.now)

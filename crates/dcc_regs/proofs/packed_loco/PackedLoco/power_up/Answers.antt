@@ -6,7 +6,7 @@ use Rattle.dcc_regs.proofs.packed_loco.PackedLoco.power_up.Goals as goal
 
 pub returns-clause-who : goal.returns-clause-who
 returns-clause-who c =
-    c.new-self.ensures.who ∙ who-powered_up (content (with_cvs c.args.self.now.registers c.args.self.now.cvs)) c.args.self.now.cvs c.are_cvs.ensures refl
+    c.new-self.ensures.who ∙ who-powered_up (content (with_cvs c.args.self.now.registers c.args.self.now.cvs)) c.args.self.now.cvs c.lemma_cvs.ensures refl
 
 pub returns-clause-registers : goal.returns-clause-registers
 returns-clause-registers c = c.new-self.ensures.registers ∙ powered_up-loco (content (with_cvs c.args.self.now.registers c.args.self.now.cvs))

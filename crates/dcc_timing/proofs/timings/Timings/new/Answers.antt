@@ -1,4 +1,4 @@
-use Rattle.std.proofs.Common.{[], ℕ}
+use Rattle.std.proofs.Common.{[]}
 use Prim.{∣◌∣₁}
 use Rattle.dcc_timing.proofs.MeasureLemmas.{measures_none}
 use Rattle.dcc_timing.proofs.timings.Timings.new.Goals as goal

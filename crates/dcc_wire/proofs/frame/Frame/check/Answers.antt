@@ -13,5 +13,5 @@ is_frame bytes least most error_byte fits = record {
 
 pub returns-clause-valid : goal.returns-clause-valid
 returns-clause-valid c =
-    is_frame c.args.bytes.now c.if-bytes-lt3.false c.if-bytes-gt6.false (sym c.xor-sum.ensures ∙ c.if-sum-ne0.false)
+    is_frame c.args.bytes.now c.if-bytes-lt3.false c.if-bytes-gt6.false (sym c.xor.ensures ∙ c.if-xor-ne0.false)
     c.type_inv.bytes

@@ -52,8 +52,8 @@ returns-then-not-bit c =
     whole_bit c.self.invariant c.args.half c.in-Some.bit (sym c.bit.ensures ∙ c.in-Some.is) shows c.if-first-bit.false in
     rw (← c.self.view_is) (sym (rw c.if-not-bit.true at whole))
 
-pub close-requires : goal.close-requires
-close-requires c =
+pub at_end_bit-requires : goal.at_end_bit-requires
+at_end_bit-requires c =
     let shows = rw (← c.self.view_is) at c.requires in
     (packed c.self.invariant c.args.half shows).exclusive_or
 
@@ -63,4 +63,4 @@ returns c =
     let shows = rw (← c.self.view_is) at c.requires in
     let whole =
     whole_bit c.self.invariant c.args.half c.in-Some.bit (sym c.bit.ensures ∙ c.in-Some.is) shows c.if-first-bit.false in
-    rw (← c.self.view_is) (c.close.ensures ∙ sym (rw c.if-not-bit.false at whole))
+    rw (← c.self.view_is) (c.at_end_bit.ensures ∙ sym (rw c.if-not-bit.false at whole))

@@ -1,7 +1,5 @@
-use Rattle.std.proofs.Common.{◌≡◌, sym, ap, ◌∙◌}
+use Rattle.std.proofs.Common.{sym, ap, ◌∙◌}
 use Rattle.dcc_wire.specs.Framing.{Hunting}
-use Rattle.dcc_wire.specs.Inner.Steps.{answer_to}
-use Rattle.dcc_wire.specs.Kept.{kept_rest}
 use Rattle.dcc_wire.specs.Outcomes.{ones_left}
 use Rattle.dcc_wire.proofs.KeptLemmas.{outcome_leaves, hunts_again}
 use Rattle.dcc_wire.proofs.kept.KeptFramer.take_apart.Goals as goal

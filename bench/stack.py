@@ -1,0 +1,72 @@
+#!/usr/bin/env python3
+"""Holds the stack of each call of the library for C on x86-64 to the bounds of bench/stack.bounds.
+
+    bench/stack.py             status 1 if a call takes more, has no bound, or a bound names no call
+    bench/stack.py --bounds    prints what each call takes, in the form of bench/stack.bounds
+
+It needs crates/dcc_c/out/libdcc_c.a with dcc_c.su beside it (tools/c-library), and objdump. Frames have a fixed
+size, and no function is called by a pointer or by itself, so the most that a call takes is its deepest path through
+the calls. A return address counts as 8 bytes. memcpy, memmove and memset are of the caller's C library and count as 0.
+"""
+import os
+import re
+import subprocess
+import sys
+from functools import cache
+
+BENCH = os.path.dirname(os.path.abspath(__file__))
+OUT = os.environ.get("OUT", f"{os.path.dirname(BENCH)}/crates/dcc_c/out")
+BOUNDS = os.environ.get("BOUNDS", f"{BENCH}/stack.bounds")
+RETURN = 8
+FUNCTION = re.compile(r"[0-9a-f]+ <(.*)>:$")
+CALLED = re.compile(r": R_X86_64_(?:PLT32|PC32)\t(\S+?)(?:-0x[0-9a-f]+)?$")
+
+
+def frames():
+    """The stack of each function itself, by its name."""
+    with open(f"{OUT}/dcc_c.su", encoding="utf-8") as file:
+        rows = [line.rstrip("\n").split("\t") for line in file]
+    if grows := [where for where, _, kind in rows if kind != "static"]:
+        sys.exit(f"stack: frames that grow: {grows}")
+    return {where.split(":", 1)[1]: int(size) for where, size, _ in rows}
+
+
+def calls(names):
+    """The functions that each function calls or ends in."""
+    told = subprocess.run(["objdump", "-dr", f"{OUT}/libdcc_c.a"], capture_output=True, text=True, check=True).stdout
+    found, name = {}, ""
+    for line in told.split("\n"):
+        if function := FUNCTION.match(line):
+            name = function[1]
+            found[name] = set()
+        elif (called := CALLED.search(line)) and called[1] in names:
+            found[name].add(called[1])
+        elif re.search(r"\tcall\s+\*", line):
+            sys.exit(f"stack: {name} calls by a pointer")
+    return found
+
+
+def main():
+    own = frames()
+    called = calls(own)
+
+    # (a function that calls itself would not end here)
+    @cache
+    def most(name):
+        return own[name] + max((RETURN + most(it) for it in called[name] if it != name), default=0)
+
+    took = {name: most(name) for name in sorted(own) if name.startswith("dcc_") and "::" not in name}
+    if "--bounds" in sys.argv:
+        print("\n".join(f"{name} {size}" for name, size in took.items()))
+        return 0
+    with open(BOUNDS, encoding="utf-8") as file:
+        bounds = {name: int(size) for name, size in (row.split() for row in file if row.strip() and row[0] != "#")}
+    failed = [f"bench/stack.bounds names {name}, which is no call" for name in bounds if name not in took]
+    failed += [f"bench/stack.bounds has no bound for {name}" for name in took if name not in bounds]
+    failed += [f"{name}: {size} bytes of stack, and at most {bounds[name]} are let through" for name, size in took.items()
+               if size > bounds.get(name, size)]
+    print("\n".join([*failed, f"the stack of {len(took)} calls on x86-64, {len(failed)} failed"]))
+    return 1 if failed else 0
+
+
+sys.exit(main())

@@ -1,0 +1,40 @@
+/* An accessory decoder. It applies its own packets and calls the callbacks below, which are named as in NmraDcc. It needs
+ * no CVs, so it fits an Uno. */
+#ifndef DCC_ACCESSORY_H
+#define DCC_ACCESSORY_H
+
+#include "DccTrack.h"
+
+class DccAccessory {
+public:
+    /* Begins as the board of this number, 0 to 510. Returns false for any other number; the decoder then hears nothing. */
+    bool begin(uint16_t number, uint32_t now);
+
+    /* Call one of them in an interrupt: at the end of each half-bit, or at each change of the pin with micros(). */
+    void halfBit(uint16_t us) { track.halfBit(us); }
+    void edge(uint32_t now) { track.edge(now); }
+
+    /* Call it in loop(). Applies the packets that were found, and calls the callbacks. */
+    void process();
+
+    /* The state of the decoder (dcc.h). */
+    dcc_board board;
+
+private:
+    DccTrack track;
+    bool hasBoard;
+};
+
+/* Applies a packet to a board, and calls the callbacks. */
+void dccHearBoard(dcc_board &board, const dcc_frame &frame, const dcc_packet &packet);
+
+/* Callbacks: write those that you want; the others do nothing. Each is called in loop(), after a packet for the board. */
+
+/* A packet named this output of the board, also if the output keeps its state, or has changed it. The arguments are
+ * the pair, 0 to 3, the output of the pair, and whether it is on. */
+void notifyDccAccTurnoutBoard(uint16_t board, uint8_t pair, uint8_t direction, uint8_t power);
+
+/* A packet named this signal of the board, also if the signal keeps its aspect. */
+void notifyDccSigOutputState(uint16_t address, uint8_t aspect);
+
+#endif

@@ -1,0 +1,15 @@
+pub mod NearestLemmas
+pub mod BodyLemmas
+pub mod HuntingLemmas
+pub mod FrameLemmas
+pub mod HeardLemmas
+pub mod UsedLemmas
+pub mod CauseLemmas
+pub mod LostLemmas
+pub mod FinderLemmas
+pub mod RunLemmas
+pub mod LawLemmas
+pub mod StillLemmas
+pub mod CauseLaw
+pub mod CalmLemmas
+pub mod WorkedExamples

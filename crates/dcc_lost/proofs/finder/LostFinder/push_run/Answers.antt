@@ -1,0 +1,69 @@
+use Rattle.std.proofs.Common.{ap, ◌∙◌, ◌≡◌, ◌+◌, ◌++◌, List, ℕ, None, replicate, arith, subst, sym}
+use Rattle.dcc_lost.specs.Causes.{packets_lost}
+use Rattle.dcc_lost.specs.Finding.{HasRead}
+use Rattle.dcc_lost.proofs.RunLemmas.{run_more, run_grows, run_quiet, run_ends, run_none, run_split}
+use Rattle.dcc_lost.proofs.finder.LostFinder.push_run.Goals.{After-push-lost}
+use Rattle.dcc_lost.proofs.finder.LostFinder.push_run.Goals as goal
+
+-- after one more half-bit of the run
+read_next : (c : After-push-lost) (durations : List ℕ)
+    → HasRead c.args.self.now.heard c.args.self.now.recent c.args.self.now.unused durations
+    → HasRead c.push-lost.new.self.heard c.push-lost.new.self.recent c.push-lost.new.self.unused
+    (durations ++ replicate (c.run.at + 1) c.args.us)
+read_next c durations read =
+    subst (λ l. HasRead c.push-lost.new.self.heard c.push-lost.new.self.recent c.push-lost.new.self.unused l)
+    (run_more durations c.args.us c.run.at)
+    (c.push-lost.ensures.reads (durations ++ replicate c.run.at c.args.us) (c.run.invariant.reads durations read))
+
+pub run-init : goal.run-init
+run-init c = record {
+  within = omega arith;
+  reads = λ durations read. rw run_none read;
+  quiet = λ durations read. rw run_none;
+}
+
+pub returns-then-is_some-clause-reads : goal.returns-then-is_some-clause-reads
+returns-then-is_some-clause-reads c = read_next (goal.at.returns-then-is_some-clause-reads c).After-push-lost
+
+pub returns-then-is_some-clause-grows : goal.returns-then-is_some-clause-grows
+returns-then-is_some-clause-grows c = λ durations read.
+    run_grows durations c.args.us c.run.at _ (c.run.invariant.quiet durations read)
+    (c.push-lost.ensures.grows (durations ++ replicate c.run.at c.args.us) (c.run.invariant.reads durations read))
+
+pub run-preserved : goal.run-preserved
+run-preserved c = record {
+  within = omega arith;
+  reads = read_next (goal.at.run-preserved c).After-push-lost;
+  quiet = λ durations read.
+      let none : c.push-lost.result ≡ None = grind arith in
+      run_quiet durations c.args.us (c.run.at + 1) _ _ none
+      (run_grows durations c.args.us c.run.at _ (c.run.invariant.quiet durations read)
+      (c.push-lost.ensures.grows (durations ++ replicate c.run.at c.args.us) (c.run.invariant.reads durations read)));
+}
+
+pub returns-clause-grows : goal.returns-clause-grows
+returns-clause-grows c = λ durations read. run_ends durations c.args.us c.run.at _ (c.run.invariant.quiet durations read)
+
+-- the list before the rest of the run
+quiet_next : (c : goal.After-push-lost) (durations : List ℕ) → c.push-lost.result ≡ None
+    → HasRead c.args.self.now.heard c.args.self.now.recent c.args.self.now.unused durations
+    → packets_lost (durations ++ replicate (c.run.at + 1) c.args.us) ≡ packets_lost durations
+quiet_next c durations none read =
+    run_quiet durations c.args.us (c.run.at + 1) _ _ none
+    (run_grows durations c.args.us c.run.at _ (c.run.invariant.quiet durations read)
+    (c.push-lost.ensures.grows (durations ++ replicate c.run.at c.args.us) (c.run.invariant.reads durations read)))
+
+pub returns-then-is_still-clause-reads : goal.returns-then-is_still-clause-reads
+returns-then-is_still-clause-reads c = λ durations read.
+    subst (λ l. HasRead c.skip.new.self.heard c.skip.new.self.recent c.skip.new.self.unused l)
+    (run_split durations c.args.us (c.run.at + 1) c.args.n (omega arith))
+    (c.skip.ensures.reads (durations ++ replicate (c.run.at + 1) c.args.us)
+    (read_next (goal.at.returns-then-is_still-clause-reads c).After-push-lost durations read))
+
+pub returns-then-is_still-clause-grows : goal.returns-then-is_still-clause-grows
+returns-then-is_still-clause-grows c = λ durations read.
+    let step = (goal.at.returns-then-is_still-clause-grows c).After-push-lost in
+    run_ends durations c.args.us c.args.n _
+    (ap packets_lost (sym (run_split durations c.args.us (c.run.at + 1) c.args.n (omega arith)))
+    ∙ c.skip.ensures.quiet (durations ++ replicate (c.run.at + 1) c.args.us) (read_next step durations read)
+    ∙ quiet_next step durations (grind arith) read)

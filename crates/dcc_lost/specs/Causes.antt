@@ -1,0 +1,80 @@
+-- The causes of lost packets.
+use Rattle.std.specs.Prelude.{ℕ, ◌+◌, ◌-◌, ◌*◌, min, max, nat_le, nat_lt, Bool, ◌&&◌, ◌||◌, List, [], ◌∷◌, ◌++◌}
+use Rattle.std.specs.Prelude.{length, take, map, fold, Option, None, Some, if◌then◌else◌}
+use Rattle.std.specs.List.{filter}
+use Rattle.std.specs.Option.{option_map}
+use Rattle.dcc_wire.specs.Framing.{ones_at_end, seen}
+use Rattle.dcc_timing.specs.Numbers.{keep_last}
+use Rattle.dcc_lost.specs.declared.causes.OffLimits.{OffLimits}
+use Rattle.dcc_lost.specs.declared.causes.ShortPreamble.{ShortPreamble}
+use Rattle.dcc_lost.specs.declared.causes.LostPacket.{LostPacket}
+use Rattle.dcc_lost.specs.Nearest.{nearest_class}
+use Rattle.dcc_lost.specs.Lost.{frame_lost}
+use Rattle.dcc_lost.specs.Unused.{unused_at_end, since_refusal, last_outcome}
+
+-- true if the nearest class of a half-bit is One, and it is outside the limits 52 to 64 of a decoder
+abbrev pub is_off_one : ℕ → Bool
+is_off_one us = (nat_le 26 us && nat_lt us 52) || (nat_lt 64 us && nat_le us 76)
+
+-- true if the nearest class of a half-bit is Zero, and it is outside the limits 90 to 10000 of a
+-- decoder
+abbrev pub is_off_zero : ℕ → Bool
+is_off_zero us = (nat_le 77 us && nat_lt us 90) || (nat_lt 10000 us && nat_le us 20000)
+
+-- the number, the least and the greatest of some durations, or none if there are none
+unfoldable pub off_limits : List ℕ → Option OffLimits
+off_limits [] = None
+off_limits (us ∷ durations) =
+    Some (record { count = length (us ∷ durations); least = fold min us durations; most = fold max us durations })
+
+-- the number of half-bits of ones, in their nearest classes, directly before the last `body`
+-- half-bits of a list, at most 20
+unfoldable pub ones_before_body : ℕ → List ℕ → ℕ
+ones_before_body body durations =
+    ones_at_end (map nearest_class (keep_last 20 (take (length durations - body) durations)))
+
+-- The cause of a preamble that is too short: of the `ones` half-bits of ones before a body no outcome
+-- uses the last `unused` ones, and these are fewer than 20. The parameter `since` is the number of
+-- half-bits after the last outcome if it is a rejection. It counts if an outcome uses one of the
+-- `ones` half-bits.
+unfoldable pub short_preamble : ℕ → ℕ → Option ℕ → Option ShortPreamble
+short_preamble ones unused since =
+    if nat_lt (min ones unused) 20
+    then Some (record { ones = min ones unused; since_refusal = if nat_lt unused ones then since else None })
+    else None
+
+-- The packet with this frame, whose body is the end of a list, with its causes. Half-bits of the
+-- body and at most 20 half-bits of ones before it count for the limits.
+unfoldable pub with_causes : List ℕ → List ℕ → LostPacket
+with_causes durations frame =
+    let body = 18 * length frame + 2 in
+    let ones = ones_before_body body durations in
+    let counted = keep_last (body + ones) durations in
+    record {
+      frame = frame;
+      preamble =
+          short_preamble ones (unused_at_end (take (length durations - body) durations))
+          (since_refusal (length durations) (last_outcome (seen durations)));
+      ones = off_limits (filter is_off_one counted);
+      zeros = off_limits (filter is_off_zero counted);
+    }
+
+-- the packet that is lost at the half-bit `us` that follows these half-bits
+unfoldable pub packet_lost : List ℕ → ℕ → Option LostPacket
+packet_lost durations us = option_map (with_causes (durations ++ us ∷ [])) (frame_lost durations us)
+
+-- the packet that is lost at a place, or nothing
+unfoldable pub report_lost : ℕ → Option LostPacket → List (ℕ × LostPacket)
+report_lost place None = []
+report_lost place (Some packet) = (place, packet) ∷ []
+
+-- the packets that are lost at the half-bits `durations`, which follow the half-bits `before`, each
+-- with the place of its last half-bit
+unfoldable pub packets_lost_after : List ℕ → List ℕ → List (ℕ × LostPacket)
+packets_lost_after before [] = []
+packets_lost_after before (us ∷ durations) =
+    report_lost (length before) (packet_lost before us) ++ packets_lost_after (before ++ us ∷ []) durations
+
+-- the packets that are lost in a list of half-bits, each with the place of its last half-bit
+unfoldable pub packets_lost : List ℕ → List (ℕ × LostPacket)
+packets_lost durations = packets_lost_after [] durations

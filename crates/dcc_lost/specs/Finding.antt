@@ -1,0 +1,12 @@
+-- The state of a finder of lost packets.
+use Rattle.std.specs.Prelude.{◌≡◌, ℕ, List, []}
+use Rattle.dcc_timing.specs.Numbers.{keep_last}
+use Rattle.dcc_lost.specs.declared.heard.Heard.{Heard}
+use Rattle.dcc_lost.specs.Unused.{Hears, unused_from}
+
+-- the state of a framer, the last half-bits, and the numbers of unused half-bits before these are
+-- those of this whole list of half-bits
+pub record HasRead (decoder : Heard) (last free durations : List ℕ) : Type 0 where
+  pub heard : Hears decoder.framer decoder.unused decoder.since_refusal durations
+  pub recent : last ≡ keep_last 130 durations
+  pub unused : free ≡ keep_last 130 (unused_from [] durations)

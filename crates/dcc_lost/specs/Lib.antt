@@ -1,0 +1,9 @@
+pub mod Nearest
+pub mod Lost
+pub mod Unused
+pub mod Causes
+pub mod Finding
+pub mod Inner
+pub mod LostLaws
+pub mod Still
+pub mod Reads

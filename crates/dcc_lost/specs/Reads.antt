@@ -1,0 +1,8 @@
+-- The list of half-bits that a finder of lost packets has read.
+use Rattle.std.specs.Prelude.{ℕ, List}
+use Rattle.dcc_lost.specs.declared.finder.LostFinder.{LostFinder}
+use Rattle.dcc_lost.specs.Finding.{HasRead}
+
+-- the finder has read this whole list of half-bits
+abbrev pub Follows : LostFinder → List ℕ → Type 0
+Follows finder durations = HasRead finder.heard finder.recent finder.unused durations

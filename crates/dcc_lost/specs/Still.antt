@@ -1,0 +1,15 @@
+-- A finder of lost packets in a long run of equal half-bits.
+use Rattle.std.specs.Prelude.{◌≡◌, ℕ, true, List, replicate, IfSome}
+use Rattle.dcc_timing.specs.Numbers.{keep_last}
+use Rattle.dcc_lost.specs.declared.heard.Heard.{Heard}
+use Rattle.dcc_lost.specs.Lost.{is_hunting}
+
+-- The last 130 half-bits have this duration, no outcome uses the last 20 half-bits before each of
+-- them, no body is unfinished, and the number of half-bits since a rejection is 255 or none. Then
+-- more half-bits of this duration only change the framer.
+pub record IsStill (decoder : Heard) (last free : List ℕ) (us : ℕ) : Type 0 where
+  pub recent : keep_last 130 last ≡ replicate 130 us
+  pub unused : keep_last 130 free ≡ replicate 130 20
+  pub now_unused : decoder.unused ≡ 20
+  pub hunts : is_hunting decoder.framer ≡ true
+  pub since : IfSome decoder.since_refusal (λ count. count ≡ 255)

@@ -1,0 +1,67 @@
+//! Bodies in the nearest classes of half-bits.
+
+ghost use Rattle.std.specs.Prelude.{◌≡◌, map, get_or, ◌<◌, length, Some};
+ghost use Rattle.dcc_wire.specs.Inner.Steps.{answer_of};
+ghost use Rattle.dcc_wire.specs.Outcomes.{outcome_of};
+ghost use Rattle.dcc_lost.specs.Nearest.{nearest_class};
+ghost use Rattle.dcc_lost.specs.Lost.{frame_after_ones, packet_of_length};
+
+use crate::nearest::{corrected, is_nearest_zero, ones_before};
+use dcc_wire::{Frame, Framer, Half, Seen};
+
+/// Returns the outcome of the body that begins with the first of these half-bits, in their nearest
+/// classes. `Nothing` if the body is unfinished.
+fn outcome_of(halves: &[u16]) -> Seen
+    requires some { 0 < length halves.now }
+    requires zero { nearest_class (get_or halves.now 0 0) ≡ Half.Zero }
+    ensures { result ≡ answer_of (outcome_of (map nearest_class halves.now)) }
+{
+    let mut framer = Framer::new();
+    let _ = framer.push_run(58, 20);
+    'halves: for us in halves {
+        let seen = framer.push(corrected(*us));
+        if !seen.is_nothing() {
+            return seen;
+        }
+    }
+    Seen::Nothing
+}
+
+/// Returns the frame of n bytes whose body follows the first 8 half-bits, if these are ones.
+pub(crate) fn frame_after_ones(halves: &[u16], n: usize) -> Option<Frame>
+    ensures { result ≡ frame_after_ones n halves.now }
+{
+    if ones_before(halves) < 8 {
+        return None;
+    }
+    frame_of_body(&halves[8..], n)
+}
+
+/// Returns the frame of n bytes whose body begins with the first of these half-bits, in their
+/// nearest classes.
+fn frame_of_body(body: &[u16], n: usize) -> Option<Frame>
+    ensures { result ≡ packet_of_length n (outcome_of (map nearest_class body.now)) }
+{
+    if body.is_empty() || !is_nearest_zero(body[0]) {
+        return None;
+    }
+    of_length(&outcome_of(body), n)
+}
+
+/// Returns the frame of an outcome that is a packet of n bytes.
+#[tactic(auto, unfolding(crate::specs::Lost::packet_of_length))]
+fn of_length(seen: &Seen, n: usize) -> Option<Frame>
+    ensures { result ≡ packet_of_length n (Some (0, seen.now)) }
+{
+    match seen {
+        Seen::Packet(frame) => {
+            if frame.bytes().len() == n {
+                Some(*frame)
+            } else {
+                None
+            }
+        }
+        Seen::Nothing => None,
+        Seen::Refused(_) => None,
+    }
+}

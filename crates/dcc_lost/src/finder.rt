@@ -1,0 +1,212 @@
+//! A finder of lost packets.
+
+ghost use Rattle.std.specs.Prelude.{◌≡◌, ◌≤◌, ℕ, List};
+ghost use Rattle.dcc_lost.specs.Finding.{HasRead};
+
+use crate::bodies::frame_after_ones;
+use crate::causes::{LostPacket, first_or_zero, off_limits, ones_at_end, short_preamble};
+use crate::heard::Heard;
+use crate::nearest::is_nearest_one;
+use crate::recent::LastHalves;
+use dcc_wire::Frame;
+
+/// Finds the packets that a decoder does not hear, in half-bits that come one at a time.
+#[derive(Drop)]
+pub struct LostFinder {
+    heard: Heard,
+    recent: LastHalves,
+    /// For each of these half-bits, the number of half-bits directly before it that no outcome uses.
+    unused: LastHalves,
+    ghost history: { ∥ ((durations : List ℕ) × HasRead heard recent unused durations) ∥₁ },
+}
+
+/// The answer of a finder to a run of equal half-bits.
+#[derive(Clone, Copy, Debug, PartialEq, Eq)]
+pub struct LostRun {
+    /// The packet that is lost in the run.
+    pub lost: Option<LostPacket>,
+    /// The number of half-bits that the finder took: up to the last half-bit of the lost packet, or
+    /// all of them.
+    pub at: u32,
+}
+
+impl LostFinder {
+    ghost use Rattle.std.specs.Prelude.{◌≡◌, ◌++◌, [], ◌∷◌, ◌≢◌, ◌≤◌, ◌+◌, ◌-◌, ◌↔◌, IsTrue, ℕ, List, None, length};
+    ghost use Rattle.std.specs.Prelude.{replicate, if◌then◌else◌};
+    ghost use Rattle.std.specs.Option.{option_map};
+    ghost use Rattle.dcc_lost.specs.Lost.{is_hunting, longest_frame_at_end};
+    ghost use Rattle.dcc_lost.specs.Causes.{packet_lost, packets_lost, report_lost, with_causes};
+    ghost use Rattle.dcc_lost.specs.Reads.{Follows};
+    ghost use Rattle.dcc_lost.specs.Still.{IsStill};
+
+    /// Creates a finder without half-bits.
+    pub fn new() -> LostFinder
+        ensures { Follows result [] }
+    {
+        LostFinder {
+            heard: Heard::new(),
+            recent: LastHalves::new(),
+            unused: LastHalves::new(),
+        }
+    }
+
+    /// Takes a half-bit of this many microseconds. Returns the packet that is lost at this half-bit.
+    pub fn push(&mut self, us: u16) -> Option<LostPacket>
+        // The finder has read at least one list of half-bits.
+        ensures history { ∥ ((durations : List ℕ) × Follows self.old durations) ∥₁ }
+        // If it has read a list, it has then read the list with this half-bit at its end.
+        ensures reads { (durations : List ℕ) → Follows self.old durations
+            → Follows self.new (durations ++ us ∷ []) }
+        // The result is the packet that is lost at this half-bit, with its causes.
+        ensures lost { (durations : List ℕ) → Follows self.old durations
+            → result ≡ packet_lost durations us }
+        // The longer list has this lost packet at its last place, and the lost packets of the old list.
+        ensures grows { (durations : List ℕ) → Follows self.old durations
+            → packets_lost (durations ++ us ∷ []) ≡ packets_lost durations ++ report_lost (length durations) result }
+    {
+        let unused = self.heard.unused();
+        self.unused.push(u16::from(unused));
+        let seen = self.heard.push(us);
+        self.recent.push(us);
+        if !seen.is_nothing() {
+            return None;
+        }
+        // most half-bits are no end of a packet
+        if !is_nearest_one(us) {
+            return None;
+        }
+        self.packet_unheard()
+    }
+
+    /// Takes n half-bits of this many microseconds, up to the first at which a packet is lost, as
+    /// calls of [`push`](Self::push) do.
+    pub fn push_run(&mut self, us: u16, n: u32) -> LostRun
+        // The finder has read at least one list of half-bits.
+        ensures history { ∥ ((durations : List ℕ) × Follows self.old durations) ∥₁ }
+        // If the finder has read a list, it has then read the list with the taken half-bits at its end.
+        ensures reads { (durations : List ℕ) → Follows self.old durations
+            → Follows self.new (durations ++ replicate result.at us) }
+        // The longer list has the lost packet at its last place, and no other lost packet after the old list.
+        ensures grows { (durations : List ℕ) → Follows self.old durations
+            → packets_lost (durations ++ replicate result.at us)
+            ≡ packets_lost durations ++ report_lost (length durations + result.at - 1) result.lost }
+        ensures nothing { result.lost ≡ None → result.at ≡ n }
+        ensures something { result.lost ≢ None → (1 ≤ result.at) × (result.at ≤ n) }
+    {
+        let mut at = 0;
+        'run: while at < n {
+            let lost = self.push(us);
+            at += 1;
+            if lost.is_some() {
+                return LostRun { lost, at };
+            }
+            if at >= 400 && self.is_still(us) {
+                self.skip(us, n - at);
+                return LostRun { lost: None, at: n };
+            }
+        }
+        LostRun { lost: None, at }
+    }
+
+    /// Returns true if more half-bits of this many microseconds only change the framer.
+    fn is_still(&self, us: u16) -> bool
+        ensures { IsTrue result ↔ IsStill self.now.heard self.now.recent self.now.unused us }
+    {
+        are_all(self.recent.last(130), us)
+            && are_all(self.unused.last(130), 20)
+            && self.heard.is_still()
+    }
+
+    /// Takes n half-bits of this many microseconds that only change the framer.
+    fn skip(&mut self, us: u16, n: u32)
+        requires { IsStill self.old.heard self.old.recent self.old.unused us }
+        ensures reads { (durations : List ℕ) → Follows self.old durations
+            → Follows self.new (durations ++ replicate n us) }
+        ensures quiet { (durations : List ℕ) → Follows self.old durations
+            → packets_lost (durations ++ replicate n us) ≡ packets_lost durations }
+    {
+        self.heard.skip(us, n);
+    }
+
+    /// Returns the packet whose body is the end of the list, if no body is unfinished.
+    fn packet_unheard(&self) -> Option<LostPacket>
+        ensures { (durations : List ℕ) → Follows self.now durations
+            → result ≡ option_map (with_causes durations)
+            (if is_hunting self.now.heard.framer then longest_frame_at_end durations else None) }
+    {
+        let frame = longest_frame_at_end(&self.recent);
+        match frame {
+            None => None,
+            Some(frame) => {
+                if self.heard.is_hunting() {
+                    Some(self.with_causes(frame))
+                } else {
+                    None
+                }
+            }
+        }
+    }
+
+    /// Returns the packet with this frame, which is lost at the end of the list, with its causes.
+    fn with_causes(&self, frame: Frame) -> LostPacket
+        ensures { (durations : List ℕ) → Follows self.now durations
+            → result ≡ with_causes durations frame }
+    {
+        let body = 18 * frame.bytes().len() + 2;
+        let last = self.recent.last(body + 20);
+        let before = ones_at_end(&last[..last.len().saturating_sub(body)]);
+        let (ones, zeros) = off_limits(self.recent.last(body + before));
+        let unused = first_or_zero(self.unused.last(body));
+        LostPacket {
+            frame,
+            preamble: short_preamble(before, unused, self.heard.since_refusal()),
+            ones,
+            zeros,
+        }
+    }
+}
+
+ghost use Rattle.std.specs.Prelude.{◌↔◌, IsTrue, EachIndex, slice_index, replicate};
+ghost use Rattle.dcc_lost.specs.Lost.{frame_at_end, longest_frame_at_end};
+
+/// Returns true if there are 130 numbers, and each is this number.
+fn are_all(numbers: &[u16], number: u16) -> bool
+    ensures { IsTrue result ↔ (numbers.now ≡ replicate 130 number) }
+{
+    numbers.len() == 130 && each_is(numbers, number)
+}
+
+/// Returns true if each of the numbers is this number.
+fn each_is(numbers: &[u16], number: u16) -> bool
+    ensures { IsTrue result ↔ EachIndex numbers.now (λ k. slice_index numbers.now k ≡ number) }
+{
+    numbers.iter().all(|x| *x == number)
+}
+
+/// Returns the longest frame whose body is the end of the last half-bits, after at least 8 half-bits
+/// of ones.
+#[tactic(auto, unfolding(crate::specs::Lost::longest_frame_at_end))]
+fn longest_frame_at_end(recent: &LastHalves) -> Option<Frame>
+    ensures { result ≡ longest_frame_at_end recent.now }
+{
+    if let Some(frame) = frame_at_end(recent, 6) {
+        return Some(frame);
+    }
+    if let Some(frame) = frame_at_end(recent, 5) {
+        return Some(frame);
+    }
+    if let Some(frame) = frame_at_end(recent, 4) {
+        return Some(frame);
+    }
+    frame_at_end(recent, 3)
+}
+
+/// Returns the frame of n bytes whose body is the end of the last half-bits, after at least 8
+/// half-bits of ones.
+#[tactic(auto, unfolding(crate::specs::Lost::frame_at_end))]
+fn frame_at_end(recent: &LastHalves, n: usize) -> Option<Frame>
+    requires { n ≤ 6 }
+    ensures { result ≡ frame_at_end n recent.now }
+{
+    frame_after_ones(recent.last(18 * n + 10), n)
+}

@@ -1,0 +1,142 @@
+//! A framer, and the half-bits that its outcomes do not use.
+
+ghost use Rattle.std.specs.Prelude.{◌≡◌, ◌≤◌};
+ghost use Rattle.dcc_lost.specs.Lost.{is_hunting};
+
+use dcc_wire::{Fault, Framer, Seen};
+
+/// A framer, and what its last outcome left.
+#[derive(Drop)]
+pub struct Heard {
+    framer: Framer,
+    /// The number of half-bits that no outcome uses, at most 20.
+    unused: u8,
+    /// The number of half-bits after the last outcome, at most 255. None if it is not a rejection.
+    since_refusal: Option<u8>,
+    ghost few: { unused ≤ 20 },
+}
+
+impl Heard {
+    ghost use Rattle.std.specs.Prelude.{◌≡◌, ◌≤◌, ◌↔◌, ◌++◌, [], ◌∷◌, ℕ, List, length, replicate, IsTrue, IfSome, true};
+    ghost use Rattle.dcc_wire.specs.Framing.{Hunting, rest, seen, report_at};
+    ghost use Rattle.dcc_wire.specs.Half.{class_of};
+    ghost use Rattle.dcc_wire.specs.Runs.{IsQuiet};
+    ghost use Rattle.dcc_lost.specs.Unused.{Hears, since_refusal, last_outcome, unused_at_end};
+    ghost use Rattle.dcc_lost.specs.Lost.{is_hunting};
+
+    /// Creates the state without half-bits.
+    pub(crate) fn new() -> Heard
+        ensures { Hears result.framer result.unused result.since_refusal [] }
+    {
+        Heard {
+            framer: Framer::new(),
+            unused: 0,
+            since_refusal: None,
+        }
+    }
+
+    /// Takes a half-bit of this many microseconds. Returns the outcome that ends with this half-bit.
+    pub(crate) fn push(&mut self, us: u16) -> Seen
+        ensures hears { (durations : List ℕ) → Hears self.old.framer self.old.unused self.old.since_refusal durations
+            → Hears self.new.framer self.new.unused self.new.since_refusal (durations ++ us ∷ []) }
+        ensures sees { (durations : List ℕ) → Hears self.old.framer self.old.unused self.old.since_refusal durations
+            → seen (durations ++ us ∷ []) ≡ seen durations ++ report_at (length durations) result }
+    {
+        let seen = self.framer.push(us);
+        self.unused = unused_next(self.unused, &seen);
+        self.since_refusal = since_next(self.since_refusal, &seen);
+        seen
+    }
+
+    /// Returns true if no body is unfinished.
+    pub(crate) fn is_hunting(&self) -> bool
+        ensures { result ≡ is_hunting self.now.framer }
+    {
+        let mut kept = self.framer.keep();
+        kept.pass(0)
+    }
+
+    /// Returns true if no body is unfinished, no outcome uses the last 20 half-bits, and the number of
+    /// half-bits since a rejection is 255 or none.
+    pub(crate) fn is_still(&self) -> bool
+        ensures { IsTrue result ↔ ((self.now.unused ≡ 20) × (is_hunting self.now.framer ≡ true)
+            × IfSome self.now.since_refusal (λ count. count ≡ 255)) }
+    {
+        let is_late = match self.since_refusal {
+            None => true,
+            Some(count) => count == 255,
+        };
+        self.unused == 20 && is_late && self.is_hunting()
+    }
+
+    /// Takes n half-bits of this many microseconds that begin no body.
+    pub(crate) fn skip(&mut self, us: u16, n: u32)
+        requires unused { self.old.unused ≡ 20 }
+        requires since { IfSome self.old.since_refusal (λ count. count ≡ 255) }
+        ensures { (durations : List ℕ) (ones : ℕ)
+            → Hears self.old.framer self.old.unused self.old.since_refusal durations
+            → rest durations ≡ Hunting ones → IsQuiet ones (class_of us)
+            → Hears self.new.framer self.new.unused self.new.since_refusal (durations ++ replicate n us) }
+    {
+        let _ = self.framer.push_run(us, n);
+    }
+
+    /// Returns the number of half-bits at the end of the list that no outcome uses, at most 20.
+    pub(crate) fn unused(&self) -> u8
+        ensures unused { (durations : List ℕ) → Hears self.now.framer self.now.unused self.now.since_refusal durations
+            → result ≡ unused_at_end durations }
+        ensures few { result ≤ 20 }
+    {
+        if self.is_hunting() { self.unused } else { 0 }
+    }
+
+    /// Returns the number of half-bits after the last outcome, at most 255. None if it is not a
+    /// rejection.
+    pub(crate) fn since_refusal(&self) -> Option<u8>
+        ensures { result ≡ self.now.since_refusal }
+    {
+        self.since_refusal
+    }
+}
+
+ghost use Rattle.dcc_lost.specs.Inner.{unused_next, since_next};
+
+/// Returns the number of half-bits that no outcome uses after one more half-bit with this outcome.
+#[tactic(auto, unfolding(crate::specs::Inner::unused_next, dcc_wire::specs::Outcomes::ones_left))]
+fn unused_next(unused: u8, seen: &Seen) -> u8
+    requires { unused ≤ 20 }
+    ensures next { result ≡ unused_next unused seen.now }
+    ensures few { result ≤ 20 }
+{
+    match seen {
+        Seen::Nothing => (unused + 1).min(20),
+        Seen::Packet(_) | Seen::Refused(Fault::TooShort | Fault::ErrorByte(_)) => 2,
+        Seen::Refused(Fault::BadHalf | Fault::SplitBit | Fault::TooLong) => 0,
+    }
+}
+
+/// Returns the number of half-bits after the last rejection after one more half-bit with this
+/// outcome.
+#[tactic(auto, unfolding(crate::specs::Inner::since_next))]
+fn since_next(since: Option<u8>, seen: &Seen) -> Option<u8>
+    ensures { result ≡ since_next since seen.now }
+{
+    match seen {
+        Seen::Nothing => next_of(since),
+        Seen::Packet(_) => None,
+        Seen::Refused(_) => Some(0),
+    }
+}
+
+ghost use Rattle.std.specs.Prelude.{◌+◌, min};
+ghost use Rattle.std.specs.Option.{option_map};
+
+/// Returns the next number, at most 255.
+fn next_of(since: Option<u8>) -> Option<u8>
+    ensures { result ≡ option_map (λ n. min 255 (n + 1)) since }
+{
+    match since {
+        None => None,
+        Some(n) => Some(n.saturating_add(1)),
+    }
+}

@@ -1,0 +1,21 @@
+//! Packets that a decoder does not hear, and their causes (NMRA S-9.1, S-9.2; RCN-210, RCN-211).
+//!
+//! A decoder shows no outcome while it looks for a preamble. So it says nothing about a packet with a
+//! short preamble, or with half-bits of ones outside 52 to 64 microseconds. A [`LostFinder`] finds such
+//! packets by the nearest classes of half-bits, and returns their causes.
+//!
+//! This crate does not allocate memory.
+#![tactic(auto)]
+
+mod bodies;
+mod causes;
+mod finder;
+mod heard;
+pub mod laws;
+mod nearest;
+mod recent;
+#[cfg(test)]
+mod tests;
+
+pub use causes::{LostPacket, OffLimits, ShortPreamble};
+pub use finder::{LostFinder, LostRun};

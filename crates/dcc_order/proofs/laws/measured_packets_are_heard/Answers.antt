@@ -1,0 +1,5 @@
+use Rattle.dcc_order.proofs.NoisyTrackLaws as law
+use Rattle.dcc_order.proofs.laws.measured_packets_are_heard.Goals as goal
+
+pub returns : goal.returns
+returns c = record { packets = law.measured_packets_are_heard; anywhere = law.measuring_changes_no_decoder }

@@ -1,0 +1,5 @@
+use Rattle.dcc_order.proofs.NoisyTrackLaws as law
+use Rattle.dcc_order.proofs.laws.one_of_three_copies_is_heard.Goals as goal
+
+pub returns : goal.returns
+returns c = record { copy = law.one_of_three_copies_is_heard; stops = law.one_of_three_stops_is_enough }

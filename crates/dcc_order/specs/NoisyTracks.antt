@@ -1,0 +1,109 @@
+-- Theorems about packets that are heard after noise, which is any list of half-bits, and about
+-- packets that are measured with an error.
+use Rattle.std.specs.Prelude.{◌≡◌, ◌≤◌, ◌<◌, ◌⊎◌, ◌↔◌, ℕ, ◌+◌, true, false, is_some, List, [], ◌∷◌, ◌++◌, length, map}
+use Rattle.std.specs.Prelude.{replicate}
+use Rattle.std.specs.List.{list_any}
+use Rattle.dcc_wire.specs.Framing.{Hunting, rest}
+use Rattle.dcc_wire.specs.Jitter.{AreWithin}
+use Rattle.dcc_wire.specs.Sending.{sent_all}
+use Rattle.dcc_packet.specs.declared.packet.Packet.{Packet}
+use Rattle.dcc_regs.specs.declared.register.Who.{Who}
+use Rattle.dcc_regs.specs.declared.register.Register.TheVariants.{Speed as SpeedRegister}
+use Rattle.dcc_regs.specs.Heard.{hears, heard}
+use Rattle.dcc_regs.specs.Result.{RegisterMap, result}
+use Rattle.dcc_regs.specs.Safety.{is_standing, is_stop_packet, can_move}
+use Rattle.dcc_order.specs.Hearing.{ArePackets, HasHeardHalves}
+use Rattle.dcc_order.specs.SendingLaws.{SentPacket, spelled_out}
+
+-- the half-bits of the packets `sent`, which are sent one after the other
+abbrev pub halves_of_sent : List SentPacket → List ℕ
+halves_of_sent sent = sent_all (map spelled_out sent)
+
+-- the packets of the list `sent`, without their timings
+abbrev pub packets_of_sent : List SentPacket → List Packet
+packets_of_sent sent = map (λ one. one.packet) sent
+
+-- The packets `first` and `others` are sent after `noise`. All half-bits together can contain the
+-- packets `all`: those of the noise, at most one packet of an unfinished body, `first` unless it is
+-- lost, and `others`.
+pub record CanBeHeardAfterNoise (noise : List ℕ) (first : SentPacket) (others : List SentPacket) (all : List Packet)
+    : Type 0 where
+  -- the packets in the noise
+  pub before : List Packet
+  pub in_noise : ArePackets before noise
+  -- at most one packet, which ends a body that the noise leaves unfinished
+  pub unfinished : List Packet
+  pub at_most_one : length unfinished ≤ 1
+  -- the packet `first`, or an empty list if it is lost; it is never lost if its preamble has at
+  -- least 18 ones
+  pub kept : List Packet
+  pub kept_or_lost : (kept ≡ first.packet ∷ []) ⊎ ((kept ≡ []) × (first.timing.preamble < 18))
+  -- each of the other packets, in order, and nothing after them
+  pub parts : all ≡ before ++ unfinished ++ kept ++ packets_of_sent others
+
+-- Each packet that is sent after noise is heard, except the packet `first`, which can be lost. `all`
+-- are the packets in the noise and the half-bits after it.
+abbrev pub NoiseCostsNoPacketButTheFirst : Type 0
+NoiseCostsNoPacketButTheFirst =
+    (noise : List ℕ) (first : SentPacket) (others : List SentPacket) (all : List Packet)
+    → ArePackets all (noise ++ halves_of_sent (first ∷ others)) → CanBeHeardAfterNoise noise first others all
+
+-- if `noise` with the packets `before` leaves no body unfinished, each packet that is sent after it
+-- is heard, and nothing else
+abbrev pub NoiseBetweenBodiesCostsNoPacket : Type 0
+NoiseBetweenBodiesCostsNoPacket =
+    (noise : List ℕ) (ones : ℕ) (before : List Packet) (sent : List SentPacket) → rest noise ≡ Hunting ones
+    → ArePackets before noise → ArePackets (before ++ packets_of_sent sent) (noise ++ halves_of_sent sent)
+
+-- a decoder that has heard noise and the half-bits of the packets `first` and `others` has the
+-- registers after such a list of packets
+abbrev pub DecodersHearPacketsAfterNoise : Type 0
+DecodersHearPacketsAfterNoise =
+    (noise : List ℕ) (first : SentPacket) (others : List SentPacket) (who who' : Who) (start now : RegisterMap)
+    → HasHeardHalves (noise ++ halves_of_sent (first ∷ others)) who start who' now
+    → (all : List Packet) × CanBeHeardAfterNoise noise first others all × (now ≡ result who start all)
+
+-- half-bits that are measured with an error of at most 3 microseconds contain exactly the packets
+-- that are sent
+abbrev pub MeasuredPacketsAreHeard : Type 0
+MeasuredPacketsAreHeard =
+    (sent : List SentPacket) (measured : List ℕ) → AreWithin 3 (halves_of_sent sent) measured
+    → ArePackets (packets_of_sent sent) measured
+
+-- A decoder can have heard half-bits with such errors if and only if it can have heard them without
+-- the errors. `before` and `after` are other half-bits.
+abbrev pub MeasuringChangesNoDecoder : Type 0
+MeasuringChangesNoDecoder =
+    (sent : List SentPacket) (before measured after : List ℕ) (who who' : Who) (start now : RegisterMap)
+    → AreWithin 3 (halves_of_sent sent) measured
+    → HasHeardHalves (before ++ measured ++ after) who start who' now
+    ↔ HasHeardHalves (before ++ halves_of_sent sent ++ after) who start who' now
+
+-- the half-bits of three copies of a packet that are sent after the packets `earlier`, if noise
+-- replaces one copy: `copies` copies come before the noise, and `more` copies after it
+abbrev pub copies_around_noise : List SentPacket → SentPacket → ℕ → ℕ → List ℕ → List ℕ
+copies_around_noise earlier copy copies more noise =
+    halves_of_sent (earlier ++ replicate copies copy) ++ noise ++ halves_of_sent (replicate more copy)
+
+-- If noise replaces one of three copies of a packet, the packet is heard. `all` are the packets in
+-- these half-bits and any half-bits `further` after them: the packets `earlier`, some packets
+-- `between`, a copy, and the packets `after`.
+abbrev pub OneOfThreeCopiesIsHeard : Type 0
+OneOfThreeCopiesIsHeard =
+    (earlier : List SentPacket) (copy : SentPacket) (copies more : ℕ) (noise further : List ℕ) (all : List Packet)
+    → copies + more ≡ 2 → ArePackets all (copies_around_noise earlier copy copies more noise ++ further)
+    → (between : List Packet) × (after : List Packet)
+    × (all ≡ packets_of_sent earlier ++ between ++ copy.packet ∷ after)
+
+-- If noise replaces one of three copies of the packet `stop`, which the decoder hears, the
+-- locomotive stands at the end, provided that no heard packet after the packets `earlier` sets the
+-- speed to a step. `later` are all packets after `earlier`: the copies, the packets of the noise, and
+-- the packets of the half-bits `further`, which come after the copies.
+abbrev pub OneOfThreeStopsIsEnough : Type 0
+OneOfThreeStopsIsEnough =
+    (earlier : List SentPacket) (stop : SentPacket) (copies more : ℕ) (noise further : List ℕ) (later : List Packet)
+    (who who' : Who) (start now : RegisterMap) → copies + more ≡ 2
+    → let track = copies_around_noise earlier stop copies more noise ++ further in
+    ArePackets (packets_of_sent earlier ++ later) track → HasHeardHalves track who start who' now
+    → is_some (start SpeedRegister) ≡ true → hears who stop.packet ≡ true → is_stop_packet stop.packet ≡ true
+    → list_any can_move (heard who later) ≡ false → is_standing (now SpeedRegister) ≡ true

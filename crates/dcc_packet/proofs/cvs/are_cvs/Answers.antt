@@ -1,4 +1,0 @@
-use Rattle.dcc_packet.proofs.cvs.are_cvs.Goals as goal
-
-pub returns : goal.returns
-returns c = record { count = c.told-cvs; bytes = c.fits-cvs }

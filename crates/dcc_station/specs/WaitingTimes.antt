@@ -1,0 +1,112 @@
+-- The waiting times of the commands of a station: how many packets and half-bits are sent before
+-- the first copy of a command.
+use Rattle.std.specs.Prelude.{ℕ, ◌+◌, ◌*◌, ◌≡◌, ◌<◌, ◌≤◌, List, [], ◌∷◌, ◌++◌, length, map, drop, replicate, sum}
+use Rattle.std.specs.List.{AllByRecursion}
+use Rattle.dcc_wire.specs.declared.timing.Timing.{Timing}
+use Rattle.dcc_wire.specs.Sending.{Sent, sent_all}
+use Rattle.dcc_packet.specs.declared.packet.Packet.{Packet}
+use Rattle.dcc_packet.specs.Spelling.{spelling, BytesFit}
+use Rattle.dcc_station.specs.Sending.{Sending, copies, with_command, Next, NextAll}
+use Rattle.dcc_station.specs.Refresh.{StationRepresents}
+
+-- a station in state `s` returns the packets of a list, one after the other, and is then in state
+-- `new`. It accepts any commands before, between and after these packets.
+pub data RunsTo : Sending → List Packet → Sending → Type 0 where
+  stays : (s : Sending) → RunsTo s [] s
+  accepts_one : (s new : Sending) (packets : List Packet) (p : Packet) → RunsTo (with_command s p) packets new
+      → RunsTo s packets new
+  returns_one : (s between new : Sending) (p : Packet) (packets : List Packet) → Next s p between
+      → RunsTo between packets new → RunsTo s (p ∷ packets) new
+
+-- the packets that a station returns one after the other, without accepting a command, are a run
+abbrev pub ReturnedPacketsAreRuns : Type 0
+ReturnedPacketsAreRuns = (s new : Sending) (packets : List Packet) → NextAll s packets new → RunsTo s packets new
+
+-- if a station returns the packet `p` after a run, `p` and the packets before it are a run
+abbrev pub RunsGoOnByPackets : Type 0
+RunsGoOnByPackets =
+    (s between new : Sending) (packets : List Packet) (p : Packet) → RunsTo s packets between → Next between p new
+    → RunsTo s (packets ++ p ∷ []) new
+
+-- if a station accepts the command `p` after a run, the packets before it are still a run
+abbrev pub RunsGoOnByCommands : Type 0
+RunsGoOnByCommands =
+    (s between : Sending) (packets : List Packet) (p : Packet) → RunsTo s packets between
+    → RunsTo s packets (with_command between p)
+
+-- the copies of the commands of a list, in order; `repeats` is the number of copies of a command
+-- that is no own write
+abbrev pub all_copies : ℕ → List Packet → List Packet
+all_copies repeats [] = []
+all_copies repeats (p ∷ later) = replicate (copies repeats p) p ++ all_copies repeats later
+
+-- the copies that a station in state `s` must still send of the commands `before`, which are the
+-- first commands of its queue
+abbrev pub copies_left : Sending → List Packet → List Packet
+copies_left s before = drop s.sent (all_copies s.repeats before)
+
+-- the packets of a list to send with `timing`
+abbrev pub sent_with : Timing → List Packet → List Sent
+sent_with timing packets = map (λ p. record { bytes = spelling p; timing = timing }) packets
+
+-- the next packets of a station are the remaining copies of the commands `before`, then a copy of
+-- the command `p` that follows them in the queue. This is the first copy of `p`, unless `before` is
+-- empty and copies of `p` were sent already.
+abbrev pub CommandsAreSentInTurn : Type 0
+CommandsAreSentInTurn =
+    (s new : Sending) (commands returned before later packets : List Packet) (p : Packet)
+    → StationRepresents s commands returned → s.waiting ≡ before ++ p ∷ later
+    → RunsTo s packets new → length (copies_left s before) < length packets
+    → (rest : List Packet) × (packets ≡ copies_left s before ++ p ∷ rest)
+
+-- a station accepts the command `p`. The next packets are the remaining copies of the commands that
+-- waited before `p`, and then the first copy of `p`. These remaining copies are at most
+-- `repeats + 1` packets for each command that waited.
+abbrev pub CommandsWaitForFewPackets : Type 0
+CommandsWaitForFewPackets =
+    (s new : Sending) (commands returned packets : List Packet) (p : Packet) → StationRepresents s commands returned
+    → RunsTo (with_command s p) packets new → length s.waiting * (s.repeats + 1) < length packets
+    → (rest : List Packet) × (packets ≡ copies_left s s.waiting ++ p ∷ rest)
+    × (length (copies_left s s.waiting) ≤ length s.waiting * (s.repeats + 1))
+
+-- each packet has at most `2 * (preamble + 55)` half-bits: the preamble, 6 bytes of 9 bits, and the
+-- end bit
+abbrev pub SentPacketsAreShort : Type 0
+SentPacketsAreShort =
+    (timing : Timing) (packets : List Packet) → AllByRecursion BytesFit packets
+    → length (sent_all (sent_with timing packets)) ≤ length packets * (2 * (timing.preamble + 55))
+
+-- the duration in microseconds of a packet of 6 bytes, if all its bits but the preamble and the end
+-- bit are zeros
+abbrev pub longest_time : Timing → ℕ
+longest_time timing = (timing.preamble + 1) * (2 * timing.one) + 54 * (timing.zero_first + timing.zero_second)
+
+-- each packet takes at most `longest_time` microseconds
+abbrev pub SentPacketsTakeFewMicroseconds : Type 0
+SentPacketsTakeFewMicroseconds =
+    (timing : Timing) (packets : List Packet) → AllByRecursion BytesFit packets
+    → sum (sent_all (sent_with timing packets)) ≤ length packets * longest_time timing
+
+-- a station accepts the command `p`, and `first` are the packets before the first copy of `p`.
+-- These packets and this copy have at most as many half-bits as `repeats + 1` longest packets for
+-- each command that waited, and one longest packet more.
+abbrev pub CommandsAreSentInTime : Type 0
+CommandsAreSentInTime =
+    (s new : Sending) (commands returned packets : List Packet) (p : Packet) (timing : Timing)
+    → StationRepresents s commands returned → RunsTo (with_command s p) packets new
+    → AllByRecursion BytesFit packets → length s.waiting * (s.repeats + 1) < length packets
+    → (first rest : List Packet) × (first ≡ copies_left s s.waiting) × (packets ≡ first ++ p ∷ rest)
+    × (length (sent_all (sent_with timing (first ++ p ∷ [])))
+    ≤ (length s.waiting * (s.repeats + 1) + 1) * (2 * (timing.preamble + 55)))
+
+-- a station accepts the command `p`, and `first` are the packets before the first copy of `p`.
+-- These packets and this copy take at most `longest_time` microseconds for each of `repeats + 1`
+-- packets for each command that waited, and for one packet more.
+abbrev pub CommandsAreSentInMicroseconds : Type 0
+CommandsAreSentInMicroseconds =
+    (s new : Sending) (commands returned packets : List Packet) (p : Packet) (timing : Timing)
+    → StationRepresents s commands returned → RunsTo (with_command s p) packets new
+    → AllByRecursion BytesFit packets → length s.waiting * (s.repeats + 1) < length packets
+    → (first rest : List Packet) × (first ≡ copies_left s s.waiting) × (packets ≡ first ++ p ∷ rest)
+    × (sum (sent_all (sent_with timing (first ++ p ∷ [])))
+    ≤ (length s.waiting * (s.repeats + 1) + 1) * longest_time timing)

@@ -1,0 +1,12 @@
+-- Half-bits that are measured with an error.
+use Rattle.std.specs.Prelude.{◌≤◌, ℕ, ◌+◌, List}
+use Rattle.std.specs.List.{AllZip}
+
+-- two durations differ by at most `error` microseconds
+abbrev pub IsWithin : ℕ → ℕ → ℕ → Type 0
+IsWithin error us measured = (us ≤ measured + error) × (measured ≤ us + error)
+
+-- `measured` has as many half-bits as `durations`, and at each place the two durations differ by at
+-- most `error` microseconds
+abbrev pub AreWithin : ℕ → List ℕ → List ℕ → Type 0
+AreWithin error durations measured = AllZip (IsWithin error) durations measured

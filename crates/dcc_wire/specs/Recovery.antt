@@ -1,0 +1,82 @@
+-- Packets that are sent after noise, which is any list of half-bits.
+use Rattle.std.specs.Prelude.{◌≡◌, ◌≤◌, ◌⊎◌, ℕ, ◌+◌, ◌-◌, ◌*◌, nat_le, List, [], ◌∷◌, ◌++◌, length, replicate}
+use Rattle.std.specs.Prelude.{Option, Some, None, if◌then◌else◌, Contains}
+use Rattle.std.specs.Option.{option_map}
+use Rattle.dcc_wire.specs.declared.half.Half.{Half}
+use Rattle.dcc_wire.specs.declared.half.Half.TheVariants.{One}
+use Rattle.dcc_wire.specs.declared.seen.Seen.{Seen}
+use Rattle.dcc_wire.specs.declared.seen.Seen.TheVariants.{Packet}
+use Rattle.dcc_wire.specs.Frames.{IsFrame}
+use Rattle.dcc_wire.specs.Framing.{Rest, Hunting, InBody, rest, seen}
+use Rattle.dcc_wire.specs.Outcomes.{outcome_of}
+use Rattle.dcc_wire.specs.Sending.{Sent, sent_all, at_last_halves, AllFrames}
+
+-- The end of a body that is unfinished in this state, if half-bits of ones follow: the number of
+-- these half-bits up to its outcome, and the outcome. None if no body is unfinished.
+unfoldable pub ended_by_ones : Rest → Option (ℕ × Seen)
+ended_by_ones (Hunting ones) = None
+ended_by_ones (InBody halves) =
+    option_map (λ p. (p.0 - length halves, p.1)) (outcome_of (halves ++ replicate 18 One))
+
+-- the end of the body that is unfinished after `noise`, if a preamble follows
+abbrev pub open_end : List ℕ → Option (ℕ × Seen)
+open_end noise = ended_by_ones (rest noise)
+
+-- The outcome of a body with this end, at the place of its last half-bit. `place` is the number of
+-- half-bits before the half-bits of ones.
+unfoldable pub at_open_end : ℕ → Option (ℕ × Seen) → List (ℕ × Seen)
+at_open_end place None = []
+at_open_end place (Some p) = (place + p.0 - 1, p.1) ∷ []
+
+-- The packet `first` at the place of its last half-bit, if a body with this end takes half-bits of
+-- its preamble. The packet is lost if the body ends in the last 18 half-bits of the preamble.
+unfoldable pub at_first : ℕ → Option (ℕ × Seen) → Sent → List (ℕ × Seen)
+at_first place None first = at_last_halves place (first ∷ [])
+at_first place (Some p) first =
+    if nat_le (p.0 + 18) (2 * first.timing.preamble) then at_last_halves place (first ∷ []) else []
+
+-- after noise and a first packet, each of the other packets is seen, and nothing else
+abbrev pub NoiseCostsNoLaterPacket : Type 0
+NoiseCostsNoLaterPacket =
+    (noise : List ℕ) (first : Sent) (others : List Sent) → AllFrames (first ∷ others)
+    → seen (noise ++ sent_all (first ∷ others))
+    ≡ seen (noise ++ sent_all (first ∷ [])) ++ at_last_halves (length (noise ++ sent_all (first ∷ []))) others
+
+-- after noise, at most one outcome is seen of a body that is unfinished after the noise, and the
+-- first packet unless it is lost
+abbrev pub NoiseCostsAtMostTheFirst : Type 0
+NoiseCostsAtMostTheFirst =
+    (noise : List ℕ) (first : Sent) → IsFrame first.bytes
+    → seen (noise ++ sent_all (first ∷ []))
+    ≡ seen noise ++ at_open_end (length noise) (open_end noise) ++ at_first (length noise) (open_end noise) first
+
+-- a body that is unfinished after noise ends within the first 18 half-bits of the next preamble
+abbrev pub OpenBodiesEndSoon : Type 0
+OpenBodiesEndSoon =
+    (noise : List ℕ) (halves : List Half) → rest noise ≡ InBody halves
+    → (n : ℕ) × (outcome : Seen) × (open_end noise ≡ Some (n, outcome)) × (1 ≤ n) × (n ≤ 18)
+
+-- after noise that leaves no body unfinished, each packet is seen, and nothing else
+abbrev pub NoiseBetweenBodiesCostsNothing : Type 0
+NoiseBetweenBodiesCostsNothing =
+    (noise : List ℕ) (ones : ℕ) (packets : List Sent) → rest noise ≡ Hunting ones → AllFrames packets
+    → seen (noise ++ sent_all packets) ≡ seen noise ++ at_last_halves (length noise) packets
+
+-- if the first preamble has at least 18 ones, each packet is seen after any noise
+abbrev pub LongPreamblesLoseNothing : Type 0
+LongPreamblesLoseNothing =
+    (noise : List ℕ) (first : Sent) (others : List Sent) → AllFrames (first ∷ others)
+    → 18 ≤ first.timing.preamble
+    → seen (noise ++ sent_all (first ∷ others))
+    ≡ seen noise ++ at_open_end (length noise) (open_end noise) ++ at_last_halves (length noise) (first ∷ others)
+
+-- Three copies of a packet are sent after the packets `earlier`, and noise replaces one copy:
+-- `before` copies come before the noise, and `after` copies after it. If a copy comes before the
+-- noise, the first copy is seen at its last half-bit. Otherwise the last copy is seen there.
+abbrev pub OneOfThreeCopiesIsSeen : Type 0
+OneOfThreeCopiesIsSeen =
+    (earlier : List Sent) (copy : Sent) (before after : ℕ) (noise : List ℕ)
+    → AllFrames earlier → IsFrame copy.bytes → before + after ≡ 2
+    → let track = sent_all (earlier ++ replicate before copy) ++ noise ++ sent_all (replicate after copy) in
+    ((1 ≤ before) × Contains (seen track) (length (sent_all (earlier ++ copy ∷ [])) - 1, Packet copy.bytes))
+    ⊎ ((before ≡ 0) × Contains (seen track) (length track - 1, Packet copy.bytes))

@@ -1,0 +1,366 @@
+/* Calls each function of dcc.h with random arguments, and writes a line for each function: its name, the number of
+ * calls, and a checksum of all results and objects. The numbers depend only on the number of rounds, so a library
+ * compiled by another compiler or for another machine has to give the same lines.
+ *
+ *   calls [ROUNDS]
+ *
+ * Objects come from calls. The fields that a program may change also get random values that no call writes. */
+#include "dcc.h"
+
+#include <stdio.h>
+#include <stdlib.h>
+#include <string.h>
+
+#ifndef ROUNDS
+#define ROUNDS 1000
+#endif
+
+#define FUNCTIONS(X) \
+    X(framer_new) X(push) X(push_run) X(read) X(line) X(frame_of_line) X(halves) X(sender_start) X(sender_half) \
+    X(loco_new) X(loco_apply) X(loco_hears) X(board_new) X(board_apply) X(board_hears) X(service_new) \
+    X(service_apply) X(reader_new) X(reader_question) X(reader_answer) X(station_new) X(station_command) \
+    X(station_next) X(station_waiting) X(station_entries)
+
+#define NUMBER(name) F_##name,
+enum { FUNCTIONS(NUMBER) COUNT };
+
+static uint32_t calls[COUNT], sums[COUNT], state = 2463534242u;
+static int now;
+
+static uint32_t next(void) {
+    state ^= state << 13;
+    state ^= state >> 17;
+    state ^= state << 5;
+    return state;
+}
+static uint16_t below(uint16_t n) { return (uint16_t)((next() >> 8) % n); }
+static bool one_of(uint16_t n) { return below(n) == 0; }
+
+static void called(int function) {
+    now = function;
+    calls[now]++;
+}
+static void add(uint32_t number) {
+#ifdef TRACE
+    printf("%d %lu\n", now, (unsigned long)number);
+#endif
+    sums[now] = ((sums[now] + 2654435769u) ^ number) * 16777619u + (number >> 16);
+}
+static void add_bytes(const void *from, uint16_t count) {
+    const uint8_t *bytes = (const uint8_t *)from;
+    uint16_t i;
+    for (i = 0; i < count; i++) add(bytes[i]);
+}
+static void add_frame(const dcc_frame *frame) {
+    add(frame->len);
+    add_bytes(frame->bytes, 6);
+}
+
+/* ---- random arguments ---- */
+
+static dcc_framer framer;
+static dcc_sender sender;
+static dcc_loco loco;
+static dcc_board board;
+static dcc_service service;
+static dcc_reader reader;
+static dcc_station station;
+static uint8_t cvs[DCC_CVS], room[8], *frame;
+static uint8_t len;
+
+static uint8_t some_byte(void) {
+    static const uint8_t edges[] = {0, 1, 3, 63, 64, 96, 127, 128, 144, 160, 191, 192, 223, 231, 232, 254, 255};
+    return one_of(3) ? edges[below(sizeof edges)] : (uint8_t)next();
+}
+
+/* Makes a frame at the end of its room, so that a sanitizer sees a read after it. */
+static void make_frame(void) {
+    uint8_t i, sum = 0, bytes[8];
+    for (i = 0; i < 8; i++) bytes[i] = some_byte();
+    len = one_of(12) ? (uint8_t)below(9) : (uint8_t)(3 + below(4));
+    if (one_of(2)) {
+        /* a packet for the locomotive or the board */
+        uint8_t at = 0;
+        if (one_of(3)) {
+            /* an output, or the aspect of a signal */
+            uint8_t high = (uint8_t)(~board.number >> 2 & 112);
+            len = (uint8_t)(3 + below(2));
+            bytes[0] = (uint8_t)(128 | (board.number & 63));
+            bytes[1] = (uint8_t)(len == 3 ? 128 | high | below(16) : high | below(4) << 1 | 1);
+            at = 2;
+        } else if (one_of(3)) {
+            bytes[0] = 3; /* often, since a station compares packets for one decoder */
+        } else if (loco.address > 127) {
+            bytes[0] = (uint8_t)(192 | loco.address >> 8);
+            bytes[1] = (uint8_t)loco.address;
+            at = 1;
+        } else {
+            bytes[0] = (uint8_t)loco.address;
+        }
+        if (at < 2) {
+            /* a speed or functions; 128 steps; further functions or a state; a CV */
+            static const uint8_t first[] = {0x40, 0x3f, 0xd8, 0xe0}, many[] = {128, 1, 8, 32}, sizes[] = {1, 2, 2, 3};
+            uint8_t kind = (uint8_t)below(4);
+            bytes[at + 1] = (uint8_t)(first[kind] + below(many[kind]));
+            len = (uint8_t)(at + 2 + sizes[kind]);
+        }
+    }
+    for (i = 0; i + 1 < len; i++) sum ^= bytes[i];
+    if (len && !one_of(12)) bytes[len - 1] = sum;
+    frame = room + 8 - len;
+    memcpy(frame, bytes, len);
+}
+
+static void make_pending(dcc_frame *pending) {
+    uint8_t i, sum = 0;
+    pending->len = one_of(8) ? some_byte() : (uint8_t)below(8);
+    for (i = 0; i < 6; i++) pending->bytes[i] = one_of(3) ? some_byte() : 0;
+    if (pending->len > 0 && pending->len <= 6) {
+        for (i = 0; i + 1 < pending->len; i++) sum ^= pending->bytes[i];
+        pending->bytes[pending->len - 1] = sum;
+        for (i = pending->len; i < 6 && !one_of(9); i++) pending->bytes[i] = 0;
+    }
+    if (one_of(3)) memset(pending, 0, sizeof *pending);
+}
+
+static uint64_t some_bits(void) {
+    uint64_t bits = next();
+    bits = bits << 32 ^ next();
+    return one_of(2) ? bits : bits & 31;
+}
+
+static void change_loco(void) {
+    static const uint16_t addresses[] = {0, 1, 3, 99, 100, 127, 128, 192, 1023, 10239, 10240, 65535};
+    static const uint8_t modes[] = {0, 1, 2, 14, 28, 126, 127, 255};
+    uint16_t cv = one_of(2) ? below(30) : below(DCC_CVS);
+    uint8_t one = (uint8_t)below(2);
+    switch (below(9)) {
+        case 0: loco.address_kind = (uint8_t)below(5); break;
+        case 1: loco.address = one_of(2) ? addresses[below(12)] : (uint16_t)next(); break;
+        case 2:
+            loco.address = addresses[1 + below(9)];
+            loco.address_kind = loco.address > 127 ? DCC_LONG : DCC_SHORT;
+            break;
+        case 3: loco.speed_mode = modes[below(8)], loco.step = some_byte(); break;
+        case 4: loco.speed_mode = modes[3 + below(3)], loco.step = (uint8_t)(1 + below(loco.speed_mode)); break;
+        case 5: loco.forward = one_of(2); break;
+        case 6: make_pending(&loco.pending); break;
+        case 7: loco.functions[one] = some_bits(), loco.states[one] = some_bits(); break;
+        default: loco.cvs[cv] = some_byte(); break;
+    }
+    if (one_of(3)) loco.functions[1] &= 31, loco.states[0] &= ~(uint64_t)1;
+    if (one_of(3)) memset(&loco.pending, 0, sizeof loco.pending);
+    if (one_of(3)) loco.speed_mode = loco.step = 0;
+}
+
+static void change_board(void) {
+    uint8_t which = (uint8_t)below(4);
+    switch (below(4)) {
+        case 0: board.number = one_of(3) ? (uint16_t)next() : below(513); break;
+        case 1: board.outs = some_byte(); break;
+        case 2: board.positions[which] = one_of(2); break;
+        default: board.aspects[which] = some_byte(); break;
+    }
+    if (one_of(3)) board.number = below(511);
+    if (one_of(3)) memset(board.aspects, 0, 4), board.outs = 0;
+}
+
+/* ---- the calls ---- */
+
+static void add_loco(void) {
+    uint8_t i;
+    add(loco.address_kind), add(loco.speed_mode), add(loco.step), add(loco.forward), add(loco.address);
+    add_frame(&loco.pending);
+    for (i = 0; i < 2; i++) {
+        add((uint32_t)loco.functions[i]), add((uint32_t)(loco.functions[i] >> 32));
+        add((uint32_t)loco.states[i]), add((uint32_t)(loco.states[i] >> 32));
+    }
+    add_bytes(loco.cvs, DCC_CVS);
+}
+
+static void add_board(void) {
+    uint8_t i;
+    add(board.number), add(board.outs);
+    for (i = 0; i < 4; i++) add(board.positions[i]), add(board.aspects[i]);
+}
+
+static void call_framer(uint16_t us, uint32_t n) {
+    dcc_outcome outcome;
+    memset(&outcome, 7, sizeof outcome);
+    if (n == 1) {
+        called(F_push);
+        add(dcc_push(&framer, us, &outcome));
+    } else {
+        called(F_push_run);
+        add(dcc_push_run(&framer, us, n, &outcome));
+    }
+    add(outcome.at), add(outcome.refusal), add_frame(&outcome.frame);
+    add_bytes(&framer, sizeof framer);
+}
+
+static void call_packets(void) {
+    static char text[DCC_LINE], at_end[DCC_LINE + 8];
+    static uint16_t halves[DCC_HALVES];
+    dcc_packet packet;
+    dcc_frame back;
+    uint8_t count, i, size;
+    uint16_t run_us, at;
+    uint32_t run;
+    bool in_runs;
+    memset(&packet, 1, sizeof packet);
+    called(F_read);
+    add(dcc_read(frame, len, &packet));
+    add(packet.kind), add(packet.to), add(packet.address), add(packet.forward), add(packet.bits), add(packet.group);
+    add(packet.state), add(packet.on), add(packet.cv), add(packet.value), add(packet.place), add(packet.one);
+    add(packet.output), add(packet.aspect);
+    called(F_line);
+    add(dcc_line(frame, len, text));
+    add_bytes(text, sizeof text);
+    size = (uint8_t)strlen(text);
+    at = below((uint16_t)(size + 1));
+    if (one_of(3)) text[at] = " \t0123459xs\r#lz"[below(15)];
+    at = below(DCC_LINE - 1);
+    if (one_of(8)) text[at] = (char)some_byte();
+    if (one_of(8)) size = (uint8_t)below(DCC_LINE);
+    memset(&back, 7, sizeof back);
+    memcpy(at_end + sizeof at_end - size, text, size);
+    called(F_frame_of_line);
+    add(dcc_frame_of_line(at_end + sizeof at_end - size, size, &back));
+    add_frame(&back);
+    called(F_halves);
+    count = dcc_halves(frame, len, (uint8_t)(one_of(4) ? below(50) : 14 + below(27)), halves);
+    add(count);
+    for (i = 0; i < DCC_HALVES; i++) add(halves[i]);
+    in_runs = one_of(3);
+    for (i = 0; i < count; i++) {
+        uint16_t us = one_of(200) ? (uint16_t)next() : (uint16_t)(halves[i] + below(7) - 3);
+        for (run = 1; in_runs && i + 1 < count && halves[i + 1] == halves[i] && !one_of(90); i++) run++;
+        call_framer(us, run);
+    }
+    run_us = one_of(4) ? (uint16_t)next() : (uint16_t)(50 + below(70));
+    run = below(60);
+    if (one_of(2)) run = next() >> run % 32;
+    call_framer(run_us, run);
+    if (one_of(50)) {
+        called(F_framer_new);
+        framer = dcc_framer_new();
+        add_bytes(&framer, sizeof framer);
+    }
+}
+
+static void call_sender(void) {
+    dcc_timing timing = DCC_MAIN_TIMING;
+    uint8_t i, left = (uint8_t)below(200);
+    if (one_of(2)) timing.one = (uint16_t)(53 + below(10));
+    if (one_of(2)) timing.zero_first = one_of(2) ? (uint16_t)next() : (uint16_t)(90 + below(12000));
+    if (one_of(2)) timing.zero_second = one_of(2) ? (uint16_t)next() : (uint16_t)(90 + below(12000));
+    if (one_of(2)) timing.preamble = (uint8_t)below(50);
+    called(F_sender_start);
+    add(dcc_sender_start(&sender, frame, len, &timing));
+    add_bytes(&sender, sizeof sender);
+    for (i = 0; i < left; i++) {
+        called(F_sender_half);
+        add(dcc_sender_half(&sender));
+        add_bytes(&sender, sizeof sender);
+    }
+}
+
+static void call_decoders(void) {
+    bool heard = one_of(2);
+    uint8_t asked[8];
+    uint16_t cv;
+    if (one_of(40)) {
+        cv = below(DCC_CVS);
+        cvs[cv] = some_byte(), cvs[0] = some_byte(), cvs[16] = some_byte(), cvs[28] = some_byte();
+        called(F_loco_new);
+        dcc_loco_new(&loco, cvs);
+        add_loco();
+        called(F_service_new);
+        dcc_service_new(&service, cvs);
+        add(service.in_service), add_frame(&service.pending), add_bytes(service.cvs, DCC_CVS);
+    }
+    if (one_of(20)) {
+        called(F_board_new);
+        add(dcc_board_new(&board, one_of(8) ? (uint16_t)next() : below(513)));
+        add_board();
+    }
+    if (one_of(2)) change_loco();
+    if (one_of(2)) change_board();
+    called(F_loco_hears);
+    add(dcc_loco_hears(&loco, frame, len, &heard));
+    add(heard);
+    called(F_loco_apply);
+    add(dcc_loco_apply(&loco, frame, len));
+    if (one_of(2)) add(dcc_loco_apply(&loco, frame, len));
+    add_loco();
+    called(F_board_hears);
+    add(dcc_board_hears(&board, frame, len, &heard));
+    add(heard);
+    called(F_board_apply);
+    add(dcc_board_apply(&board, frame, len));
+    add_board();
+    if (one_of(6)) make_pending(&service.pending);
+    if (one_of(6)) service.in_service = one_of(2);
+    memcpy(asked, frame, len);
+    if (one_of(2) && len == 4) asked[0] = (uint8_t)(112 | (asked[0] & 15)), asked[3] = asked[0] ^ asked[1] ^ asked[2];
+    called(F_service_apply);
+    add(dcc_service_apply(&service, asked, len, &heard));
+    if (one_of(2)) add(dcc_service_apply(&service, asked, len, &heard));
+    add(heard), add(service.in_service), add_frame(&service.pending), add_bytes(service.cvs, DCC_CVS);
+}
+
+static void call_reader(void) {
+    dcc_frame question;
+    uint8_t value = 7;
+    memset(&question, 7, sizeof question);
+    if (one_of(10)) {
+        called(F_reader_new);
+        add(dcc_reader_new(&reader, one_of(4) ? (uint16_t)next() : below(1027)));
+    }
+    if (one_of(8)) reader.cv = one_of(2) ? (uint16_t)next() : below(1027);
+    if (one_of(8)) reader.known = one_of(2) ? some_byte() : (uint8_t)below(10);
+    if (one_of(8)) reader.value = some_byte();
+    called(F_reader_question);
+    add(dcc_reader_question(&reader, &question));
+    add_frame(&question);
+    called(F_reader_answer);
+    add(dcc_reader_answer(&reader, one_of(2), &value));
+    add(value), add(reader.cv), add(reader.known), add(reader.value);
+}
+
+static void call_station(void) {
+    dcc_frame sent;
+    if (one_of(60)) {
+        uint8_t queue = (uint8_t)(one_of(4) ? below(70) : 1 + below(9));
+        uint8_t slots = (uint8_t)(one_of(4) ? below(135) : 1 + below(9));
+        called(F_station_new);
+        add(dcc_station_new(&station, queue, slots, (uint8_t)below(10)));
+    }
+    called(F_station_command);
+    add(dcc_station_command(&station, frame, len));
+    do {
+        memset(&sent, 7, sizeof sent);
+        called(F_station_next);
+        dcc_station_next(&station, &sent);
+        add_frame(&sent);
+    } while (one_of(2));
+    called(F_station_waiting);
+    add(dcc_station_waiting(&station));
+    called(F_station_entries);
+    add(dcc_station_entries(&station));
+}
+
+int main(int argc, char **argv) {
+    unsigned long rounds = argc > 1 ? strtoul(argv[1], NULL, 10) : ROUNDS;
+#define SHOW(name) printf("dcc_%s %lu %lu\n", #name, (unsigned long)calls[F_##name], (unsigned long)sums[F_##name]);
+    for (; rounds > 0; rounds--) {
+        make_frame();
+        call_packets();
+        call_sender();
+        call_decoders();
+        call_reader();
+        call_station();
+    }
+    FUNCTIONS(SHOW)
+    return 0;
+}
