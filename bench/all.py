@@ -1,15 +1,15 @@
 #!/usr/bin/env python3
-"""Times every command of `dcc` on every form of capture beside `wc -w` on the same file, and prints a table.
+"""Times each command of `dcc` on each form of capture beside `wc -w` on the same file, and prints a table.
 
     bench/all.py [--instructions] [PROGRAM [OTHER]]
 
-PROGRAM is the built program, crates/dcc/out/dcc if it is not given. OTHER is another program with the same commands, to be measured
-beside it. Processor seconds (user and system) on one core, each command in turn with the others, the median of ROUNDS runs. A ratio is
-the median of the ratios in each round, of runs that stand side by side, so that a machine whose speed changes from one second to
-the next changes it little; where OTHER is given, the last column is the first program's ratio to it.
+PROGRAM is the program to measure, crates/dcc/out/dcc if it is not given. OTHER is another program with the same
+commands. The times are processor seconds (user and system) on one core, the median of ROUNDS runs. The commands run in
+turn. A ratio is the median of the ratios in each round, so a machine whose speed changes from second to second changes
+the ratio little. If OTHER is given, the last column is the ratio of PROGRAM to OTHER.
 
-With --instructions it counts them instead (by valgrind's callgrind), of inputs a fortieth as long: they are the same in each run,
-whatever else the machine does.
+With --instructions the script counts instructions by callgrind of valgrind, on inputs a fortieth as long. The number of
+instructions is the same in each run.
 """
 import os
 import re
@@ -68,7 +68,9 @@ def seconds(words, path):
 def instructions(words, path):
     with open(path, "rb") as file:
         counted = ["valgrind", "--tool=callgrind", "--callgrind-out-file=/dev/null", *words]
-        ran = subprocess.run(counted, stdin=file, stdout=subprocess.DEVNULL, stderr=subprocess.PIPE, text=True, check=False)
+        ran = subprocess.run(
+            counted, stdin=file, stdout=subprocess.DEVNULL, stderr=subprocess.PIPE, text=True, check=False
+        )
     return int(re.search(r"Collected *: *(\d+)", ran.stderr)[1]) / 1e6
 
 
@@ -77,6 +79,7 @@ def main():
     given = [it for it in sys.argv[1:] if it != "--instructions"]
     programs = [os.path.abspath(p) for p in given] or [os.path.join(top, "crates/dcc/out/dcc")]
     with tempfile.TemporaryDirectory() as room:
+
         def at(name):
             return os.path.join(room, name)
 
@@ -98,7 +101,9 @@ def main():
             with open(at(two), "wb") as file:
                 file.write(halves + b"---\n" + halves)
         with open(at("lines"), "w", encoding="ascii") as file:
-            file.writelines(["loco s3 speed28 f 4\n", "idle\n", "loco l1000 cv write 29 6\n", "accessory 12 5 on\n"] * (LINES // 4))
+            file.writelines(
+                ["loco s3 speed28 f 4\n", "idle\n", "loco l1000 cv write 29 6\n", "accessory 12 5 on\n"] * (LINES // 4)
+            )
         rows = [
             ("show", ["show"], "halves"),
             ("show, CR LF at line ends", ["show"], "crlf"),
@@ -121,6 +126,7 @@ def main():
                 times.setdefault((name, "wc -w"), []).append(measured(["wc", "-w"], at(file)))
                 for program in programs:
                     times.setdefault((name, program), []).append(measured([program, *words], at(file)))
+
         def ratio(name, one, other):
             return statistics.median(x / y for x, y in zip(times[name, one], times[name, other]))
 
@@ -131,7 +137,9 @@ def main():
         for name, _, _ in rows:
             cells = [f"{statistics.median(times[name, 'wc -w']):.3f} {unit}"]
             for program in programs:
-                cells.append(f"{statistics.median(times[name, program]):.3f} {unit}, {ratio(name, program, 'wc -w'):.2f} times")
+                cells.append(
+                    f"{statistics.median(times[name, program]):.3f} {unit}, {ratio(name, program, 'wc -w'):.2f} times"
+                )
             cells += [f"{ratio(name, programs[0], other):.2f}" for other in programs[1:]]
             print(f"| {name} | " + " | ".join(cells) + " |")
 

@@ -226,9 +226,23 @@ static __attribute__((noinline)) int plain_apply(dcc_loco *loco, const uint8_t *
     return 0;
 }
 
+/* the CV that the next plain_apply writes, or 0 */
+static __attribute__((noinline)) int plain_cv(const dcc_loco *loco, const uint8_t *frame, uint64_t len, uint16_t *cv) {
+    dcc_packet packet;
+    int fault = plain_read(frame, len, &packet);
+    if (fault) return fault;
+    bool is_second = loco->pending.len == len && !memcmp(loco->pending.bytes, frame, len);
+    *cv = is_second ? packet.cv : 0;
+    return 0;
+}
+
 /* ---- the calls ---- */
 
 static dcc_loco loco, plain_loco;
+static dcc_small_loco small_loco;
+static uint8_t value;
+static uint16_t cv;
+static bool changed;
 static dcc_packet packet, plain_packet;
 static uint16_t halves[DCC_HALVES], same_halves[DCC_HALVES];
 static volatile uint32_t sink;
@@ -236,6 +250,7 @@ static volatile uint32_t sink;
 static void new_locos(void) {
     uint8_t cvs[DCC_CVS] = {[0] = 3, [28] = 2};
     dcc_loco_new(&loco, cvs);
+    dcc_small_loco_new(&small_loco, 3, 0, 0, 2);
     plain_loco = loco;
 }
 
@@ -246,6 +261,14 @@ static bool is_same_loco(const dcc_loco *a, const dcc_loco *b) {
         && a->address == b->address && !memcmp(&a->pending, &b->pending, sizeof a->pending)
         && !memcmp(a->functions, b->functions, sizeof a->functions) && !memcmp(a->states, b->states, sizeof a->states)
         && !memcmp(a->cvs, b->cvs, sizeof a->cvs);
+}
+
+/* the numbers of a decoder whose CVs are in those of another */
+static bool is_same_small_loco(const dcc_small_loco *a, const dcc_loco *b) {
+    return a->address_kind == b->address_kind && a->speed_mode == b->speed_mode && a->step == b->step
+        && a->forward == b->forward && a->address == b->address && a->cv29 == b->cvs[28]
+        && !memcmp(&a->pending, &b->pending, sizeof a->pending)
+        && !memcmp(a->functions, b->functions, sizeof a->functions) && !memcmp(a->states, b->states, sizeof a->states);
 }
 
 /* what both do on each frame, and with each frame twice in a row */
@@ -259,8 +282,14 @@ static int same(void) {
         if (memcmp(&packet, &plain_packet, sizeof packet)) return 2;
         if (dcc_loco_hears(&loco, it->bytes, it->len, &heard) || plain_hears(&loco, it->bytes, it->len,
                 &plain_heard) || heard != plain_heard) return 3;
+        uint16_t needed = 0;
+        if (dcc_small_loco_cv(&small_loco, it->bytes, it->len, &cv) || plain_cv(&plain_loco, it->bytes, it->len,
+                &needed) || cv != needed) return 9;
+        if (cv) value = plain_loco.cvs[cv - 1];
         if (dcc_loco_apply(&loco, it->bytes, it->len) || plain_apply(&plain_loco, it->bytes, it->len)) return 4;
         if (!is_same_loco(&loco, &plain_loco)) return 5;
+        if (dcc_small_loco_apply(&small_loco, it->bytes, it->len, &value, &changed)) return 10;
+        if (!is_same_small_loco(&small_loco, &plain_loco) || (cv && value != plain_loco.cvs[cv - 1])) return 11;
         int count = dcc_halves(it->bytes, it->len, 14, halves);
         if (count != plain_halves(it->bytes, it->len, 14, same_halves) || memcmp(halves, same_halves,
                 2 * (size_t)count)) return 6;
@@ -305,6 +334,10 @@ int main(int argc, char **argv) {
                 sum += (uint32_t)plain_halves(it->bytes, it->len, 14, halves))
         CALL("start", sum += dcc_sender_start(&sender, it->bytes, it->len, &timing),
                 sum += (uint32_t)plain_start(&plain, it->bytes, it->len, &timing))
+        CALL("small_cv", sum += dcc_small_loco_cv(&small_loco, it->bytes, it->len, &cv),
+                sum += (uint32_t)plain_cv(&plain_loco, it->bytes, it->len, &cv))
+        CALL("small_apply", sum += dcc_small_loco_apply(&small_loco, it->bytes, it->len, &value, &changed),
+                sum += (uint32_t)plain_apply(&plain_loco, it->bytes, it->len))
         if (!strcmp(name, "half")) {
             /* 84 half-bits and the end, so the start counts little */
             if (i % 85 == 0) dcc_sender_start(&sender, frames[0].bytes, 3, &timing), plain_start(&plain,

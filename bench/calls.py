@@ -18,7 +18,10 @@ TOP = os.path.dirname(BENCH)
 CALLS = 2000
 LIBRARY = os.environ.get("LIBRARY", f"{TOP}/crates/dcc_c/out/libdcc_c.a")
 BOUNDS = os.environ.get("BOUNDS", f"{BENCH}/calls.bounds")
-NAMES = "half start halves read hears apply apply_speed apply_idle apply_functions apply_cv_write".split()
+NAMES = (
+    "half start halves read hears apply apply_speed apply_idle apply_functions "
+    "apply_cv_write small_cv small_apply"
+).split()
 
 
 def bounds():

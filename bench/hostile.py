@@ -1,10 +1,11 @@
 #!/usr/bin/env python3
-"""Times `dcc` on inputs within the limits that were made to be slow, and prints a table; status 1 where one takes more than MOST seconds.
+"""Times `dcc` on inputs within the limits that were made to be slow, and prints a table. The exit status is 1 if an
+input takes more than MOST seconds.
 
     bench/hostile.py [PROGRAM]
 
-PROGRAM is the built program, crates/dcc/out/dcc if it is not given (built by `rt run` in crates/dcc). Processor seconds (user and
-system), the fastest of ROUNDS runs: what a program has to do on a core of its own.
+PROGRAM is the program to measure, crates/dcc/out/dcc if it is not given (`rt run` in crates/dcc builds it). The times
+are processor seconds (user and system), the fastest of ROUNDS runs.
 """
 import itertools
 import os
@@ -16,8 +17,11 @@ import tempfile
 MOST = float(os.environ.get("MOST", 5))
 ROUNDS = int(os.environ.get("ROUNDS", 1))
 HALVES, BYTES = 16_777_216, 67_108_864
-FLEET = "dcc-decoders 2\n" + "".join(
-    f"loco s{n}\nspeed stop f\non\nstates\npending none\ncv 1 {n}\ncv 29 2\n" for n in range(1, 65)) + "end\n"
+FLEET = (
+    "dcc-decoders 2\n"
+    + "".join(f"loco s{n}\nspeed stop f\non\nstates\npending none\ncv 1 {n}\ncv 29 2\n" for n in range(1, 65))
+    + "end\n"
+)
 
 
 def packet(*values):

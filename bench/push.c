@@ -1,5 +1,6 @@
-/* Half-bits through `dcc_push`, or with the word `plain` through a plain state machine in C that does the same and carries no proof: what
-   bench/push.py counts. Both tell a sum over all outcomes, which has to be the same. With the word `read` they are only read. */
+/* Pushes half-bits into `dcc_push`, or with the argument `plain` into a plain state machine in C that does the same
+ * and is not proved. bench/push.py counts the instructions of both. Both print a sum over all outcomes, which must
+ * be equal. With the argument `read` the program only reads the half-bits. */
 #include <dcc.h>
 #include <stdint.h>
 #include <stdio.h>

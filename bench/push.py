@@ -1,10 +1,12 @@
 #!/usr/bin/env python3
-"""Counts the instructions of `dcc_push` of the library for C beside a plain state machine in C (bench/push.c), by valgrind's callgrind.
+"""Counts the instructions of `dcc_push` beside a plain state machine in C (bench/push.c), by callgrind of valgrind.
 
     bench/push.py
 
-Ordinary packets and the half-bits of a noisy track, where each seventh packet is cut off by a bad half. Wants crates/dcc_c/out/libdcc_c.a
-(tools/c-library), a C compiler and valgrind. Status 1 where the two tell different outcomes, or `dcc_push` takes more than MOST times the other.
+The inputs are ordinary packets and the half-bits of a noisy track, on which a bad half-bit cuts each seventh
+packet. The script needs crates/dcc_c/out/libdcc_c.a (tools/c-library), a C compiler and valgrind. The exit status
+is 1 if both give different outcomes, or if `dcc_push` takes more than MOST times the instructions of the state
+machine.
 """
 import os
 import re
@@ -32,11 +34,16 @@ def instructions(words, text):
 
 def main():
     halves = [us for packet in PACKETS for us in halves_of(packet)]
-    noisy = [us for at, packet in enumerate(PACKETS) for us in (halves_of(packet) if at else halves_of(packet)[:60] + [70])]
+    noisy = [
+        us for at, packet in enumerate(PACKETS) for us in (halves_of(packet) if at else halves_of(packet)[:60] + [70])
+    ]
     with tempfile.TemporaryDirectory() as room:
         program = os.path.join(room, "push")
         library = os.environ.get("LIBRARY", os.path.join(TOP, "crates/dcc_c/out/libdcc_c.a"))
-        subprocess.run(["cc", "-O2", "-Wl,--gc-sections", f"-I{TOP}/include", "-o", program, f"{TOP}/bench/push.c", library], check=True)
+        subprocess.run(
+            ["cc", "-O2", "-Wl,--gc-sections", f"-I{TOP}/include", "-o", program, f"{TOP}/bench/push.c", library],
+            check=True,
+        )
         for name, turn in (("ordinary packets", halves), ("a noisy track", noisy)):
             turns = 440_000 // len(turn)
             text = " ".join(map(str, turn * turns))
@@ -51,7 +58,9 @@ def main():
                 return 1
             library_cost, plain_cost = [(cost - reading) / (turns * len(turn)) for cost in costs]
             times = library_cost / plain_cost
-            print(f"{name}: dcc_push {library_cost:.1f} instructions a half-bit, plain C {plain_cost:.1f}: {times:.2f} times")
+            print(
+                f"{name}: dcc_push {library_cost:.1f} instructions per half-bit, plain C {plain_cost:.1f}: {times:.2f}"
+            )
             if times > MOST:
                 print(f"{name}: {MOST:g} times are let through")
                 return 1

@@ -1,11 +1,11 @@
 #!/usr/bin/env python3
-"""Times `dcc same --who s3` on two captures of one input that are alike, in runs, with many different packets, and prints the
-times and the memory.
+"""Times `dcc same --who s3` on inputs with two alike captures, in runs, with many different packets. The script prints
+the times and the memory.
 
     bench/same.py [PROGRAM]
 
-PROGRAM is the built program, crates/dcc/out/dcc if it is not given (built by `rt run` in crates/dcc). Each case runs ROUNDS
-times, in turn; the fastest run of each counts.
+PROGRAM is the program to measure, crates/dcc/out/dcc if it is not given (`rt run` in crates/dcc builds it). Each case
+runs ROUNDS times, in turn, and the fastest run counts.
 """
 import itertools
 import os
@@ -95,14 +95,21 @@ def seconds(program, path):
 
 
 def main():
-    program = sys.argv[1] if len(sys.argv) > 1 else os.path.join(os.path.dirname(__file__), "..", "crates", "dcc", "out", "dcc")
+    program = (
+        sys.argv[1]
+        if len(sys.argv) > 1
+        else os.path.join(os.path.dirname(__file__), "..", "crates", "dcc", "out", "dcc")
+    )
     with tempfile.TemporaryDirectory() as folder:
         path = os.path.join(folder, "captures.txt")
         for name, kinds, most in cases():
             taken = write(path, kinds, most)
             runs = [seconds(program, path) for _ in range(ROUNDS)]
             memory = resource.getrusage(resource.RUSAGE_CHILDREN).ru_maxrss
-            print(f"{name}: {taken:,} a side, {min(runs)[0]:.2f} s, {runs[0][1]}; most memory so far {memory / 1024:.1f} MB", flush=True)
+            print(
+                f"{name}: {taken:,} a side, {min(runs)[0]:.2f} s, {runs[0][1]}; most memory {memory / 1024:.1f} MB",
+                flush=True,
+            )
 
 
 main()

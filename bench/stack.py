@@ -63,8 +63,11 @@ def main():
         bounds = {name: int(size) for name, size in (row.split() for row in file if row.strip() and row[0] != "#")}
     failed = [f"bench/stack.bounds names {name}, which is no call" for name in bounds if name not in took]
     failed += [f"bench/stack.bounds has no bound for {name}" for name in took if name not in bounds]
-    failed += [f"{name}: {size} bytes of stack, and at most {bounds[name]} are let through" for name, size in took.items()
-               if size > bounds.get(name, size)]
+    failed += [
+        f"{name}: {size} bytes of stack, and at most {bounds[name]} are let through"
+        for name, size in took.items()
+        if size > bounds.get(name, size)
+    ]
     print("\n".join([*failed, f"the stack of {len(took)} calls on x86-64, {len(failed)} failed"]))
     return 1 if failed else 0
 

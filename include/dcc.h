@@ -1,4 +1,6 @@
-/* Digital Command Control (DCC) for C and C++: find packets in half-bits, read and send packets, simulate decoders,
+/* SPDX-License-Identifier: MIT OR Apache-2.0
+ *
+ * Digital Command Control (DCC) for C and C++: find packets in half-bits, read and send packets, simulate decoders,
  * read CVs, run a command station.
  *
  * Each function reads and writes only its arguments, allocates nothing, has no state of its own, and returns. The
@@ -43,7 +45,8 @@ extern "C" {
 /* The version of this header and of the library, as `dcc --version` prints it. */
 #define DCC_VERSION "0.1.0"
 
-/* Error codes: a function returns the number, or an outcome has it as its refusal. The letter says what is refused. */
+/* Error codes. A function returns the number of the error, or stores it in the field refusal of an outcome. The letter
+ * says what is refused. */
 enum { /* H1 to H5: half-bits, as refusals in outcomes; H6 to H8: timings */
     DCC_H1_BAD_HALF = 1, DCC_H2_SPLIT_BIT, DCC_H3_TOO_SHORT, DCC_H4_TOO_LONG, DCC_H5_ERROR_BYTE, DCC_H6_ONE,
     DCC_H7_ZERO, DCC_H8_PREAMBLE
@@ -76,7 +79,7 @@ typedef struct {
 
 /* A packet, or a refusal. */
 typedef struct {
-    uint32_t at;     /* the number of its last half-bit in the run that was pushed, from 1; always 1 after dcc_push */
+    uint32_t at;     /* the number of its last half-bit in the run of dcc_push_run, from 1; otherwise 1 */
     uint8_t refusal; /* 0 for a packet, else 1 to 5: H1 a half-bit of a wrong length, H2 a bit of two different
                         half-bits, H3 fewer than 3 bytes, H4 more than 6 bytes, H5 a wrong error byte */
     dcc_frame frame; /* the bytes of a packet or of H5; len is 0 with H1 to H4 */
@@ -92,6 +95,12 @@ uint8_t dcc_push(dcc_framer *framer, uint16_t us, dcc_outcome *outcome);
 /* Takes n half-bits of us microseconds, as n calls of dcc_push would. At most one of them completes a packet or a
  * refusal. Returns the same values as dcc_push. */
 uint8_t dcc_push_run(dcc_framer *framer, uint16_t us, uint32_t n, dcc_outcome *outcome);
+
+/* Takes the half-bits of an array in order, as calls of dcc_push would, up to the first half-bit that completes a
+ * packet or a refusal. Writes the number of half-bits that it took to *taken. Returns the same values as dcc_push. If
+ * the result is 0, *taken is len. */
+uint8_t dcc_push_many(dcc_framer *framer, const uint16_t *halves, uint64_t len, dcc_outcome *outcome,
+                      uint64_t *taken);
 
 /* ---- packets (NMRA S-9.2.1) ---- */
 
@@ -111,7 +120,8 @@ typedef struct {
     uint8_t bits;     /* speed bits: SPEED28 0 to 31, which is 2 * SSSS + C of 01DCSSSS; SPEED128 0 to 127
                          (dcc_loco.step has the speed step). Function bits: the lowest function in the lowest bit
                          (group 0: F1 to F4, then F0) */
-    uint8_t group;    /* FUNCTIONS: its first function: 0 (F1 to F4 and F0), 5, 9, 13, 21, 29, 37, 45, 53 or 61 */
+    uint8_t group;    /* FUNCTIONS: the first function of the group: 5, 9, 13, 21, 29, 37, 45, 53 or 61, or
+                         0 for F1 to F4 and F0 */
     uint8_t state;    /* STATE: the binary state, 0 for all of them */
     bool on;          /* STATE, ACCESSORY */
     DCC_FREE_BYTE
@@ -177,7 +187,7 @@ uint16_t dcc_sender_half(dcc_sender *sender);
 
 /* ---- decoders ---- */
 
-/* The _apply and _hears functions return 13 (P13) and write nothing if no decoder can have such fields. */
+/* The _apply, _hears and _cv functions return 13 (P13) and write nothing if no decoder can have such fields. */
 
 /* A locomotive decoder. */
 typedef struct {
@@ -197,6 +207,10 @@ typedef struct {
 
 /* Creates a locomotive decoder that is powered up with these CVs, which it copies. */
 void dcc_loco_new(dcc_loco *loco, const uint8_t cvs[DCC_CVS]);
+
+/* Powers a locomotive decoder up, as dcc_loco_new does with the CVs in loco->cvs, which stay as they are. The other
+ * fields may have any values before, so a program can write the CVs to loco->cvs and needs no second array. */
+void dcc_loco_power_up(dcc_loco *loco);
 
 /* Applies the packet of a frame. A packet for other decoders changes nothing. */
 uint8_t dcc_loco_apply(dcc_loco *loco, const uint8_t *frame, uint64_t len);
@@ -233,11 +247,80 @@ typedef struct {
     uint8_t cvs[DCC_CVS];
 } dcc_service;
 
-/* Creates a decoder with these CVs, which it copies. */
+/* Creates a decoder with these CVs, which it copies. It is not in service mode. */
 void dcc_service_new(dcc_service *service, const uint8_t cvs[DCC_CVS]);
+
+/* Powers a decoder up, as dcc_service_new does with the CVs in service->cvs, which stay as they are. The other fields
+ * may have any values before. */
+void dcc_service_power_up(dcc_service *service);
 
 /* Takes a frame, and writes whether the decoder acknowledges it. */
 uint8_t dcc_service_apply(dcc_service *service, const uint8_t *frame, uint64_t len, bool *acknowledged);
+
+/* ---- decoders whose CVs the program stores, for example in EEPROM ---- */
+
+/* These decoders have no CVs of their own, so they fit an ATmega328P. They obey as a dcc_loco or a dcc_service with the
+ * stored CVs does. A program takes four steps for each frame:
+ *
+ * - The _cv function writes the number of the CV that the frame accesses, or 0.
+ * - If there is such a CV, the program reads its value from its store.
+ * - The _apply function gets this value and writes the new one.
+ * - If the value changed, the program writes it to its store.
+ *
+ * Between the two calls, the program does not change the decoder. */
+
+/* A locomotive decoder whose CVs the program stores. */
+typedef struct {
+    uint8_t address_kind;  /* these fields are those of a dcc_loco */
+    uint8_t speed_mode;
+    uint8_t step;
+    bool forward;
+    uint16_t address;
+    dcc_frame pending;
+    DCC_FREE_BYTE DCC_FREE_BYTE DCC_FREE_BYTE
+    uint64_t functions[2];
+    uint64_t states[2];
+    uint8_t cv29;          /* the value of CV29: bit 1 is the mode of speed steps */
+    uint8_t unused[7];     /* no function reads or writes these bytes */
+} dcc_small_loco;
+
+/* Creates a locomotive decoder that is powered up with these values of its CVs. No other CV matters. */
+void dcc_small_loco_new(dcc_small_loco *loco, uint8_t cv1, uint8_t cv17, uint8_t cv18, uint8_t cv29);
+
+/* If dcc_small_loco_apply would execute a CV write for this frame, writes the number of the CV, 1 to 1024. Writes 0 for
+ * all other frames. */
+uint8_t dcc_small_loco_cv(const dcc_small_loco *loco, const uint8_t *frame, uint64_t len, uint16_t *cv);
+
+/* Applies the packet of a frame, as dcc_loco_apply does. If dcc_small_loco_cv writes the number of a CV for this
+ * frame, *value must be the value of this CV. The function writes the new value of this CV to *value, and writes
+ * whether the value changed. For all other frames *value does not matter and does not change. CV7 and CV8 never
+ * change. */
+uint8_t dcc_small_loco_apply(dcc_small_loco *loco, const uint8_t *frame, uint64_t len, uint8_t *value, bool *changed);
+
+/* Writes whether the packet of a frame is for this decoder, as dcc_loco_hears does. */
+uint8_t dcc_small_loco_hears(const dcc_small_loco *loco, const uint8_t *frame, uint64_t len, bool *heard);
+
+/* A decoder on the programming track whose CVs the program stores. */
+typedef struct {
+    bool in_service;
+    dcc_frame pending; /* the service packet that takes effect if the same packet comes again */
+} dcc_small_service;
+
+/* Creates a decoder that is not in service mode. */
+void dcc_small_service_new(dcc_small_service *service);
+
+/* Writes the number of the CV that dcc_small_service_apply accesses for this frame, 1 to 1024: that of a service packet
+ * that takes effect. Writes 0 for all other frames. */
+uint8_t dcc_small_service_cv(const dcc_small_service *service, const uint8_t *frame, uint64_t len, uint16_t *cv);
+
+/* Takes a frame, as dcc_service_apply does, and writes whether the decoder acknowledges it. If dcc_small_service_cv
+ * writes the number of a CV for this frame, *value must be the value of this CV. The function writes the new value of
+ * this CV to *value, and writes whether the value changed. For all other frames *value does not matter and does not
+ * change. CV7 and CV8 never change. */
+uint8_t dcc_small_service_apply(dcc_small_service *service, const uint8_t *frame, uint64_t len, uint8_t *value,
+    bool *changed, bool *acknowledged);
+
+/* ---- reading a CV ---- */
 
 /* The reading of a CV by nine questions. The first eight ask if bit 0, 1, .. 7 of the CV is one. The ninth asks if the
  * CV has the value of these bits. */
@@ -271,8 +354,8 @@ uint8_t dcc_reader_answer(dcc_reader *reader, bool yes, uint8_t *value);
 /* ---- a command station ---- */
 
 /* A command station: commands that wait, and entries, which it sends again and again while no command waits. Opaque:
- * do not read or write its fields. A station is all zeros before its first dcc_station_new, as `static dcc_station
- * station;` is. A station of zeros accepts no command and sends idle packets. */
+ * do not read or write its fields. Before its first dcc_station_new, a station must be all zeros, as a `static
+ * dcc_station station;` is. A station of zeros accepts no command and sends idle packets. */
 typedef struct {
     uint8_t kept[1800];
 } dcc_station;
@@ -315,6 +398,8 @@ DCC_ASSERT(sizeof(dcc_sender) == 16);
 DCC_ASSERT(sizeof(dcc_loco) == 1072);
 DCC_ASSERT(sizeof(dcc_board) == 12);
 DCC_ASSERT(sizeof(dcc_service) == 1032);
+DCC_ASSERT(sizeof(dcc_small_loco) == 56);
+DCC_ASSERT(sizeof(dcc_small_service) == 8);
 DCC_ASSERT(sizeof(dcc_reader) == 4);
 DCC_ASSERT(sizeof(dcc_station) == 1800);
 

@@ -1,6 +1,6 @@
-# A capture, as `dcc encode` writes it, to what a logic analyser would have seen: each edge up to `jitter` microseconds early or
-# late, and seen at the next of `rate` samples a microsecond. Written as VCD, or with -v csv=1 as Saleae's digital CSV.
-# -v seed=.. chooses the noise; the same seed gives the same edges.
+# Turns a capture of `dcc encode` into a recording of a simulated logic analyser. Each edge comes up to `jitter`
+# microseconds early or late, and is seen at the next of `rate` samples per microsecond. The output is VCD, or a digital
+# CSV as Saleae writes it with -v csv=1. -v seed=.. chooses the noise: equal seeds give equal edges.
 function noise() { seed = (seed * 16807) % 2147483647; return 2 * seed / 2147483647 - 1 }
 function edge(at, level,    sample) {
     sample = int(at * rate) + 1
@@ -14,7 +14,10 @@ BEGIN {
     unit = rate == 1 ? 1 : rate == 8 ? 1000 : 10000
     name = rate == 1 ? "1 us" : rate == 8 ? "1 ns" : "100 ps"
     if (csv) print "Time [s],Channel 0\n0.000000000,0"
-    else printf "$timescale %s $end\n$scope module dcc $end\n$var wire 1 ! track $end\n$upscope $end\n$enddefinitions $end\n#0 0!\n", name
+    else {
+        printf "$timescale %s $end\n$scope module dcc $end\n$var wire 1 ! track $end\n", name
+        printf "$upscope $end\n$enddefinitions $end\n#0 0!\n"
+    }
     at = 37.3
     level = 1
     edge(at, level)

@@ -1,9 +1,9 @@
-// Files of logic analysers to half-bits, as tools/to-capture reads them, with its sentences. Nothing here is proved.
+// Reads files of logic analysers as half-bits, with the errors of tools/to-capture. Nothing here is proved.
 
-/** Ends the reading of a file, with a sentence. */
+/** An error that ends the reading of a file. Its message is a sentence. */
 class Unreadable extends Error {}
 
-/** Text of a file within a sentence. */
+/** Returns text of a file as it is quoted in a sentence. */
 const plain = (text) => {
   const shown = text.slice(0, 41).replace(/[^ -~]/g, '?');
   return text.length > 40 ? `${shown.slice(0, 40)}..` : shown;
@@ -11,7 +11,7 @@ const plain = (text) => {
 
 const quoted = (text) => `"${plain(text)}"`;
 
-/** The channels of a file, and the levels of one of them as half-bits. */
+/** The channels of a file, and the half-bits of one channel. */
 class Recording {
   constructor() {
     this.line = 0;
@@ -26,23 +26,24 @@ class Recording {
     this.isFull = false;
   }
 
-  /** Ends the reading at the line that is read. */
+  /** Ends the reading with an error of the current line. */
   refuseLine(text) {
     throw new Unreadable(`line ${this.line}: ${text}`);
   }
 
-  /** Adds a channel. In a VCD file it has an id. */
+  /** Adds a channel. A channel of a VCD file has an id. */
   add(name, id) {
     const label = id === undefined ? name : `${name} (${id})`;
     this.channels.push({ key: String(this.channels.length), name, id, label });
   }
 
-  /** Picks the channel that is asked for, else the first. */
+  /** Selects the requested channel, or the first one. */
   pick(key) {
     this.picked = this.channels.find((it) => it.key === key) ?? this.channels[0];
   }
 
-  /** Takes a level at a time in microseconds. Only a change of it is an edge; the first level is that at the start. */
+  /** Takes the level at a time in microseconds. Only a change of the level is an edge. The first level is the level
+   * at the start. */
   take(at, level) {
     if (this.levels && level === this.level) return;
     if (this.levels > 1) this.half(at - this.edge);
@@ -51,7 +52,7 @@ class Recording {
     this.edge = at;
   }
 
-  /** Adds a half-bit: its time to the nearest microsecond, by the sums of the script. */
+  /** Adds a half-bit. Its duration is rounded to the nearest microsecond, by the sums of the script. */
   half(time) {
     const us = time < LONGEST ? Math.trunc(time + 0.5) : LONGEST;
     if (this.isFull || !this.halves.push(us, 1)) {
@@ -65,16 +66,18 @@ class Recording {
     this.ones = us >= 52 && us <= 64 ? this.ones + 1 : 0;
   }
 
-  /** What is wrong with the whole, or null. */
+  /** Returns the error of the whole file, or null. */
   fault() {
     if (!this.picked) return 'the input ends before its first level';
-    // nothing tells when the last level ends: as long as the half before it, it is the other half of its bit
+    // the end of the last level is unknown. It gets the length of the half-bit before it, since it can be the second
+    // half of a bit
     if (this.halves.count) this.half(this.last);
     const channel = `the channel ${quoted(this.picked.label)} has no`;
     if (!this.halves.count) return `${channel} two edges${this.choice()}`;
     if (this.isFull || this.hasPacket) return null;
+    const lengths = `of ${this.shortest} to ${this.longest} microseconds`;
     return (
-      `${channel} packet: ${this.halves.count} halves, of ${this.shortest} to ${this.longest} microseconds, and nowhere ` +
+      `${channel} packet: ${this.halves.count} halves, ${lengths}, and nowhere ` +
       `20 halves of ones (52 to 64) before a half of a zero (90 to 10000)${this.choice()}`
     );
   }
@@ -90,9 +93,11 @@ class Recording {
 const isBlank = (code) => code === BLANK || code === TAB;
 
 const MICROSECONDS = { s: 1e6, ms: 1e3, us: 1, ns: 1e-3, ps: 1e-6, fs: 1e-9 };
-const COMMANDS = new Set(['$comment', '$date', '$enddefinitions', '$scope', '$timescale', '$upscope', '$var', '$version']);
+const COMMANDS = new Set(
+  ['$comment', '$date', '$enddefinitions', '$scope', '$timescale', '$upscope', '$var', '$version'],
+);
 
-/** A VCD file (IEEE 1364), word by word: values stand on lines of their own or on that of their time. */
+/** Reads a VCD file (IEEE 1364) word by word. A value is on a line of its own, or on the line of its time. */
 class Vcd {
   constructor(recording, key) {
     this.recording = recording;
@@ -119,7 +124,7 @@ class Vcd {
       if (word === '$end') this.endCommand();
       else this.words.push(word);
     } else if (this.vector) {
-      // behind a value of several bits stands its id; a single bit may be written so too
+      // the id follows a value of several bits. A single bit can be written in this way too
       if (word === this.id && /^b.*[01]$/i.test(this.vector)) this.recording.take(this.at, this.vector.slice(-1));
       this.vector = null;
     } else if (first === '#') {
@@ -134,7 +139,7 @@ class Vcd {
     }
   }
 
-  /** Ends what stands from such a word to $end. */
+  /** Ends a section, from its keyword to $end. */
   endCommand() {
     const { command, words } = this;
     if (command === '$timescale') {
@@ -146,7 +151,7 @@ class Vcd {
     this.command = null;
   }
 
-  /** A module may have the same wire by the same name. */
+  /** Adds a wire. A module can have one wire under the same name twice. */
   addWire(name, id) {
     if (this.known.has(`${name} ${id}`)) return;
     this.known.add(`${name} ${id}`);
@@ -154,14 +159,18 @@ class Vcd {
   }
 
   begin() {
-    if (!this.recording.channels.length) throw new Unreadable('no $var of one bit stands before the times: there is no channel');
+    if (!this.recording.channels.length) {
+      throw new Unreadable('no $var of one bit stands before the times: there is no channel');
+    }
     this.recording.pick(this.key);
     this.id = this.recording.picked.id;
   }
 
   time(word) {
     if (!this.recording.picked) this.begin();
-    if (!this.unit) throw new Unreadable('no $timescale, as $timescale 1 ns $end, stands before the times: they have no unit');
+    if (!this.unit) {
+      throw new Unreadable('no $timescale, as $timescale 1 ns $end, stands before the times: they have no unit');
+    }
     if (!/^#[0-9]+$/.test(word)) this.recording.refuseLine(`${quoted(word)} is no time`);
     const time = Number(word.slice(1)) * this.unit;
     if (time < this.at) this.recording.refuseLine('its time lies before that of the line above');
@@ -169,7 +178,8 @@ class Vcd {
   }
 }
 
-/** The microseconds of the unit of a first column, as Time [s], Time(ms) or nanoseconds; 0 where it is no time. */
+/** Returns the microseconds of the unit in the title of the first column, for example Time [s], Time(ms) or
+ * nanoseconds. Returns 0 if the title has no unit of time. */
 const unitOf = (title) => {
   const text = title.toLowerCase();
   if (!/^time|seconds/.test(text)) return 0;
@@ -179,10 +189,13 @@ const unitOf = (title) => {
   return /milli|[^a-z]ms/.test(text) ? 1e3 : 1e6;
 };
 
-/** Of a rate, as 24 MHz. */
-const hertz = (text) => parseFloat(text) * (text.includes('G') ? 1e9 : text.includes('M') ? 1e6 : text.includes('k') ? 1e3 : 1);
+/** Returns the hertz of a rate such as 24 MHz. */
+const hertz = (text) => {
+  const unit = ['G', 'M', 'k'].find((it) => text.includes(it));
+  return parseFloat(text) * ({ G: 1e9, M: 1e6, k: 1e3 }[unit] ?? 1);
+};
 
-/** A text without the blanks around it. (An expression for them would take quadratic time.) */
+/** Returns a text without the blanks around it. A regular expression for this would take quadratic time. */
 const withoutBlanks = (text) => {
   let [from, end] = [0, text.length];
   while (from < end && text[from] === ' ') from += 1;
@@ -190,23 +203,23 @@ const withoutBlanks = (text) => {
   return text.slice(from, end);
 };
 
-/** How often a character stands in a text. */
+/** Returns how often a character occurs in a text. */
 const countOf = (text, character) => {
   let count = 0;
   for (let at = text.indexOf(character); at >= 0; at = text.indexOf(character, at + 1)) count += 1;
   return count;
 };
 
-/** What stands between the columns, by a first line: what stands in quotes does not count. */
+/** Returns the separator of the columns, by the first line. Text in quotes does not count. */
 const separatorOf = (row) => {
   const bare = row.replace(/"[^"]*"/g, '');
   return bare.includes(';') ? ';' : bare.includes('\t') ? '\t' : ',';
 };
 
-/** How many characters a time has at most. */
+/** The most characters of a time. */
 const LONGEST_TIME = 100;
 
-/** A digital CSV: the time and a column for each channel, a row for each edge of any of them or for each sample. */
+/** Reads a digital CSV: a time, and a column for each channel. A row is an edge of any channel, or a sample. */
 class Csv {
   constructor(recording, key) {
     this.recording = recording;
@@ -220,7 +233,7 @@ class Csv {
 
   row(row) {
     if (row[0] === ';' || row[0] === '#') {
-      // the shortest comment that is read is longer than that
+      // the shortest comment that matters is longer
       if (row.length > 10) this.comment(row);
     } else if (/[^ \t]/.test(row)) {
       this.separator ??= separatorOf(row);
@@ -231,7 +244,8 @@ class Csv {
     }
   }
 
-  /** sigrok gives the number of channels in a comment, and their names between commas and blanks, without quotes. */
+  /** Reads the number of channels and their names from a comment of sigrok. The names are between commas and blanks,
+   * without quotes. */
   comment(row) {
     const [, rate] = row.match(/[Ss]ample ?rate: (.*)/) ?? [];
     if (rate) this.rate = hertz(rate);
@@ -239,15 +253,16 @@ class Csv {
     if (count) [this.toldChannels, this.toldNames] = [Number(count), names ? names.split(', ') : []];
   }
 
-  /** The fields of a row, without the blanks around them: of a row without quotes at most one more than the header
-   * has. */
+  /** Returns the fields of a row, without the blanks around them. Of a row without quotes it returns at most one
+   * field more than the header has. */
   split(row) {
     const most = this.headerColumns === undefined ? undefined : this.headerColumns + 1;
     const fields = row.includes('"') ? this.splitQuoted(row) : row.split(this.separator, most);
     return fields.map(withoutBlanks);
   }
 
-  /** A quote at the begin of a field opens it, and the next one closes it; of two within it one remains. */
+  /** Splits a row with quotes. A quote at the beginning of a field opens the quoted text, and the next quote closes
+   * it. Two quotes in it stand for one. */
   splitQuoted(row) {
     const [fields, pieces] = [[], row.split('"')];
     let [text, isQuoted, isClosed] = ['', false, false];
@@ -273,8 +288,8 @@ class Csv {
     return [...fields, text];
   }
 
-  /** What the columns are, by the first line. One that is a row already has channels that are called by their
-   * places, from 0. */
+  /** Reads the columns from the first line. If the first line is already a row, the channels are called 0, 1 and so
+   * on. */
   columns(row, fields) {
     const { recording, rate } = this;
     const isRow = this.timeOf(fields[0]) !== null;
@@ -282,15 +297,17 @@ class Csv {
     this.isTimed = this.unit !== 0 && !(isRow && rate);
     if (!this.isTimed && rate) this.unit = 1e6 / rate;
     if (!this.unit || (this.isTimed && fields.length === 1)) {
-      recording.refuseLine(`${quoted(row)} begins neither a VCD file nor a digital CSV with a time in its first column: export one of these`);
+      const none = 'begins neither a VCD file nor a digital CSV with a time in its first column: export one of these';
+      recording.refuseLine(`${quoted(row)} ${none}`);
     }
-    // sigrok tells the unit in the header, or not at all
+    // sigrok writes the unit in the header, or not at all
     if (rate && (fields[0].toLowerCase() === 'time' || (isRow && fields.length > this.toldChannels))) {
-      recording.refuseLine(`${quoted(row)} tells no unit of time: let sigrok-cli write -O csv:time=true:dedup=true, without label`);
+      const none = 'tells no unit of time: let sigrok-cli write -O csv:time=true:dedup=true, without label';
+      recording.refuseLine(`${quoted(row)} ${none}`);
     }
     [this.header, this.headerColumns] = [recording.line, fields.length];
     const titles = fields.slice(Number(this.isTimed));
-    // a name with a comma and a blank in it would be taken for two: then no name is known
+    // a name with a comma and a blank would look like two names. In this case no name is used
     const names = this.toldNames.length === titles.length ? this.toldNames : titles.map((_, place) => String(place));
     titles.forEach((title, place) => recording.add(isRow ? String(place) : title === 'logic' ? names[place] : title));
     recording.pick(this.key);
@@ -313,34 +330,36 @@ class Csv {
     this.rows += 1;
     this.at = time;
     const level = fields[this.column];
-    if (level !== '0' && level !== '1') recording.refuseLine(`${quoted(level)} is no level 0 or 1: export the digital channel, not its voltage`);
+    if (level !== '0' && level !== '1') {
+      recording.refuseLine(`${quoted(level)} is no level 0 or 1: export the digital channel, not its voltage`);
+    }
     recording.take(time, level);
   }
 
-  /** A time in the unit of its column, null where it is none. */
+  /** Returns a time in the unit of its column, or null if the text is no time. */
   timeOf(text) {
     if (text.length > LONGEST_TIME) return null;
     const number = this.separator === ',' ? text : text.replace(',', '.');
     if (/^[-+]?[0-9]*\.?[0-9]+([eE][-+]?0?[0-9][0-9]?)?$/.test(number)) return Number(number);
-    // a date and a time of day are the seconds of a month
+    // a date and a time of day are the seconds since the beginning of the month
     if (!/^[0-9]+-[0-9]+-[0-9]+[T ][0-9]+:[0-9]+:[0-9]+(\.[0-9]+)?(Z| ?[-+][0-9:]+)?$/.test(number)) return null;
     const [, , day, hour, minute, second] = number.split(/[-T:+Z ]/).map(Number);
     return ((day * 24 + hour) * 60 + minute) * 60 + second;
   }
 }
 
-/** How many channels the page offers. A browser needs minutes for a menu of 200,000. */
+/** The most channels in the menu of the page. A browser needs minutes for a menu of 200,000 channels. */
 const CHANNELS_OFFERED = 1000;
 
-/** The half-bits of a file, the channels that it has and the one that was read; where it cannot be read to its end,
- * why. */
+/** Returns the half-bits of a file, its channels, and the channel that was read. If the file cannot be read to its
+ * end, the result has the reason. */
 const readRecording = (form, text, key, tell) => {
   const recording = new Recording();
   const file = form === 'VCD' ? new Vcd(recording, key) : new Csv(recording, key);
   let [sentence, hasBegun] = [null, false];
   const takeRow = (row, line) => {
     recording.line = line;
-    // sigrok-cli may write META before the file
+    // sigrok-cli can write META before the file
     if (!hasBegun && row.startsWith('META ')) return true;
     hasBegun ||= /[^ \t\r]/.test(row);
     file.row(row.endsWith('\r') ? row.slice(0, -1) : row);
@@ -359,7 +378,7 @@ const readRecording = (form, text, key, tell) => {
   return { form, halves, channels: offered, allChannels: channels.length, key: picked?.key, refused };
 };
 
-/** Why a file is none of the forms, or null. */
+/** Returns why a file has none of the known forms, or null. */
 const strangeFile = (text) => {
   if (text.startsWith('PK')) {
     return (
@@ -367,15 +386,15 @@ const strangeFile = (text) => {
       'export it as VCD or CSV, as by sigrok-cli -i track.sr -O vcd'
     );
   }
-  // its two first bytes are no text
+  // the first two bytes are no text
   if (text.startsWith('\ufffd\ufffd')) {
     return 'this text is UTF-16, as PowerShell writes it behind >: let sigrok-cli write the file, by -o track.vcd';
   }
   return null;
 };
 
-/** VCD or CSV, null for a capture: what the first line is that is no comment. Words of a capture stand between
- * blanks, not commas. */
+/** Returns the form of a text: VCD or CSV, or null for a capture. The first line that is no comment decides. Words of
+ * a capture are separated by blanks, not by commas. */
 const formOf = (text) => {
   let form = null;
   takeLines(text, (row) => {
@@ -390,14 +409,14 @@ const formOf = (text) => {
 
 const isCsvRow = (front) => /^"?[a-z].*[,;\t]/i.test(front) || /^[^,;]+[,;] *"?[01]"?\s*([,;]|$)/.test(front);
 
-/** Enough of a file to tell its form. */
+/** The number of bytes that suffice to detect the form of a file. */
 const FRONT = 1000000;
 
-/** The bytes behind a byte order mark, as editors of Windows write it. */
+/** Returns the bytes after a byte order mark, which editors of Windows write. */
 const withoutMark = (bytes) => ([0xef, 0xbb, 0xbf].every((it, i) => it === bytes[i]) ? bytes.subarray(3) : bytes);
 
-/** The half-bits of a file in any form, up to its first fault. `tell` is called with the part that is read, from 0
- * to 1. */
+/** Returns the half-bits of a file in any form, up to its first error. Calls `tell` with the part that is read, from
+ * 0 to 1. */
 const readBytes = (file, key, tell) => {
   const bytes = withoutMark(file);
   const front = textOf(bytes.subarray(0, FRONT));

@@ -1,20 +1,20 @@
-// Half-bits, and captures as docs/FORMATS.md has them. Nothing here is proved.
+// Half-bits, and captures in the format of docs/FORMATS.md. Nothing here is proved.
 
 const MOST_HALVES = 16777216;
 const MOST_BYTES = 67108864;
 const LONGEST = 65535;
 
-/** A memory that grows where it stands. */
+/** Creates a buffer that grows without a copy. */
 const growing = (most) => new ArrayBuffer(4096, { maxByteLength: most });
 
-/** Half-bits. Places count from 0. */
+/** A list of half-bits. Places count from 0. */
 class Halves {
   constructor(count = 0, buffer = growing(2 * MOST_HALVES)) {
     this.count = count;
     this.us = new Uint16Array(buffer);
   }
 
-  /** Adds n half-bits of so many microseconds. Answers false, and adds none, where there would be too many. */
+  /** Adds n half-bits of a duration in microseconds. Returns false, and adds none, if there would be too many. */
   push(us, n) {
     const end = this.count + n;
     if (end > MOST_HALVES) return false;
@@ -30,40 +30,32 @@ class Halves {
     buffer.resize(Math.min(2 * buffer.byteLength, buffer.maxByteLength));
   }
 
-  /** The place behind those from a place on that last equally long. */
-  endOfRun(place) {
-    const { us, count: all } = this;
-    let end = place + 1;
-    while (end < all && us[end] === us[place]) end += 1;
-    return end;
-  }
-
-  /** The durations from one place to before another, a list. */
+  /** Returns a list of the durations from one place up to another place, which is excluded. */
   slice(from, to) {
     return [...this.us.subarray(from, Math.min(to, this.count))];
   }
 }
 
-/** A text that is refused: the fault as `dcc` tells it, where it has one, and a sentence for a reader. */
+/** A text with an error: the error code as `dcc` writes it, if it has one, and a sentence. */
 const refusal = (fault, text) => ({ fault, text });
 
 const tooLong = () =>
   refusal(
     'dcc: U7 input too long',
-    'The capture is too long: 16,777,216 half-bits and 64 MiB are the most. What stands before that is shown.',
+    'The capture is too long. The page shows the part within the limits: 16,777,216 half-bits and 64 MiB.',
   );
 
 const [TAB, FEED, RETURN, BLANK, HASH, STAR, DIGIT] = [9, 10, 13, 32, 35, 42, 48];
 const isGap = (byte) => byte === BLANK || byte === FEED || byte === TAB || byte === RETURN;
 
-/** Where the word of these bytes ends that begins at a place. */
+/** Returns the place after the word that begins at a place. */
 const endOfWord = (bytes, at) => {
   let end = at;
   while (end < bytes.length && !isGap(bytes[end]) && bytes[end] !== HASH) end += 1;
   return end;
 };
 
-/** The number that bytes[from..to] spells with at most so many digits, or -1. */
+/** Returns the number in bytes[from..to], or -1 if these are not digits or more digits than allowed. */
 const numberIn = (bytes, from, to, digits) => {
   if (from === to || to - from > digits) return -1;
   let number = 0;
@@ -75,8 +67,8 @@ const numberIn = (bytes, from, to, digits) => {
   return number;
 };
 
-/** Adds the half-bits that the word bytes[from..to] spells, `us` or `us*n`. Answers null where it spells none,
- * false where they are too many. */
+/** Adds the half-bits of the word bytes[from..to], `us` or `us*n`. Returns null if the word is no run, and false if
+ * there would be too many half-bits. */
 const pushWord = (halves, bytes, from, to) => {
   let star = from;
   while (star < to && bytes[star] !== STAR) star += 1;
@@ -85,13 +77,13 @@ const pushWord = (halves, bytes, from, to) => {
   return us < 0 || n < 1 || n > MOST_HALVES ? null : halves.push(Math.min(us, LONGEST), n);
 };
 
-/** The capture before the first line of the one word `---`, and that behind it; null where there is no such line. */
+/** Returns the captures before and after the first line `---`, or null if there is no such line. */
 const cutAtDashes = (text) => {
   const [, before, behind] = text.match(/^([^]*?\n|)[ \t\r]*---[ \t\r]*(?:#[^\n]*)?(?:\n([^]*))?$/) ?? [];
   return before === undefined ? null : [before, behind ?? ''];
 };
 
-/** Why a word is refused, and whether a second capture stands behind it. */
+/** Returns the error of a word, and whether a second capture follows it. */
 const badWord = (bytes, line, from, to) => {
   const word = textOf(bytes.subarray(from, to));
   const isTwo = word === '---' && cutAtDashes(textOf(bytes)) !== null;
@@ -105,7 +97,8 @@ const badWord = (bytes, line, from, to) => {
   return { refused, isTwo };
 };
 
-/** A capture. Of one that has too many bytes the first are read; the word that the limit cuts has not ended. */
+/** Reads a capture. Of a capture with too many bytes it reads the first bytes. The word that the limit cuts does not
+ * count. */
 const readCapture = (all, tell = () => {}) => {
   const [halves, isCut] = [new Halves(), all.length > MOST_BYTES];
   const bytes = isCut ? all.subarray(0, MOST_BYTES) : all;
@@ -135,11 +128,11 @@ const readCapture = (all, tell = () => {}) => {
 
 const textOf = (bytes) => new TextDecoder('utf-8', { ignoreBOM: true }).decode(bytes);
 
-/** How much is read before the page is told how much that is: characters of a text, or bytes. */
+/** The number of characters or bytes that are read between two reports to the page. */
 const TOLD_EACH = 2000000;
 
-/** Takes the lines of a text, each with its number from 1, as long as `take` answers true. Empty lines are passed
- * over. */
+/** Calls `take` for each line of a text that is not empty, with the number of the line from 1. Ends if `take` returns
+ * false. */
 const takeLines = (text, take, tell = () => {}) => {
   for (let line = 1, at = 0, next = TOLD_EACH; at < text.length; line += 1) {
     const feed = text.indexOf('\n', at);

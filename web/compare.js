@@ -1,19 +1,20 @@
-// The first difference of two captures for a decoder, by the definitions of `dcc same` (docs/DEFINITIONS.md, "Lists that are alike"). Who
-// hears a packet, whether it writes a variable and what it sets are asked of the module; the comparison is the page's own and not proved.
+// The first difference of two captures for a decoder, by the definitions of `dcc same` (docs/DEFINITIONS.md, "Lists
+// that are alike"). The module decides which decoder hears a packet, and the registers that a packet sets. The
+// comparison itself is a script of the page and is not proved.
 
-/** A probe of one kind of decoder: two states that differ in each plain register, and what a packet leaves the same
- * in both. */
+/** A probe of a kind of decoder: two states that differ in each plain register. A register that a packet sets is
+ * equal in both states afterwards. */
 const LOCO_PROBES = [
   { speed: [0, 0, 1], bits: 0 },
   { speed: [28, 5, 0], bits: 255 },
 ];
 
-/** A locomotive decoder in a speed mode, with all functions and states off, or all on. */
+/** Creates a locomotive decoder in a speed mode, with all functions and states off, or all on. */
 const locoProbe = (fresh, mode, { speed, bits }) => {
   const numbers = fresh.numbers.slice();
   numbers.set(speed, LOCO.speedMode);
   numbers.fill(bits, LOCO.functions, LOCO.cvs);
-  // there is no function above 68 and no state 0
+  // no function above 68 and no state 0 exists
   numbers.fill(0, LOCO.functions + 9, LOCO.states);
   numbers[LOCO.functions + 8] &= 0x1f;
   numbers[LOCO.states] &= 0xfe;
@@ -29,21 +30,21 @@ const boardProbe = (fresh, bits) => {
   return { kind: 'board', numbers };
 };
 
-/** Pairs of probes, one for each speed mode of a locomotive decoder. */
+/** Returns the probes, for a locomotive decoder one for each speed mode. */
 const probesOf = (fresh) => {
   if (fresh.kind === 'board') return [[boardProbe(fresh, 0), boardProbe(fresh, 255)]];
   return [28, 14].map((mode) => LOCO_PROBES.map((it) => locoProbe(fresh, mode, it)));
 };
 
-/** The plain registers of a decoder that are numbers of their own: speed with its mode, direction; or the sides and
- * aspects of a board. */
+/** The plain registers that are numbers: the speed with its mode, and the direction, or the positions and the aspects
+ * of a board. */
 const plainNumbers = ({ kind, numbers }) =>
   kind === 'board'
     ? [...numbers.subarray(BOARD.positions, BOARD.aspects + 4)]
     : [256 * numbers[LOCO.speedMode] + numbers[LOCO.step], numbers[LOCO.forward]];
 
-/** The bytes whose bits are plain registers, and which bits of a byte are: there is no function above 68 and no
- * state 0. */
+/** The bytes whose bits are plain registers, and the bits of each byte that are registers: no function above 68 and
+ * no state 0 exists. */
 const plainBits = ({ kind }) => {
   const bytes = (at, count) => [...Array(count).keys()].map((i) => ({ at: at + i, mask: 255 }));
   if (kind === 'board') return bytes(BOARD.outs, 1);
@@ -53,8 +54,8 @@ const plainBits = ({ kind }) => {
   return [...functions, ...states];
 };
 
-/** What a packet sets plain registers to: pairs of a register's number, from a first one on, and its value. Both
- * probes hold that afterwards. */
+/** Returns the values to which a packet sets plain registers: pairs of the number of a register, counted from a first
+ * number, and its value. Both states of the probe have this value after the packet. */
 const setBy = (dcc, probes, first, bytes) => {
   const [one, other] = probes.map((it) => dcc.after(it, [bytes]));
   const others = plainNumbers(other);
@@ -68,27 +69,28 @@ const setBy = (dcc, probes, first, bytes) => {
   return sets;
 };
 
-/** More than there are plain registers. */
+/** A number above the number of plain registers. */
 const REGISTERS = 1000;
 
-/** What the definitions want to know of packets, for one decoder. */
+/** The facts about packets that the definitions need, for one decoder. */
 class Packets {
   constructor(dcc, fresh) {
     const probes = probesOf(fresh);
     this.hears = once((bytes) => dcc.hears(fresh, bytes));
     this.isWrite = once((bytes) => fresh.kind === 'loco' && pendingOf(dcc.after(fresh, [bytes])).length > 0);
-    // registers of the second speed mode have numbers of their own
+    // the registers of the second speed mode have other numbers
     this.sets = once((bytes) => probes.flatMap((it, mode) => setBy(dcc, it, REGISTERS * mode, bytes)));
   }
 
-  /** The places of the outcomes that the decoder hears, of more than two equal writes in a row the last two. */
+  /** Returns the places of the outcomes that the decoder hears. Of more than two equal writes in a row it returns the
+   * last two. */
   heard(outcomes) {
     const list = [...outcomes.keys()].filter((i) => !outcomes[i].refusal && this.hears(outcomes[i].bytes));
     const bytes = list.map((i) => outcomes[i].bytes);
     return list.filter((_, i) => !(this.isWrite(bytes[i]) && bytes[i] === bytes[i + 1] && bytes[i] === bytes[i + 2]));
   }
 
-  /** The blocks between the writes, and the write that ends each, null behind the last. */
+  /** Returns the blocks between the writes, and the write that ends each block, or null for the last block. */
   blocks(outcomes) {
     const blocks = [{ block: [], write: null }];
     for (const i of this.heard(outcomes)) {
@@ -104,23 +106,23 @@ class Packets {
   }
 }
 
-/** The turns that two packets take in a block: their places, but for those behind an equal one. */
+/** Returns the turns of two packets in a block: their places, without each place after an equal packet. */
 const turnsOf = (block, outcomes, p, q) => {
   const both = block.filter((i) => outcomes[i].bytes === p || outcomes[i].bytes === q);
   return both.filter((i, n) => n === 0 || outcomes[both[n - 1]].bytes !== outcomes[i].bytes);
 };
 
-/** Some numbers in the order in which they came last, the last one first. */
+/** Numbers in the order of their last occurrences, the last one first. */
 class Recent {
   constructor(size) {
     this.size = size;
-    // a ring, in which the number behind all is the end
+    // a ring. The number after all numbers is its end
     this.next = new Int32Array(size + 1);
     this.before = new Int32Array(size + 1);
     this.next[size] = this.before[size] = size;
   }
 
-  /** Puts a number first, and calls `pass` with each that has come since it came last. */
+  /** Moves a number to the front. Calls `pass` with each number that occurred since its last occurrence. */
   come(number, pass) {
     const { next, before, size } = this;
     let it = next[size];
@@ -131,7 +133,7 @@ class Recent {
     next[size] = number;
   }
 
-  /** The rank of each number, 0 for the one that came last. */
+  /** Returns the rank of each number, 0 for the number that occurred last. */
   ranks() {
     const ranks = new Int32Array(this.size);
     for (let it = this.next[this.size], rank = 0; it !== this.size; it = this.next[it], rank += 1) ranks[it] = rank;
@@ -139,9 +141,9 @@ class Recent {
   }
 }
 
-/** All packets of a block that set some registers, by their numbers, with what each sets them to. Two of them
- * conflict where that differs. It counts how often two of them change turns: one way up for the first block, down
- * for the second. */
+/** The packets of a block that set one set of registers, as numbers, with the values that they set. Two packets
+ * conflict if these values differ. The object counts how often two of them change turns: up for the first block,
+ * down for the second. */
 class Rivals {
   constructor(numbers, values) {
     const known = [...new Set(values)];
@@ -159,8 +161,8 @@ class Rivals {
     });
   }
 
-  /** The first two that conflict and take other turns, null for none. Their turns are the same if they change them
-   * as often, and the same one has the last. */
+  /** Returns the first two packets that conflict and take different turns, or null. Two packets take equal turns if
+   * they change turns equally often and the same packet has the last turn. */
   firstOther() {
     const { changes, values, numbers } = this;
     const [left, right] = this.recent.map((it) => it.ranks());
@@ -174,7 +176,7 @@ class Rivals {
   }
 }
 
-/** The rivals among packets: for each set of registers that the same packets set. */
+/** Returns the rivals among packets, for each set of registers that some packets set. */
 const rivalsAmong = (packets, members) => {
   const setters = new Map();
   members.forEach((bytes, number) => {
@@ -193,8 +195,8 @@ const rivalsAmong = (packets, members) => {
   return [...groups.values()].map(({ numbers, values }) => new Rivals(numbers, values));
 };
 
-/** The first two packets that conflict and take other turns in two blocks of the same packets; null where there are
- * none. */
+/** Returns the first two packets that conflict and take different turns in two blocks of the same packets, or null.
+ * */
 const otherOrder = (packets, blocks, sides) => {
   const frames = blocks.map((block, side) => block.map((i) => sides[side][i].bytes));
   const members = [...new Set(frames[0])];
@@ -210,13 +212,13 @@ const otherOrder = (packets, blocks, sides) => {
   return first.map((it) => members[it]);
 };
 
-/** The places of a block whose packets another block lacks. */
+/** Returns the places of the packets of a block that another block does not have. */
 const missingIn = (block, outcomes, other, others) => {
   const known = new Set(other.map((i) => others[i].bytes));
   return block.filter((i) => !known.has(outcomes[i].bytes));
 };
 
-/** The first difference: the verdict of `dcc same`, and the places of each capture that show it. `tell` is called
+/** Returns the first difference: the verdict of `dcc same`, and the places of each capture that show it. Calls `tell`
  * with the part that is compared, from 0 to 1. */
 const differenceOf = (packets, sides, tell = () => {}) => {
   const [left, right] = sides.map((it) => packets.blocks(it));
@@ -224,7 +226,7 @@ const differenceOf = (packets, sides, tell = () => {}) => {
     tell(k / left.length);
     const blocks = [left[k].block, right[k].block];
     const writes = [left[k].write, right[k].write];
-    const missing = [missingIn(blocks[0], sides[0], blocks[1], sides[1]), missingIn(blocks[1], sides[1], blocks[0], sides[0])];
+    const missing = [0, 1].map((it) => missingIn(blocks[it], sides[it], blocks[1 - it], sides[1 - it]));
     if (missing.some((it) => it.length)) return { verdict: `members ${k}`, block: k, blocks, missing };
     const pair = otherOrder(packets, blocks, sides);
     if (pair) return { verdict: `order ${k}`, block: k, blocks, pair };

@@ -1,18 +1,21 @@
-// What a decoder holds: the numbers of its object in include/dcc.h, and its text in docs/FORMATS.md. What packets do to it is the
-// module's; nothing here is proved.
+// The state of a decoder: the numbers of its object in include/dcc.h, and its text in docs/FORMATS.md. The module
+// applies packets to the decoder. Nothing here is proved.
 
-/** Where the numbers of a decoder lie in its object. */
-const LOCO = { addressKind: 0, speedMode: 1, step: 2, forward: 3, address: 4, pendingLength: 6, pending: 7, functions: 16, states: 32, cvs: 48 };
+/** The offsets of the fields of a decoder in its object. */
+const LOCO = {
+  addressKind: 0, speedMode: 1, step: 2, forward: 3, address: 4, pendingLength: 6, pending: 7, functions: 16,
+  states: 32, cvs: 48,
+};
 const BOARD = { number: 0, outs: 2, positions: 3, aspects: 7 };
 
-/** How many functions and binary states there are, F0 and no state 0 among them. */
+/** The number of functions, F0 included, and of binary states, with the unused state 0. */
 const FUNCTIONS = 69;
 const STATES = 128;
 
-/** The numbers from 0 whose bits are one. */
+/** Returns the places of the bits that are one, from 0. */
 const onesOf = (numbers, at, count) => [...Array(count).keys()].filter((n) => (numbers[at + (n >> 3)] >> (n & 7)) & 1);
 
-/** The CVs of a new locomotive decoder: its address, and speeds in 28 steps. */
+/** Returns the CVs of a new locomotive decoder: its address, and 28 speed steps. */
 const cvsOf = (kind, address) => {
   const cvs = new Uint8Array(CVS);
   cvs[28] = kind === 'l' ? 0x22 : 0x02;
@@ -23,7 +26,8 @@ const cvsOf = (kind, address) => {
 
 const MOST_ADDRESS = { s: 127, l: 10239, b: 510 };
 
-/** A new decoder of the address that a word names, as s3, l1000, none or b12; null where it names none. */
+/** Returns a new decoder with the address that a word names, for example s3, l1000, none or b12. Returns null if the
+ * word names no decoder. */
 const decoderOf = (dcc, word) => {
   if (word === 'none') return dcc.newLoco(cvsOf('none'));
   const [, kind, digits] = word.match(/^([slb])(\d{1,5})$/) ?? [];
@@ -34,10 +38,10 @@ const decoderOf = (dcc, word) => {
 
 const wordAt = (numbers, at) => numbers[at] + 256 * numbers[at + 1];
 
-/** The packet that a locomotive decoder would do if it came again, no bytes for none. */
+/** Returns the pending packet of a locomotive decoder, or no bytes. */
 const pendingOf = ({ numbers }) => [...numbers.subarray(LOCO.pending, LOCO.pending + numbers[LOCO.pendingLength])];
 
-/** The CVs that hold something else in two decoders, with both values. */
+/** Returns the CVs that differ in two decoders, with both values. */
 const changedCvs = (before, after) => {
   const list = [];
   for (let cv = 1; cv <= CVS; cv += 1) {
@@ -74,18 +78,21 @@ const boardLines = ({ numbers }) =>
   line('position', ...numbers.subarray(BOARD.positions, BOARD.positions + 4)) +
   line('aspect', ...numbers.subarray(BOARD.aspects, BOARD.aspects + 4));
 
-/** The decoder text of one decoder, as `dcc run` writes it. */
-const decoderText = (decoder) => `dcc-decoders 2\n${decoder.kind === 'loco' ? locoLines(decoder) : boardLines(decoder)}end\n`;
+/** Returns the decoder text of one decoder, as `dcc run` writes it. */
+const decoderText = (decoder) => {
+  const lines = decoder.kind === 'loco' ? locoLines(decoder) : boardLines(decoder);
+  return `dcc-decoders 2\n${lines}end\n`;
+};
 
 const listOf = (words) => (words.length ? words.join(' ') : 'none');
 
-/** What a decoder holds in words, beside what it is called. */
+/** Returns the state of a decoder in words: pairs of a name and a value. */
 const stateWords = (dcc, fresh, decoder) => {
   const { numbers } = decoder;
   if (decoder.kind === 'board') {
     return [
       ['Outputs that are on', listOf(onesOf(numbers, BOARD.outs, 8))],
-      ['Sides of its pairs', [...numbers.subarray(BOARD.positions, BOARD.positions + 4)].join(' ')],
+      ['Positions of its pairs', [...numbers.subarray(BOARD.positions, BOARD.positions + 4)].join(' ')],
       ['Aspects', [...numbers.subarray(BOARD.aspects, BOARD.aspects + 4)].join(' ')],
     ];
   }
@@ -93,19 +100,20 @@ const stateWords = (dcc, fresh, decoder) => {
   const pending = pendingOf(decoder);
   const cvs = changedCvs(fresh, decoder).map(({ cv, was, is }) => `CV${cv} ${is}, was ${was}`);
   return [
-    ['Speed', mode > 1 ? `step ${step} of ${mode}` : mode ? 'stopped at once' : 'stopped'],
+    ['Speed', mode > 1 ? `step ${step} of ${mode}` : mode ? 'emergency stop' : 'stopped'],
     ['Direction', forward ? 'forward' : 'reverse'],
     ['Functions that are on', listOf(onesOf(numbers, LOCO.functions, FUNCTIONS).map((n) => `F${n}`))],
     ['Binary states that are on', listOf(onesOf(numbers, LOCO.states, STATES))],
     ['CVs that differ from a new decoder', cvs.length ? cvs.join('; ') : 'none'],
-    ['Pending, done when it comes again', pending.length ? dcc.words(pending) : 'none'],
+    ['Pending CV write', pending.length ? dcc.words(pending) : 'none'],
   ];
 };
 
-/** How many outcomes stand between two kept states. */
+/** The number of outcomes between two stored states. */
 const KEPT_EVERY = 4096;
 
-/** A decoder over the outcomes of a capture, so that what it holds after any of them is soon found. */
+/** A decoder that hears the outcomes of a capture. It stores some states, so its state after any outcome is found
+ * quickly. */
 class Hearing {
   constructor(dcc, fresh, outcomes) {
     this.dcc = dcc;
@@ -113,10 +121,12 @@ class Hearing {
     this.kept = [fresh];
   }
 
-  /** What the decoder holds after the first n outcomes. */
+  /** Returns the state of the decoder after the first n outcomes. */
   after(n) {
     const whole = Math.floor(n / KEPT_EVERY);
-    for (let i = this.kept.length; i <= whole; i += 1) this.kept.push(this.over(this.kept[i - 1], (i - 1) * KEPT_EVERY, i * KEPT_EVERY));
+    for (let i = this.kept.length; i <= whole; i += 1) {
+      this.kept.push(this.over(this.kept[i - 1], (i - 1) * KEPT_EVERY, i * KEPT_EVERY));
+    }
     return this.over(this.kept[whole], whole * KEPT_EVERY, n);
   }
 

@@ -1,9 +1,11 @@
-// A grid of packets and refusals with their drawings: one row is chosen in it, and a half-bit of that row, by a click, a touch or the arrow
-// keys, for which the whole grid is one stop of the keyboard.
+// A grid of packets and refusals with their drawings. A click, a touch or the arrow keys choose a row, and a half-bit
+// in this row. The Tab key treats the grid as one element.
 
 const ROWS_OF_PAGE = 50;
 
-const milliseconds = (us) => `${(us / 1000).toLocaleString('en', { minimumFractionDigits: 3, maximumFractionDigits: 3 })} ms`;
+const THREE_DIGITS = { minimumFractionDigits: 3, maximumFractionDigits: 3 };
+
+const milliseconds = (us) => `${(us / 1000).toLocaleString('en', THREE_DIGITS)} ms`;
 
 const cell = (name, className, text) => {
   const it = make(name, className, text);
@@ -11,7 +13,7 @@ const cell = (name, className, text) => {
   return it;
 };
 
-/** The cells of an outcome: its number, its time, and its words with what more there is to say. */
+/** Returns the cells of an outcome: its number, its time, its words, and further text. */
 const cellsOf = (dcc, outcome, strip) => {
   const what = cell('td', 'what');
   what.append(make('span', 'words', told(dcc, outcome)));
@@ -22,11 +24,11 @@ const cellsOf = (dcc, outcome, strip) => {
   return [number, what];
 };
 
-/** The cell of a drawing. */
+/** Returns the cell of a drawing. */
 const drawingCell = (halves, strip, description, zoom) => {
   const it = cell('td', 'drawing');
   const track = make('div', 'track');
-  // one goes through the halves by key, and does not stop at each drawing
+  // the arrow keys move through the half-bits, so the Tab key skips each drawing
   track.tabIndex = -1;
   if (strip.hidden) it.append(make('span', 'hidden', `${plural(strip.hidden, 'half-bit')} before this are not drawn`));
   track.append(drawStrip(halves, strip, description, zoom));
@@ -34,13 +36,13 @@ const drawingCell = (halves, strip, description, zoom) => {
   return it;
 };
 
-/** Drawings that are wider than their place begin at their end, where the packet is. */
+/** Scrolls drawings that are wider than their cell to their end, where the packet is. */
 const showEnds = (element) => {
   for (const it of element.querySelectorAll('.track')) it.scrollLeft = it.scrollWidth;
 };
 
 class Grid {
-  /** Its rows stand in this element, each with its number in `rows`. They are of `capture`. */
+  /** Creates the grid in an element. Each row has its number in `rows`. The rows belong to `capture`. */
   constructor(dcc, body) {
     Object.assign(this, { dcc, body, capture: null, rows: [], chosen: null, half: null });
     body.addEventListener('keydown', (event) => this.press(event));
@@ -52,7 +54,7 @@ class Grid {
     return this.body.querySelector(`[data-row="${n}"]`);
   }
 
-  /** The row with a number, of an outcome of the capture. */
+  /** Returns the row with a number, which shows an outcome of the capture. */
   draw(n, i, zoom) {
     const { halves, outcomes } = this.capture;
     const outcome = outcomes[i];
@@ -67,7 +69,7 @@ class Grid {
     return row;
   }
 
-  /** Chooses a row. Another one has no half-bit that is chosen. */
+  /** Chooses a row. No half-bit of another row stays chosen. */
   choose(n) {
     if (n !== this.chosen) this.half = null;
     this.chosen = n;
@@ -79,7 +81,7 @@ class Grid {
     }
   }
 
-  /** Chooses a half-bit of the chosen row, and tells it below the drawing. */
+  /** Chooses a half-bit of the chosen row, and shows its duration below the drawing. */
   chooseHalf(place) {
     const row = this.element(this.chosen);
     const svg = row.querySelector('svg');
@@ -99,7 +101,7 @@ class Grid {
     return tellHalf(place, this.capture.halves.slice(place, place + 1)[0]);
   }
 
-  /** A mouse is told the half-bit that it is on. */
+  /** Shows the half-bit under the mouse. */
   hover(event) {
     const svg = event.target.closest('svg');
     if (!svg) return;
@@ -142,7 +144,8 @@ class Grid {
     this.element(this.chosen).focus();
   }
 
-  /** Goes to the next half-bit of the chosen row, or the one before; at first to where it is refused, or begins. */
+  /** Moves to the next half-bit of the chosen row, or to the one before. The first move goes to the place of the
+   * refusal, or to the beginning of the packet. */
   step(by) {
     const { fault, start } = this.element(this.chosen).querySelector('svg').strip;
     this.chooseHalf(this.half === null ? (fault ? fault.from : start) : this.half + by);

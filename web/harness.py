@@ -1,4 +1,5 @@
-"""A browser without a window, driven through two pipes, and what the tests of the page share."""
+"""A browser without a window that is controlled through two pipes, and functions that the tests of the page share.
+"""
 import base64
 import json
 import os
@@ -13,9 +14,22 @@ import time
 WEB = pathlib.Path(__file__).resolve().parent
 TOP = WEB.parent
 PAGE = WEB / "index.html"
-CHROMIUM = os.environ.get("CHROMIUM") or next((it for it in ("chromium", "chromium-browser", "google-chrome") if shutil.which(it)), None)
+CHROMIUM = os.environ.get("CHROMIUM") or next(
+    (it for it in ("chromium", "chromium-browser", "google-chrome") if shutil.which(it)), None
+)
 PATIENCE = 120
-KEYS = {"Tab": 9, "Enter": 13, "PageUp": 33, "PageDown": 34, "End": 35, "Home": 36, "ArrowLeft": 37, "ArrowUp": 38, "ArrowRight": 39, "ArrowDown": 40}
+KEYS = {
+    "Tab": 9,
+    "Enter": 13,
+    "PageUp": 33,
+    "PageDown": 34,
+    "End": 35,
+    "Home": 36,
+    "ArrowLeft": 37,
+    "ArrowUp": 38,
+    "ArrowRight": 39,
+    "ArrowDown": 40,
+}
 
 
 class Browser:
@@ -26,8 +40,19 @@ class Browser:
         self.requests, self.complaints, self.number = [], [], 0
         to_read, self.to = os.pipe()
         self.source, to_write = os.pipe()
-        words = [CHROMIUM, "--headless=new", "--remote-debugging-pipe", "--no-first-run", "--disable-gpu", "--disable-dev-shm-usage"]
-        words += ["--no-sandbox"] * (os.geteuid() == 0) + [f"--user-data-dir={self.room}", "--window-size=1280,1000", *flags]
+        words = [
+            CHROMIUM,
+            "--headless=new",
+            "--remote-debugging-pipe",
+            "--no-first-run",
+            "--disable-gpu",
+            "--disable-dev-shm-usage",
+        ]
+        words += ["--no-sandbox"] * (os.geteuid() == 0) + [
+            f"--user-data-dir={self.room}",
+            "--window-size=1280,1000",
+            *flags,
+        ]
 
         def lay_pipes():
             # the browser reads 3 and writes 4
@@ -47,7 +72,10 @@ class Browser:
         if before:
             self.ask("Page.addScriptToEvaluateOnNewDocument", source=before)
         self.ask("Page.navigate", url=PAGE.as_uri())
-        self.wait("document.readyState === 'complete' && (document.body.dataset.read > 0 || !document.getElementById('fault').hidden)")
+        self.wait(
+            "document.readyState === 'complete' && "
+            "(document.body.dataset.read > 0 || !document.getElementById('fault').hidden)"
+        )
 
     def take(self):
         while b"\0" not in self.rest:
@@ -100,8 +128,10 @@ class Browser:
         """Puts a text into the field as a reader does who pastes it, and waits until the page has read it."""
         was = self.reads()
         self.js("document.getElementById('text').select()")
-        self.js(f"(() => {{ const it = document.getElementById('text'); it.value = {json.dumps(text)};"
-                " it.dispatchEvent(new InputEvent('input', { bubbles: true, inputType: 'insertFromPaste' })); })()")
+        self.js(
+            f"(() => {{ const it = document.getElementById('text'); it.value = {json.dumps(text)};"
+            " it.dispatchEvent(new InputEvent('input', { bubbles: true, inputType: 'insertFromPaste' })); })()"
+        )
         self.wait(f"Number(document.body.dataset.read) > {was}")
 
     def open(self, path):
@@ -148,13 +178,17 @@ class Browser:
     def choose(self, channel):
         """Chooses a channel by its name or its end, or by its id, which stands in brackets behind it."""
         was = self.reads()
-        self.js("""((channel) => {
+        self.js(
+            """((channel) => {
             const menu = document.getElementById('channel');
-            const fits = (it) => [` (${channel})`, channel].some((end) => it.text.endsWith(end)) || it.text.startsWith(`${channel} (`);
+            const ends = (it) => [` (${channel})`, channel].some((end) => it.text.endsWith(end));
+            const fits = (it) => ends(it) || it.text.startsWith(`${channel} (`);
             const byNumber = (it) => it.text.replace(/ \\(.*/, '').endsWith(channel);
             menu.value = ([...menu.options].find(fits) ?? [...menu.options].find(byNumber)).value;
             menu.dispatchEvent(new Event('change'));
-        })(%s)""" % json.dumps(channel))
+        })(%s)"""
+            % json.dumps(channel)
+        )
         self.wait(f"Number(document.body.dataset.read) > {was}")
 
     def text(self, what):
@@ -165,8 +199,11 @@ class Browser:
 
     def rows(self):
         """The rows of the table, as `number words`."""
-        return self.js("[...document.querySelectorAll('#rows tr')].filter((it) => it.querySelector('.words'))"
-                       ".map((it) => `${it.querySelector('.at').textContent} ${it.querySelector('.words').textContent}\\n`).join('')")
+        return self.js(
+            "[...document.querySelectorAll('#rows tr')].filter((it) => it.querySelector('.words'))"
+            ".map((it) => ['.at', '.words'].map((part) => it.querySelector(part).textContent).join(' '))"
+            ".map((it) => it + '\\n').join('')"
+        )
 
     def texts(self, what):
         """The texts of all such elements."""
@@ -174,15 +211,21 @@ class Browser:
 
     def pulses(self, what):
         """The pulses of each such drawing from the left: where each begins and ends, and its top."""
-        return self.js("""[...document.querySelectorAll(%s)].map((svg) => [...svg.querySelectorAll('.pulse')]
+        return self.js(
+            """[...document.querySelectorAll(%s)].map((svg) => [...svg.querySelectorAll('.pulse')]
             .flatMap((it) => [...it.getAttribute('d').matchAll(/M([\\d.]+) ([\\d.]+)H([\\d.]+)/g)])
             .map(([, from, top, end]) => [from, end, top].map(Number))
-            .sort((a, b) => a[0] - b[0]))""" % json.dumps(what))
+            .sort((a, b) => a[0] - b[0]))"""
+            % json.dumps(what)
+        )
 
     def hover(self, what, x, y):
         """Moves the mouse to a place of an element, in pixels from its left and top."""
-        left, top = self.js("(() => { const it = document.querySelector(%s); (it.closest('tr') ?? it).scrollIntoView({ block: 'center' });"
-                            " const { left, top } = it.getBoundingClientRect(); return [left, top]; })()" % json.dumps(what))
+        left, top = self.js(
+            "(() => { const it = document.querySelector(%s);"
+            "(it.closest('tr') ?? it).scrollIntoView({ block: 'center' });"
+            " const { left, top } = it.getBoundingClientRect(); return [left, top]; })()" % json.dumps(what)
+        )
         self.ask("Input.dispatchMouseEvent", type="mouseMoved", x=left + x, y=top + y)
 
     def touch(self, x, y):
@@ -201,11 +244,14 @@ class Browser:
 
     def pick(self, name, value):
         """Chooses in a menu, writes into a field or moves a slider, as a reader does."""
-        self.js("""(([id, value]) => {
+        self.js(
+            """(([id, value]) => {
             const it = document.getElementById(id);
             it.value = value;
             for (const kind of ['input', 'change']) it.dispatchEvent(new Event(kind, { bubbles: true }));
-        })(%s)""" % json.dumps([name, value]))
+        })(%s)"""
+            % json.dumps([name, value])
+        )
         self.rest_of_work()
 
     def reads(self):
@@ -220,7 +266,9 @@ class Browser:
     def look(self, width=1280, scheme="light", height=1000):
         """Makes the window so wide, and chooses a colour scheme."""
         self.ask("Emulation.setEmulatedMedia", features=[{"name": "prefers-color-scheme", "value": scheme}])
-        self.ask("Emulation.setDeviceMetricsOverride", width=width, height=height, deviceScaleFactor=1, mobile=width < 600)
+        self.ask(
+            "Emulation.setDeviceMetricsOverride", width=width, height=height, deviceScaleFactor=1, mobile=width < 600
+        )
         self.js("page?.scale()")
 
     def picture(self, path, width=1280, scheme="light"):
@@ -275,7 +323,11 @@ def jittered(halves, *flags):
 def to_capture(data, channel=""):
     """The capture that tools/to-capture makes of a file, and its sentence."""
     ran = subprocess.run([TOP / "tools" / "to-capture", "-c", channel], input=data, capture_output=True)
-    check("to-capture ends with status 1 where it has a sentence, else with 0", ran.returncode == (1 if ran.stderr else 0), ran.stderr)
+    check(
+        "to-capture ends with status 1 where it has a sentence, else with 0",
+        ran.returncode == (1 if ran.stderr else 0),
+        ran.stderr,
+    )
     return ran.stdout.decode(), ran.stderr.decode().strip()
 
 

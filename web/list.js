@@ -1,10 +1,14 @@
-// Which outcomes stand in the table: those that are asked for, and of equal ones in a row the first where they are folded.
+// The outcomes that the table shows: those that match the filter. If repeats are folded, only the first of successive
+// equal outcomes is shown.
 
 // the kinds of packets, in the order of include/dcc.h
 const ALL_KINDS = [...Array(13).keys()];
-const [IDLE, RESET, SPEED28, SPEED128, FUNCTION, STATE, CV_WRITE, CV_VERIFY, CV_BIT_WRITE, CV_BIT_VERIFY, ACCESSORY, SIGNAL, OTHER] = ALL_KINDS;
+const [
+  IDLE, RESET, SPEED28, SPEED128, FUNCTION, STATE, CV_WRITE, CV_VERIFY, CV_BIT_WRITE, CV_BIT_VERIFY, ACCESSORY, SIGNAL,
+  OTHER,
+] = ALL_KINDS;
 
-/** What there is to choose from, each with the kinds of packets that it has, and whether refusals are shown with them. */
+/** The choices of the filter, each with its kinds of packets, and whether it shows refusals too. */
 const KINDS = {
   all: { name: 'all', kinds: ALL_KINDS, withRefusals: true },
   busy: { name: 'all but idle', kinds: ALL_KINDS.slice(1), withRefusals: true },
@@ -21,7 +25,7 @@ const KINDS = {
   others: { name: 'other frames', kinds: [OTHER] },
 };
 
-/** A test of frames, done once for each of them. */
+/** Returns a test of frames that computes each frame once. */
 const once = (test) => {
   const known = new Map();
   return (bytes) => {
@@ -30,7 +34,8 @@ const once = (test) => {
   };
 };
 
-/** Whether an outcome is asked for: of a kind, and for a decoder where there is one. A refusal may have been for anyone. */
+/** Returns true if an outcome matches the filter: its kind, and a decoder if one is named. A refusal matches each
+ * decoder. */
 const wantedBy = (dcc, kind, decoder) => {
   const { kinds, withRefusals } = KINDS[kind];
   const isOfKind = once((bytes) => kinds.includes(dcc.kind(bytes)));
@@ -38,7 +43,8 @@ const wantedBy = (dcc, kind, decoder) => {
   return ({ refusal, bytes }) => (refusal ? Boolean(withRefusals) : isOfKind(bytes) && isForIt(bytes));
 };
 
-/** The rows: the place of the first outcome, that of the last and how many there are. Equal frames are one and the same list. */
+/** Returns the rows: the place of the first outcome, the place of the last one, and their number. Equal frames are
+ * one list. */
 const rowsOf = (outcomes, isWanted, isFolded) => {
   const rows = [];
   let last = null;

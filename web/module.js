@@ -1,26 +1,27 @@
-// The module's calls (include/dcc.h). What they do is proved; that the objects lie in memory as this says is not.
+// The functions of the module (include/dcc.h), which are proved. The places of the objects in memory are not proved.
 
 const OUTCOME_BYTES = 12;
+const HALVES_EACH = 32768;
 const LINE_BYTES = 41;
 const CVS = 1024;
 const DECODER_BYTES = { loco: 1072, board: 12 };
 const PAGE_BYTES = 65536;
 
-/** A module of one 64-bit memory and nothing else. */
+/** The smallest module with a 64-bit memory. */
 const SMALLEST = Uint8Array.of(0, 0x61, 0x73, 0x6d, 1, 0, 0, 0, 5, 3, 1, 4, 0);
 
-/** Why this browser cannot run the module, or null. */
+/** Returns why this browser cannot run the module, or null. */
 const lackOfBrowser = () => {
   if (typeof WebAssembly !== 'object' || typeof BigInt !== 'function') {
-    return 'This browser cannot run the page: it has no WebAssembly, or it is switched off.';
+    return 'This browser cannot run the page: it has no WebAssembly, or WebAssembly is disabled.';
   }
   if (!WebAssembly.validate(SMALLEST)) {
-    return 'This browser cannot run the page: its WebAssembly has no 64-bit memory, for which the calls of this page are proved.';
+    return 'This browser cannot run the page: its WebAssembly has no 64-bit memory.';
   }
   return null;
 };
 
-/** The answer of a call that has nothing to refuse here. */
+/** Checks the result of a function that can have no error here. */
 const checked = (call, answer) => {
   if (answer !== 0) throw new Error(`${call} answers ${answer}`);
 };
@@ -35,7 +36,7 @@ class Dcc {
 
   constructor(calls) {
     this.calls = calls;
-    // the objects, one behind the other
+    // the objects, one after the other
     let end = (Number(calls.__heap_base.value) + 15) & ~15;
     const room = (bytes) => {
       const at = end;
@@ -50,12 +51,14 @@ class Dcc {
     this.decoder = room(DECODER_BYTES.loco);
     this.cvs = room(CVS);
     this.heard = room(1);
+    this.taken = room(8);
+    this.halves = room(2 * HALVES_EACH);
     this.reserve(end);
     this.memory = new Uint8Array(calls.memory.buffer);
     this.known = new Map();
   }
 
-  /** Grows the memory to so many bytes. Engines differ in how they want to be told the number of pages. */
+  /** Grows the memory to a number of bytes. Browsers differ in the type of the number of pages. */
   reserve(bytes) {
     const lack = Math.ceil((bytes - this.calls.memory.buffer.byteLength) / PAGE_BYTES);
     if (lack <= 0) return;
@@ -70,87 +73,91 @@ class Dcc {
     return this.memory.subarray(at, at + n);
   }
 
-  /** The bytes of a frame as a list: one and the same list for equal frames. */
+  /** Returns the bytes of a frame as a list. Equal frames have one list. */
   frameAt(at, n) {
     return this.frameOf([...this.bytesAt(at, n)]);
   }
 
-  /** The list that stands for equal frames. */
+  /** Returns the list that represents equal frames. */
   frameOf(bytes) {
     const name = hex(bytes);
     if (!this.known.has(name)) this.known.set(name, bytes);
     return this.known.get(name);
   }
 
-  /** The outcomes of half-bits: the number of the last half, from 1, when it ends in microseconds, the refusal, 0
-   * for none, and the bytes. */
+  /** Returns the outcomes of half-bits: the number of the last half-bit, from 1, its end in microseconds, the refusal
+   * or 0, and the bytes. */
   outcomes(halves, tell = () => {}) {
-    const [framer, outcome] = [BigInt(this.framer), BigInt(this.outcome)];
-    const view = new DataView(this.calls.memory.buffer, this.outcome, OUTCOME_BYTES);
+    const { dcc_framer_new: begin, dcc_push_many: push, memory } = this.calls;
+    const [framer, outcome, taken] = [this.framer, this.outcome, this.taken].map(BigInt);
+    const room = new Uint16Array(memory.buffer, this.halves, HALVES_EACH);
+    const counted = new Uint32Array(memory.buffer, this.taken, 1);
+    const view = new DataView(memory.buffer, this.outcome, OUTCOME_BYTES);
     const list = [];
     let time = 0;
-    this.calls.dcc_framer_new(framer);
-    for (let from = 0, end = 0; from < halves.count; from = end) {
-      const us = halves.us[from];
-      end = halves.endOfRun(from);
-      if (this.calls.dcc_push_run(framer, us, end - from, outcome)) {
-        const place = view.getUint32(0, true);
+    begin(framer);
+    for (let from = 0; from < halves.count; from += HALVES_EACH) {
+      const part = halves.us.subarray(from, Math.min(from + HALVES_EACH, halves.count));
+      room.set(part);
+      for (let at = 0; at < part.length; ) {
+        const isEnd = push(framer, BigInt(this.halves + 2 * at), BigInt(part.length - at), outcome, taken);
+        for (const end = at + counted[0]; at < end; at += 1) time += part[at];
+        if (!isEnd) continue;
         const bytes = this.frameAt(this.outcome + 6, view.getUint8(5));
-        list.push({ at: from + place, time: time + place * us, refusal: view.getUint8(4), bytes });
+        list.push({ at: from + at, time, refusal: view.getUint8(4), bytes });
       }
-      time += (end - from) * us;
-      if (end - (end % TOLD_EACH) > from) tell(end / halves.count);
+      if (from % TOLD_EACH < HALVES_EACH) tell((from + part.length) / halves.count);
     }
     return list;
   }
 
-  /** Lays the bytes of a frame into the memory: their place and length, as the calls take them. */
+  /** Writes the bytes of a frame into the memory, and returns their place and length as arguments. */
   lay(bytes) {
     this.memory.set(bytes, this.frame);
     return [BigInt(this.frame), BigInt(bytes.length)];
   }
 
-  /** The packet line of the bytes of a packet. */
+  /** Returns the packet line of the bytes of a packet. */
   words(bytes) {
     checked('dcc_line', this.calls.dcc_line(...this.lay(bytes), BigInt(this.line)));
     const line = this.bytesAt(this.line, LINE_BYTES);
     return String.fromCharCode(...line.subarray(0, line.indexOf(0)));
   }
 
-  /** The kind of a packet: its number among the kinds of include/dcc.h. */
+  /** Returns the kind of a packet, a number of include/dcc.h. */
   kind(bytes) {
     checked('dcc_read', this.calls.dcc_read(...this.lay(bytes), BigInt(this.packet)));
     return this.memory[this.packet];
   }
 
-  /** A new locomotive decoder with these CVs: its kind and its numbers. */
+  /** Returns a new locomotive decoder with these CVs: its kind and its fields. */
   newLoco(cvs) {
     this.bytesAt(this.cvs, CVS).set(cvs);
     this.calls.dcc_loco_new(BigInt(this.decoder), BigInt(this.cvs));
     return { kind: 'loco', numbers: this.bytesAt(this.decoder, DECODER_BYTES.loco).slice() };
   }
 
-  /** A new accessory decoder. */
+  /** Returns a new accessory decoder. */
   newBoard(number) {
     checked('dcc_board_new', this.calls.dcc_board_new(BigInt(this.decoder), number));
     return { kind: 'board', numbers: this.bytesAt(this.decoder, DECODER_BYTES.board).slice() };
   }
 
-  /** Tells whether a packet is for a decoder. */
+  /** Returns true if a decoder hears a packet. */
   hears(decoder, bytes) {
     const { kind, numbers } = decoder;
     this.memory.set(numbers, this.decoder);
     return this.isHeard(kind, bytes);
   }
 
-  /** The same of the decoder that lies in the memory. */
+  /** Returns true if the decoder in the memory hears a packet. */
   isHeard(kind, bytes) {
     const call = kind === 'loco' ? this.calls.dcc_loco_hears : this.calls.dcc_board_hears;
     checked(`dcc_${kind}_hears`, call(BigInt(this.decoder), ...this.lay(bytes), BigInt(this.heard)));
     return this.memory[this.heard] === 1;
   }
 
-  /** A decoder once it has heard these packets. Those that are for others leave it as it is. */
+  /** Returns a decoder after these packets. Packets for other decoders do not change it. */
   after(decoder, packets) {
     const { kind, numbers } = decoder;
     const call = kind === 'loco' ? this.calls.dcc_loco_apply : this.calls.dcc_board_apply;
@@ -162,5 +169,8 @@ class Dcc {
   }
 }
 
-/** What `dcc show --words` writes behind the number of a half. */
-const told = (dcc, { refusal, bytes }) => (refusal ? `refused H${refusal}${bytes.length ? ` ${hex(bytes)}` : ''}` : dcc.words(bytes));
+/** Returns the text of `dcc show --words` after the number of the half-bit. */
+const told = (dcc, { refusal, bytes }) => {
+  if (!refusal) return dcc.words(bytes);
+  return `refused H${refusal}${bytes.length ? ` ${hex(bytes)}` : ''}`;
+};

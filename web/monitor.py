@@ -1,5 +1,6 @@
-"""What the page has as a track monitor, held against the program: times, the filter, states of decoders, two captures, timings; and how
-it looks and is used at two widths and in two schemes."""
+"""Tests of the page as a track monitor, compared with the program: times, the filter, the states of decoders, two
+captures, timings; and how the page looks and is used at two widths and in two colour schemes.
+"""
 import itertools
 import json
 import os
@@ -19,12 +20,16 @@ LARGEST = 16777216
 
 
 def random_lines(count):
-    ran = subprocess.run(["awk", "-f", TOP / "tools" / "random-packets.awk"], capture_output=True, check=True, text=True)
+    ran = subprocess.run(
+        ["awk", "-f", TOP / "tools" / "random-packets.awk"], capture_output=True, check=True, text=True
+    )
     return ran.stdout.splitlines()[:count]
 
 
 def encoded(program, lines):
-    return subprocess.run([program, "encode"], input="\n".join(lines).encode(), capture_output=True, check=True).stdout.decode()
+    return subprocess.run(
+        [program, "encode"], input="\n".join(lines).encode(), capture_output=True, check=True
+    ).stdout.decode()
 
 
 def rows_shown(browser):
@@ -38,10 +43,17 @@ def times(browser):
         halves = [min(int(it), 65535) for it in browser.halves().split()]
         ends = list(itertools.accumulate(halves))
         wanted = browser.js("page.outcomes.map((it) => it.at)")
-        same("the time of an outcome is the sum of the half-bits", browser.js("page.outcomes.map((it) => it.time)"), [ends[at - 1] for at in wanted])
+        same(
+            "the time of an outcome is the sum of the half-bits",
+            browser.js("page.outcomes.map((it) => it.time)"),
+            [ends[at - 1] for at in wanted],
+        )
     browser.paste(MAIN_TRACK.read_text())
-    same("times stand beside the numbers", browser.js("[...document.querySelectorAll('#rows .number')].map((it) => it.innerText.split('\\n'))"),
-         [["84", "5.791 ms"], ["168", "14.494 ms"], ["252", "21.043 ms"], ["336", "27.515 ms"]])
+    same(
+        "times stand beside the numbers",
+        browser.js("[...document.querySelectorAll('#rows .number')].map((it) => it.innerText.split('\\n'))"),
+        [["84", "5.791 ms"], ["168", "14.494 ms"], ["252", "21.043 ms"], ["336", "27.515 ms"]],
+    )
 
 
 def hears(who, words):
@@ -125,7 +137,11 @@ def states(browser, program):
         # from the end to the front and back, so that kept states are used
         for i in [last, 0, dice.randrange(last), dice.randrange(last), 4096, 4095]:
             at, text = browser.js(f"[page.outcomes[{i}].at, decoderText(page.table.decoder.hearing.after({i} + 1))]")
-            same(f"what {who} holds after outcome {i} is what dcc run writes", text, run_text(program, fresh, halves[:at]))
+            same(
+                f"what {who} holds after outcome {i} is what dcc run writes",
+                text,
+                run_text(program, fresh, halves[:at]),
+            )
     kept_states(browser, program)
     browser.pick("who", "")
     packets = ["speed128 r 45", "functions 0 17", "state 7 on", "cv write 3 9", "cv write 3 9", "cv write 29 6"]
@@ -134,17 +150,43 @@ def states(browser, program):
     browser.js("page.table.choose(5)")
     check("without a decoder one is told to name one", "Name a decoder" in browser.text("#rows .detail"))
     browser.pick("who", "s3")
-    same("what it holds stands below the row in words", browser.js("[...document.querySelector('#rows .state').children].map((it) => it.textContent)"),
-         ["Speed", "step 44 of 126", "Direction", "reverse", "Functions that are on", "F0 F1", "Binary states that are on", "7",
-          "CVs that differ from a new decoder", "CV3 9, was 0", "Pending, done when it comes again", "loco s3 cv write 29 6"])
+    same(
+        "what it holds stands below the row in words",
+        browser.js("[...document.querySelector('#rows .state').children].map((it) => it.textContent)"),
+        [
+            "Speed",
+            "step 44 of 126",
+            "Direction",
+            "reverse",
+            "Functions that are on",
+            "F0 F1",
+            "Binary states that are on",
+            "7",
+            "CVs that differ from a new decoder",
+            "CV3 9, was 0",
+            "Pending CV write",
+            "loco s3 cv write 29 6",
+        ],
+    )
     fresh = browser.js("decoderText(decoderOf(page.dcc, 's3'))")
     same("and as decoder text", browser.text("#rows pre"), run_text(program, fresh, browser.halves().split()))
     browser.js("page.table.choose(0)")
-    check("before that it held less", "step 44 of 126" in browser.text("#rows .state") and "F1" not in browser.text("#rows .state"))
-    same("one row is chosen", browser.js("[...document.querySelectorAll('#rows [aria-selected=true]')].map((it) => it.dataset.row)"), ["0"])
+    check(
+        "before that it held less",
+        "step 44 of 126" in browser.text("#rows .state") and "F1" not in browser.text("#rows .state"),
+    )
+    same(
+        "one row is chosen",
+        browser.js("[...document.querySelectorAll('#rows [aria-selected=true]')].map((it) => it.dataset.row)"),
+        ["0"],
+    )
     browser.js("page.table.choose(3)")
     browser.pick("kind", "speed")
-    same("of a row that is hidden the last one before it is chosen", browser.text("#rows [aria-selected=true] .words"), "loco s3 speed128 r 45")
+    same(
+        "of a row that is hidden the last one before it is chosen",
+        browser.text("#rows [aria-selected=true] .words"),
+        "loco s3 speed128 r 45",
+    )
     browser.pick("kind", "all")
     browser.pick("who", "b12")
     same("where nothing is for it nothing is chosen", browser.sees("#rows .detail"), 0)
@@ -153,8 +195,23 @@ def states(browser, program):
 
 def kept_states(browser, program):
     """A state is kept each 4,096 outcomes. Here only the packets on either side of these set anything."""
-    idle, *set_something = encoded(program, ["idle", *(f"loco s3 {it}" for it in
-        ("speed28 f 9", "functions 0 17", "functions 5 3", "state 7 on", "functions 9 2", "state 8 on"))]).splitlines()
+    idle, *set_something = encoded(
+        program,
+        [
+            "idle",
+            *(
+                f"loco s3 {it}"
+                for it in (
+                    "speed28 f 9",
+                    "functions 0 17",
+                    "functions 5 3",
+                    "state 7 on",
+                    "functions 9 2",
+                    "state 8 on",
+                )
+            ),
+        ],
+    ).splitlines()
     lines = [idle] * 8300
     for place, line in zip((4094, 4095, 4096, 8191, 8192, 8193), set_something):
         lines[place] = line
@@ -172,7 +229,9 @@ def rows_of_same():
     texts = {}
     halves = lambda found: " ".join(map(str, body(bytes.fromhex(found[1]), 0))) + " "
     plain = {"/": "\n", "^": "\r", "~": "\t", "_": " "}
-    for line in re.sub(r"(/?)\n +", lambda it: it[1] or " ", (TOP / "examples" / "rows" / "same.txt").read_text()).splitlines():
+    for line in re.sub(
+        r"(/?)\n +", lambda it: it[1] or " ", (TOP / "examples" / "rows" / "same.txt").read_text()
+    ).splitlines():
         named = re.fullmatch(r"\{(\w+)\} = (.*)", line)
         if named:
             texts[named[1]] = named[2]
@@ -187,23 +246,53 @@ def rows_of_same():
 
 def verdicts(browser, cases):
     """The page's verdicts on pairs of captures, each for a decoder."""
-    return browser.js("""(%s).map(([who, first, second]) => {
+    return browser.js(
+        """(%s).map(([who, first, second]) => {
         const bytes = (text) => new TextEncoder().encode(text);
         const sides = [first, second].map((it) => page.dcc.outcomes(readBytes(bytes(it)).halves));
         return differenceOf(new Packets(page.dcc, decoderOf(page.dcc, who)), sides).verdict;
-    })""" % json.dumps(cases))
+    })"""
+        % json.dumps(cases)
+    )
 
 
 def random_pairs(program, count):
     """Pairs of captures of few packets: of a random list, and of the same a little changed."""
     dice = random.Random(20261126)
     few = {
-        "s3": ["speed28 f 4", "speed28 r 28", "speed28 f 20", "speed128 f 3", "functions 0 17", "functions 0 1",
-               "functions 5 3", "state 5 on", "state 0 off", "reset", "cv write 29 6", "cv write 29 4", "cv bitwrite 29 1 0", "cv verify 29 6"],
-        "b12": ["accessory 12 0 on", "accessory 12 1 on", "accessory 12 1 off", "accessory 511 1 on", "accessory 13 1 on",
-                "signal 48 3", "signal 48 4", "signal 2047 4", "loco all reset"],
+        "s3": [
+            "speed28 f 4",
+            "speed28 r 28",
+            "speed28 f 20",
+            "speed128 f 3",
+            "functions 0 17",
+            "functions 0 1",
+            "functions 5 3",
+            "state 5 on",
+            "state 0 off",
+            "reset",
+            "cv write 29 6",
+            "cv write 29 4",
+            "cv bitwrite 29 1 0",
+            "cv verify 29 6",
+        ],
+        "b12": [
+            "accessory 12 0 on",
+            "accessory 12 1 on",
+            "accessory 12 1 off",
+            "accessory 511 1 on",
+            "accessory 13 1 on",
+            "signal 48 3",
+            "signal 48 4",
+            "signal 2047 4",
+            "loco all reset",
+        ],
     }
-    few["s3"] = [f"loco {to} {it}" for it in few["s3"] for to in ("s3", "all")] + ["loco s4 speed28 f 4", "idle", "frame 03a0a3"]
+    few["s3"] = [f"loco {to} {it}" for it in few["s3"] for to in ("s3", "all")] + [
+        "loco s4 speed28 f 4",
+        "idle",
+        "frame 03a0a3",
+    ]
     few["none"] = few["s3"]
     words = sorted({*few["s3"], *few["b12"]})
     halves = dict(zip(words, encoded(program, words).splitlines()))
@@ -239,7 +328,10 @@ def comparison(browser, program):
     told = verdicts(browser, [[who, *halves] for (who, _, _), halves in zip(rows, cut)])
     same("the rows of dcc same", told, [verdict for _, _, verdict in rows])
     # stops that differ by their lowest bit do so in 14 steps alone, where it is F0
-    few = [f"loco s3 {it}" for it in ("speed28 f 0", "speed28 f 1", "speed28 f 3", "functions 0 16", "reset", "state 0 off", "state 5 on")]
+    few = [
+        f"loco s3 {it}"
+        for it in ("speed28 f 0", "speed28 f 1", "speed28 f 3", "functions 0 16", "reset", "state 0 off", "state 5 on")
+    ]
     turned = [["s3", *(encoded(program, them) for them in ((p, q), (q, p)))] for p, q in itertools.combinations(few, 2)]
     same("each two packets, either first", verdicts(browser, turned), [same_says(program, *it) for it in turned])
     pairs = list(random_pairs(program, 500))
@@ -247,7 +339,10 @@ def comparison(browser, program):
     same("random tracks: as dcc same says", verdicts(browser, pairs), wanted)
     check("all verdicts came", {re.sub(r" \d+", "", it) for it in wanted} == {"alike", "members", "order", "writes"})
     lines = random_lines(4000)
-    large = [encoded(program, lines), encoded(program, [*lines[:3000], lines[3001], lines[3000], *lines[3002:], "loco s3 speed28 f 9"])]
+    large = [
+        encoded(program, lines),
+        encoded(program, [*lines[:3000], lines[3001], lines[3000], *lines[3002:], "loco s3 speed28 f 9"]),
+    ]
     for who in WHO:
         same(f"two long tracks for {who}", verdicts(browser, [[who, *large]]), [same_says(program, who, *large)])
     distinct_packets(browser, program)
@@ -257,15 +352,23 @@ def distinct_packets(browser, program):
     """Captures of many packets, none like another: compared as soon as others."""
     verified = [f"loco s3 cv verify {cv} {value}" for value in range(4) for cv in range(1, 1001)]
     groups = {"0": 32, "5": 16, "9": 16, **{str(it): 256 for it in range(13, 69, 8)}}
-    moving = [f"loco {who} {it}" for who in ("s3", "all") for it in (
-        *(f"speed128 {to} {step}" for to in "fr" for step in range(128)),
-        *(f"functions {it} {n}" for it, most in groups.items() for n in range(most)))]
+    moving = [
+        f"loco {who} {it}"
+        for who in ("s3", "all")
+        for it in (
+            *(f"speed128 {to} {step}" for to in "fr" for step in range(128)),
+            *(f"functions {it} {n}" for it, most in groups.items() for n in range(most)),
+        )
+    ]
     random.Random(5).shuffle(moving)
     one, other = [i for i, it in enumerate(moving) if "s3 functions 13 " in it][100:102]
     turned = [*moving[:one], moving[other], *moving[one + 1 : other], moving[one], *moving[other + 1 :]]
-    cases = {"4,000 CVs verified": (verified, verified), "each speed and function": (moving, moving),
-             "each twice": (moving + moving[:700], moving + moving[:699] + [moving[700]]),
-             "two of them turned": (moving, turned)}
+    cases = {
+        "4,000 CVs verified": (verified, verified),
+        "each speed and function": (moving, moving),
+        "each twice": (moving + moving[:700], moving + moving[:699] + [moving[700]]),
+        "two of them turned": (moving, turned),
+    }
     browser.js("document.getElementById('comparison').open = true")
     browser.pick("who", "s3")
     for name, lines in cases.items():
@@ -277,11 +380,13 @@ def distinct_packets(browser, program):
         same(f"{name}: the verdict", browser.text("#verdict code"), same_says(program, "s3", first, second))
         print(f"{name}: {len(set(lines[0])):,} packets, read and compared in {took:.1f} s of a processor")
         check(f"{name}: within 10 seconds of a processor", took < 10, took)
-    browser.js("""(() => {
+    browser.js(
+        """(() => {
         const { run } = page.work;
         window.begun = 0;
         page.work.run = (...words) => { window.begun += 1; return run.apply(page.work, words); };
-    })()""")
+    })()"""
+    )
     browser.pick("zoom", 110)
     browser.pick("zoom", 100)
     same("zoom does not compare anew", browser.js("delete page.work.run && window.begun"), 0)
@@ -298,10 +403,23 @@ def distinct_packets(browser, program):
 def sides_chosen(browser, program):
     """In the drawings of both sides too a half-bit is chosen by keys and touch."""
     browser.paste(encoded(program, ["loco s3 speed28 f 4", "idle", "loco s3 speed28 r 9", "loco s3 speed28 f 4"]))
-    browser.js("page.second.put(%s)" % json.dumps(encoded(program, ["loco s3 functions 0 16", "loco s3 speed28 f 4"]).replace("58", "59")))
+    browser.js(
+        "page.second.put(%s)"
+        % json.dumps(encoded(program, ["loco s3 functions 0 16", "loco s3 speed28 f 4"]).replace("58", "59"))
+    )
     first, second = (f"#sides .side:nth-child({i})" for i in (1, 2))
-    same("each side is one stop of the keyboard", [browser.sees(f"{it} [tabindex='0']") for it in (first, second)], [1, 1])
-    check("each side says how to go through it", all("left and right" in it for it in browser.js("[...document.querySelectorAll('#sides table')].map((it) => it.ariaLabel)")))
+    same(
+        "each side is one stop of the keyboard",
+        [browser.sees(f"{it} [tabindex='0']") for it in (first, second)],
+        [1, 1],
+    )
+    check(
+        "each side says how to go through it",
+        all(
+            "left and right" in it
+            for it in browser.js("[...document.querySelectorAll('#sides table')].map((it) => it.ariaLabel)")
+        ),
+    )
     browser.js(f"document.querySelector({json.dumps(first)} + ' [tabindex=\"0\"]').focus()")
     words = "document.activeElement.querySelector('.words')?.textContent"
     seen = []
@@ -327,7 +445,11 @@ def sides_chosen(browser, program):
     browser.press("Tab")
     same("the next stop is the other side", browser.js("document.activeElement.closest('.side')?.ariaLabel"), "second")
     browser.press("ArrowRight")
-    same("a half-bit of the second capture is told as it is there", browser.texts(f"{second} .half"), ["half-bit 29: 100 µs, half of a zero"])
+    same(
+        "a half-bit of the second capture is told as it is there",
+        browser.texts(f"{second} .half"),
+        ["half-bit 29: 100 µs, half of a zero"],
+    )
     browser.press("ArrowLeft")
     same("to the microsecond", browser.texts(f"{second} .half"), ["half-bit 28: 59 µs, half of a one"])
     for width in (1280, 390):
@@ -337,7 +459,11 @@ def sides_chosen(browser, program):
         browser.wait(f"document.querySelector({json.dumps(second)} + ' tr:nth-child(2) .half') !== null")
         us = browser.js(f"page.other.halves.us[{84 + place}]")
         told = browser.texts("#sides .side:nth-child(2) .half")
-        check(f"{width} wide: a touch tells a half-bit of a side", len(told) == 1 and told[0].startswith(f"half-bit {85 + place}: {us} µs, "), [told, place])
+        check(
+            f"{width} wide: a touch tells a half-bit of a side",
+            len(told) == 1 and told[0].startswith(f"half-bit {85 + place}: {us} µs, "),
+            [told, place],
+        )
         browser.ask("Emulation.setTouchEmulationEnabled", enabled=False)
     browser.look()
     browser.js(f"document.querySelector({json.dumps(first)} + ' .track').scrollLeft = 0")
@@ -357,22 +483,31 @@ def two_sides(browser, program):
     same("both fields have the name", browser.js("document.getElementById('who').value"), "s3")
     p, q, write = "loco s3 speed28 f 4", "loco s3 speed28 r 9", "loco s3 cv write 29 6"
     for first, second, verdict, marked, says in (
-        ([p, q, p], [p], "members 0", [q], "the first capture alone has “loco s3 speed28 r 9”"),
-        ([p, p, q], [q, p], "order 0", [p, q], "take turns in another way"),
-        ([p, write, write, q], [p, write, write, p], "members 2", [q, p], "Behind write 2 to it"),
+        ([p, q, p], [p], "members 0", [q], "only the first capture has “loco s3 speed28 r 9”"),
+        ([p, p, q], [q, p], "order 0", [p, q], "alternate in different ways"),
+        ([p, write, write, q], [p, write, write, p], "members 2", [q, p], "After write 2 to the decoder"),
         ([p, write], [p], "writes", [write], "the second has no further write"),
     ):
         browser.paste(encoded(program, first))
         browser.js("page.second.put(%s)" % json.dumps(encoded(program, second)))
         same(f"{verdict}: the verdict", browser.text("#verdict code"), verdict)
-        same(f"{verdict}: as dcc same", same_says(program, "s3", encoded(program, first), encoded(program, second)), verdict)
+        same(
+            f"{verdict}: as dcc same",
+            same_says(program, "s3", encoded(program, first), encoded(program, second)),
+            verdict,
+        )
         same(f"{verdict}: what differs is marked", browser.texts("#sides .differs .words"), marked)
-        check(f"{verdict}: it is drawn on both sides", browser.sees("#sides .side") == 2 and browser.sees("#sides .differs svg .pulse") > 0)
+        check(
+            f"{verdict}: it is drawn on both sides",
+            browser.sees("#sides .side") == 2 and browser.sees("#sides .differs svg .pulse") > 0,
+        )
         check(f"{verdict}: it is told", says in browser.text("#verdict"), browser.text("#verdict"))
     sides_chosen(browser, program)
     browser.js("page.second.put('58 x')")
-    check("a fault of the second capture is told at its place", "“x” is no duration" in browser.text("#second-fault-text"))
-    check("what stands before it is compared", "before the fault" in browser.text("#verdict"))
+    check(
+        "a fault of the second capture is told at its place", "“x” is no duration" in browser.text("#second-fault-text")
+    )
+    check("what stands before it is compared", "ends at the error" in browser.text("#verdict"))
     browser.js("page.second.put(''); document.getElementById('comparison').open = false")
     browser.pick("who", "")
 
@@ -392,8 +527,11 @@ def zoom(browser):
 def dropped(browser, file, where):
     """Drops a file on an element as a reader does."""
     was = browser.reads()
-    x, y = browser.js("(() => { const it = document.querySelector(%s); it.scrollIntoView({ block: 'center' });"
-                      " const r = it.getBoundingClientRect(); return [r.x + r.width / 2, r.y + r.height / 2]; })()" % json.dumps(where))
+    x, y = browser.js(
+        "(() => { const it = document.querySelector(%s); it.scrollIntoView({ block: 'center' });"
+        " const r = it.getBoundingClientRect(); return [r.x + r.width / 2, r.y + r.height / 2]; })()"
+        % json.dumps(where)
+    )
     data = {"items": [], "files": [str(file)], "dragOperationsMask": 1}
     for kind in ("dragEnter", "dragOver", "drop"):
         browser.ask("Input.dispatchDragEvent", type=kind, x=x, y=y, data=data)
@@ -410,12 +548,20 @@ def drops(browser, program):
             it.writestr("logic-1-1", bytes(10000))
         dropped(browser, session, "#text")
         told = browser.fault()
-        check("of a session of sigrok one is told how to export it", "export it as VCD or CSV, as by sigrok-cli -i track.sr -O vcd" in told, told)
+        check(
+            "of a session of sigrok one is told how to export it",
+            "export it as VCD or CSV, as by sigrok-cli -i track.sr -O vcd" in told,
+            told,
+        )
     dropped(browser, MAIN_TRACK, "#text")
     same("and then another file", browser.rows(), show(program, MAIN_TRACK.read_text())[0])
     browser.js("document.getElementById('comparison').open = true")
     dropped(browser, TOP / "examples" / "analyser.vcd", "#second-text")
-    same("one that is dropped on the second capture is that one's", browser.js("[page.outcomes.length, page.other.outcomes.length]"), [4, 6])
+    same(
+        "one that is dropped on the second capture is that one's",
+        browser.js("[page.outcomes.length, page.other.outcomes.length]"),
+        [4, 6],
+    )
     browser.js("page.second.put(''); document.getElementById('comparison').open = false")
     for field in ("file", "second-file"):
         accept = browser.js(f"document.getElementById('{field}').accept").split(",")
@@ -425,7 +571,11 @@ def drops(browser, program):
 def keys(browser):
     browser.paste(MAIN_TRACK.read_text())
     browser.js("document.querySelector('#rows [tabindex=\"0\"]').focus()")
-    same("the list is one stop of the keyboard", browser.js("document.querySelectorAll('#rows [tabindex=\"0\"]').length"), 1)
+    same(
+        "the list is one stop of the keyboard",
+        browser.js("document.querySelectorAll('#rows [tabindex=\"0\"]').length"),
+        1,
+    )
     at = "document.activeElement.querySelector('.at')?.textContent"
     seen = []
     for key in ("Enter", "ArrowDown", "ArrowDown", "ArrowUp", "End", "Home", "ArrowDown", "ArrowDown"):
@@ -447,11 +597,14 @@ def keys(browser):
 
 def touch_pulse(browser, what):
     """Touches a pulse of a drawing, one of those in sight, and tells its place in it."""
-    left, top, scrolled = browser.js("""((svg) => {
+    left, top, scrolled = browser.js(
+        """((svg) => {
         svg.closest('tr').scrollIntoView({ block: 'center' });
         const { left, top } = svg.parentNode.getBoundingClientRect();
         return [left, top, svg.parentNode.scrollLeft];
-    })(document.querySelector(%s))""" % json.dumps(what))
+    })(document.querySelector(%s))"""
+        % json.dumps(what)
+    )
     [pulses] = browser.pulses(what)
     place = next(i for i, it in enumerate(pulses) if it[0] > scrolled + 40)
     browser.touch(left - scrolled + sum(pulses[place][:2]) / 2, top + pulses[place][2] + 5)
@@ -463,12 +616,20 @@ def phone(browser):
     packet = body([3, 0x62, 0x61])
     for halves in ([*packet[:50], 20], [*packet[:30], 100, 58], body([3, 0x62, 0x60]), body([3, 0x62])):
         browser.paste(" ".join(map(str, halves)))
-        number, why, wide = browser.js("""['#rows .at', '#rows .why'].map((it) => {
+        number, why, wide = browser.js(
+            """['#rows .at', '#rows .why'].map((it) => {
             const { left, right, top, bottom } = document.querySelector(it).getBoundingClientRect();
             return [left, right, top, bottom];
-        }).concat([document.documentElement.scrollWidth])""")
-        check("the sentence of a refusal stands under its number, whole", why[2] >= number[3] - 1 and why[0] >= 0 and why[1] <= 390, [number, why])
-        rooms = browser.js("(({ scrollWidth, clientWidth }) => [scrollWidth, clientWidth])(document.querySelector('#rows .what'))")
+        }).concat([document.documentElement.scrollWidth])"""
+        )
+        check(
+            "the sentence of a refusal stands under its number, whole",
+            why[2] >= number[3] - 1 and why[0] >= 0 and why[1] <= 390,
+            [number, why],
+        )
+        rooms = browser.js(
+            "(({ scrollWidth, clientWidth }) => [scrollWidth, clientWidth])(document.querySelector('#rows .what'))"
+        )
         check("nothing of it is cut", rooms[0] <= rooms[1], rooms)
         check("it is no part of the drawing", not browser.sees("svg .why, svg .fault text"))
         check("the page is no wider than the telephone", wide <= 390, wide)
@@ -491,11 +652,13 @@ def phone(browser):
 
 CONTRASTS = """(() => {
     const parts = (text) => { const [r, g, b, a = 1] = text.match(/[\\d.]+/g).map(Number); return { r, g, b, a }; };
-    const over = (top, below) => Object.fromEntries(['r', 'g', 'b'].map((it) => [it, top[it] * top.a + below[it] * (1 - top.a)]));
-    const light = ({ r, g, b }) => [r, g, b].map((it) => it / 255).map((it) => (it <= 0.04045 ? it / 12.92 : ((it + 0.055) / 1.055) ** 2.4))
+    const mixed = (top, below, it) => top[it] * top.a + below[it] * (1 - top.a);
+    const over = (top, below) => Object.fromEntries(['r', 'g', 'b'].map((it) => [it, mixed(top, below, it)]));
+    const linear = (it) => (it <= 0.04045 ? it / 12.92 : ((it + 0.055) / 1.055) ** 2.4);
+    const light = ({ r, g, b }) => [r, g, b].map((it) => linear(it / 255))
         .reduce((sum, it, i) => sum + it * [0.2126, 0.7152, 0.0722][i], 0);
     const inSvg = (it) => it instanceof SVGElement && it.tagName !== 'svg';
-    const paint = (it) => { const style = getComputedStyle(it); return inSvg(it) ? style.fill : style.backgroundColor; };
+    const paint = (it) => getComputedStyle(it)[inSvg(it) ? 'fill' : 'backgroundColor'];
     const worst = { ratio: 21 };
     let texts = 0;
     for (const it of document.querySelectorAll('body *')) {
@@ -507,14 +670,17 @@ CONTRASTS = """(() => {
         const stack = document.elementsFromPoint(x, y);
         if (!stack.length || !stack.some((below) => below === it || below.contains(it))) continue;
         // what lies below a text, the lowest first
-        const layers = stack.filter((below) => below !== it && paint(below) !== 'none' && below.tagName !== 'text').map((below) => parts(paint(below)));
+        const isLayer = (below) => below !== it && paint(below) !== 'none' && below.tagName !== 'text';
+        const layers = stack.filter(isLayer).map((below) => parts(paint(below)));
         const own_paint = inSvg(it) ? [] : [parts(paint(it))];
-        const ground = [...layers.reverse(), ...own_paint].reduce((below, top) => over(top, below), parts(paint(document.body)));
+        const body = parts(paint(document.body));
+        const ground = [...layers.reverse(), ...own_paint].reduce((below, top) => over(top, below), body);
         const ink = over(parts(inSvg(it) ? getComputedStyle(it).fill : getComputedStyle(it).color), ground);
         const [a, b] = [light(ink), light(ground)].sort((a, b) => b - a);
         const ratio = (a + 0.05) / (b + 0.05);
         texts += 1;
-        if (ratio < worst.ratio) Object.assign(worst, { ratio, what: `${it.tagName}.${it.getAttribute('class')} ${it.textContent.slice(0, 30)}` });
+        const what = `${it.tagName}.${it.getAttribute('class')} ${it.textContent.slice(0, 30)}`;
+        if (ratio < worst.ratio) Object.assign(worst, { ratio, what });
     }
     return { ...worst, texts };
 })()"""
@@ -532,9 +698,17 @@ def schemes(browser, program):
         browser.unfold(True)
         browser.look(width, scheme, browser.js("document.documentElement.scrollHeight") + 50)
         told = browser.js(CONTRASTS)
-        check(f"{width} wide, {scheme}: each text has a contrast of 4.5", told["ratio"] >= 4.5 and told["texts"] > 100, told)
+        check(
+            f"{width} wide, {scheme}: each text has a contrast of 4.5",
+            told["ratio"] >= 4.5 and told["texts"] > 100,
+            told,
+        )
         ground = browser.js("getComputedStyle(document.body).backgroundColor")
-        same(f"{width} wide, {scheme}: the ground", ground, {"light": "rgb(255, 255, 255)", "dark": "rgb(18, 22, 27)"}[scheme])
+        same(
+            f"{width} wide, {scheme}: the ground",
+            ground,
+            {"light": "rgb(255, 255, 255)", "dark": "rgb(18, 22, 27)"}[scheme],
+        )
     browser.look()
     browser.pick("who", "")
     browser.js("page.second.put('')")
@@ -551,16 +725,45 @@ def timings(browser, program):
     text = "document.getElementById('timing-lines').value"
     told = browser.js(text)
     some = "(halves|time|packets|refused H5|gap|ones c|ones m|differences mean|sums m)"
-    same("the figures of the example", [it for it in told.splitlines() if re.match(some, it)],
-         ["halves 336", "time 27515", "packets 3", "refused H5 1", "gap most 13021", "ones count 198", "ones most 59", "ones mean 57.98",
-          "differences mean 0.46", "sums most 2440", "sums mean 245.65"])
-    cells = browser.js("[...document.querySelectorAll('#figures tr')].map((row) => [...row.children].slice(0, 5).map((it) => it.textContent))")
-    same("the table has them", cells[1:3],
-         [["halves of a one", "198", "57", "59", "57.98"], ["the two halves of a one, their difference", "65", "0", "1", "0.46"]])
-    same("limits are drawn in", browser.texts(".band text"),
-         ["station 55 to 61", "decoder 52 to 64", *2 * ["station 95 to 9900", "decoder 90 to 10000"]])
-    same("each duration has its bar", browser.texts(".bar")[:3],
-         ["57 µs: 30 half-bits", "58 µs: 140 half-bits", "59 µs: 28 half-bits"])
+    same(
+        "the figures of the example",
+        [it for it in told.splitlines() if re.match(some, it)],
+        [
+            "halves 336",
+            "time 27515",
+            "packets 3",
+            "refused H5 1",
+            "gap most 13021",
+            "ones count 198",
+            "ones most 59",
+            "ones mean 57.98",
+            "differences mean 0.46",
+            "sums most 2440",
+            "sums mean 245.65",
+        ],
+    )
+    cells = browser.js(
+        "[...document.querySelectorAll('#figures tr')]"
+        ".map((row) => [...row.children].slice(0, 5).map((it) => it.textContent))"
+    )
+    same(
+        "the table has them",
+        cells[1:3],
+        [
+            ["halves of a one", "198", "57", "59", "57.98"],
+            ["the two halves of a one, their difference", "65", "0", "1", "0.46"],
+        ],
+    )
+    same(
+        "limits are drawn in",
+        browser.texts(".band text"),
+        ["station 55 to 61", "decoder 52 to 64", *2 * ["station 95 to 9900", "decoder 90 to 10000"]],
+    )
+    same(
+        "each duration has its bar",
+        browser.texts(".bar")[:3],
+        ["57 µs: 30 half-bits", "58 µs: 140 half-bits", "59 µs: 28 half-bits"],
+    )
     short = "#histogram .chart:nth-child(1)"
     browser.js(f"document.querySelector('{short} svg').focus()")
     seen = []
@@ -568,13 +771,17 @@ def timings(browser, program):
         browser.press(key)
         seen.append(browser.text(f"{short} .half"))
     bars = browser.texts(f"{short} .bar")
-    same("arrow keys choose a bar, and it is told below", seen, [bars[0], bars[1], bars[0], bars[-1], bars[-1], bars[0]])
+    same(
+        "arrow keys choose a bar, and it is told below", seen, [bars[0], bars[1], bars[0], bars[-1], bars[-1], bars[0]]
+    )
     same("it is marked", browser.texts(".bar.told"), bars[:1])
     browser.look(390)
     browser.js("page.showTimings()")
     browser.ask("Emulation.setTouchEmulationEnabled", enabled=True)
-    x, y = browser.js("(() => { const it = document.querySelectorAll('%s .bar')[1]; it.scrollIntoView({ block: 'center' });"
-                      " const r = it.getBoundingClientRect(); return [r.x + r.width / 2, r.y - 10]; })()" % short)
+    x, y = browser.js(
+        "(() => { const it = document.querySelectorAll('%s .bar')[1]; it.scrollIntoView({ block: 'center' });"
+        " const r = it.getBoundingClientRect(); return [r.x + r.width / 2, r.y - 10]; })()" % short
+    )
     browser.touch(x, y)
     browser.wait(f"document.querySelector('{short} .half').textContent !== ''")
     same("a touch beside a bar tells it", browser.text(f"{short} .half"), bars[1])
@@ -582,14 +789,23 @@ def timings(browser, program):
     browser.look()
     browser.js("page.showTimings()")
     browser.paste("58*28 66 100*14 58*28 300 58*3 5")
-    same("a half-bit beyond the limits stands in its bar", browser.js("document.querySelectorAll('.bar.bad').length"), 2)
+    same(
+        "a half-bit beyond the limits stands in its bar", browser.js("document.querySelectorAll('.bar.bad').length"), 2
+    )
     browser.paste("1*2 39 40*2 41*3 129 58*28 131 65535 70000 9999999999")
     bars = browser.texts(".bar")
-    same("bars of what lies beyond the drawing are named so", [bars[0], bars[1], bars[-1]],
-         ["40 µs or less: 5 half-bits", "41 µs: 3 half-bits", "57967 µs or more: 3 half-bits"])
+    same(
+        "bars of what lies beyond the drawing are named so",
+        [bars[0], bars[1], bars[-1]],
+        ["40 µs or less: 5 half-bits", "41 µs: 3 half-bits", "57967 µs or more: 3 half-bits"],
+    )
     others = {"58 µs: 28 half-bits", "129 µs: 1 half-bit", "130 to 147 µs: 1 half-bit"}
     check("others have their durations", others <= set(bars), bars)
-    cases = {"none": "58", "noise": some_noise(1500), **{it.name: it.read_text() for it in sorted((TOP / "examples").glob("*.txt"))}}
+    cases = {
+        "none": "58",
+        "noise": some_noise(1500),
+        **{it.name: it.read_text() for it in sorted((TOP / "examples").glob("*.txt"))},
+    }
     if not knows_timing(program):
         print("left out: the figures against `dcc timing`, which this program does not know")
         cases = {}
@@ -638,7 +854,10 @@ def largest():
             browser.open(file)
             took = time.monotonic() - begin
             most, spent = peak_of(browser)
-            print(f"{LARGEST:,} half-bits, {file.stat().st_size:,} bytes, in {took:.1f} s, {spent - before:.1f} s of a processor, {most} MB at most")
+            print(
+                f"{LARGEST:,} half-bits, {file.stat().st_size:,} bytes, in {took:.1f} s, "
+                f"{spent - before:.1f} s of a processor, {most} MB at most"
+            )
             same("the largest capture is read", browser.js("page.halves.count"), LARGEST)
             check("within 10 seconds of a processor", spent - before < 10)
             check("within 400 MB", most < 400)

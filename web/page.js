@@ -1,8 +1,8 @@
-// The page: a text comes in, packets and their drawings stand below it.
+// The page: it reads a text, and shows its packets and their drawings.
 
 const decode = (base64) => Uint8Array.from(atob(base64), (it) => it.charCodeAt(0));
 
-/** How many lines of the list its field takes. A browser needs some 6 KB for each. */
+/** The most lines of the list in its field. A browser needs some 6 KB for each line. */
 const LINES_SHOWN = 2000;
 
 class Page {
@@ -25,11 +25,13 @@ class Page {
     for (const it of document.querySelectorAll('[data-example]')) {
       it.addEventListener('click', () => this.source.put($(it.dataset.example).textContent.trimStart()));
     }
-    document.addEventListener('dragover', (event) => event.dataTransfer.types.includes('Files') && event.preventDefault());
+    document.addEventListener('dragover', (event) => {
+      if (event.dataTransfer.types.includes('Files')) event.preventDefault();
+    });
     document.addEventListener('drop', (event) => this.drop(event));
   }
 
-  /** A file that is dropped on the second capture is that one's, else the first one's. */
+  /** A file that is dropped on the second capture becomes the second capture, otherwise the first. */
   drop(event) {
     const [file] = event.dataTransfer.files;
     if (!file) return;
@@ -38,7 +40,7 @@ class Page {
     (isSecond ? this.second : this.source).open(file);
   }
 
-  /** A capture, of what a worker has read. */
+  /** Shows a capture that a worker has read. */
   heard({ count: n, buffer, outcomes: packed, ...read }) {
     const halves = new Halves(n, buffer);
     const outcomes = unpackOutcomes(this.dcc, packed);
@@ -54,7 +56,7 @@ class Page {
     this.writeListing();
     this.showTimings();
     await this.compare();
-    // (a test waits for this)
+    // a test waits for this
     document.body.dataset.read = Number(document.body.dataset.read ?? 0) + 1;
   }
 
@@ -64,7 +66,7 @@ class Page {
     document.body.dataset.read = Number(document.body.dataset.read ?? 0) + 1;
   }
 
-  /** Two captures with a line of dashes between them become the first and the second. */
+  /** Splits two captures with a line `---` between them into the first and the second. */
   async cut() {
     const [first, second] = cutAtDashes(textOf(await bytesOf(this.source.input())));
     await this.source.open(new File([first], 'before the dashes'));
@@ -76,27 +78,28 @@ class Page {
   sumUp() {
     const { halves, outcomes, name } = this.capture;
     const refusals = outcomes.filter((it) => it.refusal).length;
-    const told = `${plural(halves.count, 'half-bit')}, ${plural(outcomes.length - refusals, 'packet')}, ${count(refusals)} refused.`;
+    const found = `${plural(outcomes.length - refusals, 'packet')}, ${count(refusals)} refused`;
+    const told = `${plural(halves.count, 'half-bit')}, ${found}.`;
     const why = ' Nowhere do 20 halves of ones stand directly before a half of a zero whose packet ends.';
     $('sum').textContent = `${name}: ${told}${halves.count && !outcomes.length ? why : ''}`;
     $('result').hidden = halves.count === 0;
   }
 
-  /** A decoder is named, in one of the two fields. */
+  /** Takes the name of a decoder from one of the two fields. */
   name(word) {
     for (const id of ['who', 'second-who']) if ($(id).value !== word) $(id).value = word;
     this.list();
     this.compare();
   }
 
-  /** The decoder that is named, null for none. */
+  /** Returns the named decoder, or null. */
   decoder() {
     const word = $('who').value.trim();
     const fresh = decoderOf(this.dcc, word);
     return fresh && { word, fresh };
   }
 
-  /** Lists what is asked for. */
+  /** Shows the outcomes that match the filter. */
   list() {
     const decoder = this.decoder();
     const kind = $('kind').value;
@@ -110,8 +113,10 @@ class Page {
     const shown = rows.reduce((sum, it) => sum + it.times, 0);
     const word = $('who').value.trim();
     const says = [];
-    if (word && !decoder) says.push(`“${word}” names no decoder: s and 1 to 127, l and 0 to 10239, none, or b and 0 to 510.`);
-    if (shown < this.outcomes.length) says.push(`${count(shown)} of ${count(this.outcomes.length)} are shown.`);
+    if (word && !decoder) {
+      says.push(`“${word}” names no decoder. Names are s1 to s127, l0 to l10239, none, and b0 to b510.`);
+    }
+    if (shown < this.outcomes.length) says.push(`The table shows ${count(shown)} of ${count(this.outcomes.length)}.`);
     $('who-says').textContent = says.join(' ');
   }
 
@@ -122,7 +127,7 @@ class Page {
     this.compare();
   }
 
-  /** What `dcc show --words` writes, in parts of so many lines as the field takes. */
+  /** Yields the output of `dcc show --words`, in parts with as many lines as the field takes. */
   *listing() {
     const words = once((bytes) => this.dcc.words(bytes));
     for (let at = 0; at < this.outcomes.length; at += LINES_SHOWN) {
@@ -131,12 +136,14 @@ class Page {
     }
   }
 
-  /** Shows the list as text where that is asked for. Of a long one the field has the first lines, and the file all. */
+  /** Shows the list as text if its section is open. Of a long list the field has the first lines, and the file has
+   * all lines. */
   writeListing() {
     if (!$('listing').open) return;
     const all = this.outcomes.length;
     $('lines').value = this.listing().next().value ?? '';
-    $('lines-shown').textContent = all > LINES_SHOWN ? `The first ${count(LINES_SHOWN)} of ${count(all)} lines. The file has all.` : '';
+    const part = `The first ${count(LINES_SHOWN)} of ${count(all)} lines. The file has all lines.`;
+    $('lines-shown').textContent = all > LINES_SHOWN ? part : '';
   }
 
   saveListing() {
@@ -144,7 +151,7 @@ class Page {
     link.href = URL.createObjectURL(new Blob([...this.listing()], { type: 'text/plain' }));
     link.download = 'packets.txt';
     link.click();
-    // a browser may begin to read it only then
+    // a browser can begin to read it later
     setTimeout(() => URL.revokeObjectURL(link.href), 60000);
   }
 

@@ -1,6 +1,6 @@
-// Two captures side by side, with the first difference for a decoder.
+// Two captures side by side, with their first difference for a decoder.
 
-/** How many packets are drawn before and behind the difference. */
+/** The number of packets that are drawn before and after the difference. */
 const AROUND = 2;
 
 const around = (list, at) => {
@@ -8,27 +8,30 @@ const around = (list, at) => {
   return list.slice(from, from + 2 * AROUND + 1);
 };
 
-/** A difference in a sentence. */
+/** Returns a difference as a sentence. */
 const tellDifference = (dcc, difference, sides) => {
   const { verdict, block, missing, pair, writes } = difference;
-  const where = block ? `Behind write ${block} to it` : 'Before any write to it';
+  const where = block ? `After write ${block} to the decoder` : 'Before the first write to the decoder';
   const words = (side, i) => `“${told(dcc, sides[side].outcomes[i])}”`;
   if (missing) {
-    const has = ['first', 'second'].map((name, side) => missing[side].length && `the ${name} capture alone has ${words(side, missing[side][0])}`);
+    const only = (name, side) => {
+      return missing[side].length && `only the ${name} capture has ${words(side, missing[side][0])}`;
+    };
+    const has = ['first', 'second'].map(only);
     return `${where}, ${has.filter(Boolean).join(', and ')}.`;
   }
   if (pair) {
     const both = pair.map((it) => `“${dcc.words(it)}”`).join(' and ');
-    return `${where}, ${both} take turns in another way, and they set one register to two values.`;
+    return `${where}, ${both} alternate in different ways, and they set one register to two values.`;
   }
   if (writes) {
     const [one, other] = writes.map((i, side) => (i === null ? 'has no further write' : `writes ${words(side, i)}`));
     return `${where}, the next writes differ: the first capture ${one}, the second ${other}.`;
   }
-  return verdict === 'alike' ? 'Both leave each register of it the same.' : '';
+  return verdict === 'alike' ? 'Each register of the decoder has the same value after both captures.' : '';
 };
 
-/** The places of a side that show a difference: those to draw, and of them those that differ. */
+/** Returns the places of a side to draw, and those of them that differ. */
 const shownOf = (difference, side, outcomes, otherTurns) => {
   const { blocks, missing, pair, writes } = difference;
   const block = blocks[side];
@@ -42,12 +45,13 @@ const shownOf = (difference, side, outcomes, otherTurns) => {
   }
   if (writes) {
     const list = block.slice(-AROUND);
-    return writes[side] === null ? { list, differs: new Set() } : { list: [...list, writes[side]], differs: new Set([writes[side]]) };
+    if (writes[side] === null) return { list, differs: new Set() };
+    return { list: [...list, writes[side]], differs: new Set([writes[side]]) };
   }
   return { list: [], differs: new Set() };
 };
 
-/** The first turn that differs. */
+/** Returns the first turn that differs. */
 const firstOtherTurn = ({ blocks, pair }, [outcomes, others]) => {
   if (!pair) return 0;
   const [one, two] = [turnsOf(blocks[0], outcomes, ...pair), turnsOf(blocks[1], others, ...pair)];
@@ -55,7 +59,7 @@ const firstOtherTurn = ({ blocks, pair }, [outcomes, others]) => {
   return at < 0 ? one.length : at;
 };
 
-/** One side: its packets about the difference, each as in the table. */
+/** One side: the packets around the difference, as in the table. */
 class Side extends Grid {
   constructor(dcc, name, capture, { list, differs }, zoom) {
     const body = make('tbody');
@@ -74,11 +78,11 @@ class Side extends Grid {
     table.setAttribute('role', 'grid');
     table.setAttribute('aria-label', `The ${name} capture: up and down choose a row, left and right a half-bit in it`);
     table.append(this.body);
-    side.append(make('h3', '', title), this.rows.length ? table : make('p', 'soft', 'no packet for it here'));
+    side.append(make('h3', '', title), this.rows.length ? table : make('p', 'soft', 'no packet for the decoder here'));
     return side;
   }
 
-  /** Chooses what was chosen in a side that is drawn anew, if it is still there. */
+  /** Chooses the row that was chosen before the side was drawn again, if it is still there. */
   chooseAs({ capture, rows, chosen, half }) {
     const n = capture === this.capture && chosen !== null ? this.rows.indexOf(rows[chosen]) : -1;
     if (n < 0) return;
@@ -87,28 +91,28 @@ class Side extends Grid {
   }
 }
 
-/** The first difference of two captures for a decoder, and both sides of it. */
+/** The first difference of two captures for a decoder, and its two sides. */
 class Sides {
   constructor(dcc, work) {
     Object.assign(this, { dcc, work, drawn: [], compared: [], difference: null });
   }
 
-  /** Shows the difference, or what is lacking for it. */
+  /** Shows the difference, or the input that is missing for it. */
   async show(captures, decoder, zoom) {
     const lack = !decoder
-      ? 'Name a decoder, as s3, l1000 or b12.'
-      : captures.some((it) => !it?.halves.count) && 'Put a second capture into the field above.';
+      ? 'Name a decoder, for example s3, l1000 or b12.'
+      : captures.some((it) => !it?.halves.count) && 'Enter a second capture in the field above.';
     if (lack) {
       this.work.drop('comparison');
       return this.draw([lack], []);
     }
     const difference = await this.differenceOf(captures, decoder.word);
     if (difference === STOPPED) return this.draw(['The comparison was stopped.'], []);
-    // (null where another comparison has begun)
+    // null if another comparison has begun
     return difference && this.draw(this.verdict(difference, captures), this.sides(difference, captures, zoom));
   }
 
-  /** The difference of two captures, which is kept. */
+  /** Returns the difference of two captures, and stores it. */
   async differenceOf(captures, word) {
     const compared = [...captures, word];
     if (this.difference && compared.every((it, i) => it === this.compared[i])) return this.difference;
@@ -121,7 +125,7 @@ class Sides {
   }
 
   verdict(difference, captures) {
-    const isCut = captures.some((it) => it.refused) ? ' Compared is what stands before the fault.' : '';
+    const isCut = captures.some((it) => it.refused) ? ' The comparison ends at the error.' : '';
     return [make('code', '', difference.verdict), ` ${tellDifference(this.dcc, difference, captures)}${isCut}`];
   }
 

@@ -1,4 +1,4 @@
-// A place where a capture comes in: typed or pasted into a field, opened as a file, or dropped.
+// An input for a capture: typed or pasted into a field, opened as a file, or dropped.
 
 const $ = (id) => document.getElementById(id);
 const make = (name, className, text) => {
@@ -9,7 +9,7 @@ const make = (name, className, text) => {
 };
 
 class Source {
-  /** The ids of its elements begin with a prefix. `use` is called with what was read. */
+  /** Creates the input. The ids of its elements begin with a prefix. It calls `use` with each capture. */
   constructor(prefix, work, use) {
     this.part = (name) => $(`${prefix}${name}`);
     this.place = prefix;
@@ -21,7 +21,7 @@ class Source {
     this.part('channel').addEventListener('change', () => this.read(this.part('channel').value));
   }
 
-  /** Waits until the typing stops. */
+  /** Waits until the user stops typing. */
   wait() {
     this.file = null;
     clearTimeout(this.timer);
@@ -34,7 +34,7 @@ class Source {
     return this.read();
   }
 
-  /** Opens a file. A large one is shown below, and not in the field. */
+  /** Opens a file. A large file is shown only as packets, not in the field. */
   async open(file) {
     if (!file) return;
     this.file = file;
@@ -42,7 +42,7 @@ class Source {
     this.part('file').value = '';
   }
 
-  /** The text of the field or the file, which is read anew each time, so that the bytes of a large one are not kept. */
+  /** Reads the text of the field or of the file each time, so that the bytes of a large file are not kept. */
   input() {
     return this.file ?? this.part('text').value;
   }
@@ -55,7 +55,7 @@ class Source {
       .run(this.place, name, 'read', { input: this.input(), key, isShown: isNew })
       .catch((error) => this.tell(null, `${name} cannot be read: ${error.message}`));
     if (read === STOPPED) return this.tell(null, `Reading was stopped. What is shown below was read before.`);
-    // another one has come meanwhile, or it cannot be read
+    // another capture has replaced it, or it cannot be read
     if (!read) return null;
     if (isNew) this.part('text').value = read.text;
     this.tell(read.refused?.fault, read.refused?.text);

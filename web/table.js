@@ -1,26 +1,28 @@
-// The table of packets and refusals: a page of its rows, and what a decoder held at the one that is chosen.
+// The table of packets and refusals: a page of its rows, and the state of a decoder at the chosen row.
 
 class Table extends Grid {
   constructor(dcc) {
     super(dcc, $('rows'));
     this.zoom = 1;
     this.first = 0;
-    const pages = { start: () => 0, back: () => this.first - ROWS_OF_PAGE, on: () => this.first + ROWS_OF_PAGE, end: () => Infinity };
+    const [start, end] = [() => 0, () => Infinity];
+    const pages = { start, back: () => this.first - ROWS_OF_PAGE, on: () => this.first + ROWS_OF_PAGE, end };
     for (const [id, to] of Object.entries(pages)) $(id).addEventListener('click', () => this.turn(to()));
   }
 
-  /** Shows rows of a capture, and what a decoder holds, null for none. What stands behind the last outcome is shown where that is asked for. */
+  /** Shows rows of a capture, and the state of a decoder or null. The half-bits after the last outcome are shown if
+   * the filter matches them. */
   show(capture, rows, decoder, withTail) {
     const chosen = this.capture === capture && this.chosen !== null ? this.rows[this.chosen].last : null;
     Object.assign(this, { capture, rows, withTail, chosen: null, half: null });
     this.decoder = decoder && { ...decoder, hearing: new Hearing(this.dcc, decoder.fresh, capture.outcomes) };
-    // the row that was chosen, or the last one before it; with a decoder, at least the first
+    // the row that was chosen, or the last row before it; with a decoder, at least the first row
     const n = chosen === null ? -1 : rows.findLastIndex((it) => it.first <= chosen);
     this.turn(Math.max(0, n));
     if (n >= 0 || decoder) this.choose(Math.max(0, n));
   }
 
-  /** Shows the rows from one on. */
+  /** Shows a page of rows, from one row on. */
   turn(first) {
     const { rows } = this;
     const last = Math.max(0, Math.floor((rows.length - 1) / ROWS_OF_PAGE) * ROWS_OF_PAGE);
@@ -43,7 +45,8 @@ class Table extends Grid {
     const row = this.draw(n, first, this.zoom);
     if (times > 1) {
       const { at, time } = this.capture.outcomes[last];
-      row.querySelector('.what').append(make('span', 'times', `${count(times)} times, the last at ${at}, ${milliseconds(time)}`));
+      const repeats = `${count(times)} times, the last at ${at}, ${milliseconds(time)}`;
+      row.querySelector('.what').append(make('span', 'times', repeats));
     }
     return row;
   }
@@ -57,7 +60,8 @@ class Table extends Grid {
       ? 'The capture ends within a packet.'
       : `No packet begins here: 20 halves of ones and then a half of a zero would begin one. It ends in ${ones}.`;
     const what = cell('td', 'what');
-    what.append(make('span', 'open-words', `${plural(tail.end - tail.begin, 'half-bit')} behind the last`), make('span', 'open-why', why));
+    const more = `${plural(tail.end - tail.begin, 'half-bit')} after the last packet`;
+    what.append(make('span', 'open-words', more), make('span', 'open-why', why));
     row.append(cell('th', 'number', '…'), what, drawingCell(halves, tail, why, this.zoom));
     return row;
   }
@@ -66,7 +70,7 @@ class Table extends Grid {
     return n !== null && n >= this.first && n < Math.min(this.rows.length, this.first + ROWS_OF_PAGE);
   }
 
-  /** Chooses a row, and shows below it what the decoder holds behind its last packet. */
+  /** Chooses a row, and shows below it the state of the decoder after its last packet. */
   choose(n) {
     if (!this.rows.length) return;
     if (!this.isShown(n)) this.turn(n);
@@ -86,15 +90,20 @@ class Table extends Grid {
     return row;
   }
 
-  /** What the decoder holds after so many outcomes, in words and as its text. */
+  /** Returns the state of the decoder after a number of outcomes, in words and as a decoder text. */
   tellState(outcome, n) {
     const { decoder } = this;
-    if (!decoder) return [make('p', 'soft', 'Name a decoder above, as s3, l1000 or b12, to see what it holds here.')];
+    if (!decoder) {
+      return [make('p', 'soft', 'Name a decoder above, for example s3, l1000 or b12, to see its state here.')];
+    }
     const state = decoder.hearing.after(n);
     const list = make('dl', 'state');
-    for (const [name, value] of stateWords(this.dcc, decoder.fresh, state)) list.append(make('dt', '', name), make('dd', '', value));
+    for (const [name, value] of stateWords(this.dcc, decoder.fresh, state)) {
+      list.append(make('dt', '', name), make('dd', '', value));
+    }
     const text = make('details', 'text');
     text.append(make('summary', '', 'as decoder text'), make('pre', '', decoderText(state)));
-    return [make('p', 'state-of', `${decoder.word} after half-bit ${outcome.at}, if it was new before the first:`), list, text];
+    const title = `${decoder.word} after half-bit ${outcome.at}, if it was new before the first half-bit:`;
+    return [make('p', 'state-of', title), list, text];
   }
 }

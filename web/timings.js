@@ -1,7 +1,7 @@
-// How long the half-bits of a capture last, beside what NMRA S-9.1 asks: the figures of docs/FORMATS.md, and how often each duration
-// stands there. Nothing here is proved.
+// Statistics of the half-bits of a capture beside the limits of NMRA S-9.1 (docs/FORMATS.md), and histograms of their
+// durations. Nothing here is proved.
 
-/** What a decoder takes and what a station may send, in microseconds. */
+/** The limits of a decoder and of a station, in microseconds. */
 const LIMITS = {
   ones: { station: [55, 61], decoder: [52, 64] },
   differences: { station: [3], decoder: [6] },
@@ -10,10 +10,11 @@ const LIMITS = {
 };
 const FIGURES = ['ones', 'differences', 'zeros', 'sums', 'below', 'between', 'above'];
 
-/** How many half-bits of a preamble are bits of the packet behind it: the ten ones that it has to have. */
+/** The number of half-bits of a preamble that count as bits of the packet after it: those of the ten required ones.
+ * */
 const PREAMBLE_HALVES = 20;
 
-/** How many values there are, the least, the most and their sum. */
+/** A tally: the count, the least, the greatest and the sum of some values. */
 class Figure {
   constructor() {
     [this.count, this.least, this.most, this.sum] = [0, Infinity, 0, 0];
@@ -26,34 +27,34 @@ class Figure {
     this.most = Math.max(this.most, value);
   }
 
-  /** The mean, rounded down to hundredths. */
+  /** Returns the mean, rounded down to hundredths. */
   mean() {
     const hundredths = (100 * this.sum - ((100 * this.sum) % this.count)) / this.count;
     return `${Math.floor(hundredths / 100)}.${String(hundredths % 100).padStart(2, '0')}`;
   }
 
-  /** Its lines as words: count, least, most and mean. */
+  /** Returns the words of its lines: count, least, most and mean. */
   words() {
     if (!this.count) return ['0', 'none', 'none', 'none'];
     return [this.count, this.least, this.most, this.mean()].map(String);
   }
 }
 
-/** Of which list a half-bit is. */
+/** Returns the class of a half-bit. */
 const listOfHalf = (us) => {
   const kind = classOf(us);
   if (kind !== 'bad') return kind === 'one' ? 'ones' : 'zeros';
   return us < 52 ? 'below' : us < 90 ? 'between' : 'above';
 };
 
-/** How often each duration stands there, by the duration. */
+/** Returns how often each duration occurs, by the duration. */
 const countDurations = (halves) => {
   const counts = new Uint32Array(LONGEST + 1);
   for (let at = 0; at < halves.count; at += 1) counts[halves.us[at]] += 1;
   return counts;
 };
 
-/** Adds the bits from one place to before another, each of a pair of halves. */
+/** Adds the bits from one place up to another place, which is excluded. A bit is a pair of half-bits. */
 const takeBits = ({ us }, from, to, { differences, sums }) => {
   for (let at = from; at < to; at += 2) {
     if (classOf(us[at]) === 'one') differences.take(Math.abs(us[at] - us[at + 1]));
@@ -61,7 +62,7 @@ const takeBits = ({ us }, from, to, { differences, sums }) => {
   }
 };
 
-/** The figures of a capture. */
+/** Returns the statistics of a capture. */
 const timingsOf = (halves, outcomes) => {
   const figures = Object.fromEntries(FIGURES.map((it) => [it, new Figure()]));
   const gaps = new Figure();
@@ -69,16 +70,17 @@ const timingsOf = (halves, outcomes) => {
   counts.forEach((n, us) => n && figures[listOfHalf(us)].take(us, n));
   const packets = outcomes.filter((it) => !it.refusal);
   packets.forEach(({ at, bytes, time }, i) => {
-    // its body and the ten ones before it
+    // the body of the packet and the ten ones before it
     takeBits(halves, at - 18 * bytes.length - 2 - PREAMBLE_HALVES, at, figures);
     if (i) gaps.take(time - packets[i - 1].time);
   });
   const refused = [1, 2, 3, 4, 5].map((cause) => outcomes.filter((it) => it.refusal === cause).length);
   const time = ['ones', 'zeros', 'below', 'between', 'above'].reduce((sum, it) => sum + figures[it].sum, 0);
-  return { halves: halves.count, time, packets: packets.length, refused, gap: gaps.count ? gaps.most : null, figures, counts };
+  const gap = gaps.count ? gaps.most : null;
+  return { halves: halves.count, time, packets: packets.length, refused, gap, figures, counts };
 };
 
-/** The figures as text, as `dcc timing` writes them. */
+/** Returns the statistics as the text of `dcc timing`. */
 const timingText = ({ halves, time, packets, refused, gap, figures }) => {
   const lines = [`halves ${halves}`, `time ${time}`, `packets ${packets}`];
   refused.forEach((n, i) => lines.push(`refused H${i + 1} ${n}`));
@@ -90,7 +92,7 @@ const timingText = ({ halves, time, packets, refused, gap, figures }) => {
   return lines.map((it) => `${it}\n`).join('');
 };
 
-/** What each list of the report has in it. */
+/** The content of each list of the report. */
 const FIGURE_NAMES = {
   ones: 'halves of a one',
   differences: 'the two halves of a one, their difference',
@@ -101,9 +103,12 @@ const FIGURE_NAMES = {
   above: 'longer than a half of a zero',
 };
 
-const limitWords = (limits) => (!limits ? '' : limits.length === 1 ? `at most ${count(limits[0])}` : limits.map(count).join(' to '));
+const limitWords = (limits) => {
+  if (!limits) return '';
+  return limits.length === 1 ? `at most ${count(limits[0])}` : limits.map(count).join(' to ');
+};
 
-/** Whether figures keep to limits: a least and a most, or a most alone. */
+/** Returns true if values keep to limits: a least and a greatest value, or only a greatest value. */
 const isWithin = (figure, limits) => {
   if (!limits || !figure.count) return true;
   return figure.most <= limits[limits.length - 1] && (limits.length === 1 || figure.least >= limits[0]);
@@ -120,15 +125,17 @@ const figureRow = (name, figure) => {
   return row;
 };
 
-/** Shows the figures: the two drawings, the table and the text. */
+/** Shows the statistics: the two histograms, the table and the text. */
 const showTimings = (timings) => {
   $('histogram').replaceChildren(...drawHistogram(timings.counts, $('histogram').clientWidth));
   const head = make('tr');
-  const titles = ['Microseconds', 'how many', 'least', 'most', 'mean', 'a station sends', 'a decoder takes'];
+  const titles = ['Microseconds', 'count', 'least', 'greatest', 'mean', 'limits of a station', 'limits of a decoder'];
   head.append(...titles.map((it) => Object.assign(make('th', '', it), { scope: 'col' })));
   $('figures').replaceChildren(head, ...FIGURES.map((it) => figureRow(it, timings.figures[it])));
-  const gap = timings.gap === null ? '' : `, the longest time from one packet's end to the next one's ${milliseconds(timings.gap)}`;
+  const { gap } = timings;
+  const longest = gap === null ? '' : ` Longest time between the ends of two packets: ${milliseconds(gap)}.`;
   const refused = timings.refused.map((n, i) => `H${i + 1} ${count(n)}`).join(', ');
-  $('timing-sum').textContent = `${milliseconds(timings.time)} in all${gap}. Refused: ${refused}. A limit in red is passed.`;
+  const whole = `Whole time: ${milliseconds(timings.time)}.`;
+  $('timing-sum').textContent = `${whole}${longest} Refused: ${refused}. A red limit is exceeded.`;
   $('timing-lines').value = timingText(timings);
 };

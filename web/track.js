@@ -1,16 +1,17 @@
-// The track as a drawing: each half-bit a pulse, the parts of a packet as spans. Nothing here is proved: where packets end, their
-// bytes and refusals are the module's; the rest is read off the half-bits for the eye.
+// The track as a drawing: a pulse for each half-bit, and a span for each part of a packet. The module gives the ends
+// of packets, their bytes and the refusals. Nothing here is proved.
 
 const MOST_LEAD = 240;
 const BYTES_OF_PACKET = 6;
 
-/** What a half-bit is half of (NMRA S-9.1). */
+/** Returns the class of a half-bit (NMRA S-9.1). */
 const classOf = (us) => (us >= 52 && us <= 64 ? 'one' : us >= 90 && us <= 10000 ? 'zero' : 'bad');
 
-/** The halves of ones that an outcome leaves for the next preamble: those of its end bit. */
+/** Returns the number of half-bits of ones that count for the next preamble: those of the end bit of an outcome. */
 const onesLeft = (outcome) => (outcome && [0, 3, 5].includes(outcome.refusal) ? 2 : 0);
 
-/** The first start bit from a place on: a half of a zero behind 20 or more halves of ones. The end where there is none. */
+/** Returns the place of the first start bit from a place on: a half-bit of a zero after at least 20 half-bits of
+ * ones. Returns the end if there is none. */
 const startFrom = (halves, from, ones, end) => {
   for (let at = from; at < end; at += 1) {
     const kind = classOf(halves.us[at]);
@@ -20,14 +21,16 @@ const startFrom = (halves, from, ones, end) => {
   return end;
 };
 
-/** The place of the first of the halves of ones that stand directly before a place, not before another. */
+/** Returns the place of the first half-bit of ones in the row of such half-bits directly before a place, but not
+ * before a bound. */
 const preambleBefore = (halves, at, least) => {
   let from = at;
   while (from > least && classOf(halves.us[from - 1]) === 'one') from -= 1;
   return from;
 };
 
-/** The parts of a body from its start bit on: start bits, bytes and the end bit, each with its places; and its bits. */
+/** Returns the parts of a body, from its start bit on: start bits, bytes and the end bit with their places, and its
+ * bits. */
 const bodyParts = (halves, start, end) => {
   const durations = halves.slice(start, end);
   const parts = [];
@@ -56,7 +59,7 @@ const bodyParts = (halves, start, end) => {
   return { parts, bits };
 };
 
-/** Gives each byte its hex. One that is cut has none. */
+/** Adds the hex digits of each byte. A byte that is cut has none. */
 const labelBytes = (parts) => {
   for (const it of parts) if (it.kind === 'byte') it.label = it.bits === 8 ? hex([it.value]) : '…';
 };
@@ -65,7 +68,7 @@ const sum = (bytes) => bytes.reduce((a, b) => a ^ b, 0);
 const count = (n) => n.toLocaleString('en');
 const plural = (n, one, many = `${one}s`) => `${count(n)} ${n === 1 ? one : many}`;
 
-/** Where a refusal shows, and why it is one. */
+/** Returns the place of the reason of a refusal, and a sentence. */
 const faultOf = (halves, outcome, parts) => {
   const end = outcome.at;
   const [before, last] = halves.slice(Math.max(0, end - 2), end);
@@ -73,13 +76,14 @@ const faultOf = (halves, outcome, parts) => {
   switch (outcome.refusal) {
     case 1: {
       const us = halves.slice(end - 1, end)[0];
-      return { from: end - 1, to: end, text: `${us} µs is neither half of a one (52 to 64) nor of a zero (90 to 10000)` };
+      const text = `${us} µs is neither half of a one (52 to 64) nor half of a zero (90 to 10000)`;
+      return { from: end - 1, to: end, text };
     }
     case 2:
       return {
         from: end - 2,
         to: end,
-        text: `${before} and ${last} µs: one bit cannot be half a ${classOf(before)} and half a ${classOf(last)}`,
+        text: `${before} and ${last} µs: a bit cannot be half a ${classOf(before)} and half a ${classOf(last)}`,
       };
     case 3:
       return { from: end - 2, to: end, text: `an end bit after ${plural(bytes.length, 'byte')}: a packet has 3 to 6` };
@@ -88,12 +92,14 @@ const faultOf = (halves, outcome, parts) => {
     default: {
       const error = bytes[bytes.length - 1];
       const [is, wanted] = [hex(outcome.bytes.slice(-1)), hex([sum(outcome.bytes.slice(0, -1))])];
-      return { from: error.from, to: error.to, text: `the error byte is ${is}, and the bytes before it come to ${wanted}` };
+      const text = `the error byte is ${is}, but the exclusive or of the bytes before it is ${wanted}`;
+      return { from: error.from, to: error.to, text };
     }
   }
 };
 
-/** Adds what stands before the start bit: the preamble, and halves of no packet. Of many, the first are hidden. */
+/** Adds the half-bits before the start bit: the preamble, and half-bits of no packet. Of many half-bits the first are
+ * hidden. */
 const withLead = (halves, strip) => {
   const { begin, start, end } = strip;
   const preamble = preambleBefore(halves, start, begin);
@@ -102,14 +108,14 @@ const withLead = (halves, strip) => {
   if (from < preamble) lead.push({ kind: 'none', from, to: preamble, label: 'no packet' });
   if (preamble < start) {
     const ones = plural(Math.floor((start - preamble) / 2), 'one');
-    // fewer than 20 halves are enough where the end bit before makes them up
+    // fewer than 20 half-bits are enough if those of the end bit before make up the rest
     const label = start < end && start - preamble < 20 ? `${ones} + end bit` : `preamble: ${ones}`;
     lead.push({ kind: 'preamble', from: Math.max(from, preamble), to: start, label });
   }
   return { ...strip, from, hidden: from - begin, ones: start - preamble, parts: [...lead, ...strip.parts] };
 };
 
-/** The half-bits from the end of the outcome before to the end of this one, with what they are. */
+/** Returns the half-bits from the end of the outcome before to the end of this one, with their parts. */
 const stripOf = (halves, outcome, previous) => {
   const [begin, end] = [previous ? previous.at : 0, outcome.at];
   const bytes = outcome.bytes.length;
@@ -121,7 +127,7 @@ const stripOf = (halves, outcome, previous) => {
   return withLead(halves, { begin, start, end, parts, bits, fault });
 };
 
-/** What stands behind the last outcome, if anything does. */
+/** Returns the half-bits after the last outcome, or null. */
 const tailOf = (halves, previous) => {
   const [begin, end] = [previous ? previous.at : 0, halves.count];
   if (begin === end) return null;
@@ -138,7 +144,7 @@ const LONG = 130;
 const ROWS = { label: 16, wave: 34, bits: 15, note: 17 };
 const SVG = 'http://www.w3.org/2000/svg';
 
-/** How wide a half is drawn: to scale as long as it is an ordinary one, else cut short. */
+/** Returns the width of a half-bit in the drawing: to scale for an ordinary half-bit, shortened for a longer one. */
 const widthOf = (us, zoom) => {
   const wide = us <= LONG ? us : LONG + 40 * Math.log2(us / LONG);
   return Math.max(2.5, wide * PIXELS_PER_US * zoom);
@@ -155,15 +161,16 @@ const round = (x) => Math.round(10 * x) / 10;
 
 const CLASS_NAMES = { one: 'half of a one', zero: 'half of a zero', bad: 'half of no bit' };
 
-/** What a pulse is: the half-bit at a place. */
+/** Returns the text of a pulse: the half-bit at a place. */
 const tellHalf = (place, us) => `half-bit ${place + 1}: ${us} µs, ${CLASS_NAMES[classOf(us)]}`;
 
-/** Where the pulse of a half stands: the level turns at each. */
+/** Returns the vertical place of the pulse of a half-bit. The level changes at each half-bit. */
 const PULSE = ROWS.wave / 2 - 4;
 const MIDDLE = ROWS.label + ROWS.wave / 2;
 const topOf = (place) => (place % 2 === 0 ? MIDDLE - PULSE : MIDDLE);
 
-/** The pulses, and the wave along them. All of a class are one shape, since a browser takes 2 KB for each. */
+/** Returns the pulses and the wave along them. All pulses of a class are one shape, since a browser needs 2 KB for
+ * each shape. */
 const drawPulses = (strip, durations, x) => {
   const group = node('g', {});
   const shapes = { one: '', zero: '', bad: '' };
@@ -184,7 +191,7 @@ const drawPulses = (strip, durations, x) => {
   return group;
 };
 
-/** The bits below the pulses, one text with a place for each. */
+/** Returns the bits below the pulses, as one text with a place for each bit. */
 const drawBits = (bits, xOf) => {
   const x = bits.map(({ at }) => round((xOf(at) + xOf(at + 2)) / 2)).join(' ');
   return node('text', { class: 'bit', x, y: ROWS.label + ROWS.wave + 11 }, bits.map((it) => it.bit).join(''));
@@ -199,20 +206,21 @@ const drawParts = (strip, xOf) => {
     const isByte = it.kind === 'byte' || it.kind === 'error';
     const odd = isByte && byte++ % 2 ? ' odd' : '';
     const isBad = strip.fault && it.from >= strip.fault.from && it.to <= strip.fault.to ? ' bad' : '';
-    group.append(node('rect', { class: `part ${it.kind}${odd}${isBad}`, x: round(x), y: 0, width: round(width), height }));
+    const kind = `part ${it.kind}${odd}${isBad}`;
+    group.append(node('rect', { class: kind, x: round(x), y: 0, width: round(width), height }));
     const room = it.label && width >= 7 * it.label.length ? it.label : '';
     if (room) group.append(node('text', { class: `label ${it.kind}`, x: round(x + width / 2), y: 12.5 }, room));
   }
   return group;
 };
 
-/** A frame around some halves, from one place to before another, with room around it. */
+/** Returns a frame around the half-bits from one place up to another place, which is excluded. */
 const drawFrame = (name, [x, end], room) => {
   const height = ROWS.label + ROWS.wave + ROWS.bits - 1;
   return node('rect', { class: name, x: round(x - room), y: 1, width: round(end - x + 2 * room), height });
 };
 
-/** The drawing of a strip, for a screen reader its text. It knows where each of its halves begins. */
+/** Returns the drawing of a strip, with a text for screen readers. The drawing stores where each half-bit begins. */
 const drawStrip = (halves, strip, description, zoom = 1) => {
   const durations = halves.slice(strip.from, strip.end);
   const x = [3];
@@ -224,20 +232,20 @@ const drawStrip = (halves, strip, description, zoom = 1) => {
   svg.append(drawParts(strip, xOf), drawPulses(strip, durations, x));
   if (strip.bits.length) svg.append(drawBits(strip.bits, xOf));
   svg.append(node('text', { class: 'place first', x: 3, y: bottom + 13 }, strip.from + 1));
-  // of a strip of one half the numbers are one
+  // the two numbers of a strip of one half-bit are equal
   if (width > 90) svg.append(node('text', { class: 'place last', x: width - 3, y: bottom + 13 }, strip.end));
   if (strip.fault) svg.append(drawFrame('where', [xOf(strip.fault.from), xOf(strip.fault.to)], 1));
   return Object.assign(svg, { strip, edges: x });
 };
 
-/** The place of the half that is drawn at so many pixels from the left. */
+/** Returns the place of the half-bit at a distance in pixels from the left. */
 const placeAt = (svg, pixels) => {
   const next = svg.edges.findIndex((it) => it > pixels);
   const i = next < 0 ? svg.edges.length - 2 : Math.max(0, next - 1);
   return svg.strip.from + i;
 };
 
-/** Lights the pulse of a half, with a title that tells it. */
+/** Highlights the pulse of a half-bit, with a title that gives its duration. */
 const lightHalf = (svg, place, text) => {
   const at = place - svg.strip.from;
   const [x, end] = [svg.edges[at], svg.edges[at + 1]];
@@ -247,12 +255,13 @@ const lightHalf = (svg, place, text) => {
   svg.append(lit);
 };
 
-/** Marks a half in its drawing, and brings it into sight. */
+/** Marks a half-bit in its drawing, and scrolls to it. */
 const markHalf = (svg, place) => {
   const at = place - svg.strip.from;
   const ends = [svg.edges[at], svg.edges[at + 1]];
   svg.querySelector('.chosen')?.remove();
   svg.append(drawFrame('chosen', ends, 1.5));
   const track = svg.parentNode;
-  if (ends[0] < track.scrollLeft + 20 || ends[1] > track.scrollLeft + track.clientWidth - 20) track.scrollLeft = ends[0] - track.clientWidth / 2;
+  const isHidden = ends[0] < track.scrollLeft + 20 || ends[1] > track.scrollLeft + track.clientWidth - 20;
+  if (isHidden) track.scrollLeft = ends[0] - track.clientWidth / 2;
 };

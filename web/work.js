@@ -1,17 +1,17 @@
-// Work that may take long: reading a file, and the comparison of two captures. It is done in a worker, so that the
-// page stays usable and the reader can stop it. A worker runs this page's own script, so nothing is loaded. Nothing
-// here is proved.
+// Work that can take long: reading a file, and the comparison of two captures. A worker does it, so the page stays
+// usable and the user can stop it. A worker runs the script of this page, so nothing is loaded. Nothing here is
+// proved.
 
 /** The script of the page. A worker has no document. */
 const SCRIPT = globalThis.document?.currentScript.textContent;
 
-/** How many bytes of a file are read at once, since a browser has what it reads twice. */
+/** The number of bytes of a file that are read at once, since a browser stores them twice. */
 const PIECE = 4000000;
 
 /** The largest text that the field of a capture shows. */
 const LARGEST_SHOWN = 400000;
 
-/** The bytes of a text or of a file. */
+/** Returns the bytes of a text or of a file. */
 const bytesOf = async (input, tell = () => {}) => {
   if (typeof input === 'string') return new TextEncoder().encode(input);
   const bytes = new Uint8Array(input.size);
@@ -22,7 +22,7 @@ const bytesOf = async (input, tell = () => {}) => {
   return bytes;
 };
 
-/** Outcomes as few arrays, in which they go from a worker to the page and back. Equal frames are one number. */
+/** Returns outcomes as a few arrays, which go from a worker to the page and back. Equal frames have one number. */
 const packOutcomes = (outcomes) => {
   const n = outcomes.length;
   const [at, time] = [new Uint32Array(n), new Float64Array(n)];
@@ -40,30 +40,30 @@ const unpackOutcomes = (dcc, { at, time, refusal, frame, frames }) => {
   return Array.from(at, (place, i) => ({ at: place, time: time[i], refusal: refusal[i], bytes: own[frame[i]] }));
 };
 
-/** What a worker does, by name. `tell` is called with what it does and the part that is done, from 0 to 1. */
+/** The jobs of a worker, by name. A job calls `tell` with its name and the part that is done, from 0 to 1. */
 const JOBS = {
-  /** Reads a text or a file: its half-bits and outcomes, and where a field shows it, its text. */
+  /** Reads a text or a file, and returns its half-bits, its outcomes, and its text if a field shows it. */
   async read(dcc, { input, key, isShown }, tell) {
     const bytes = await bytesOf(input, (part) => tell('read from the disk', part));
     const text = isShown && bytes.length <= LARGEST_SHOWN ? textOf(bytes) : '';
     const { halves, ...read } = readBytes(bytes, key, (part) => tell('read', part));
-    // the bytes are given back at once, before the outcomes need room (where the browser can)
+    // the bytes are freed before the outcomes need memory, if the browser can do this
     bytes.buffer.transfer?.(0);
     const outcomes = packOutcomes(dcc.outcomes(halves, (part) => tell('searched for packets', part)));
     return { ...read, text, count: halves.count, buffer: halves.us.buffer, outcomes };
   },
 
-  /** The first difference of two captures for a decoder. */
+  /** Returns the first difference of two captures for a decoder. */
   compare(dcc, { who, sides }, tell) {
     const packets = new Packets(dcc, decoderOf(dcc, who));
     return differenceOf(packets, sides.map((it) => unpackOutcomes(dcc, it)), (part) => tell('compared', part));
   },
 };
 
-/** How long the parts of work last, in milliseconds, of which a reader is told. */
+/** The shortest time of a job, in milliseconds, that is shown to the user. */
 const TELL_EACH = 100;
 
-/** Begins a worker: it does one job, and answers it. */
+/** Starts a worker, which does one job and returns the result. */
 const beginWorker = () => {
   globalThis.onmessage = async ({ data: { module, name, job } }) => {
     let last = 0;
@@ -81,11 +81,10 @@ const beginWorker = () => {
   };
 };
 
-/** The answer of a job that the reader has stopped. */
+/** The result of a job that the user has stopped. */
 const STOPPED = Symbol('stopped');
 
-/** Work within a page: each job in a worker of its own, with a line that tells what is done, and a button that
- * stops it. */
+/** The work of a page: each job has a worker of its own, a line with its progress, and a button that stops it. */
 class Work {
   constructor(module) {
     this.module = module;
@@ -94,8 +93,8 @@ class Work {
     $('stop').addEventListener('click', () => this.stop());
   }
 
-  /** Does a job. Answers null where another one for the same place begins before it is done, and STOPPED where the
-   * reader stops it. */
+  /** Does a job. Returns null if another job for the same place begins before it is done, and STOPPED if the user
+   * stops it. */
   run(place, title, name, job) {
     this.drop(place);
     return new Promise((done, fail) => {
@@ -116,13 +115,13 @@ class Work {
     });
   }
 
-  /** Drops what is done for a place. */
+  /** Stops the job for a place. */
   drop(place) {
     this.running.get(place)?.done(null);
     this.end(place);
   }
 
-  /** Stops all that is done. */
+  /** Stops all jobs. */
   stop() {
     for (const [place, { done }] of [...this.running]) {
       done(STOPPED);
@@ -136,7 +135,7 @@ class Work {
     this.show();
   }
 
-  /** Tells what is done for a place. */
+  /** Shows the progress of the job for a place. */
   tell(place, text) {
     const job = this.running.get(place);
     if (!job) return;
@@ -144,7 +143,7 @@ class Work {
     this.show();
   }
 
-  /** Shows what is told of each job. */
+  /** Shows the progress of each job. */
   show() {
     const texts = [...this.running.values()].map((it) => it.text).filter(Boolean);
     $('work-text').textContent = texts.join('; ');

@@ -1,4 +1,5 @@
-"""Digital Command Control (DCC) for scripts: packets in half-bits, packet lines, frames, decoders and a command station.
+# SPDX-License-Identifier: MIT OR Apache-2.0
+"""Digital Command Control (DCC) for scripts: packets in half-bits, packet lines, frames, decoders, a command station.
 
     >>> import dcc
     >>> dcc.frame("loco s3 speed28 f 4").hex()
@@ -67,7 +68,8 @@ class _Station(ctypes.Structure):
     _fields_ = [("kept", _u8 * 1800)]
 
 
-for _object, _size in (_Frame, 7), (_Framer, 24), (_Outcome, 12), (_Sender, 16), (_Loco, 1072), (_Board, 12), (_Station, 1800):
+_SIZES = (_Frame, 7), (_Framer, 24), (_Outcome, 12), (_Sender, 16), (_Loco, 1072), (_Board, 12), (_Station, 1800)
+for _object, _size in _SIZES:
     assert ctypes.sizeof(_object) == _size, f"{_object.__name__} is not as dcc.h has it"
 
 
@@ -80,6 +82,7 @@ def _call(name, answer, *arguments):
 _at = ctypes.POINTER
 _framer_new = _call("dcc_framer_new", _Framer)
 _push_run = _call("dcc_push_run", _u8, _at(_Framer), _u16, _u32, _at(_Outcome))
+_push_many = _call("dcc_push_many", _u8, _at(_Framer), ctypes.c_void_p, _u64, _at(_Outcome), _at(_u64))
 _line = _call("dcc_line", _u8, ctypes.c_char_p, _u64, ctypes.c_char_p)
 _frame_of_line = _call("dcc_frame_of_line", _u8, ctypes.c_char_p, _u64, _at(_Frame))
 _sender_start = _call("dcc_sender_start", _u8, _at(_Sender), ctypes.c_char_p, _u64, _at(_Timing))
@@ -148,7 +151,9 @@ def _encoded(name, text):
 
 
 class Seen(namedtuple("Seen", "at refusal frame")):
-    """A packet or a refusal: the number of its last half-bit, from 1; None, or H1 to H5; its bytes, none with H1 to H4."""
+    """A packet or a refusal: the number of its last half-bit, from 1; None or H1 to H5; its bytes.
+
+    A refusal H1 to H4 has no bytes."""
 
     def __str__(self):
         """Returns the line that `dcc show --words` writes."""
@@ -172,8 +177,30 @@ class Framer:
         self._taken += count
         if not _push_run(self._framer, us, count, outcome):
             return None
-        refusal = f"H{outcome.refusal}" if outcome.refusal else None
-        return Seen(before + outcome.at, refusal, bytes(outcome.frame))
+        return _seen_at(before + outcome.at, outcome)
+
+    def push_many(self, halves):
+        """Takes half-bits of these microseconds, in order. Returns a list of their packets and refusals.
+
+        A half-bit above 65535 counts as 65535.
+
+        Errors: TypeError or ValueError if an item is no half-bit. The framer then takes no item."""
+        numbers = [min(_number("a half-bit", it, 0), 65535) for it in halves]
+        array, found, at = (_u16 * len(numbers))(*numbers), [], 0
+        outcome, taken = _Outcome(), _u64()
+        while at < len(numbers):
+            place = ctypes.addressof(array) + 2 * at
+            is_end = _push_many(self._framer, place, len(numbers) - at, outcome, taken)
+            at += taken.value
+            if is_end:
+                found.append(_seen_at(self._taken + at, outcome))
+        self._taken += at
+        return found
+
+
+def _seen_at(at, outcome):
+    refusal = f"H{outcome.refusal}" if outcome.refusal else None
+    return Seen(at, refusal, bytes(outcome.frame))
 
 
 def seen(halves):
@@ -191,9 +218,9 @@ def durations(capture):
 
     A capture has words of microseconds, runs as 58*28, and comments from # on.
 
-    Errors: Refused with the text of the program, after the half-bits before the error: `U2 line 3: bad number` at a word that
-    is no duration, `U7 input too long` past 16777216 half-bits or 67108864 bytes. TypeError if the capture is neither
-    text nor bytes."""
+    Errors: Refused with the text of the program, after the half-bits before the error: `U2 line 3: bad number` at a
+    word that is no duration, `U7 input too long` past 16777216 half-bits or 67108864 bytes. TypeError if the capture is
+    neither text nor bytes."""
     return _durations(_encoded("a capture", capture) if isinstance(capture, str) else _bytes("a capture", capture))
 
 
@@ -251,7 +278,7 @@ def halves(frame, one=58, zero_first=100, zero_second=100, preamble=14):
 
 
 class Loco:
-    """A locomotive decoder, powered up with these CVs: 1024 bytes, or a dict of their numbers from 1 and their values."""
+    """A locomotive decoder that is powered up with these CVs: 1024 bytes, or a dict of their numbers and values."""
 
     def __init__(self, cvs):
         if isinstance(cvs, dict):
@@ -367,14 +394,17 @@ class Board:
 
 
 class Station:
-    """A command station: commands that wait, 64 at most, entries that are sent again and again, 128 at most, and 1 to 8 copies of a command."""
+    """A command station with at most 64 waiting commands, at most 128 entries that it refreshes, and 1 to 8 copies of
+    each command."""
 
     def __init__(self, queue=64, slots=128, repeats=2):
         self._station = _Station()
         _check(_station_new(self._station, *(_number("a size", it, 0, 255) for it in (queue, slots, repeats))), "C")
 
     def command(self, frame):
-        """Adds the command of these bytes to the queue. Errors: Refused, C3 if a station does not send it, C4 if the queue is full."""
+        """Adds the command of these bytes to the queue.
+
+        Errors: Refused, C3 if a station does not send such commands, C4 if the queue is full."""
         frame = _frame_bytes(frame)
         answer = _station_command(self._station, frame, len(frame))
         _check(answer, "L" if answer < 3 else "C")

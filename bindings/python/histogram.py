@@ -1,5 +1,5 @@
 #!/usr/bin/env python3
-"""Draws how often each duration comes in a capture on standard input, with the limits of NMRA S-9.1 for a decoder beside it.
+"""Draws a histogram of the durations in a capture on standard input, with the limits of NMRA S-9.1 for a decoder.
 
     bindings/python/histogram.py < examples/main_track.txt
 """

@@ -2,7 +2,8 @@
 """Compares the module with the program: packet by packet on lines that are written out, then on 10,000 random packets
 with spoilt half-bits.
 
-    bindings/python/test.py        wants libdcc_c.so (make), and the program: crates/dcc/out/dcc, or DCC_PROGRAM
+    bindings/python/test.py        needs libdcc_c.so (make), and the program of a release or of this repository, or the
+                                   one that DCC_PROGRAM names
 """
 import array
 import collections
@@ -19,7 +20,10 @@ import unittest.mock
 
 HERE = os.path.dirname(os.path.abspath(__file__))
 TOP = os.path.join(HERE, "..", "..")
-PROGRAM = os.environ.get("DCC_PROGRAM", os.path.join(TOP, "crates/dcc/out/dcc"))
+PLACES = [os.path.join(TOP, it) for it in ("bin/x86_64-unknown-linux-gnu/dcc", "crates/dcc/out/dcc")]
+PROGRAM = os.environ.get("DCC_PROGRAM") or next((it for it in PLACES if os.path.isfile(it)), None)
+if not PROGRAM:
+    sys.exit("test.py: no program dcc: name one in DCC_PROGRAM")
 
 import dcc
 
@@ -229,6 +233,20 @@ class ByHand(unittest.TestCase):
         framer.push(58, 0xFFFFFFFF)
         framer.push(100, 18)
         self.assertEqual(framer.push(58, 9), dcc.Seen(0xFFFFFFFF + 20, "H3", b""))
+
+    def test_a_framer_takes_arrays_as_half_bits_one_by_one(self):
+        halves = [us for it in list(rows())[:6] for us in dcc.halves(dcc.frame(it))]
+        framer, found = dcc.Framer(), []
+        for from_, to in (0, 100), (100, 100), (100, 101), (101, len(halves)):
+            found += framer.push_many(halves[from_:to])
+        self.assertEqual((len(found), found), (6, list(dcc.seen(halves))))
+        for us in 65535, 65536, 65536 + 58, 2**64 + 58:
+            self.assertEqual(dcc.Framer().push_many([58] * 40 + [100, us]), [dcc.Seen(42, "H1", b"")])
+        framer = dcc.Framer()
+        framer.push_many([58] * 40 + [100])
+        for bad, kind in (["58"], TypeError), ([70, -1], ValueError), (None, TypeError):
+            self.assertRaises(kind, framer.push_many, bad)
+        self.assertEqual(framer.push_many(iter([70])), [dcc.Seen(42, "H1", b"")])
 
     def test_texts_of_captures_are_read_as_show_reads_them(self):
         good = "58*28 100*14 58*4 100*4 58*4 100*6 58*2 100*6 58*4 100*8 58*4"

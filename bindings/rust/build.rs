@@ -1,11 +1,12 @@
-//! Finds the library for C. `DCC_LIB` names the folder of `libdcc_c.a`, and `DCC_SOURCE` the file `dcc.c` to compile in
-//! its place. Without them the script takes the archive of a release or of this repository. If the target has no archive
-//! there, the script compiles `dcc.c`.
+//! Finds the library for C. `DCC_LIB` names the folder of `libdcc_c.a`, and `DCC_SOURCE` the file `dcc.c` to compile
+//! in its place. Without them the script takes the archive of a release or of this repository. If the target has no
+//! archive there, the script compiles `dcc.c`.
 use std::env;
 use std::path::{Path, PathBuf};
 use std::process::Command;
 
-/// The folders of a target in a release and below `crates/dcc_c/out`; `tools/c-for-mcu` makes those of microcontrollers.
+/// The folders of a target in a release and below `crates/dcc_c/out`; `tools/c-for-mcu` makes those of
+/// microcontrollers.
 fn folders_of(target: &str) -> Option<(&'static str, &'static str)> {
     match target {
         "x86_64-unknown-linux-gnu" | "x86_64-unknown-linux-musl" => {

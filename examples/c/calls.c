@@ -1,6 +1,7 @@
-/* The other calls: `calls encode` writes the half-bits of packet lines, `calls send` the same, asking for one after the other, `calls
- * lines` writes the lines again, `calls readcv CV VALUE` puts nine questions to a decoder on the programming track. As `dcc encode`,
- * `dcc show --words` and `dcc readcv`. */
+/* The other functions. `calls encode` writes the half-bits of packet lines. `calls send` writes them too, but asks
+ * for the half-bits one by one. `calls lines` writes the packet lines again. `calls readcv CV VALUE` asks a decoder
+ * on the programming track nine questions. The outputs are those of `dcc encode`, `dcc show --words` and `dcc
+ * readcv`. */
 #include "dcc.h"
 #include "lines.h"
 #include <string.h>

@@ -1,10 +1,10 @@
-/* A locomotive with short address 3 and board 12 hear a capture on standard input. For each packet that is for one of them there is a
- * call, notify_..; this program writes the packet's line there, to standard error. At the end it writes what they hold, as `dcc run`
- * does. */
+/* A locomotive with the short address 3 and board 12 hear a capture on standard input. For each packet that one of
+ * them hears the program calls a function notify_.., which writes the packet line to standard error. At the end the
+ * program writes the state of both decoders, as `dcc run` does. */
 #include "capture.h"
 #include "dcc.h"
 
-/* Whom a packet is for: all, s3, l1000. */
+/* Returns the address of a packet: all, s3, l1000. */
 static const char *name_of(const dcc_packet *p) {
     static char name[8];
     if (p->to == DCC_ALL) return "all";

@@ -1,12 +1,12 @@
-/* A command station: `station QUEUE SLOTS REPEATS` reads packet lines, which are commands, and lines `send N`, and writes the frames that
- * it sends, as `dcc encode --hex --station`. */
+/* A command station. `station QUEUE SLOTS REPEATS` reads packet lines, which are commands, and lines `send N`. It
+ * writes the frames that the station sends, as `dcc encode --hex --station` does. */
 #include "dcc.h"
 #include "lines.h"
 #include <string.h>
 
 static dcc_station station;
 
-/* Here a booster would be given the half-bits of the frame (dcc_halves). */
+/* A real station gives the half-bits of the frame to a booster here (dcc_halves). */
 static void send_next(void) {
     dcc_frame frame;
     dcc_station_next(&station, &frame);

@@ -1,5 +1,6 @@
-/* Each call on worked packets, whose bytes and numbers are written out here; what it answers where it refuses, and that it writes
- * nothing then. Tells each line that does not hold, and ends with 1 where there is one. */
+/* Calls each function with worked packets, whose bytes and numbers are written out here. The program also tests the
+ * errors, and that nothing is written then. It prints each line that does not hold, and ends with 1 if there is such
+ * a line. */
 #include "dcc.h"
 #include <stdio.h>
 #include <string.h>
@@ -37,7 +38,8 @@ static void names_have_their_numbers(void) {
     HOLDS(DCC_L1_LENGTH == 1 && DCC_L2_ERROR_BYTE == 2);
     HOLDS(DCC_P1_SHORT_ADDRESS == 1 && DCC_P2_LONG_ADDRESS == 2 && DCC_P3_BOARD == 3 && DCC_P4_OUTPUT == 4);
     HOLDS(DCC_P5_SIGNAL == 5 && DCC_P6_CV == 6 && DCC_P7_BIT_PLACE == 7 && DCC_P8_SPEED_BITS == 8);
-    HOLDS(DCC_P9_FUNCTION_BITS == 9 && DCC_P10_WORD == 10 && DCC_P11_NUMBER == 11 && DCC_P12_FRAME == 12 && DCC_P13_STATE == 13 && DCC_P14_BINARY_STATE == 14);
+    HOLDS(DCC_P9_FUNCTION_BITS == 9 && DCC_P10_WORD == 10 && DCC_P11_NUMBER == 11 && DCC_P12_FRAME == 12);
+    HOLDS(DCC_P13_STATE == 13 && DCC_P14_BINARY_STATE == 14);
     HOLDS(DCC_C1_SIZES == 1 && DCC_C2_MEMORY == 2 && DCC_C3_NO_COMMAND == 3 && DCC_C4_QUEUE_FULL == 4);
     HOLDS(DCC_MAIN_TRACK == 14 && DCC_PROGRAMMING_TRACK == 20);
     HOLDS(DCC_ALL == 0 && DCC_SHORT == 1 && DCC_LONG == 2);
@@ -63,9 +65,10 @@ static void a_packet_is_found_at_its_last_half(void) {
     HOLDS(is_frame(&outcome.frame, speed, 3));
 }
 
-/* Whether so many halves of zeros behind 20 ones, and then n halves of one length, end in a refusal, which is told at a half of
- * these n. */
-static bool is_refused(dcc_framer *framer, uint32_t zeros, uint16_t us, uint32_t n, uint8_t refusal, uint32_t at, dcc_outcome *outcome) {
+/* Returns true if 20 ones, a number of half-bits of zeros, and n half-bits of one duration end with a refusal at a
+ * given half-bit of these n. */
+static bool is_refused(dcc_framer *framer, uint32_t zeros, uint16_t us, uint32_t n, uint8_t refusal, uint32_t at,
+                       dcc_outcome *outcome) {
     return dcc_push_run(framer, 58, 40, outcome) == 0 && dcc_push_run(framer, 100, zeros, outcome) == 0
         && dcc_push_run(framer, us, n, outcome) == 1 && outcome->refusal == refusal && outcome->at == at;
 }
@@ -85,8 +88,28 @@ static void runs_tell_the_half_and_refusals_their_numbers(void) {
     HOLDS(is_frame(&outcome.frame, (const uint8_t[]){0, 0, 1}, 3));
 }
 
+/* An array with two packets, cut into two parts in a byte of the second packet. */
+static void an_array_is_taken_up_to_each_outcome(void) {
+    uint16_t halves[2 * DCC_HALVES];
+    dcc_framer framer = dcc_framer_new();
+    dcc_outcome outcome = {.at = 7, .refusal = 7};
+    uint64_t taken = 7;
+    HOLDS(dcc_halves(speed, 3, 14, halves) == 84 && dcc_halves(speed, 3, 14, halves + 84) == 84);
+    HOLDS(dcc_push_many(&framer, halves, 100, &outcome, &taken) == 1 && taken == 84);
+    HOLDS(outcome.at == 1 && outcome.refusal == 0 && is_frame(&outcome.frame, speed, 3));
+    outcome.at = 7;
+    HOLDS(dcc_push_many(&framer, halves + 84, 50, &outcome, &taken) == 0 && taken == 50 && outcome.at == 7);
+    HOLDS(dcc_push_many(&framer, halves + 134, 0, &outcome, &taken) == 0 && taken == 0 && outcome.at == 7);
+    HOLDS(dcc_push_many(&framer, halves + 134, 34, &outcome, &taken) == 1 && taken == 34);
+    HOLDS(outcome.at == 1 && is_frame(&outcome.frame, speed, 3));
+    /* a half-bit of a wrong length in the first byte */
+    halves[40] = 70;
+    HOLDS(dcc_push_many(&framer, halves, 168, &outcome, &taken) == 1 && taken == 41 && outcome.refusal == 1);
+}
+
 static bool is_same(const dcc_packet *a, const dcc_packet *b) {
-    return a->kind == b->kind && a->to == b->to && a->address == b->address && a->forward == b->forward && a->bits == b->bits
+    return a->kind == b->kind && a->to == b->to && a->address == b->address
+        && a->forward == b->forward && a->bits == b->bits
         && a->group == b->group && a->state == b->state && a->on == b->on && a->cv == b->cv && a->value == b->value
         && a->place == b->place && a->one == b->one && a->output == b->output && a->aspect == b->aspect;
 }
@@ -103,14 +126,18 @@ static void what_a_packet_says(void) {
     HOLDS(says("idle", (p){.kind = DCC_IDLE}));
     HOLDS(says("loco s3 reset", (p){.kind = DCC_RESET, .to = DCC_SHORT, .address = 3}));
     HOLDS(says("loco s3 speed28 r 4", (p){.kind = DCC_SPEED28, .to = DCC_SHORT, .address = 3, .bits = 4}));
-    HOLDS(says("loco l1000 speed128 f 127", (p){.kind = DCC_SPEED128, .to = DCC_LONG, .address = 1000, .forward = true, .bits = 127}));
+    HOLDS(says("loco l1000 speed128 f 127",
+               (p){.kind = DCC_SPEED128, .to = DCC_LONG, .address = 1000, .forward = true, .bits = 127}));
     HOLDS(says("loco all functions 61 129", (p){.kind = DCC_FUNCTIONS, .group = 61, .bits = 129}));
-    HOLDS(says("loco s3 state 127 on", (p){.kind = DCC_STATE, .to = DCC_SHORT, .address = 3, .state = 127, .on = true}));
-    HOLDS(says("loco s3 cv write 1024 255", (p){.kind = DCC_CV_WRITE, .to = DCC_SHORT, .address = 3, .cv = 1024, .value = 255}));
+    HOLDS(says("loco s3 state 127 on",
+               (p){.kind = DCC_STATE, .to = DCC_SHORT, .address = 3, .state = 127, .on = true}));
+    HOLDS(says("loco s3 cv write 1024 255",
+               (p){.kind = DCC_CV_WRITE, .to = DCC_SHORT, .address = 3, .cv = 1024, .value = 255}));
     HOLDS(says("loco s3 cv verify 1 0", (p){.kind = DCC_CV_VERIFY, .to = DCC_SHORT, .address = 3, .cv = 1}));
     dcc_packet bit = {.kind = DCC_CV_BIT_WRITE, .to = DCC_SHORT, .address = 3, .cv = 29, .place = 5, .one = true};
     HOLDS(says("loco s3 cv bitwrite 29 5 1", bit));
-    HOLDS(says("loco s3 cv bitverify 29 5 0", (p){.kind = DCC_CV_BIT_VERIFY, .to = DCC_SHORT, .address = 3, .cv = 29, .place = 5}));
+    HOLDS(says("loco s3 cv bitverify 29 5 0",
+               (p){.kind = DCC_CV_BIT_VERIFY, .to = DCC_SHORT, .address = 3, .cv = 29, .place = 5}));
     HOLDS(says("accessory 12 5 on", (p){.kind = DCC_ACCESSORY, .address = 12, .output = 5, .on = true}));
     HOLDS(says("signal 2047 5", (p){.kind = DCC_SIGNAL, .address = 2047, .aspect = 5}));
     HOLDS(says("frame 7c000a76", (p){.kind = DCC_OTHER}));
@@ -311,6 +338,58 @@ static void a_pending_frame_has_3_to_6_bytes(void) {
     }
 }
 
+/* A locomotive whose CVs the program stores is powered up by four of them, and needs one for a write. */
+static void a_small_loco_needs_one_cv(void) {
+    static dcc_small_loco loco;
+    dcc_frame write = frame_of("loco s3 cv write 1024 200"), mode = frame_of("loco s3 cv write 29 0");
+    uint16_t cv = 7;
+    uint8_t value = 100;
+    bool changed = true, told = false;
+    memset(&loco, 1, sizeof loco);
+    dcc_small_loco_new(&loco, 3, 0, 0, 2);
+    HOLDS(loco.address_kind == DCC_SHORT && loco.address == 3 && loco.cv29 == 2);
+    HOLDS(loco.speed_mode == 0 && loco.forward && loco.pending.len == 0);
+    HOLDS(dcc_small_loco_hears(&loco, write.bytes, write.len, &told) == 0 && told);
+    HOLDS(dcc_small_loco_cv(&loco, write.bytes, write.len, &cv) == 0 && cv == 0);
+    HOLDS(dcc_small_loco_apply(&loco, write.bytes, write.len, &value, &changed) == 0);
+    HOLDS(!changed && value == 100 && loco.pending.len == 5);
+    HOLDS(dcc_small_loco_cv(&loco, write.bytes, write.len, &cv) == 0 && cv == 1024);
+    HOLDS(dcc_small_loco_apply(&loco, write.bytes, write.len, &value, &changed) == 0);
+    HOLDS(changed && value == 200);
+    HOLDS(dcc_small_loco_apply(&loco, write.bytes, write.len, &value, &changed) == 0);
+    HOLDS(!changed && value == 200);
+    value = 2;
+    HOLDS(dcc_small_loco_apply(&loco, mode.bytes, mode.len, &value, &changed) == 0 && loco.cv29 == 2);
+    HOLDS(dcc_small_loco_cv(&loco, mode.bytes, mode.len, &cv) == 0 && cv == 29);
+    HOLDS(dcc_small_loco_apply(&loco, mode.bytes, mode.len, &value, &changed) == 0);
+    HOLDS(changed && value == 0 && loco.cv29 == 0);
+    HOLDS(dcc_small_loco_apply(&loco, speed, 3, &value, &changed) == 0);
+    HOLDS(loco.speed_mode == 14 && !changed && value == 0);
+    cv = 7, changed = true;
+    HOLDS(dcc_small_loco_cv(&loco, speed, 2, &cv) == DCC_L1_LENGTH && cv == 7);
+    HOLDS(dcc_small_loco_apply(&loco, wrong_error_byte, 3, &value, &changed) == DCC_L2_ERROR_BYTE);
+    loco.step = 15;
+    HOLDS(dcc_small_loco_cv(&loco, speed, 3, &cv) == DCC_P13_STATE && cv == 7);
+    HOLDS(dcc_small_loco_apply(&loco, speed, 3, &value, &changed) == DCC_P13_STATE);
+    HOLDS(changed && value == 0 && loco.step == 15);
+}
+
+/* CVs that stand in a decoder already need no second array. */
+static void a_decoder_is_powered_up_with_its_cvs(void) {
+    static dcc_loco loco;
+    static dcc_service service;
+    memset(&loco, 7, sizeof loco);
+    loco.cvs[0] = 5, loco.cvs[16] = 195, loco.cvs[17] = 232, loco.cvs[28] = 34;
+    dcc_loco_power_up(&loco);
+    HOLDS(loco.address_kind == DCC_LONG && loco.address == 1000);
+    HOLDS(loco.speed_mode == 0 && loco.step == 0 && loco.forward && loco.pending.len == 0);
+    HOLDS(loco.functions[0] == 0 && loco.functions[1] == 0 && loco.states[0] == 0 && loco.states[1] == 0);
+    HOLDS(loco.cvs[0] == 5 && loco.cvs[17] == 232 && loco.cvs[1023] == 7);
+    service.in_service = true, service.pending.len = 9, service.cvs[6] = 8;
+    dcc_service_power_up(&service);
+    HOLDS(!service.in_service && service.pending.len == 0 && service.cvs[6] == 8);
+}
+
 static void a_board_turns_its_outputs(void) {
     dcc_board board = {.outs = 7, .positions = {true, true, true, true}, .aspects = {7, 7, 7, 7}};
     dcc_frame on = frame_of("accessory 12 5 on"), aspect = frame_of("signal 51 9");
@@ -437,6 +516,34 @@ static void a_decoder_in_service_acknowledges(void) {
     HOLDS(yes && service.pending.len == 5);
 }
 
+static void a_small_decoder_in_service_needs_one_cv(void) {
+    static const uint8_t reset[3] = {0}, write[4] = {0x7C, 0x08, 0x03, 0x77}, verify[4] = {0x74, 0x08, 0x03, 0x7F};
+    dcc_small_service service = {.in_service = true, .pending = {.len = 9}};
+    uint16_t cv = 7;
+    uint8_t value = 1;
+    bool changed = true, yes = true;
+    dcc_small_service_new(&service);
+    HOLDS(!service.in_service && service.pending.len == 0);
+    HOLDS(dcc_small_service_apply(&service, reset, 3, &value, &changed, &yes) == 0);
+    HOLDS(service.in_service && !yes && !changed);
+    HOLDS(dcc_small_service_apply(&service, write, 4, &value, &changed, &yes) == 0);
+    HOLDS(!yes && !changed && value == 1);
+    HOLDS(dcc_small_service_cv(&service, write, 4, &cv) == 0 && cv == 9);
+    HOLDS(dcc_small_service_apply(&service, write, 4, &value, &changed, &yes) == 0);
+    HOLDS(yes && changed && value == 3);
+    HOLDS(dcc_small_service_cv(&service, verify, 4, &cv) == 0 && cv == 0);
+    HOLDS(dcc_small_service_apply(&service, verify, 4, &value, &changed, &yes) == 0 && !yes);
+    HOLDS(dcc_small_service_cv(&service, verify, 4, &cv) == 0 && cv == 9);
+    HOLDS(dcc_small_service_apply(&service, verify, 4, &value, &changed, &yes) == 0);
+    HOLDS(yes && !changed && value == 3);
+    HOLDS(dcc_small_service_cv(&service, speed, 2, &cv) == DCC_L1_LENGTH && cv == 9);
+    HOLDS(dcc_small_service_apply(&service, wrong_error_byte, 3, &value, &changed, &yes) == DCC_L2_ERROR_BYTE);
+    service.pending.len = 5;
+    HOLDS(dcc_small_service_cv(&service, verify, 4, &cv) == DCC_P13_STATE && cv == 9);
+    HOLDS(dcc_small_service_apply(&service, verify, 4, &value, &changed, &yes) == DCC_P13_STATE);
+    HOLDS(yes && !changed && value == 3 && service.pending.len == 5);
+}
+
 static void a_cv_is_read_by_nine_questions(void) {
     /* CV1024 has 0xA5; a verify of a bit, and of the byte */
     static const uint8_t first[4] = {0x7B, 0xFF, 0xE8, 0x6C}, ninth[4] = {0x77, 0xFF, 0xA5, 0x2D};
@@ -519,6 +626,7 @@ int main(void) {
     a_framer_of_zeros_is_a_new_one();
     a_packet_is_found_at_its_last_half();
     runs_tell_the_half_and_refusals_their_numbers();
+    an_array_is_taken_up_to_each_outcome();
     what_a_packet_says();
     no_frame_is_read();
     lines_and_their_faults();
@@ -536,6 +644,9 @@ int main(void) {
     who_hears_what();
     nothing_is_told_where_hearing_is_refused();
     a_decoder_in_service_acknowledges();
+    a_small_loco_needs_one_cv();
+    a_decoder_is_powered_up_with_its_cvs();
+    a_small_decoder_in_service_needs_one_cv();
     a_cv_is_read_by_nine_questions();
     a_reading_of_no_cv_is_refused();
     a_station_sends_and_refreshes();

@@ -1,5 +1,5 @@
-/* The functions between a board and a firmware of this folder. The files qemu.c implement them under emulation. Your own
- * board has a timer that captures or makes the edges of the track's signal, and pins in place of text. */
+/* The functions between a board and a firmware of this folder. The files qemu.c implement them under emulation. Your
+ * own board has a timer that captures or makes the edges of the track's signal, and pins in place of text. */
 #ifndef BOARD_H
 #define BOARD_H
 

@@ -1,5 +1,5 @@
-/* The three calls that libdcc_c.a asks for. A firmware with a C library takes them from there. Decoders are a kilobyte each, so what is aligned is
- * moved by four words at a time. */
+/* The three functions that libdcc_c.a needs. A firmware with a C library uses the functions of that library. The
+ * state of a decoder has a kilobyte, so aligned memory is moved by four words at a time. */
 #include <stdbool.h>
 #include <stddef.h>
 #include <stdint.h>

@@ -1,4 +1,5 @@
-/* What boards under qemu have in common, or those whose debugger has semihosting: bytes from standard input, text to standard output. */
+/* Functions that the boards under qemu share, and boards whose debugger has semihosting: bytes from standard input,
+ * text to standard output. */
 #include "board.h"
 #include "semihosting.h"
 

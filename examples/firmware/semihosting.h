@@ -1,10 +1,14 @@
-/* Semihosting: a processor asks its debugger, or qemu, to read and write for it. The numbers are those of Arm, which RISC-V took over. */
+/* Semihosting: a processor asks its debugger, or qemu, to read and write for it. The numbers are those of Arm, which
+ * RISC-V uses too. */
 #ifndef SEMIHOSTING_H
 #define SEMIHOSTING_H
 
 #include <stdint.h>
 
-enum { SEMIHOSTING_OPEN = 0x01, SEMIHOSTING_WRITE = 0x05, SEMIHOSTING_READ = 0x06, SEMIHOSTING_COMMAND_LINE = 0x15, SEMIHOSTING_EXIT = 0x20 };
+enum {
+    SEMIHOSTING_OPEN = 0x01, SEMIHOSTING_WRITE = 0x05, SEMIHOSTING_READ = 0x06, SEMIHOSTING_COMMAND_LINE = 0x15,
+    SEMIHOSTING_EXIT = 0x20
+};
 
 /* Standard input, output or error of the program that hosts: ":tt" to read, to write and to append. */
 enum { HOST_INPUT = 0, HOST_OUTPUT = 4, HOST_ERROR = 8 };
@@ -16,7 +20,8 @@ static inline intptr_t semihosting(intptr_t call, const void *words) {
     register intptr_t answer __asm__("a0") = call;
     register const void *given __asm__("a1") = words;
     /* (these three instructions, of 4 bytes each and on one page) */
-    __asm__ volatile(".option push\n.option norvc\n.balign 16\nslli zero, zero, 0x1f\nebreak\nsrai zero, zero, 7\n.option pop"
+    __asm__ volatile(".option push\n.option norvc\n.balign 16\n"
+                     "slli zero, zero, 0x1f\nebreak\nsrai zero, zero, 7\n.option pop"
                      : "+r"(answer) : "r"(given) : "memory");
 #else
     register intptr_t answer __asm__("r0") = call;

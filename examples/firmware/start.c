@@ -26,5 +26,6 @@ __attribute__((naked, section(".start"), used)) void start(void) {
 }
 #else
 /* The first words of the firmware: where the stack begins, the reset, and the faults that each Cortex-M has. */
-__attribute__((section(".start"), used)) static void (*const vectors[4])(void) = {(void (*)(void))stack_top, begin, fault, fault};
+__attribute__((section(".start"), used))
+static void (*const vectors[4])(void) = {(void (*)(void))stack_top, begin, fault, fault};
 #endif

@@ -66,17 +66,19 @@ function split_quoted(row,    pieces, piece, parts, part, i, j, text, is_quoted,
     field[++columns] = text
 }
 
-# what the columns are, by the first line. One that is a row already has channels that are called by their places, from 0
+# reads the columns from the first line. If the first line is already a row, the channels are called 0, 1 and so on
 function csv_columns(    is_row, place, name) {
     is_row = time_of(field[1]) != ""
     unit = is_row ? 1e6 : microseconds_of(field[1])
     timed = unit && !(is_row && rate)
     if (!timed && rate) unit = 1e6 / rate
     if (!unit || timed && columns == 1)
-        refuse_line(quoted($0) " begins neither a VCD file nor a digital CSV with a time in its first column: export one of these")
+        refuse_line(quoted($0) " begins neither a VCD file nor a digital CSV with a time in its first column:" \
+            " export one of these")
     # sigrok tells the unit in the header, or not at all
     if (rate && (tolower(field[1]) == "time" || is_row && columns > told_channels))
-        refuse_line(quoted($0) " tells no unit of time: let sigrok-cli write -O csv:time=true:dedup=true, without label")
+        refuse_line(quoted($0) " tells no unit of time: let sigrok-cli write -O csv:time=true:dedup=true," \
+            " without label")
     header = NR
     header_columns = columns
     # a name with a comma and a blank in it would be taken for two: then no name is known

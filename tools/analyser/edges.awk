@@ -1,7 +1,8 @@
-# What vcd.awk and csv.awk share: which form a file has, which of its channels is read, and of levels a capture, a word for each time
-# between two edges, in whole microseconds. -v channel=.. chooses a channel, else it is the first. tools/to-capture calls all three.
+# The common part of vcd.awk and csv.awk: it detects the form of a file and the channel to read, and turns levels into a
+# capture with a word for each time between two edges, in whole microseconds. -v channel=.. chooses a channel, otherwise
+# it is the first. tools/to-capture calls the three scripts.
 
-# a channel's name is text, even where it is a number
+# the name of a channel is text, even if it is a number
 BEGIN { channel = channel "" }
 
 # ends the reading: status 1, and on standard error what was found and what to write
@@ -113,8 +114,8 @@ END {
     if (refused) exit 1
     if (form == "") refuse("the input is empty")
     if (!picked) refuse("the input ends before its first level")
-    # nothing tells when the last level ends: as long as the half before it, it is the other half of its bit, so that a packet which ends
-    # there is kept
+    # The end of the last level is unknown. It gets the length of the half-bit before it, since it can be the second
+    # half of a bit. So a packet that ends there is kept.
     if (halves) finish(half(last_half) "\n")
     if (refused) exit 1
     name = "the channel " quoted(label(picked))

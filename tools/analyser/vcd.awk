@@ -1,5 +1,5 @@
-# A VCD file (IEEE 1364) to levels, behind edges.awk. Its words may stand on lines of their own, as Icarus, Verilator and GTKWave write
-# them, or values on the line of their time, as sigrok does.
+# Reads the levels of a VCD file (IEEE 1364), after edges.awk. Each word can have a line of its own, as Icarus,
+# Verilator and GTKWave write it, or the values can be on the line of their time, as sigrok writes them.
 
 BEGIN {
     microseconds["s"] = 1e6
@@ -12,7 +12,7 @@ BEGIN {
 
 form == "vcd" { for (i = 1; i <= NF; i++) vcd_word($i) }
 
-# $dumpvars, $dumpall and the like stand around values, which are read as any. The values x and z are no level of a track
+# The values between $dumpvars, $dumpall and so on are read like all others. The values x and z are no level of a track
 function vcd_word(word,    first) {
     first = substr(word, 1, 1)
     if (command != "") {

@@ -16,9 +16,12 @@
 #endif
 
 #define FUNCTIONS(X) \
-    X(framer_new) X(push) X(push_run) X(read) X(line) X(frame_of_line) X(halves) X(sender_start) X(sender_half) \
+    X(framer_new) X(push) X(push_run) X(push_many) X(read) X(line) X(frame_of_line) X(halves) X(sender_start) \
+    X(sender_half) \
     X(loco_new) X(loco_apply) X(loco_hears) X(board_new) X(board_apply) X(board_hears) X(service_new) \
-    X(service_apply) X(reader_new) X(reader_question) X(reader_answer) X(station_new) X(station_command) \
+    X(service_apply) X(loco_power_up) X(service_power_up) X(small_loco_new) X(small_loco_cv) X(small_loco_apply) \
+    X(small_loco_hears) X(small_service_new) X(small_service_cv) X(small_service_apply) X(reader_new) \
+    X(reader_question) X(reader_answer) X(station_new) X(station_command) \
     X(station_next) X(station_waiting) X(station_entries)
 
 #define NUMBER(name) F_##name,
@@ -63,6 +66,8 @@ static dcc_sender sender;
 static dcc_loco loco;
 static dcc_board board;
 static dcc_service service;
+static dcc_small_loco small_loco;
+static dcc_small_service small_service;
 static dcc_reader reader;
 static dcc_station station;
 static uint8_t cvs[DCC_CVS], room[8], *frame;
@@ -190,6 +195,13 @@ static void call_framer(uint16_t us, uint32_t n) {
     if (n == 1) {
         called(F_push);
         add(dcc_push(&framer, us, &outcome));
+    } else if (n <= 8) {
+        uint16_t halves[8], i;
+        uint64_t taken = 9;
+        for (i = 0; i < n; i++) halves[i] = us;
+        called(F_push_many);
+        add(dcc_push_many(&framer, halves, n, &outcome, &taken));
+        add((uint32_t)taken);
     } else {
         called(F_push_run);
         add(dcc_push_run(&framer, us, n, &outcome));
@@ -309,6 +321,72 @@ static void call_decoders(void) {
     add(heard), add(service.in_service), add_frame(&service.pending), add_bytes(service.cvs, DCC_CVS);
 }
 
+static void add_small_loco(void) {
+    uint8_t i;
+    add(small_loco.address_kind), add(small_loco.speed_mode), add(small_loco.step), add(small_loco.forward);
+    add(small_loco.address), add(small_loco.cv29), add_frame(&small_loco.pending);
+    for (i = 0; i < 2; i++) {
+        add((uint32_t)small_loco.functions[i]), add((uint32_t)(small_loco.functions[i] >> 32));
+        add((uint32_t)small_loco.states[i]), add((uint32_t)(small_loco.states[i] >> 32));
+    }
+}
+
+static void copy_loco(void) {
+    uint8_t i;
+    small_loco.address_kind = loco.address_kind, small_loco.speed_mode = loco.speed_mode, small_loco.step = loco.step;
+    small_loco.forward = loco.forward, small_loco.address = loco.address, small_loco.pending = loco.pending;
+    for (i = 0; i < 2; i++) small_loco.functions[i] = loco.functions[i], small_loco.states[i] = loco.states[i];
+}
+
+/* Decoders whose CVs the program stores: often with the fields of the decoders with CVs. */
+static void call_small_decoders(void) {
+    bool heard = one_of(2), changed = one_of(2);
+    uint8_t asked[8], cvs[4], value = some_byte(), times, i;
+    uint16_t cv = 7;
+    if (one_of(30)) {
+        called(F_small_loco_new);
+        for (i = 0; i < 4; i++) cvs[i] = some_byte();
+        dcc_small_loco_new(&small_loco, cvs[0], cvs[1], cvs[2], cvs[3]);
+        add_small_loco();
+        called(F_small_service_new);
+        dcc_small_service_new(&small_service);
+        add(small_service.in_service), add_frame(&small_service.pending);
+    }
+    if (one_of(4)) copy_loco();
+    if (one_of(8)) make_pending(&small_loco.pending);
+    called(F_small_loco_hears);
+    add(dcc_small_loco_hears(&small_loco, frame, len, &heard));
+    add(heard);
+    for (times = (uint8_t)(1 + below(2)); times > 0; times--) {
+        called(F_small_loco_cv);
+        add(dcc_small_loco_cv(&small_loco, frame, len, &cv));
+        add(cv);
+        called(F_small_loco_apply);
+        add(dcc_small_loco_apply(&small_loco, frame, len, &value, &changed));
+        add(value), add(changed), add_small_loco();
+    }
+    if (one_of(6)) small_service.pending = service.pending, small_service.in_service = service.in_service;
+    if (one_of(8)) make_pending(&small_service.pending);
+    memcpy(asked, frame, len);
+    if (one_of(2) && len == 4) asked[0] = (uint8_t)(112 | (asked[0] & 15)), asked[3] = asked[0] ^ asked[1] ^ asked[2];
+    for (times = (uint8_t)(1 + below(2)); times > 0; times--) {
+        called(F_small_service_cv);
+        add(dcc_small_service_cv(&small_service, asked, len, &cv));
+        add(cv);
+        called(F_small_service_apply);
+        add(dcc_small_service_apply(&small_service, asked, len, &value, &changed, &heard));
+        add(value), add(changed), add(heard), add(small_service.in_service), add_frame(&small_service.pending);
+    }
+    if (one_of(40)) {
+        called(F_loco_power_up);
+        dcc_loco_power_up(&loco);
+        add_loco();
+        called(F_service_power_up);
+        dcc_service_power_up(&service);
+        add(service.in_service), add_frame(&service.pending), add_bytes(service.cvs, DCC_CVS);
+    }
+}
+
 static void call_reader(void) {
     dcc_frame question;
     uint8_t value = 7;
@@ -330,7 +408,7 @@ static void call_reader(void) {
 
 static void call_station(void) {
     dcc_frame sent;
-    if (one_of(60)) {
+    if (one_of(50)) {
         uint8_t queue = (uint8_t)(one_of(4) ? below(70) : 1 + below(9));
         uint8_t slots = (uint8_t)(one_of(4) ? below(135) : 1 + below(9));
         called(F_station_new);
@@ -358,6 +436,7 @@ int main(int argc, char **argv) {
         call_packets();
         call_sender();
         call_decoders();
+        call_small_decoders();
         call_reader();
         call_station();
     }

@@ -46,6 +46,11 @@ def add_operators(w):
         if to != w:
             op = "trunc" if to < w else "zext"
             add(f"{op}_{w}_{to}", x, f"%r = {op} i{w} %x to i{to}", returned("r", to))
+        if to < w:
+            fitting = f"%f = and i{w} %x, {2 ** to - 1}"
+            add(f"trunc_nuw_{w}_{to}", x, fitting, f"%r = trunc nuw i{w} %f to i{to}", returned("r", to))
+            add(f"trunc_nuw_nsw_{w}_{to}", x, f"%f = and i{w} %x, {2 ** (to - 1) - 1}",
+                f"%r = trunc nuw nsw i{w} %f to i{to}", returned("r", to))
     if w == 1:
         for to in WIDTHS[1:]:
             add(f"sext_{to}", x, f"%r = sext i1 %x to i{to}", returned("r", to))
@@ -126,6 +131,8 @@ for name in UNSIGNED:
         returned("r", 1))
     add(f"{name}_wide_same", WIDE, "%e = add i128 %x, 0", f"%r = icmp {name} i128 %x, %e", returned("r", 1))
 add("select_wide", WIDE, "%s = trunc i64 %c to i1", "%r = select i1 %s, i128 %x, i128 %y", HALVES)
+for width in (1, 5, 8, 16, 32, 63, 64):
+    add(f"sext_wide_{width}", cut("a", width, "x"), f"%r = sext i{width} %x to i128", HALVES)
 for width in (1, 5, 16, 32, 63):
     add(f"trunc_wide_{width}", WIDE, f"%r = trunc i128 %x to i{width}", returned("r", width))
 

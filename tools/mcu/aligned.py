@@ -1,9 +1,9 @@
 #!/usr/bin/env python3
-"""Has a module look at each place that it says to be aligned, before it is read or written: a call dcc_aligned, with what is left over.
+"""Adds a check to each access of a module that must be aligned: a call of dcc_aligned with the remainder.
 
     tools/mcu/aligned.py NARROW.ll > ALIGNED.ll
 
-On x86-64 and under qemu it makes no difference whether a place is aligned. On a Cortex-M0+ it is a fault where it is not.
+On x86-64 and under qemu an access that is not aligned works. On a Cortex-M0+ it is a fault.
 """
 import re
 import sys

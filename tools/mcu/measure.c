@@ -1,5 +1,6 @@
-/* What each call takes on a microcontroller, over the packets of a capture on standard input: a line with the instructions of one call, in the mean
- * and at most, and the bytes of stack. Run by tools/mcu/measure, under qemu where an instruction takes a nanosecond. */
+/* Measures each function on a microcontroller, over the packets of a capture on standard input. For each function
+ * the program prints the instructions of a call, in the mean and at most, and the bytes of stack. tools/mcu/measure
+ * runs the program under qemu, where an instruction takes a nanosecond. */
 #include "dcc.h"
 #include <stdio.h>
 #include <stdlib.h>
@@ -14,6 +15,7 @@ static uint32_t half_count, frame_count;
 static uint32_t at;
 static dcc_framer framer;
 static dcc_outcome outcome;
+static uint64_t taken;
 static dcc_packet packet;
 static char line[DCC_LINE];
 static uint16_t sent[DCC_HALVES];
@@ -23,6 +25,10 @@ static dcc_sender sender;
 static dcc_loco loco;
 static dcc_board board;
 static dcc_service service;
+static dcc_small_loco small_loco;
+static dcc_small_service small_service;
+static uint16_t needed;
+static bool changed;
 static dcc_reader reader;
 static dcc_station station;
 static bool yes;
@@ -34,6 +40,7 @@ static uint8_t cvs[DCC_CVS] = {[0] = 3, [28] = 2};
 static void nothing(void) {}
 static void push(void) { dcc_push(&framer, halves[at], &outcome); }
 static void push_run(void) { dcc_push_run(&framer, halves[at], 1, &outcome); }
+static void push_many(void) { dcc_push_many(&framer, &halves[at], 1, &outcome, &taken); }
 static void read_frame(void) { dcc_read(GIVEN, &packet); }
 static void write_line(void) { dcc_line(GIVEN, line); }
 static void send(void) { dcc_halves(GIVEN, 16, sent); }
@@ -56,6 +63,15 @@ static void apply_board(void) { dcc_board_apply(&board, GIVEN); }
 static void board_hears(void) { dcc_board_hears(&board, GIVEN, &yes); }
 static void new_service(void) { dcc_service_new(&service, cvs); }
 static void apply_service(void) { dcc_service_apply(&service, GIVEN, &yes); }
+static void power_up_loco(void) { dcc_loco_power_up(&loco); }
+static void power_up_service(void) { dcc_service_power_up(&service); }
+static void new_small_loco(void) { dcc_small_loco_new(&small_loco, 3, 0, 0, 2); }
+static void small_loco_cv(void) { dcc_small_loco_cv(&small_loco, GIVEN, &needed); }
+static void apply_small_loco(void) { dcc_small_loco_apply(&small_loco, GIVEN, &value, &changed); }
+static void small_loco_hears(void) { dcc_small_loco_hears(&small_loco, GIVEN, &yes); }
+static void new_small_service(void) { dcc_small_service_new(&small_service); }
+static void small_service_cv(void) { dcc_small_service_cv(&small_service, GIVEN, &needed); }
+static void apply_small_service(void) { dcc_small_service_apply(&small_service, GIVEN, &value, &changed, &yes); }
 static void new_reader(void) { dcc_reader_new(&reader, (uint16_t)(at + 1)); }
 static void ask_reader(void) {
     reader.known = (uint8_t)(at % 8);
@@ -74,13 +90,17 @@ static void make_room(void) {
     if (dcc_station_waiting(&station) == 64) new_station();
 }
 
-/* The most that a first copy may take: 128 entries, which are asked for one after the other, and a command of each kind, to all of them or to the
- * locomotive of the last. The entries are of one kind, each to a locomotive of its own, or of all kinds that one locomotive can have. */
+/* The most instructions of a first copy: a station has 128 entries, which it compares one after the other, and gets
+ * a command of each kind, to all locomotives or to the locomotive of the last entry. The entries are of one kind,
+ * each to a different locomotive, or of all kinds that one locomotive can have. */
 static const struct { uint8_t len, bytes[3]; } kinds[] = {
     {1, {0x60}}, {1, {0x61}}, {1, {0x45}}, {2, {0x3F, 0x80}}, {2, {0x3F, 0x81}}, {2, {0x3F, 0x05}}, /* speeds */
-    {1, {0x80}}, {1, {0x9F}}, {1, {0xB0}}, {1, {0xBF}}, {1, {0xA0}}, {1, {0xAF}}, {2, {0xDE, 0}}, {2, {0xDE, 0xFF}}, {2, {0xDF, 0}},
-    {2, {0xDF, 0xFF}}, {2, {0xD8, 0}}, {2, {0xD8, 0xFF}}, {2, {0xD9, 0}}, {2, {0xDA, 0}}, {2, {0xDB, 0}}, {2, {0xDC, 0}}, {2, {0xDC, 0xFF}}, /* functions */
-    {1, {0}}, {2, {0xDD, 0x81}}, {2, {0xDD, 0}}, {3, {0xEC, 28, 6}}, {3, {0xEC, 0, 3}}, {3, {0xE8, 28, 0xF8}}, /* a reset, states, CVs */
+    /* functions */
+    {1, {0x80}}, {1, {0x9F}}, {1, {0xB0}}, {1, {0xBF}}, {1, {0xA0}}, {1, {0xAF}}, {2, {0xDE, 0}}, {2, {0xDE, 0xFF}},
+    {2, {0xDF, 0}}, {2, {0xDF, 0xFF}}, {2, {0xD8, 0}}, {2, {0xD8, 0xFF}}, {2, {0xD9, 0}}, {2, {0xDA, 0}},
+    {2, {0xDB, 0}}, {2, {0xDC, 0}}, {2, {0xDC, 0xFF}},
+    /* a reset, states, CVs */
+    {1, {0}}, {2, {0xDD, 0x81}}, {2, {0xDD, 0}}, {3, {0xEC, 28, 6}}, {3, {0xEC, 0, 3}}, {3, {0xE8, 28, 0xF8}},
 };
 /* those of one locomotive */
 static const uint8_t one_of_each[] = {0, 3, 6, 8, 10, 12, 14, 16, 18, 19, 20, 21};
@@ -174,7 +194,8 @@ static void measure_behind(const char *name, void (*before)(void), void (*call)(
     if (call == nothing) {
         own = mean;
     } else {
-        printf("%s %u %u %u\n", name, (unsigned)(mean - own), (unsigned)(most - own), (unsigned)((uintptr_t)top - (uintptr_t)word));
+        unsigned stack = (unsigned)((uintptr_t)top - (uintptr_t)word);
+        printf("%s %u %u %u\n", name, (unsigned)(mean - own), (unsigned)(most - own), stack);
     }
 }
 
@@ -196,7 +217,8 @@ static void take_capture(void) {
     }
 }
 
-/* in place of the capture's frames a programming track: each question of some CVs and a write, five times, three resets before each of them */
+/* a programming track in place of the frames of the capture: each question of some CVs and a write, five times, with
+ * three resets before each */
 static void add_five(const dcc_frame *it) {
     static const dcc_frame reset = {3, {0}};
     for (int i = 0; i < 3; i++) frames[frame_count++] = reset;
@@ -222,6 +244,7 @@ int main(void) {
     measure("", nothing, frame_count);
     measure("dcc_push", push, half_count);
     measure("dcc_push_run", push_run, half_count);
+    measure("dcc_push_many", push_many, half_count);
     measure("dcc_read", read_frame, frame_count);
     measure("dcc_line", write_line, frame_count);
     measure("dcc_frame_of_line", read_line, frame_count);
@@ -232,6 +255,11 @@ int main(void) {
     measure("dcc_loco_new", new_loco, 100);
     measure("dcc_loco_apply", apply_loco, frame_count);
     measure("dcc_loco_hears", loco_hears, frame_count);
+    measure("dcc_loco_power_up", power_up_loco, 100);
+    measure("dcc_small_loco_new", new_small_loco, 100);
+    measure("dcc_small_loco_cv", small_loco_cv, frame_count);
+    measure("dcc_small_loco_apply", apply_small_loco, frame_count);
+    measure("dcc_small_loco_hears", small_loco_hears, frame_count);
     measure("dcc_board_new", new_board, 100);
     measure("dcc_board_apply", apply_board, frame_count);
     measure("dcc_board_hears", board_hears, frame_count);
@@ -246,11 +274,17 @@ int main(void) {
     measure("dcc_station_entries", tell_entries, 100);
     measure("dcc_service_new", new_service, 100);
     measure("dcc_service_apply", apply_service, frame_count);
+    measure("dcc_service_power_up", power_up_service, 100);
+    measure("dcc_small_service_new", new_small_service, 100);
+    measure("dcc_small_service_cv", small_service_cv, frame_count);
+    measure("dcc_small_service_apply", apply_small_service, frame_count);
     measure("dcc_reader_new", new_reader, 1000);
     measure("dcc_reader_question", ask_reader, 1000);
     measure("dcc_reader_answer", answer_reader, 1000);
     take_programming_track();
     new_service();
     measure("dcc_service_apply:inside", apply_service, frame_count);
+    new_small_service();
+    measure("dcc_small_service_apply:inside", apply_small_service, frame_count);
     return 0;
 }

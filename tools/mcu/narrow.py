@@ -1,38 +1,42 @@
 #!/usr/bin/env python3
-"""Makes of the module that the toolchain compiles for 64 bits one for a target whose pointers have 32.
+"""Rewrites the module that the toolchain compiles for 64 bits for a target whose pointers have 32 bits.
 
     tools/mcu/narrow.py MODULE.ll CALLS.ll > NARROW.ll
 
-MODULE.ll is what the toolchain hands its clang. CALLS.ll is what the same clang makes of include/dcc.h for the target: its name, its layout,
-and how C calls the library there.
+MODULE.ll is the module that the toolchain gives to its clang. CALLS.ll is what the same clang makes of
+include/dcc.h for the target: the name of the target, its layout, and how C calls the library.
 
-In the module every place has its bytes, every offset is a number of bytes, and lengths and addresses' distances have 64 bits. All of that
-stays: no arithmetic is narrowed, so each bound that was proved holds as it is. Only addresses have 32 bits, in the first four bytes of
-the eight that were theirs. That takes these steps:
+In the module each object has its size in bytes, each offset is a number of bytes, and lengths and differences of
+addresses have 64 bits. None of this changes. No arithmetic becomes narrower, so each proved bound stays valid. Only
+addresses have 32 bits, in the first four bytes of the eight bytes of a pointer. The steps are:
 
-1. The target's name and layout are put in, and attributes of x86 processors are dropped.
-2. A place for a pointer keeps its eight bytes: code that clears or moves it counts eight.
-3. `{ i8, ptr }` is an optional reference, which is loaded from memory whole. Its pointer lies at byte 8, but where pointers have 32 bits it
-   would be looked for at byte 4: a number of 32 bits is put between them. `{ ptr, i64 }` is right as it stands, as numbers of 64
-   bits are aligned to 8 bytes.
-4. An address that is read as a number (`ptrtoaddr`) has 32 bits, and is widened to the 64 of the number.
-5. The lengths of memory that is moved or set have 32 bits there, so those of 64 are cut. They are those of objects, and none has 2^32 bytes.
-6. What the library answers C in a byte is extended as the target's C compiler expects it; that C and the module agree in all else that is
-   passed is looked at, call by call.
+1. The module gets the name and the layout of the target, and loses the attributes of x86 processors.
+2. The place of a pointer keeps its eight bytes, since code that clears or moves it counts eight bytes.
+3. `{ i8, ptr }` is an optional reference, which is loaded from memory as a whole. Its pointer is at byte 8, but with
+   pointers of 32 bits it would be looked for at byte 4. So a number of 32 bits is added between the two. `{ ptr, i64 }`
+   needs no change, since numbers of 64 bits are aligned to 8 bytes.
+4. An address that is read as a number (`ptrtoaddr`) has 32 bits, and is widened to 64 bits.
+5. The lengths of memory that is moved or set have 32 bits on the target, so lengths of 64 bits are cut. They are the
+   lengths of objects, and no object has 2^32 bytes.
+6. A result of one byte is extended as the C compiler of the target expects it. For each function, the script checks
+   that C and the module agree in all other types.
 
-It knows each kind of line that it lets through, and stops at any other: so at all else that could know how wide a pointer is.
+The script has a rule for each kind of line that it accepts, and stops at any other line, since its meaning could depend
+on the width of a pointer.
 """
 import re
 import sys
 from collections import Counter
 
-PLAIN = """add and ashr br call extractvalue freeze getelementptr icmp load lshr mul or phi ret sdiv select sext shl srem store sub switch
-trunc udiv unreachable urem xor zext""".split()
+PLAIN = """add and ashr br call extractvalue freeze getelementptr icmp load lshr mul or phi ret sdiv select sext shl
+srem store sub switch trunc udiv unreachable urem xor zext""".split()
 # lines that are no instructions: labels, comments, ends, the cases of a switch, what is known of values
 OTHER = re.compile(r"$|;|\}|\S+:( |$)|    i\d+ -?\d+, label %|  \]$|source_filename|attributes|!|declare|define|target")
 STATIC = re.compile(r"@[\w.]+ = private unnamed_addr constant \[\d+ x i8\] ")
 INSTRUCTION = re.compile(r"  (?:%\S+ = )?(\w+)")
-MOVES = re.compile(r"(.* @llvm\.(?:memmove|memcpy|memset)\.(?:p0\.p0|p0)\.)i64(\(.*), i64 ([^,]+), (i1 (?:true|false)\))(.*)")
+MOVES = re.compile(
+    r"(.* @llvm\.(?:memmove|memcpy|memset)\.(?:p0\.p0|p0)\.)i64(\(.*), i64 ([^,]+), (i1 (?:true|false)\))(.*)"
+)
 X86 = re.compile(r' "(?:probe-stack|stack-probe-size|target-cpu|target-features|tune-cpu)"="[^"]*"')
 CALL = re.compile(r"(?:define|declare) (?:(?:dso_local|noundef|zeroext|signext) )*(\S+) @(dcc_\w+)\((.*)\)")
 
@@ -53,12 +57,17 @@ def told(line):
 
 
 def c_calls(lines):
-    """How C calls the library: by name, the types, whether the answer is written where a pointer says, and the word that extends it."""
+    """How C calls the library: by name, the types, whether the answer is written where a pointer says, and the word
+    that extends it."""
     calls = {}
     for line in lines:
         if line.startswith("declare") and CALL.match(line):
             name, types, is_written = told(line)
-            calls[name] = types, is_written, next((it for it in ("zeroext", "signext") if f" {it} " in line.split("@")[0]), "")
+            calls[name] = (
+                types,
+                is_written,
+                next((it for it in ("zeroext", "signext") if f" {it} " in line.split("@")[0]), ""),
+            )
     return calls
 
 
@@ -85,7 +94,11 @@ def narrow(line, place, counts):
     kind = instruction[1] if instruction and not OTHER.match(bare) else ""
     if kind == "alloca":
         counts["places of a pointer"] += " alloca ptr," in bare
-        return [line.replace(" alloca ptr,", " alloca [8 x i8],")] if re.search(r" alloca (ptr|i\d+|\[\d+ x i8\]), align \d+$", bare) else None
+        return (
+            [line.replace(" alloca ptr,", " alloca [8 x i8],")]
+            if re.search(r" alloca (ptr|i\d+|\[\d+ x i8\]), align \d+$", bare)
+            else None
+        )
     if kind == "ptrtoaddr":
         counts["addresses widened"] += 1
         return [line.replace("ptrtoaddr", "ptrtoint")] if bare.endswith(" to i64") else None
@@ -96,7 +109,10 @@ def narrow(line, place, counts):
         if length.isdigit():
             return [f"{front}i32{middle}, i32 {length}, {last}{rest}"]
         counts["lengths cut"] += 1
-        return [f"  %narrow.{place} = trunc i64 {length} to i32", f"{front}i32{middle}, i32 %narrow.{place}, {last}{rest}"]
+        return [
+            f"  %narrow.{place} = trunc i64 {length} to i32",
+            f"{front}i32{middle}, i32 %narrow.{place}, {last}{rest}",
+        ]
     if line.startswith("declare void @llvm.mem"):
         return [line.replace(".i64(", ".i32(").replace(", i64, i1", ", i32, i1")]
     if "@llvm." in bare and ".p0" in bare:
@@ -107,7 +123,9 @@ def narrow(line, place, counts):
         if kind not in ("call", "extractvalue", "load", "ret") and not line.startswith("define"):
             return None
         counts["optional references"] += 1
-        line = re.sub(r"(extractvalue \{ i8, ptr \} \S+), 1$", r"\1, 2", line).replace("{ i8, ptr }", "{ i8, i32, ptr }")
+        line = re.sub(r"(extractvalue \{ i8, ptr \} \S+), 1$", r"\1, 2", line).replace(
+            "{ i8, ptr }", "{ i8, i32, ptr }"
+        )
         bare = bare.replace("{ i8, ptr }", "")
     if re.search(r"[{<\[][^}>\]]*\bptr\b", bare.replace("{ ptr, i64 }", "")):
         return None

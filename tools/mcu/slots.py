@@ -3,10 +3,11 @@
 
     tools/mcu/slots.py MODULE.ll
 
-Where pointers have 32 bits, a pointer fills four of its eight bytes (narrow.py). So what is stored as a pointer must not be read as a
-number, nor the other way round. In the module that the toolchain makes, a place is one on the stack or one that a function is given, and
-bytes from there on. What a place holds is followed through moves of memory from one to another. Each place that is stored as one
-and read as the other is told, and the exit status is 1 then.
+With pointers of 32 bits, a pointer fills four of its eight bytes (narrow.py). So a value that is stored as a
+pointer must not be read as a number, and a number must not be read as a pointer. A place is a place on the stack or
+an argument of a function, and a number of bytes from it. The script follows values through moves of memory from one
+place to another. It prints each place that is stored as one and read as the other. If there is one, the exit status
+is 1.
 """
 import re
 import sys
@@ -73,7 +74,11 @@ def follow(stored, moves):
 
 
 def mixed(one, other):
-    return ("ptr" in (one[0], other[0]) and one != other) and one[1] < other[1] + BYTES[other[0]] and other[1] < one[1] + BYTES[one[0]]
+    return (
+        ("ptr" in (one[0], other[0]) and one != other)
+        and one[1] < other[1] + BYTES[other[0]]
+        and other[1] < one[1] + BYTES[one[0]]
+    )
 
 
 def main():
@@ -88,8 +93,13 @@ def main():
                 for other in loaded[base]:
                     if mixed(one, other):
                         wrong += 1
-                        print(f"{name}: {base} is stored as {one[0]} at byte {one[1]}, and loaded as {other[0]} at byte {other[1]}")
-    print(f"slots.py: {places} places, {pointers} with pointers, {wrong} stored as one and loaded as the other", file=sys.stderr)
+                        print(
+                            f"{name}: {base} is stored as {one[0]} at {one[1]}, and loaded as {other[0]} at {other[1]}"
+                        )
+    print(
+        f"slots.py: {places} places, {pointers} with pointers, {wrong} stored as one and loaded as the other",
+        file=sys.stderr,
+    )
     sys.exit(wrong > 0)
 
 

@@ -29,6 +29,7 @@ void dccHearBoard(dcc_board &board, const dcc_frame &frame, const dcc_packet &pa
         if (isNamed || isOn != (before.outs >> n & 1)) notifyDccAccTurnoutBoard(board.number, n / 2, n % 2, isOn);
     }
     for (uint8_t n = 0; n < 4 && packet.kind == DCC_SIGNAL; n++) {
-        if (packet.address == 2047 || packet.address % 4 == n) notifyDccSigOutputState(board.number * 4 + n, board.aspects[n]);
+        const bool is_named = packet.address == 2047 || packet.address % 4 == n;
+        if (is_named) notifyDccSigOutputState(board.number * 4 + n, board.aspects[n]);
     }
 }

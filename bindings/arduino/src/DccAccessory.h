@@ -1,5 +1,5 @@
-/* An accessory decoder. It applies its own packets and calls the callbacks below, which are named as in NmraDcc. It needs
- * no CVs, so it fits an Uno. */
+/* An accessory decoder. It applies its own packets and calls the callbacks below, which are named as in NmraDcc. It
+ * needs no CVs, so it fits an Uno. */
 #ifndef DCC_ACCESSORY_H
 #define DCC_ACCESSORY_H
 
@@ -7,7 +7,8 @@
 
 class DccAccessory {
 public:
-    /* Begins as the board of this number, 0 to 510. Returns false for any other number; the decoder then hears nothing. */
+    /* Begins as the board of this number, 0 to 510. Returns false for any other number; the decoder then hears
+     * nothing. */
     bool begin(uint16_t number, uint32_t now);
 
     /* Call one of them in an interrupt: at the end of each half-bit, or at each change of the pin with micros(). */
@@ -28,7 +29,8 @@ private:
 /* Applies a packet to a board, and calls the callbacks. */
 void dccHearBoard(dcc_board &board, const dcc_frame &frame, const dcc_packet &packet);
 
-/* Callbacks: write those that you want; the others do nothing. Each is called in loop(), after a packet for the board. */
+/* Callbacks: write those that you want. A callback that you do not write does nothing. Each is called in loop(), after
+ * a packet for the board. */
 
 /* A packet named this output of the board, also if the output keeps its state, or has changed it. The arguments are
  * the pair, 0 to 3, the output of the pair, and whether it is on. */

@@ -43,7 +43,8 @@ void DccDecoder::hearLoco(const dcc_frame &frame, const dcc_packet &packet) {
     bool forward = loco.forward;
     if (dcc_loco_apply(&loco, frame.bytes, frame.len) != 0) return;
     if (packet.kind == DCC_RESET) notifyDccReset();
-    if (mode != loco.speed_mode || step != loco.step || forward != loco.forward) notifyDccSpeed(loco.step, loco.speed_mode, loco.forward);
+    const bool is_changed = mode != loco.speed_mode || step != loco.step || forward != loco.forward;
+    if (is_changed) notifyDccSpeed(loco.step, loco.speed_mode, loco.forward);
     notifyTurned(functions, loco.functions, notifyDccFunc);
     notifyTurned(states, loco.states, notifyDccState);
     if (isWrite && value != loco.cvs[packet.cv - 1]) notifyCVChange(packet.cv, loco.cvs[packet.cv - 1]);

@@ -2,9 +2,9 @@
  *
  *     void onHalfBit(uint16_t us) { track.halfBit(us); }
  *
- * On a board with an AVR a timer measures each half-bit to half a microsecond, even if another interrupt delays the call
- * of onHalfBit. The signal comes to DCC_EDGE_PIN: pin 8 of an Uno or Nano, pin 49 of a Mega, pin 4 of a Leonardo. On any
- * other board the signal comes to pin 2, each edge calls an interrupt, and micros() measures. */
+ * On a board with an AVR a timer measures each half-bit to half a microsecond, even if another interrupt delays the
+ * call of onHalfBit. The signal comes to DCC_EDGE_PIN: pin 8 of an Uno or Nano, pin 49 of a Mega, pin 4 of a
+ * Leonardo. On any other board the signal comes to pin 2, each edge calls an interrupt, and micros() measures. */
 #ifndef DCC_EDGES_H
 #define DCC_EDGES_H
 

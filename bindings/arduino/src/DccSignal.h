@@ -2,9 +2,9 @@
  *
  *     uint16_t nextHalfBit() { return station.half(); }
  *
- * On a board with an AVR a timer changes the level of the pin, so each half-bit is exact to half a microsecond: pin 9 of
- * an Uno, Nano or Leonardo, pin 46 of a Mega. On an RP2040 alarms change the level of pin 5. On any other board write
- * startTimer(us) for a timer of the board: it calls turn() after us microseconds, and then each time after the
+ * On a board with an AVR a timer changes the level of the pin, so each half-bit is exact to half a microsecond: pin
+ * 9 of an Uno, Nano or Leonardo, pin 46 of a Mega. On an RP2040 alarms change the level of pin 5. On any other board
+ * write startTimer(us) for a timer of the board: it calls turn() after us microseconds, and then each time after the
  * microseconds that turn() returned. */
 #ifndef DCC_SIGNAL_H
 #define DCC_SIGNAL_H

@@ -12,8 +12,8 @@ struct DccRefusal {
 
 class DccStation {
 public:
-    /* Begins with no command. queue is the most waiting commands, 1 to 64, slots the most entries, 1 to 128, and repeats
-     * the copies of a command in a row, 1 to 8. Returns false for other sizes. */
+    /* Begins with no command. queue is the most waiting commands, 1 to 64, slots the most entries, 1 to 128, and
+     * repeats the copies of a command in a row, 1 to 8. Returns false for other sizes. */
     bool begin(uint8_t queue = 16, uint8_t slots = 32, uint8_t repeats = 2);
 
     /* Adds the command of a packet line, for example "loco s3 speed28 f 4". The line ends at its first NUL. */
@@ -25,9 +25,9 @@ public:
     /* Call it in loop(). Prepares the next packet, which may take milliseconds on a small chip. */
     void process();
 
-    /* Call it in the interrupt of the timer that changes the level of the track (DccSignal.h). Returns the duration of the
-     * next half-bit in microseconds. If loop() is late, the station sends an idle packet, so the track always has a
-     * signal. */
+    /* Call it in the interrupt of the timer that changes the level of the track (DccSignal.h). Returns the duration of
+     * the next half-bit in microseconds. If loop() is late, the station sends an idle packet, so the track always has
+     * a signal. */
     uint16_t half();
 
 private:

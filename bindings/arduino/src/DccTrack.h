@@ -17,8 +17,8 @@ public:
     /* Or call it in the interrupt of the pin at each change of the level. now is micros(). */
     void edge(uint32_t now);
 
-    /* Call it in loop(). Writes the next packet or refusal that was found, with the number of its last half-bit, from 1.
-     * At most four can wait, and further ones are lost. Stations repeat their packets. */
+    /* Call it in loop(). Writes the next packet or refusal that was found, with the number of its last half-bit, from
+     * 1. At most four can wait, and further ones are lost. Stations repeat their packets. */
     bool next(uint32_t *half, dcc_outcome *seen);
 
     /* Writes the next one as a line of text: "84 loco s3 speed28 f 4" or "252 refused H5 036260". */

@@ -1,4 +1,4 @@
-/* The few calls of Arduino that the sketches use, for tests under qemu: the edges of the track are those of a capture. */
+/* The functions of Arduino that the sketches use, for tests under qemu. The edges of the track come from a capture. */
 #ifndef ARDUINO_H
 #define ARDUINO_H
 
@@ -16,6 +16,7 @@ void digitalWrite(uint8_t pin, uint8_t level);
 void analogWrite(uint8_t pin, int value);
 inline uint8_t digitalPinToInterrupt(uint8_t pin) { return pin; }
 void attachInterrupt(uint8_t interrupt, void (*call)(), int mode);
+inline void delay(unsigned long) {}
 inline void interrupts() {}
 inline void noInterrupts() {}
 

@@ -50,6 +50,13 @@ extern "C" {
     pub(crate) fn dcc_framer_new() -> Framer;
     pub(crate) fn dcc_push(framer: *mut Framer, us: u16, outcome: *mut Outcome) -> u8;
     pub(crate) fn dcc_push_run(framer: *mut Framer, us: u16, n: u32, outcome: *mut Outcome) -> u8;
+    pub(crate) fn dcc_push_many(
+        framer: *mut Framer,
+        halves: *const u16,
+        len: u64,
+        outcome: *mut Outcome,
+        taken: *mut u64,
+    ) -> u8;
     pub(crate) fn dcc_read(frame: *const u8, len: u64, packet: *mut Numbers) -> u8;
     pub(crate) fn dcc_line(frame: *const u8, len: u64, line: *mut u8) -> u8;
     pub(crate) fn dcc_frame_of_line(line: *const u8, len: u64, frame: *mut Frame) -> u8;

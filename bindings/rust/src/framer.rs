@@ -1,5 +1,5 @@
 //! Packets found in half-bits.
-use crate::calls::{dcc_framer_new, dcc_push, dcc_push_run, Outcome};
+use crate::calls::{dcc_framer_new, dcc_push, dcc_push_many, dcc_push_run, Outcome};
 use crate::frame::Frame;
 use core::fmt;
 
@@ -60,6 +60,15 @@ impl Framer {
             0 => None,
             _ => Some((outcome.at, seen(outcome))),
         }
+    }
+
+    /// Takes half-bits of `halves` in order, as calls of [`push`](Framer::push) would, up to the first half-bit that
+    /// completes a packet or refusal. Returns the number of half-bits that it took, and this packet or refusal.
+    pub fn push_many(&mut self, halves: &[u16]) -> (usize, Option<Seen>) {
+        let (mut outcome, mut taken) = (Outcome::NONE, 0);
+        let result =
+            unsafe { dcc_push_many(self, halves.as_ptr(), halves.len() as u64, &mut outcome, &mut taken) };
+        (taken as usize, if result == 0 { None } else { Some(seen(outcome)) })
     }
 }
 

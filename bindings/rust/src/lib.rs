@@ -1,5 +1,6 @@
 //! Digital Command Control (DCC), the signal on the rails of a digital model railway. This crate finds packets in
-//! half-bits, reads and sends packets, simulates decoders, reads CVs on a programming track, and runs a command station.
+//! half-bits, reads and sends packets, simulates decoders, reads CVs on a programming track, and runs a command
+//! station.
 //!
 //! ```
 //! use dcc::{Frame, Framer, Seen, Timing};
@@ -13,10 +14,11 @@
 //! # Ok::<(), dcc::LineFault>(())
 //! ```
 //!
-//! **Proved** is the library below, `libdcc_c.a`: each of its functions is safe and does what its contract says, for every
-//! input (`docs/C.md`). **Not proved** is this crate, which calls the library; it is tested against the program. A C caller
-//! must pass whole objects and valid pointers without overlap. The types of this crate ensure this: the library makes each
-//! object, its fields are private, and a call borrows a whole object. So no function is called with impossible fields.
+//! **Proved** is the library below, `libdcc_c.a`: each of its functions is safe and does what its contract says, for
+//! every input (`docs/C.md`). **Not proved** is this crate, which calls the library; it is tested against the
+//! program. A C caller must pass whole objects and valid pointers without overlap. The types of this crate ensure
+//! this: the library makes each object, its fields are private, and a call borrows a whole object. So no function is
+//! called with impossible fields.
 //!
 //! The crate does not allocate and does not need `std`.
 #![no_std]

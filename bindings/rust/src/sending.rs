@@ -3,8 +3,8 @@ use crate::calls::{dcc_sender_half, dcc_sender_start};
 use crate::frame::Frame;
 use core::fmt;
 
-/// The timing of a station: the lengths of half-bits in microseconds, and the number of ones before a packet (NMRA S-9.1,
-/// S-9.2).
+/// The timing of a station: the lengths of half-bits in microseconds, and the number of ones before a packet (NMRA
+/// S-9.1, S-9.2).
 #[repr(C)]
 #[derive(Clone, Copy, Debug, PartialEq, Eq)]
 pub struct Timing {

@@ -27,8 +27,8 @@ pub enum CommandFault {
 }
 
 impl Station {
-    /// Creates a station without commands. It has at most `queue` waiting commands, 1 to 64, and at most `slots` entries,
-    /// 1 to 128. It sends `repeats` copies of a command in a row, 1 to 8. Errors: C1 for other sizes.
+    /// Creates a station without commands. It has at most `queue` waiting commands, 1 to 64, and at most `slots`
+    /// entries, 1 to 128. It sends `repeats` copies of a command in a row, 1 to 8. Errors: C1 for other sizes.
     pub fn new(queue: u8, slots: u8, repeats: u8) -> Option<Station> {
         let mut station = Station([0; 1800]);
         match unsafe { dcc_station_new(&mut station, queue, slots, repeats) } {

@@ -252,6 +252,21 @@ fn half_bits_have_their_timing() {
 }
 
 #[test]
+fn an_array_is_taken_up_to_each_outcome() {
+    let one: Vec<u16> = frame("loco s3 speed28 f 4").halves(&Timing::MAIN).collect();
+    let mut both = [one.clone(), one.clone()].concat();
+    let mut framer = Framer::new();
+    let packet = Some(Seen::Packet(frame("loco s3 speed28 f 4")));
+    assert_eq!(framer.push_many(&both[..100]), (84, packet));
+    assert_eq!(framer.push_many(&both[84..134]), (50, None));
+    assert_eq!(framer.push_many(&[]), (0, None));
+    assert_eq!(framer.push_many(&both[134..]), (34, packet));
+    both[40] = 70;
+    let refused = Some(Seen::Refused(Refusal::BadHalf));
+    assert_eq!(framer.push_many(&both), (41, refused));
+}
+
+#[test]
 fn a_run_tells_the_half_that_completes_it() {
     let mut framer = Framer::new();
     assert_eq!(

@@ -71,6 +71,8 @@ ReadsCvOf rows result = (text : Text) → one_of (codes "cv") rows ≡ Some text
 pub record IsRequestNamed (name : Text) (rows : List Row) (result : Result Request ToolFault) : Type 0 where
   pub show : name ≡ codes "show"
       → (words : Bool) × IsFlag (codes "words") rows words × (result ≡ Ok (request.Show words))
+  pub lost : name ≡ codes "lost"
+      → (words : Bool) × IsFlag (codes "words") rows words × (result ≡ Ok (request.Lost words))
   pub encode : name ≡ codes "encode" → (how : Encode) × IsEncoding rows how × (result ≡ Ok (request.Encode how))
   pub run : name ≡ codes "run" → result ≡ Ok request.Run
   pub same : name ≡ codes "same" → result ≡ comparison (first_of (codes "who") rows)

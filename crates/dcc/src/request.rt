@@ -45,6 +45,9 @@ fn request_named(name: &str, found: &ArgMatches) -> Result<Request, ToolFault>
         "show" => Ok(Request::Show {
             words: flag_of(found, "words"),
         }),
+        "lost" => Ok(Request::Lost {
+            words: flag_of(found, "words"),
+        }),
         "encode" => Ok(Request::Encode(encoding_of(found))),
         "run" => Ok(Request::Run),
         "same" => comparison_of(found),

@@ -50,6 +50,11 @@ pub same_service : (progress : ServiceProgress) (service : DccService) (state : 
     → with_service_cvs progress service.cvs ≡ state
 same_service progress service state e f = rw (e, f) refl
 
+pub same_small_service : (progress : ServiceProgress) (state : ServiceState)
+    → progress ≡ record { in_service = state.in_service; pending = state.pending }
+    → with_service_cvs progress state.cvs ≡ state
+same_small_service progress state e = rw e refl
+
 pub stepped : (before old after : ServiceState) (bytes frame : List ℕ) (answer : Bool) → old ≡ before → bytes ≡ frame
     → Step old bytes after answer → Step before frame after answer
 stepped before old after bytes frame answer e f h = rw (← e, ← f) h

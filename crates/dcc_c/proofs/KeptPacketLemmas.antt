@@ -37,7 +37,8 @@ loco_is_kept k to what good some is = spelled_is_kept k.says.0 (Loco to what) (b
     spelled = ap with_error_byte is ∙ sym (frame_parts (bytes_of k.frame) framed)
 
 -- what stands before the last byte
-pub body_of : (bytes : List ℕ) (last : ℕ) (body : List ℕ) → bytes ≡ body ++ last ∷ [] → body ≡ take (length bytes - 1) bytes
+pub body_of : (bytes : List ℕ) (last : ℕ) (body : List ℕ) → bytes ≡ body ++ last ∷ [] → body
+    ≡ take (length bytes - 1) bytes
 body_of bytes last body e =
     let long : length bytes ≡ length body + 1 = ap length e ∙ length-append body (last ∷ []) in
     let all : length body ≡ length bytes - 1 = omega arith in

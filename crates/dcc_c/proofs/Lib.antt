@@ -1,5 +1,6 @@
 pub mod HalvesLemmas
 pub mod LocoLemmas
+pub mod SmallLocoLemmas
 pub mod ApplyLemmas
 pub mod BoardLemmas
 pub mod FrameLemmas

@@ -5,6 +5,7 @@ pub mod Lines
 pub mod Halves
 pub mod Locos
 pub mod Applied
+pub mod SmallLocos
 pub mod Boards
 pub mod Services
 pub mod Timings

@@ -4,11 +4,14 @@ use Rattle.dcc_packet.specs.declared.address.Address.{Address}
 use Rattle.dcc_packet.specs.declared.packet.Packet.{Packet}
 use Rattle.dcc_packet.specs.Spelling.{spelling}
 use Rattle.dcc_regs.specs.Addresses.{is_active}
+use Rattle.dcc_regs.specs.declared.loco_registers.LocoRegisters.{LocoRegisters}
 use Rattle.dcc_regs.specs.declared.loco_state.LocoState.{LocoState}
 use Rattle.dcc_regs.specs.declared.register.Speed.{Speed}
 use Rattle.dcc_regs.specs.declared.register.Speed.TheVariants.{Stop, Emergency, Step14, Step28, Step126}
 use Rattle.dcc_c.specs.declared.frame.DccFrame.{DccFrame}
+use Rattle.dcc_regs.specs.LocoRegisters.{registers_in}
 use Rattle.dcc_c.specs.declared.loco_numbers.DccLoco.{DccLoco}
+use Rattle.dcc_c.specs.declared.loco_numbers.DccLocoRegisters.{DccLocoRegisters}
 use Rattle.dcc_c.specs.Frames.{frame_numbers}
 use Rattle.dcc_c.specs.Packets.{address_kind, address_number}
 
@@ -21,11 +24,11 @@ abbrev pub own_number : Option Address → ℕ
 own_number None = 0
 own_number (Some own) = address_number own
 
--- the fields of `loco` for the address have the values for the active address `own`
-pub record HasAddress (loco : DccLoco) (own : Option Address) : Type 0 where
+-- the fields of `registers` for the address have the values for the active address `own`
+pub record HasAddress (registers : DccLocoRegisters) (own : Option Address) : Type 0 where
   pub active : is_active own ≡ true
-  pub kind : loco.address_kind ≡ own_kind own
-  pub number : loco.address ≡ own_number own
+  pub kind : registers.address_kind ≡ own_kind own
+  pub number : registers.address ≡ own_number own
 
 -- the number of the kind of a speed: 0 for stop, 1 for emergency stop, otherwise the number of
 -- speed steps
@@ -52,16 +55,19 @@ abbrev pub pending_numbers : Option Packet → DccFrame
 pending_numbers None = frame_numbers []
 pending_numbers (Some packet) = frame_numbers (spelling packet)
 
+-- the C structure of the registers `r` of a locomotive decoder
+abbrev pub register_numbers : LocoRegisters → DccLocoRegisters
+register_numbers r = record {
+  address_kind = own_kind r.address;
+  address = own_number r.address;
+  speed_mode = speed_mode r.speed;
+  step = speed_step r.speed;
+  forward = r.forward;
+  pending = pending_numbers r.pending;
+  functions = words_of r.functions;
+  states = words_of r.states;
+}
+
 -- the C structure of a locomotive decoder in state `s`
 abbrev pub loco_numbers : LocoState → DccLoco
-loco_numbers s = record {
-  address_kind = own_kind s.address;
-  address = own_number s.address;
-  speed_mode = speed_mode s.speed;
-  step = speed_step s.speed;
-  forward = s.forward;
-  pending = pending_numbers s.pending;
-  functions = words_of s.functions;
-  states = words_of s.states;
-  cvs = s.cvs;
-}
+loco_numbers s = record { registers = register_numbers (registers_in s); cvs = s.cvs }

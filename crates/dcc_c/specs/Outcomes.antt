@@ -6,8 +6,8 @@ use Rattle.dcc_wire.specs.declared.seen.Seen.TheVariants.{Nothing, Packet, Refus
 use Rattle.dcc_c.specs.declared.outcome.DccOutcome.{DccOutcome}
 use Rattle.dcc_c.specs.Frames.{bytes_of, frame_numbers}
 
--- the outcome in the C structure `o`: a packet if the field `refusal` is 0, and the errors H1 to H5
--- for 1 to 5. No function writes another number, which would mean no outcome.
+-- the outcome in the C structure `o`. If the field `refusal` is 0, it is a packet. If the field is
+-- 1 to 5, it is a refusal with the error H1 to H5. No function writes another number.
 abbrev pub outcome_seen : DccOutcome → Seen
 outcome_seen o =
     if o.refusal == 0 then Packet (bytes_of o.frame)

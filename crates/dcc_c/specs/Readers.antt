@@ -22,7 +22,7 @@ pub record IsReading (r : DccReader) (so_far : CvAnswers) : Type 0 where
   pub numbers : r ≡ reader_numbers so_far
 
 -- `answer` is the number for the result of a reading after an answer. It is 0 if a further question
--- follows, and `reader` is then the reading. It is 1 if the reading ends with `value`, and 2 if it
+-- follows, and `reader` then has the reading. It is 1 if the reading ends with `value`, and 2 if it
 -- ends without a value.
 abbrev pub Tells : Reading → ℕ → DccReader → ℕ → Type 0
 Tells (More so_far) answer reader value = (answer ≡ 0) × IsReading reader so_far

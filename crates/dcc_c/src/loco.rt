@@ -15,10 +15,12 @@ ghost use Rattle.dcc_c.specs.Applied.{HasApplied};
 ghost use Rattle.dcc_c.specs.Locos.{HasAddress, loco_numbers};
 
 use crate::frame::{DccFrame, check_frame, frame_of};
-use crate::loco_numbers::{DccLoco, own_address, pending_left, put, take_up};
+use crate::loco_numbers::{
+    DccLoco, DccLocoRegisters, no_registers, own_address, pending_left, put, take_up,
+};
 use dcc_packet::frame_laws::each_frame_is_a_packet;
 use dcc_packet::{Packet, PacketFault};
-use dcc_regs::{LocoRegisters, Speed, loco_hears_frame};
+use dcc_regs::{LocoRegisters, loco_hears_frame};
 use dcc_wire::Frame;
 
 /// Initialises a locomotive decoder that is powered up with these CVs. The first byte of `cvs` is
@@ -28,8 +30,20 @@ pub extern "C" fn dcc_loco_new(loco: &mut DccLoco, cvs: &[u8; 1024])
     ensures { (state : LocoState) × (is_state state ≡ true) × (loco.new ≡ loco_numbers state)
         × (loco_who state ≡ start_who (cv_in cvs.now)) × (loco_map state ≡ start_map (cv_in cvs.now)) }
 {
-    put(loco, &LocoRegisters::new(cvs), DccFrame::of(&[]));
     loco.cvs.copy_from_slice(cvs);
+    dcc_loco_power_up(loco);
+}
+
+/// Powers a locomotive decoder up, as `dcc_loco_new` does with the CVs in `loco.cvs`. The CVs do not
+/// change. The other fields can have any values.
+#[unsafe(no_mangle)]
+pub extern "C" fn dcc_loco_power_up(loco: &mut DccLoco)
+    ensures new { (state : LocoState) × (is_state state ≡ true) × (loco.new ≡ loco_numbers state)
+        × (loco_who state ≡ start_who (cv_in loco.old.cvs)) × (loco_map state ≡ start_map (cv_in loco.old.cvs)) }
+    ensures cvs { loco.new.cvs ≡ loco.old.cvs }
+{
+    let registers = LocoRegisters::new(&loco.cvs);
+    put(&mut loco.registers, &registers, DccFrame::of(&[]));
 }
 
 /// Applies the packet of the frame with these bytes. The decoder ignores a packet that it does not
@@ -66,15 +80,29 @@ pub extern "C" fn dcc_loco_apply(loco: &mut DccLoco, frame: &[u8]) -> u8
 #[unsafe(no_mangle)]
 pub extern "C" fn dcc_loco_hears(loco: &DccLoco, frame: &[u8], heard: &mut bool) -> u8
     ensures no_frame { frame_answer frame.now ≢ 0 → result ≡ frame_answer frame.now }
-    ensures tells { frame_answer frame.now ≡ 0 → (own : Option Address) → HasAddress loco.now own →
+    ensures tells { frame_answer frame.now ≡ 0 → (own : Option Address) → HasAddress loco.now.registers own →
         (packet : Packet) × (spelling packet ≡ frame.now) × (heard.new ≡ is_heard_by (Who.Loco own) packet)
         × (result ≡ 0) }
-    ensures address { result ≡ 0 → (own : Option Address) × HasAddress loco.now own }
+    ensures address { result ≡ 0 → (own : Option Address) × HasAddress loco.now.registers own }
+    ensures refused { result ≢ 0 → result ≢ frame_answer frame.now → result ≡ 13 }
+    ensures untold { result ≢ 0 → heard.new ≡ heard.old }
+{
+    registers_hear(&loco.registers, frame, heard)
+}
+
+/// Writes true to `heard` if a decoder with these registers hears the packet of the frame with these
+/// bytes, otherwise false. Returns the numbers that `dcc_loco_hears` returns.
+pub(crate) fn registers_hear(registers: &DccLocoRegisters, frame: &[u8], heard: &mut bool) -> u8
+    ensures no_frame { frame_answer frame.now ≢ 0 → result ≡ frame_answer frame.now }
+    ensures tells { frame_answer frame.now ≡ 0 → (own : Option Address) → HasAddress registers.now own →
+        (packet : Packet) × (spelling packet ≡ frame.now) × (heard.new ≡ is_heard_by (Who.Loco own) packet)
+        × (result ≡ 0) }
+    ensures address { result ≡ 0 → (own : Option Address) × HasAddress registers.now own }
     ensures refused { result ≢ 0 → result ≢ frame_answer frame.now → result ≡ 13 }
     ensures untold { result ≢ 0 → heard.new ≡ heard.old }
 {
     match check_frame(frame) {
-        Ok(()) => match own_address(loco) {
+        Ok(()) => match own_address(registers) {
             Ok(own) => {
                 each_frame_is_a_packet(frame);
                 *heard = loco_hears_frame(&own, frame);
@@ -97,20 +125,14 @@ fn apply(loco: &mut DccLoco, frame: &Frame) -> bool
         × HasApplied packet (loco_who before) (loco_map before) (loco_who after) (loco_map after) }
     ensures kept { result ≡ false → loco.new ≡ loco.old }
 {
-    let mut registers = LocoRegisters {
-        address: None,
-        speed: Speed::Stop,
-        forward: true,
-        functions: 0,
-        states: 0,
-        pending: None,
-    };
-    if !take_up(loco, &mut registers) {
+    let mut registers = no_registers();
+    if !take_up(&loco.registers, &mut registers) {
         return false;
     }
     let packet = Packet::read(frame);
     if registers.apply(&mut loco.cvs, &packet) {
-        put(loco, &registers, pending_left(&registers.pending, frame));
+        let pending = pending_left(&registers.pending, frame);
+        put(&mut loco.registers, &registers, pending);
     }
     true
 }

@@ -1,7 +1,7 @@
 //! The C struct of a locomotive decoder, and the state that its fields represent.
 
 ghost use Rattle.std.specs.Prelude.{◌≡◌, ◌↔◌, ℕ, ◌≤◌, ◌^◌, ◌<◌, true, Option, Some, None, Ok, IfSome, IfOk, IfErr};
-ghost use Rattle.std.specs.Prelude.{IsTrue};
+ghost use Rattle.std.specs.Prelude.{IsTrue, List};
 ghost use Rattle.dcc_packet.specs.declared.address.Address.{Address};
 ghost use Rattle.dcc_packet.specs.declared.address.LongAddress.{LongAddress};
 ghost use Rattle.dcc_packet.specs.declared.address.ShortAddress.{ShortAddress};
@@ -14,9 +14,8 @@ ghost use Rattle.dcc_regs.specs.Loco.{is_pending_for};
 ghost use Rattle.dcc_regs.specs.LocoRegisters.{registers_in, with_cvs};
 ghost use Rattle.dcc_regs.specs.LocoState.{is_state};
 ghost use Rattle.dcc_c.specs.Packets.{address_kind, address_number};
-ghost use Rattle.dcc_c.specs.Locos.{HasAddress, loco_numbers, own_kind, own_number, pending_numbers, speed_mode};
-ghost use Rattle.dcc_c.specs.Locos.{speed_step};
-ghost use Rattle.dcc_c.specs.Locos.{words_of};
+ghost use Rattle.dcc_c.specs.Locos.{HasAddress, own_kind, own_number, pending_numbers, register_numbers};
+ghost use Rattle.dcc_c.specs.Locos.{speed_mode, speed_step, words_of};
 
 use crate::frame::DccFrame;
 use crate::packet::{address_kind, address_number};
@@ -24,10 +23,10 @@ use dcc_packet::{Address, Packet, PacketFault};
 use dcc_regs::{LocoRegisters, Speed};
 use dcc_wire::Frame;
 
-/// The state of a locomotive decoder as a C struct.
+/// The registers of a locomotive decoder except its CVs as a C struct.
 #[repr(C)]
 #[derive(Clone, Copy, Drop)]
-pub struct DccLoco {
+pub struct DccLocoRegisters {
     /// The kind of the address: 0 for none, 1 for short, 2 for long.
     pub address_kind: u8,
     /// The kind of the speed: 0 for stop, 1 for emergency stop, or the number of speed steps, which
@@ -47,6 +46,15 @@ pub struct DccLoco {
     /// The binary states: bit n of the first number is state n, and bit n of the second number is
     /// state 64 + n.
     pub states: [u64; 2],
+}
+
+/// The state of a locomotive decoder as a C struct. In `dcc.h` the fields of `registers` are fields
+/// of the struct itself, at the same places.
+#[repr(C)]
+#[derive(Clone, Copy, Drop)]
+pub struct DccLoco {
+    /// The registers except the CVs.
+    pub registers: DccLocoRegisters,
     /// The values of CV1 to CV1024. The first byte of `cvs` is CV1.
     pub cvs: [u8; 1024],
 }
@@ -54,19 +62,21 @@ pub struct DccLoco {
 /// The constant 2^64.
 const WORD: u128 = 1 << 64;
 
-/// Writes the registers and the frame of the pending write to the fields. The CVs do not change.
-pub(crate) fn put(loco: &mut DccLoco, registers: &LocoRegisters, pending: DccFrame)
+/// Writes the registers and the frame of the pending write to the fields.
+// inlined, as `take_up` and `read` are, since a call of each takes 16 instructions more for a packet
+#[inline(always)]
+pub(crate) fn put(numbers: &mut DccLocoRegisters, registers: &LocoRegisters, pending: DccFrame)
     requires { pending ≡ pending_numbers registers.now.pending }
-    ensures { loco.new ≡ loco_numbers (with_cvs registers.now loco.old.cvs) }
+    ensures { numbers.new ≡ register_numbers registers.now }
 {
-    loco.address_kind = own_kind(&registers.address);
-    loco.address = own_number(&registers.address);
-    loco.speed_mode = speed_mode(registers.speed);
-    loco.step = speed_step(registers.speed);
-    loco.forward = registers.forward;
-    loco.pending = pending;
-    loco.functions = words_of(registers.functions);
-    loco.states = words_of(registers.states);
+    numbers.address_kind = own_kind(&registers.address);
+    numbers.address = own_number(&registers.address);
+    numbers.speed_mode = speed_mode(registers.speed);
+    numbers.step = speed_step(registers.speed);
+    numbers.forward = registers.forward;
+    numbers.pending = pending;
+    numbers.functions = words_of(registers.functions);
+    numbers.states = words_of(registers.states);
 }
 
 fn own_kind(own: &Option<Address>) -> u8
@@ -126,48 +136,65 @@ fn words_of(bits: u128) -> [u64; 2]
     [(bits % WORD) as u64, (bits / WORD) as u64]
 }
 
+/// Returns the registers of a stopped decoder without an address, which `take_up` overwrites.
+pub(crate) fn no_registers() -> LocoRegisters
+    ensures address { result.address ≡ None }
+    ensures speed { result.speed ≡ Speed.Stop }
+{
+    LocoRegisters {
+        address: None,
+        speed: Speed::Stop,
+        forward: true,
+        functions: 0,
+        states: 0,
+        pending: None,
+    }
+}
+
 /// Reads the registers from the fields. Returns false if no decoder has these fields. If the result
 /// is false, the registers can have any value.
 // writes the registers in place, since each copy would take space on the stack
-pub(crate) fn take_up(loco: &DccLoco, registers: &mut LocoRegisters) -> bool
-    ensures found { (state : LocoState) → is_state state ≡ true → loco.now ≡ loco_numbers state
+#[inline(always)]
+pub(crate) fn take_up(numbers: &DccLocoRegisters, registers: &mut LocoRegisters) -> bool
+    ensures found { (state : LocoState) → is_state state ≡ true → numbers.now ≡ register_numbers (registers_in state)
         → (result ≡ true) × (registers.new ≡ registers_in state) }
-    ensures possible { result ≡ true → is_state (with_cvs registers.new loco.now.cvs) ≡ true }
-    ensures numbers { result ≡ true → loco.now ≡ loco_numbers (with_cvs registers.new loco.now.cvs) }
+    ensures possible { result ≡ true → (cvs : List ℕ) → is_state (with_cvs registers.new cvs) ≡ true }
+    ensures numbers { result ≡ true → numbers.now ≡ register_numbers registers.new }
 {
-    read(loco, registers) && registers.is_possible()
+    read(numbers, registers) && registers.is_possible()
 }
 
 /// Reads the registers from the fields. Returns false if a field is out of its range. The function
 /// does not check that a decoder can have these registers.
-fn read(loco: &DccLoco, registers: &mut LocoRegisters) -> bool
-    ensures found { (state : LocoState) → is_state state ≡ true → loco.now ≡ loco_numbers state
+#[inline(always)]
+fn read(numbers: &DccLocoRegisters, registers: &mut LocoRegisters) -> bool
+    ensures found { (state : LocoState) → is_state state ≡ true → numbers.now ≡ register_numbers (registers_in state)
         → (result ≡ true) × (registers.new ≡ registers_in state) }
-    ensures numbers { result ≡ true → loco.now ≡ loco_numbers (with_cvs registers.new loco.now.cvs) }
+    ensures numbers { result ≡ true → numbers.now ≡ register_numbers registers.new }
 {
-    let Some(address) = address_of(loco.address_kind, loco.address) else {
+    let Some(address) = address_of(numbers.address_kind, numbers.address) else {
         return false
     };
-    let Some(speed) = speed_of(loco.speed_mode, loco.step) else {
+    let Some(speed) = speed_of(numbers.speed_mode, numbers.step) else {
         return false
     };
     registers.address = address;
     registers.speed = speed;
-    registers.forward = loco.forward;
-    registers.functions = bits_of(&loco.functions);
-    registers.states = bits_of(&loco.states);
-    read_pending(&loco.pending, &mut registers.pending)
+    registers.forward = numbers.forward;
+    registers.functions = bits_of(&numbers.functions);
+    registers.states = bits_of(&numbers.states);
+    read_pending(&numbers.pending, &mut registers.pending)
 }
 
 /// Returns the address in the fields, or `None` if the decoder has no address.
 ///
 /// Errors: P13 if no decoder can have this address.
-pub(crate) fn own_address(loco: &DccLoco) -> Result<Option<Address>, PacketFault>
-    ensures found { (own : Option Address) → HasAddress loco.now own → result ≡ Ok own }
-    ensures address { IfOk result (HasAddress loco.now) }
+pub(crate) fn own_address(numbers: &DccLocoRegisters) -> Result<Option<Address>, PacketFault>
+    ensures found { (own : Option Address) → HasAddress numbers.now own → result ≡ Ok own }
+    ensures address { IfOk result (HasAddress numbers.now) }
     ensures fault { IfErr result (λ fault. fault ≡ PacketFault.State) }
 {
-    address_of(loco.address_kind, loco.address).ok_or(PacketFault::State)
+    address_of(numbers.address_kind, numbers.address).ok_or(PacketFault::State)
 }
 
 fn address_of(kind: u8, number: u16) -> Option<Option<Address>>

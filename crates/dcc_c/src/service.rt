@@ -1,25 +1,34 @@
 //! The C struct of a decoder on the programming track, and the functions on it.
 
-ghost use Rattle.std.specs.Prelude.{◌≡◌, ◌≢◌, Option, None, Some, false, IfSome};
+ghost use Rattle.std.specs.Prelude.{◌≡◌, ◌≢◌, Option, None, Some, false, IfSome, List, ℕ};
 ghost use Rattle.dcc_service.specs.declared.packet.ServicePacket.{ServicePacket};
 ghost use Rattle.dcc_service.specs.Machine.{ServiceState, Step};
 ghost use Rattle.dcc_service.specs.Progress.{state_with_cvs};
 ghost use Rattle.dcc_c.specs.Frames.{frame_answer};
-ghost use Rattle.dcc_c.specs.Services.{pending_bytes, service_numbers};
+ghost use Rattle.dcc_c.specs.Services.{pending_bytes, service_numbers, small_service_numbers};
 
 use crate::frame::{DccFrame, frame_of};
 use dcc_packet::PacketFault;
 use dcc_service::{ServicePacket, ServiceProgress};
 use dcc_wire::Frame;
 
-/// The state of a decoder on the programming track as a C struct.
+/// The state of a decoder on the programming track without its CVs as a C struct.
 #[repr(C)]
 #[derive(Clone, Copy, Drop)]
-pub struct DccService {
+pub struct DccSmallService {
     /// True if the decoder is in service mode.
     pub in_service: bool,
     /// The frame of the pending service packet, or no bytes if no packet is pending.
     pub pending: DccFrame,
+}
+
+/// The state of a decoder on the programming track as a C struct. In `dcc.h` the fields of `progress`
+/// are fields of the struct itself, at the same places.
+#[repr(C)]
+#[derive(Clone, Copy, Drop)]
+pub struct DccService {
+    /// The state without the CVs.
+    pub progress: DccSmallService,
     /// The values of CV1 to CV1024. The first byte of `cvs` is CV1.
     pub cvs: [u8; 1024],
 }
@@ -30,8 +39,19 @@ pub struct DccService {
 pub extern "C" fn dcc_service_new(service: &mut DccService, cvs: &[u8; 1024])
     ensures { service.new ≡ service_numbers (record { in_service = false; pending = None; cvs = cvs.now }) }
 {
-    put(service, &ServiceProgress::new());
     service.cvs.copy_from_slice(cvs);
+    dcc_service_power_up(service);
+}
+
+/// Powers a decoder up, as `dcc_service_new` does with the CVs in `service.cvs`: the decoder is not in
+/// service mode. The CVs do not change. The other fields can have any values.
+#[unsafe(no_mangle)]
+pub extern "C" fn dcc_service_power_up(service: &mut DccService)
+    ensures new { service.new ≡ service_numbers
+        (record { in_service = false; pending = None; cvs = service.old.cvs }) }
+    ensures cvs { service.new.cvs ≡ service.old.cvs }
+{
+    put(&mut service.progress, &ServiceProgress::new());
 }
 
 /// Applies the frame with these bytes. The function writes true to `acknowledged` if the decoder
@@ -53,10 +73,10 @@ pub extern "C" fn dcc_service_apply(
     ensures untold { result ≢ 0 → acknowledged.new ≡ acknowledged.old }
 {
     match frame_of(frame) {
-        Ok(frame) => match progress_of(service) {
+        Ok(frame) => match progress_of(&service.progress) {
             Some(mut progress) => {
                 *acknowledged = progress.apply(&mut service.cvs, &frame);
-                put(service, &progress);
+                put(&mut service.progress, &progress);
                 0
             }
             None => PacketFault::State.number(),
@@ -65,9 +85,9 @@ pub extern "C" fn dcc_service_apply(
     }
 }
 
-/// Writes the state of a decoder to the fields, except the CVs.
-fn put(service: &mut DccService, progress: &ServiceProgress)
-    ensures { service.new ≡ service_numbers (state_with_cvs progress.now service.old.cvs) }
+/// Writes the state of a decoder without its CVs to the fields.
+pub(crate) fn put(service: &mut DccSmallService, progress: &ServiceProgress)
+    ensures { (cvs : List ℕ) → service.new ≡ small_service_numbers (state_with_cvs progress.now cvs) }
 {
     service.in_service = progress.in_service;
     service.pending = pending_bytes(&progress.pending);
@@ -84,11 +104,11 @@ fn pending_bytes(pending: &Option<ServicePacket>) -> DccFrame
 
 /// Returns the state of the decoder with these fields, without the CVs. Returns `None` if no
 /// decoder has these fields.
-fn progress_of(service: &DccService) -> Option<ServiceProgress>
-    ensures found { (state : ServiceState) → service.now ≡ service_numbers state
+pub(crate) fn progress_of(service: &DccSmallService) -> Option<ServiceProgress>
+    ensures found { (state : ServiceState) → service.now ≡ small_service_numbers state
         → result ≡ Some (record { in_service = state.in_service; pending = state.pending }) }
-    ensures numbers { IfSome result (λ progress. service.now ≡ service_numbers
-        (state_with_cvs progress service.now.cvs)) }
+    ensures numbers { IfSome result (λ progress. (cvs : List ℕ) → service.now ≡ small_service_numbers
+        (state_with_cvs progress cvs)) }
 {
     let pending = pending_of(&service.pending)?;
     if service.pending.is(&pending_bytes(&pending)) {

@@ -43,7 +43,8 @@ from_but_last line [] all = tt
 from_but_last line (word ∷ []) all = tt
 from_but_last line (word ∷ next ∷ words) all = (all.0, from_but_last line (next ∷ words) all.1)
 
-from_filter : (line : ℕ) (p : PlacedWord → Bool) (words : List PlacedWord) → AllFrom line words → AllFrom line (filter p words)
+from_filter : (line : ℕ) (p : PlacedWord → Bool) (words : List PlacedWord) → AllFrom line words
+    → AllFrom line (filter p words)
 from_filter line p [] all = tt
 from_filter line p (word ∷ words) all =
     let rest = from_filter line p words all.1 in
@@ -74,7 +75,8 @@ no_more_words line place text behind =
 -- what comes behind the line of a mark is the second capture
 pub second_behind : (line most : ℕ) (place : TextPlace) (rest more : List ℕ) (last : Option KeptFault)
     → (rest ≡ []) ⊎ (line < place.line) → (rest ≡ [] → more ≡ [])
-    → behind_mark line most (ended_words place more) last ≡ only_second (halves_of_words most (ended_words place more) last)
+    → behind_mark line most (ended_words place more) last
+    ≡ only_second (halves_of_words most (ended_words place more) last)
 second_behind line most place rest more last (inl none) front = rw (front none) refl
 second_behind line most place rest more last (inr behind) front = rw (no_more_words line place more behind) refl
 
@@ -83,8 +85,10 @@ pub Leads-start : (before : ℕ) (input : InputState) → input.fault ≡ None
 Leads-start before input fault = Took-start input fault (λ end more last. refl)
 
 -- more words were read
-pub Leads-words : (before : ℕ) {old now new : InputState} {words : List PlacedWord} (F : ℕ → List PlacedWord → Option KeptFault → Both)
-    {G : Said} → LeadsTo before old now (λ end more last. F end (ended_words now.place more) last) → Passed now words new
+pub Leads-words : (before : ℕ) {old now new : InputState} {words : List PlacedWord}
+    (F : ℕ → List PlacedWord → Option KeptFault → Both)
+    {G : Said} → LeadsTo before old now (λ end more last. F end (ended_words now.place more) last)
+    → Passed now words new
     → ((end : ℕ) (more : List ℕ) (last : Option KeptFault)
     → F end (words ++ ended_words new.place more) last ≡ G end more last)
     → LeadsTo before old new G
@@ -127,7 +131,8 @@ stops_word : (before : ℕ) {old mid : InputState} (F : ℕ → List PlacedWord 
     → AnswersWord mid (Err fault) new → ((end : ℕ) (f : KeptFault) → F end [] (Some f) ≡ fault_alone f)
     → StopsBoth before old fault new × (new.fault ≡ Some fault) × FirstLinesAt before old fault new
 stops_word before {old = old} {mid = mid} F new Read leads answer each = (
-  fails_behind leads (IsBeforeWord mid) (λ used. (end : ℕ) → both_from before old end used (Some Read) ≡ fault_alone Read) new
+  fails_behind leads (IsBeforeWord mid)
+      (λ used. (end : ℕ) → both_from before old end used (Some Read) ≡ fault_alone Read) new
       answer.0 (λ first second says none end. rw (says end second (Some Read), none) (each end Read)),
   answer.1,
   LinesAt-behind leads new Read answer.2,
@@ -160,7 +165,8 @@ module _ (before line : ℕ) (word : List ℕ) (old mid : InputState) (fault : o
       end more last)
       → LeadsTo before old mid G
   led G each =
-      Leads-words before (λ end ws last. both_of before old.halves end ws last) (Leads-start before old fault) passed each
+      Leads-words before (λ end ws last. both_of before old.halves end ws last) (Leads-start before old fault) passed
+      each
 
   pub counts_run : (new : InputState) (taken : ℕ × Run) → mark ≡ false → mid.bytes < old.bytes
       → CountsWord mid line word (Ok (Some taken)) new → AnswersFirst before old (Ok (Some taken)) new
@@ -241,11 +247,13 @@ module _ (before line : ℕ) (word : List ℕ) (old mid : InputState) (fault : o
     told_behind passed.took (λ text. next.lines ≡ mid.place.line) _ (λ text rest uses same. same ∙ here) more.2,
   )
   marks new (Err told) begins reached (here, inr stops) =
-      stops_word before (λ end ws last. behind_mark line old.halves ws last) new told (at_mark begins) stops (λ end f. refl)
+      stops_word before (λ end ws last. behind_mark line old.halves ws last) new told (at_mark begins) stops
+      (λ end f. refl)
 
 -- a fault before the next word
 pub answers_fault : (before : ℕ) (old new : InputState) (fault : KeptFault) → old.fault ≡ None
     → AnswersWord old (Err fault) new → AnswersFirst before old (Err fault) new
 answers_fault before old new fault none answer =
-    stops_word before (λ end ws last. both_of before old.halves end ws last) new fault (Leads-start before old none) answer
+    stops_word before (λ end ws last. both_of before old.halves end ws last) new fault (Leads-start before old none)
+    answer
     (λ end f. refl)

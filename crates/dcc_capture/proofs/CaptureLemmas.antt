@@ -30,7 +30,8 @@ Gave-word {mid = mid} {run = run} passed spells fits is_new = rw is_new record {
 
 -- words behind which only this fault comes
 stops_text : (old mid : InputState) (words : List PlacedWord) (fault : KeptFault) → Passed old words mid
-    → ((ws : List PlacedWord) (last : Option KeptFault) → halves_of_words old.halves (words ++ ws) last ≡ only_fault (Some fault))
+    → ((ws : List PlacedWord) (last : Option KeptFault) → halves_of_words old.halves (words ++ ws) last
+    ≡ only_fault (Some fault))
     → IfSome old.text (λ text. capture_in old text ≡ only_fault (Some fault))
 stops_text old mid words fault passed each =
     within_limit-stops (captures old) (only_fault (Some fault)) passed.took
@@ -52,8 +53,12 @@ stops_before_word old new Read none answer = (
   answer.1,
   answer.2,
 )
-stops_before_word old new TooMuch none answer =
-    (overflows (IsBeforeWord old) (captures old) _ old new answer.0 (λ used before. rw before refl), answer.1, inl answer.2)
+stops_before_word old new TooMuch none answer = (
+  overflows (IsBeforeWord old) (captures old) _ old new answer.0 (λ used before. rw before refl),
+  answer.1,
+  inl
+      answer.2,
+)
 stops_before_word old new fault none answer = absurd answer
 
 -- of a run that is refused none counts, and its line is the last that was used
@@ -98,7 +103,8 @@ counts_answer {old = old} {mid = mid} new run (Err fault) none ends spells count
     )
 
 -- the lines that were used at a fault, told from further back
-pub CaptureLinesAt-behind : (old mid new : InputState) (front : List ℕ) (fault : KeptFault) → Gave captures old front mid
+pub CaptureLinesAt-behind : (old mid new : InputState) (front : List ℕ) (fault : KeptFault)
+    → Gave captures old front mid
     → CaptureLinesAt mid fault new → CaptureLinesAt old fault new
 CaptureLinesAt-behind old mid new front (Number line) gave lines = LinesAt-behind gave new (Number line) lines
 CaptureLinesAt-behind old mid new front (Line line why) gave lines = absurd lines

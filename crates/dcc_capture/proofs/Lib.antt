@@ -6,3 +6,4 @@ pub mod ListingLaws
 pub mod NumbersTaken
 pub mod WorkedExamples
 pub mod ShowLemmas
+pub mod LinesLemmas

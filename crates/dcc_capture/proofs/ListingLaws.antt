@@ -10,26 +10,26 @@ use Rattle.dcc_wire.specs.Framing.{report_at}
 use Rattle.dcc_packet.specs.Written.{written_line}
 use Rattle.dcc_packet.proofs.OneSpelling.{one_packet}
 use Rattle.dcc_capture.specs.FrameText.{IsFrameText}
-use Rattle.dcc_capture.specs.Listing.{IsOutcomeText, IsLine, IsListing, numbered_text, outcome_text, listing}
+use Rattle.dcc_capture.specs.Listing.{IsOutcomeText, IsLine, AreLines, IsListing, numbered_text, outcome_text, listing}
 use Rattle.dcc_capture.specs.ListingLaws.{OneListing, ListsInHex}
 
--- the listings of outcomes and of later ones, one behind the other
-pub IsListing-append : (words : Bool) (outcomes later : List (ℕ × Seen)) (text more : List ℕ)
-    → IsListing words outcomes text → IsListing words later more
-    → IsListing words (outcomes ++ later) (text ++ more)
-IsListing-append words [] later text more first second = rw first second
-IsListing-append words (found ∷ outcomes) later text more first second = (
+-- the lines of items and of later ones, one behind the other
+pub AreLines-append : {A : Type 0} (IsLineOf : ℕ → A → List ℕ → Type 0) (items later : List (ℕ × A))
+    (text more : List ℕ) → AreLines IsLineOf items text → AreLines IsLineOf later more
+    → AreLines IsLineOf (items ++ later) (text ++ more)
+AreLines-append IsLineOf [] later text more first second = rw first second
+AreLines-append IsLineOf (item ∷ items) later text more first second = (
   first.0,
   first.1 ++ more,
   first.2,
-  IsListing-append words outcomes later first.1 more first.3 second,
+  AreLines-append IsLineOf items later first.1 more first.3 second,
   rw first.4 (append_assoc first.0 first.1 more),
 )
 
--- the listing of one outcome is its line
-pub IsListing-one : (words : Bool) (place : ℕ) (outcome : Seen) (line : List ℕ) → IsLine words (place + 1) outcome line
-    → IsListing words ((place, outcome) ∷ []) line
-IsListing-one words place outcome line is_line = (line, [], is_line, refl, sym (append-nil line))
+-- the lines of one item are its line
+pub AreLines-one : {A : Type 0} (IsLineOf : ℕ → A → List ℕ → Type 0) (place : ℕ) (item : A) (line : List ℕ)
+    → IsLineOf (place + 1) item line → AreLines IsLineOf ((place, item) ∷ []) line
+AreLines-one IsLineOf place item line is_line = (line, [], is_line, refl, sym (append-nil line))
 
 -- what a half showed is listed by its line
 pub IsListing-reported : (words : Bool) (place half : ℕ) (outcome : Seen) (line : List ℕ)
@@ -38,7 +38,8 @@ pub IsListing-reported : (words : Bool) (place half : ℕ) (outcome : Seen) (lin
 unfolding report_at
 IsListing-reported words place half Nothing line (inl shown) same is_line = let e = shown.1 in cc
 IsListing-reported words place half Nothing line (inr shown) same is_line = let e = shown.1 in cc
-IsListing-reported words place half seen line shown same is_line = IsListing-one words place seen line (rw same at is_line)
+IsListing-reported words place half seen line shown same is_line =
+    AreLines-one (IsLine words) place seen line (rw same at is_line)
 
 one_frame_text : (words : Bool) (frame one other : List ℕ) → IsFrameText words frame one → IsFrameText words frame other
     → one ≡ other

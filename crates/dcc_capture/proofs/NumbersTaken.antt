@@ -24,7 +24,8 @@ duration_back n small =
 -- these halves are taken, and then those of the words behind them
 pub numbers_taken : (most line : ℕ) (ns : List ℕ) (ws : List PlacedWord) (last : Option KeptFault)
     → AllByRecursion IsSmall ns → length ns ≤ most
-    → halves_of_words most (number_words line ns ++ ws) last ≡ items_behind ns (halves_of_words (most - length ns) ws last)
+    → halves_of_words most (number_words line ns ++ ws) last
+    ≡ items_behind ns (halves_of_words (most - length ns) ws last)
 numbers_taken most line [] ws last small fits =
     let none : most ≡ most - 0 = omega arith in ap (λ m. halves_of_words m ws last) none
 numbers_taken most line (n ∷ ns) ws last small fits =

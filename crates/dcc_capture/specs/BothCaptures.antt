@@ -10,14 +10,14 @@ use Rattle.dcc_io.specs.Took.{within_limit, fault_at_end}
 use Rattle.dcc_io.specs.Items.{Items}
 use Rattle.dcc_capture.specs.Capture.{halves_of_words}
 
--- the half-bits of two captures before the first error, and this error, or `None` if there is no
--- error
+-- the half-bits of two captures before the first error of their input, and this error, or `None` if
+-- there is no error
 pub record Both : Type 0 where
   pub first : List ℕ
   pub second : List ℕ
   pub fault : Option KeptFault
 
--- two captures without half-bits, and the error `fault`
+-- two captures without half-bits, whose input has the error `fault`
 abbrev pub fault_alone : KeptFault → Both
 fault_alone fault = record { first = []; second = []; fault = Some fault }
 
@@ -29,33 +29,36 @@ in_front halves both = record { first = halves ++ both.first; second = both.seco
 abbrev pub only_second : Items ℕ → Both
 only_second items = record { first = []; second = items.said; fault = items.fault }
 
--- true if the next word of a list is on line `line`
+-- true if the first word of a list of words is on line `line`
 abbrev pub has_more_words : ℕ → List PlacedWord → Bool
 has_more_words line [] = false
 has_more_words line (word ∷ words) = word.line == line
 
--- both captures after the word `---` at the beginning of line `line`: no half-bit, and the
--- half-bits of `words`. If another word is on line `line`, they end with the error U2.
+-- both captures of an input after a word `---` at the beginning of line `line`: the first one has
+-- no half-bit, and the second one has the half-bits of `words`. If another word is on line `line`,
+-- the error is U2.
 abbrev pub behind_mark : ℕ → ℕ → List PlacedWord → Option KeptFault → Both
 behind_mark line most words last =
     if has_more_words line words then fault_alone (Number line) else only_second (halves_of_words most words last)
 
--- both captures if the first one begins with `run`, or the error U7 if `run` has more half-bits
--- than the limit `most`. `rest` gives both captures after `run` for the remaining limit.
+-- both captures of an input whose first capture begins with `run`. `rest` gives both captures after
+-- `run` for the remaining limit. If `run` has more half-bits than the limit `most`, the error is
+-- U7.
 abbrev pub counted_first : ℕ → Run → (ℕ → Both) → Both
 counted_first most run rest =
     if nat_le run.n most then in_front (replicate run.n run.us) (rest (most - run.n)) else fault_alone TooMuch
 
--- both captures if the first one begins with the run of a word on line `line`, or the error U2 if
--- the word has no run. `rest` gives both captures after the run for the remaining limit.
+-- both captures of an input whose first capture begins with a word on line `line`. `rest` gives
+-- both captures after the run of this word for the remaining limit. If the word is no run, the
+-- error is U2.
 abbrev pub spelled_first : ℕ → ℕ → Option Run → (ℕ → Both) → Both
 spelled_first most line None rest = fault_alone (Number line)
 spelled_first most line (Some run) rest = counted_first most run rest
 
--- Both captures of a list of words, if `most` is the limit of half-bits. The word before the list
--- is on line `before`, or `before` is 0. If `last` is `None`, the input ends after the list,
--- otherwise `last` is the error after it. If no line `---` follows the first capture, this is an
--- error of line `end`.
+-- Both captures of a list of words, with the limit `most` of half-bits. The word before the list is
+-- on line `before`, or `before` is 0 if there is no such word. `last` is the error after the list,
+-- or `None` if the input ends there. If no line `---` follows the first capture, the error is P10
+-- on line `end`.
 abbrev pub both_of : ℕ → ℕ → ℕ → List PlacedWord → Option KeptFault → Both
 both_of before most end [] last = fault_alone (fault_at_end end last)
 both_of before most end (word ∷ words) last =
@@ -63,15 +66,16 @@ both_of before most end (word ∷ words) last =
     else spelled_first most word.line (run_of word.bytes) (λ left. both_of word.line left end words last)
 
 -- the type of a function that gives both captures of an input. Its arguments are the number of the
--- line after the last, the bytes to come, and the error after them, or `None` at the end.
+-- line after the last line, the bytes that are still to be read, and the error after them, or
+-- `None` if the input ends there.
 abbrev pub Said : Type 0
 Said = ℕ → List ℕ → Option KeptFault → Both
 
--- both captures of the bytes that are still to come in `input`, if the word before them is on line
--- `before`
+-- both captures of the bytes that are still to be read from `input`. The word before these bytes is
+-- on line `before`.
 abbrev pub both_from : ℕ → InputState → Said
 both_from before input end bytes last = both_of before input.halves end (ended_words input.place bytes) last
 
--- both captures that `said` gives for `text`, up to the limit of bytes of `input`
+-- both captures that `said` gives for the bytes of `text` that the limit of `input` allows
 abbrev pub in_limit : Said → InputState → List ℕ → Both
 in_limit said input text = within_limit (said (all_lines input text + 1)) input text

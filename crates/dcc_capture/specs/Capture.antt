@@ -11,20 +11,20 @@ use Rattle.dcc_io.specs.PassedWords.{Passed}
 use Rattle.dcc_io.specs.Items.{Items, Grammar, in_text, before_failure, items_behind, only_fault, Gave, StopsAt}
 use Rattle.dcc_io.specs.Words.{PlacedWord, ended_words, run_of}
 
--- the half-bits of `run`, followed by `rest` for the remaining limit, or the error U7 if `run` has
--- more half-bits than the limit `most`
+-- the half-bits of `run`, and then those that `rest` gives for the remaining limit. If `run` has
+-- more half-bits than the limit `most`, the result is the error U7.
 abbrev pub run_within : ℕ → Run → (ℕ → Items ℕ) → Items ℕ
 run_within most run rest =
     if nat_le run.n most then items_behind (replicate run.n run.us) (rest (most - run.n)) else only_fault (Some TooMuch)
 
--- the half-bits of the run of a word, followed by `rest` for the remaining limit. If the word has
--- no run, the error U2 of line `line`.
+-- the half-bits of the run of a word, and then those that `rest` gives for the remaining limit. If
+-- the word is no run, the result is the error U2 of line `line`.
 abbrev pub behind_word : ℕ → ℕ → Option Run → (ℕ → Items ℕ) → Items ℕ
 behind_word most line None rest = only_fault (Some (Number line))
 behind_word most line (Some run) rest = run_within most run rest
 
--- the half-bits of a list of words, if `most` is the limit of half-bits and `last` is the error
--- after the list, or `None` at the end
+-- the half-bits of a list of words, with the limit `most` of half-bits. `last` is the error after
+-- the list, or `None` if the input ends there.
 abbrev pub halves_of_words : ℕ → List PlacedWord → Option KeptFault → Items ℕ
 halves_of_words most [] last = only_fault last
 halves_of_words most (word ∷ words) last = behind_word most word.line (run_of word.bytes)
@@ -33,22 +33,22 @@ halves_of_words most (word ∷ words) last = behind_word most word.line (run_of 
 abbrev pub captures : Grammar ℕ
 captures input bytes last = halves_of_words input.halves (ended_words input.place bytes) last
 
--- the capture in an `input` whose text is `text`
+-- the capture of an `input` with the text `text`
 abbrev pub capture_in : InputState → List ℕ → Items ℕ
 capture_in input text = in_text captures input text
 
--- the capture in an `input` whose reader fails after the bytes `used`
+-- the capture of an `input` whose reader fails after the bytes `used`
 abbrev pub capture_before_failure : InputState → List ℕ → Items ℕ
 capture_before_failure input used = before_failure captures input used
 
--- the half-bits `halves` were read from `old` to `new` without an error, and were subtracted from
--- the limit
+-- between the states `old` and `new`, the input read the half-bits `halves` without an error, and
+-- they were subtracted from the limit
 pub record GaveHalves (old : InputState) (halves : List ℕ) (new : InputState) : Type 0 where
   pub items : Gave captures old halves new
   pub left : new.halves + length halves ≡ old.halves
 
 -- the next word is a run of more half-bits than the limit of `old` allows, and its line is the last
--- line that `new` has used
+-- line that was read
 pub record NextRunsOver (old new : InputState) : Type 0 where
   pub word : PlacedWord
   pub behind : InputState
@@ -58,16 +58,16 @@ pub record NextRunsOver (old new : InputState) : Type 0 where
   pub over : old.halves < run.n
   pub lines : IfSome old.text (λ text. new.lines ≡ word.line)
 
--- some half-bits were read, and the next word is a run of more half-bits than the remaining limit
--- allows
+-- the input read some half-bits, and the next word is a run of more half-bits than the remaining
+-- limit allows
 pub record RunsOver (old new : InputState) : Type 0 where
   pub halves : List ℕ
   pub mid : InputState
   pub gave : Gave captures old halves mid
   pub next : NextRunsOver mid new
 
--- `new` has used the lines that `LinesAt` gives for an error of a capture. If a run exceeds the
--- limit of half-bits, these are instead the lines up to this run.
+-- the input has read the lines that `LinesAt` gives for an error of a capture. If a run exceeds the
+-- limit of half-bits, it has instead read the lines up to this run.
 abbrev pub CaptureLinesAt : InputState → KeptFault → InputState → Type 0
 CaptureLinesAt old (Line line fault) new = ⊥
 CaptureLinesAt old TooMuch new = LinesAt old TooMuch new ⊎ RunsOver old new
@@ -82,7 +82,7 @@ AnswersRun old (Err (Line line fault)) new = ⊥
 AnswersRun old (Err fault) new =
     StopsAt captures old fault new × (new.fault ≡ Some fault) × CaptureLinesAt old fault new
 
--- the error can occur in a capture: it is not U3
+-- the error `fault` can occur in a capture: it is not U3
 abbrev pub IsOfCapture : KeptFault → Type 0
 IsOfCapture (Line line fault) = ⊥
 IsOfCapture fault = Unit {0}

@@ -1,4 +1,4 @@
--- The reading of the first of two captures.
+-- How an input reads the first of two captures.
 use Rattle.std.specs.Prelude.{◌≡◌, ◌⊎◌, ℕ, ◌+◌, ◌<◌, ◌++◌, List, [], Option, None, Some}
 use Rattle.std.specs.Prelude.{Result, Ok, Err, replicate}
 use Rattle.dcc_io.specs.declared.fault.KeptFault.{KeptFault}
@@ -12,35 +12,36 @@ use Rattle.dcc_io.specs.LineEnd.{IsBehindLine}
 use Rattle.dcc_capture.specs.Capture.{NextRunsOver}
 use Rattle.dcc_capture.specs.BothCaptures.{Said, fault_alone, in_front, behind_mark, both_from, in_limit}
 
--- after the bytes `used`, both captures of `input` are those that `said` gives for the bytes that
--- follow `used`
+-- for any bytes that follow `used`, both captures of `input` are those that `said` gives for these
+-- bytes
 abbrev pub SaysBehind : ℕ → InputState → Said → List ℕ → Type 0
 SaysBehind before input said used = (end : ℕ) (more : List ℕ) (last : Option KeptFault)
     → both_from before input end (used ++ more) last ≡ said end more last
 
--- the bytes of `text` before `rest` were used, and after them both captures are those that `said`
--- gives
+-- the input read the bytes of `text` before `rest`, and `said` gives both captures for the bytes
+-- after them
 abbrev pub LeadsIn : ℕ → InputState → InputState → Said → List ℕ → List ℕ → Type 0
 LeadsIn before old new said text rest = Uses (SaysBehind before old said) old new text rest
 
--- from `old` to `new` the input was read without an error, and after that both captures are those
--- that `said` gives
+-- between the states `old` and `new`, the input was read without an error, and `said` gives both
+-- captures for the bytes after that
 abbrev pub LeadsTo : ℕ → InputState → InputState → Said → Type 0
 LeadsTo before old new said = Took (SaysBehind before old said) old new
 
--- both captures: the first one begins with `halves`, and the half-bits of the bytes to come follow.
--- The word before these bytes is on line `before`.
+-- both captures, of which the input has read the half-bits `halves`: the first one begins with
+-- `halves`, and the captures of the following bytes follow. The word before these bytes is on line
+-- `before`.
 abbrev pub first_so_far : List ℕ → ℕ → InputState → Said
 first_so_far halves before input end more last = in_front halves (both_from before input end more last)
 
--- both captures: the first one consists of `halves`, and the second one follows the word `---` at
--- the beginning of line `line`
+-- both captures, of which the input has read the first one and the word `---` at the beginning of
+-- line `line`: the first one consists of `halves`, and the second one is in the following bytes
 abbrev pub first_is : List ℕ → ℕ → InputState → Said
 first_is halves line input end more last =
     in_front halves (behind_mark line input.halves (ended_words input.place more) last)
 
--- the input was read to the end of a line that begins with `---`, and `halves` are the half-bits of
--- the first capture before that line
+-- the input has read a line that begins with the word `---`. `halves` are the half-bits of the
+-- first capture before that line.
 pub record EndsFirst (before : ℕ) (old : InputState) (halves : List ℕ) (new : InputState) : Type 0 where
   pub line : ℕ
   pub leads : LeadsTo before old new (first_is halves line new)
@@ -52,8 +53,8 @@ StopsBoth before old fault new =
     Stops (λ used. (end : ℕ) → both_from before old end used (Some Read) ≡ fault_alone Read)
     (λ text. in_limit (both_from before old) old text ≡ fault_alone fault) old fault new
 
--- some half-bits of the first capture were read, and its next word is a run of more half-bits than
--- the remaining limit allows
+-- the input read some half-bits of the first capture, and its next word is a run of more half-bits
+-- than the remaining limit allows
 pub record FirstRunsOver (before : ℕ) (old new : InputState) : Type 0 where
   pub halves : List ℕ
   pub line : ℕ
@@ -61,9 +62,9 @@ pub record FirstRunsOver (before : ℕ) (old new : InputState) : Type 0 where
   pub leads : LeadsTo before old mid (first_so_far halves line mid)
   pub next : NextRunsOver mid new
 
--- `new` has used the lines up to an error of the first capture, as `LinesAt` says. If the line
--- `---` is missing, these are all lines. If a run exceeds the limit, these are the lines up to this
--- run.
+-- the input has read the lines up to an error of the first capture, as `LinesAt` gives them. If the
+-- line `---` is missing, these are all lines. If a run exceeds the limit, these are the lines up to
+-- this run.
 abbrev pub FirstLinesAt : ℕ → InputState → KeptFault → InputState → Type 0
 FirstLinesAt before old (Line line fault) new = IsAtEnd new.text × UsesAllLines old new
 FirstLinesAt before old TooMuch new = LinesAt old TooMuch new ⊎ FirstRunsOver before old new

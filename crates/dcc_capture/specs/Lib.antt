@@ -5,4 +5,5 @@ pub mod FrameText
 pub mod Listing
 pub mod ListingLaws
 pub mod Shown
+pub mod HeldRuns
 pub mod Inner

@@ -26,21 +26,25 @@ IsOutcomeText words (Refused fault) text = text ≡ refusal_text fault
 abbrev pub numbered_text : ℕ → List ℕ → List ℕ
 numbered_text half text = decimal half ++ (codes " " ++ (text ++ codes "\n"))
 
--- `line` is the line of `outcome` in a listing; `half` is the number of its last half-bit, counted
--- from 1
+-- `line` is the line of `outcome` in a listing. `half` is the number of the last half-bit of the
+-- outcome, counted from 1.
 abbrev pub IsLine : Bool → ℕ → Seen → List ℕ → Type 0
 IsLine words half outcome line = (text : List ℕ) × IsOutcomeText words outcome text × (line ≡ numbered_text half text)
 
--- the text is the listing of a list of outcomes: one line for each outcome, in order. The places of
--- the outcomes are counted from 0.
-abbrev pub IsListing : Bool → List (ℕ × Seen) → List ℕ → Type 0
-IsListing words [] text = text ≡ []
-IsListing words (found ∷ more) text =
-    (line : List ℕ) × (rest : List ℕ) × IsLine words (found.0 + 1) found.1 line × IsListing words more rest
+-- `text` has one line for each item of a list, in order. The places of the items are counted from 0,
+-- and the numbers of their lines from 1.
+abbrev pub AreLines : {A : Type 0} → (ℕ → A → List ℕ → Type 0) → List (ℕ × A) → List ℕ → Type 0
+AreLines IsLineOf [] text = text ≡ []
+AreLines IsLineOf (item ∷ more) text =
+    (line : List ℕ) × (rest : List ℕ) × IsLineOf (item.0 + 1) item.1 line × AreLines IsLineOf more rest
     × (text ≡ line ++ rest)
 
--- the text of an outcome in a listing without words; a packet has the hexadecimal digits of its
--- bytes
+-- `text` is the listing of a list of outcomes: one line for each outcome, in order.
+abbrev pub IsListing : Bool → List (ℕ × Seen) → List ℕ → Type 0
+IsListing words outcomes text = AreLines (IsLine words) outcomes text
+
+-- the text of an outcome in a listing without words. A packet has the hexadecimal digits of its
+-- bytes.
 abbrev pub outcome_text : Seen → List ℕ
 outcome_text Nothing = []
 outcome_text (Packet frame) = encode_lower frame

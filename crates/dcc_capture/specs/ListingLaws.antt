@@ -3,7 +3,7 @@ use Rattle.std.specs.Prelude.{◌≡◌, ◌↔◌, ℕ, Bool, false, List}
 use Rattle.dcc_wire.specs.declared.seen.Seen.{Seen}
 use Rattle.dcc_capture.specs.Listing.{IsListing, listing}
 
--- a list of outcomes has exactly one listing: two listings with equal `words` are equal
+-- for each value of `words`, a list of outcomes has only one listing
 abbrev pub OneListing : Type 0
 OneListing = (words : Bool) (outcomes : List (ℕ × Seen)) (one other : List ℕ)
     → IsListing words outcomes one → IsListing words outcomes other → one ≡ other

@@ -4,11 +4,13 @@
 
 mod first_capture;
 pub mod laws;
+mod listed_runs;
 mod listing;
 mod runs;
 mod show_call;
 
 pub use first_capture::next_of_first;
-pub use listing::outcome_line;
+pub use listed_runs::{next_listed_run, write_rest};
+pub use listing::{append_frame, outcome_line};
 pub use runs::{next_run, read_run};
 pub use show_call::show;

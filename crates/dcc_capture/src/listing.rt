@@ -4,6 +4,7 @@ ghost use Rattle.arrayvec.specs.ArrayVec.{array_vec_len};
 ghost use Rattle.dcc_capture.specs.FrameText.{IsFrameText};
 ghost use Rattle.dcc_capture.specs.Listing.{IsLine, refusal_text};
 
+use arrayvec::ArrayVec;
 use dcc_io::{Line, append, append_decimal, append_hex};
 use dcc_packet::Packet;
 use dcc_wire::{Fault, Frame, Seen};
@@ -28,8 +29,8 @@ pub fn outcome_line(half: u32, outcome: &Seen, words: bool) -> Line
 }
 
 /// Appends the packet line of a frame if `words` is true, otherwise the bytes of the frame in hex.
-fn append_frame(line: &mut Line, frame: &Frame, words: bool)
-    requires { array_vec_len line.old + 40 ≤ 64 }
+pub fn append_frame<const N: usize>(line: &mut ArrayVec<u8, N>, frame: &Frame, words: bool)
+    requires { array_vec_len line.old + 40 ≤ N }
     ensures items { (text : List ℕ) × IsFrameText words frame.now text × (line.new.items ≡ line.old.items ++ text) }
     ensures len { array_vec_len line.new ≤ array_vec_len line.old + 40 }
 {

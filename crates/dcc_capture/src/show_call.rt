@@ -1,18 +1,17 @@
 //! The operation `show`, which lists a capture.
-ghost use Rattle.std.specs.Prelude.{◌≡◌, ◌≢◌, ◌<◌, ◌+◌, ◌++◌, ◌⊎◌, ℕ, List, [], None, IfSome, OnOk};
+ghost use Rattle.std.specs.Prelude.{◌≡◌, ◌<◌, ◌+◌, ◌++◌, ℕ, List, None, IfSome};
 ghost use Rattle.dcc_wire.specs.Framing.{report_at};
 ghost use Rattle.dcc_io.specs.Held.{HoldsOrFails};
-ghost use Rattle.dcc_capture.specs.Inner.Held.{HoldsListing, ReadsRun, WritesRest};
+ghost use Rattle.dcc_capture.specs.HeldRuns.{HoldsLines};
 ghost use Rattle.dcc_io.specs.Faults.{as_tool_fault};
 ghost use Rattle.dcc_io.specs.InputState.{ReadHasFailure};
-ghost use Rattle.dcc_io.specs.Words.{ended_words};
 ghost use Rattle.dcc_capture.specs.Listing.{IsLine};
 ghost use Rattle.dcc_capture.specs.Shown.{Shows};
 
+use crate::listed_runs::{next_listed_run, write_rest};
 use crate::listing::outcome_line;
-use crate::runs::read_run;
-use dcc_io::inputs::{take_buffered_half, take_buffered_run};
-use dcc_io::{Failed, HeldLines, Input, KeptFault, Run, Sink, Source, ToolFault};
+use dcc_io::inputs::take_buffered_half;
+use dcc_io::{Failed, HeldLines, Input, Sink, Source, ToolFault};
 use dcc_wire::{Framer, Seen};
 
 /// Writes a line for each outcome of a capture. The line begins with the number of the last
@@ -67,7 +66,7 @@ fn list<R: Source, W: Sink>(
                 let half = most - input.halves_left();
                 hold_seen(&mut held, half, &seen, words, writer)?;
             }
-            None => match next_run(input, &mut held, writer)? {
+            None => match next_listed_run(input, &mut held, writer)? {
                 Ok(Some(run)) => {
                     let shown = framer.push_run(run.us, run.n);
                     let half = most - input.halves_left() - run.n + shown.at;
@@ -78,41 +77,6 @@ fn list<R: Source, W: Sink>(
             },
         }
     }
-}
-
-/// Returns the next run. Returns `None` at the end of the capture. The function writes the buffered
-/// lines before it reads more input.
-fn next_run<R: Source, W: Sink>(
-    input: &mut Input<R>,
-    held: &mut HeldLines,
-    writer: &mut W,
-) -> Result<Result<Option<Run>, KeptFault>, Failed>
-    requires { input.old.fault ≡ None }
-    ensures { ReadsRun input.old (W.state writer.old) held.old result input.new held.new
-        (W.state writer.new) }
-{
-    if let Some(run) = take_buffered_run(input) {
-        return Ok(Ok(Some(run)));
-    }
-    write_before_read(held, input, writer)?;
-    Ok(read_run(input))
-}
-
-/// Writes the buffered lines, unless the next word is buffered. So each line of a live track is
-/// shown as soon as its half-bit has come, and the lines of a long recording are written together.
-fn write_before_read<R: Source, W: Sink>(
-    held: &mut HeldLines,
-    input: &Input<R>,
-    writer: &mut W,
-) -> Result<(), Failed>
-    ensures holds { HoldsOrFails (W.state writer.old) held.old result held.new
-        (W.state writer.new) }
-    ensures waits { OnOk result ((held.new ≡ []) ⊎ (ended_words input.now.place input.now.ahead ≢ [])) }
-{
-    if held.is_empty() || input.has_buffered_word() {
-        return Ok(());
-    }
-    held.write_out(writer)
 }
 
 /// Appends a line to the buffer if an outcome ends with half-bit `half`.
@@ -127,7 +91,7 @@ fn hold_seen<W: Sink>(
 ) -> Result<(), Failed>
     requires { 0 < half }
     ensures { (place : ℕ) → half ≡ place + 1
-        → HoldsListing words (report_at place seen.now) (W.state writer.old)
+        → HoldsLines (IsLine words) (report_at place seen.now) (W.state writer.old)
         held.old result held.new (W.state writer.new) }
 {
     match seen {
@@ -150,19 +114,4 @@ fn hold_outcome<W: Sink>(
         (W.state writer.new) }
 {
     held.hold(outcome_line(half, seen, words).as_slice(), writer)
-}
-
-/// Writes the buffered lines and returns the result `answer`.
-///
-/// Errors: U5 if the write fails.
-fn write_rest<W: Sink>(
-    held: &mut HeldLines,
-    writer: &mut W,
-    answer: Result<(), ToolFault>,
-) -> Result<(), ToolFault>
-    ensures { WritesRest (W.state writer.old) held.old answer result
-        (W.state writer.new) }
-{
-    held.write_out(writer)?;
-    answer
 }

@@ -18,6 +18,11 @@ show_in_hex : read_of (codes "words") (codes "dcc" ∷ codes "show" ∷ []) ≡ 
 unfolding clap_on_literals
 show_in_hex = refl
 
+lost_in_words : read_of (codes "words") (codes "dcc" ∷ codes "lost" ∷ codes "--words" ∷ []) ≡ Some
+    (codes "lost", Some (codes "true"))
+unfolding clap_on_literals
+lost_in_words = refl
+
 a_queue_of_9 : read_of (codes "queue")
     (codes "dcc" ∷ codes "encode" ∷ codes "--station" ∷ codes "--queue=9" ∷ []) ≡ Some
     (codes "encode", Some (codes "9"))

@@ -26,6 +26,9 @@ cv_rule =
 abbrev pub show_app : App
 show_app = with_rule (new_app (codes "show")) (flag_rule (codes "words"))
 
+abbrev pub lost_app : App
+lost_app = with_rule (new_app (codes "lost")) (flag_rule (codes "words"))
+
 -- the subcommand `encode` with its three flags
 abbrev pub encode_flags : App
 encode_flags =
@@ -67,5 +70,6 @@ dcc_app =
     with_subcommand
     (with_subcommand
     (with_subcommand
-    (with_subcommand (with_subcommand (with_subcommand top_app show_app.top) encode_app.top) run_app.top)
+    (with_subcommand
+    (with_subcommand (with_subcommand (with_subcommand top_app show_app.top) lost_app.top) encode_app.top) run_app.top)
     same_app.top) readcv_app.top) timing_app.top

@@ -3,7 +3,7 @@ ghost use Rattle.std.specs.Prelude.{◌≡◌, IfOk, false, codes};
 ghost use Rattle.clap.specs.Words.{app_of, rule_of};
 ghost use Rattle.clap.specs.declared.builder.command.Command.TheViews.{out-Command as fields_of};
 ghost use Rattle.dcc_command.specs.CommandLine.{cv_rule, dcc_app, encode_app, encode_flags, flag_rule, readcv_app};
-ghost use Rattle.dcc_command.specs.CommandLine.{run_app};
+ghost use Rattle.dcc_command.specs.CommandLine.{lost_app, run_app};
 ghost use Rattle.dcc_command.specs.CommandLine.{same_app, show_app, size_rule, timing_app, top_app, who_rule};
 
 use crate::help_texts;
@@ -16,6 +16,7 @@ pub fn command<'a>(alloc: Global) -> Result<Command<'a>, AllocError>
 {
     top(alloc)
         .subcommand(show(alloc)?)?
+        .subcommand(lost(alloc)?)?
         .subcommand(encode(alloc)?)?
         .subcommand(run(alloc))?
         .subcommand(same(alloc)?)?
@@ -41,6 +42,16 @@ fn show<'a>(alloc: Global) -> Result<Command<'a>, AllocError>
     Command::new(alloc, "show")
         .about("Lists the packets and the rejected packets of a capture")
         .after_help(help_texts::SHOW)
+        .arg(flag(alloc, "words", "Write packets as packet lines, not in hex"))
+}
+
+fn lost<'a>(alloc: Global) -> Result<Command<'a>, AllocError>
+    ensures app { IfOk result (λ c. app_of c ≡ lost_app) }
+    ensures local { IfOk result (λ c. (fields_of c).has_globals ≡ false) }
+{
+    Command::new(alloc, "lost")
+        .about("Lists the packets of a capture that a decoder does not hear, with the causes")
+        .after_help(help_texts::LOST)
         .arg(flag(alloc, "words", "Write packets as packet lines, not in hex"))
 }
 

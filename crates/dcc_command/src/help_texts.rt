@@ -20,6 +20,23 @@ The program ends with U2 (a word is no duration; the line follows), U4 (a read f
 or U7 (the input is too long). docs/FORMATS.md has the whole format, docs/CAPTURES.md
 says how to make a capture of the file of a logic analyser.";
 
+/// The help text of the subcommand `lost`.
+pub const LOST: &str = "\
+It reads a capture from standard input, as `dcc show` does, and writes a line for each
+packet that was sent but that no decoder hears:
+
+  dcc lost --words < capture.txt
+  echo '58*16 100*14 58*4 100*4 58*4 100*6 58*2 100*6 58*4 100*8 58*4' | dcc lost
+
+A line has the number of the last half-bit of the packet, the packet, and the causes:
+  preamble N               only N half-bits of ones before the packet, fewer than 20
+  preamble N after P       half-bit P ends a rejection, and N are left after it
+  ones N from A to B       N half-bits of ones outside 52 to 64 microseconds
+  zeros N from A to B      N half-bits of zeros outside 90 to 10000 microseconds
+No packet is listed both here and by `dcc show`. A packet with a rejection inside it
+can be listed here too. The program ends with U2, U4 or U7, as `dcc show` does.
+docs/FORMATS.md has the whole format.";
+
 /// The help text of the subcommand `encode`.
 pub const ENCODE: &str = "\
 It reads packet lines from standard input, with one packet on each line:

@@ -23,12 +23,12 @@ pub struct OwnBoard {
 
 impl OwnBoard {
     ghost use Rattle.dcc_regs.specs.Board.{TakesPacket};
-    ghost use Rattle.dcc_examples.specs.OwnBoard.{content};
+    ghost use Rattle.dcc_examples.specs.OwnBoard.{own_content};
 
     /// Applies a packet that the decoder hears. An output that is turned on sets the element of its
     /// pair in `sides`.
     fn take(&mut self, packet: &Packet)
-        ensures takes { TakesPacket packet.now (content self.old) (content self.new) }
+        ensures takes { TakesPacket packet.now (own_content self.old) (own_content self.new) }
         ensures same { self.new.board ≡ self.old.board }
     {
         match packet {
@@ -58,11 +58,11 @@ impl OwnBoard {
 impl Decoder for OwnBoard {
     ghost use Rattle.dcc_regs.specs.Board.{board_registers};
     ghost use Rattle.dcc_regs.specs.declared.register.Who.TheVariants.{Board as BoardWho};
-    ghost use Rattle.dcc_examples.specs.OwnBoard.{content};
+    ghost use Rattle.dcc_examples.specs.OwnBoard.{own_content};
 
     ghost who = { λ d. BoardWho d.board };
 
-    ghost registers = { λ d. board_registers (content d) };
+    ghost registers = { λ d. board_registers (own_content d) };
 
     fn who(&self) -> Who {
         laws::boards_take_packets();

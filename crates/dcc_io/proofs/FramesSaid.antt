@@ -55,7 +55,8 @@ module _ {A B : Type 0} (saying : Saying A B) (P : A → Type 0)
           else only_fault (Some (kept.Line line.number faults.Word))).said
       go true = tt
       go false = tt
-  lines_are (line ∷ next ∷ lines) last = line_is line (items_of saying (next ∷ lines) last) (lines_are (next ∷ lines) last)
+  lines_are (line ∷ next ∷ lines) last =
+      line_is line (items_of saying (next ∷ lines) last) (lines_are (next ∷ lines) last)
 
   text_is : (input : InputState) (text : List ℕ) → AllByRecursion P (items_in saying input text).said
   text_is input text = go (nat_le (length text) input.bytes)

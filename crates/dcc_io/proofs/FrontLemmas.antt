@@ -61,7 +61,8 @@ pub plain_digits : (word : List ℕ) → list_all is_ascii_digit word ≡ true �
 plain_digits word digits = all_pass is_ascii_digit is_word_byte word plain_digit digits
 
 plain_within : (word : List ℕ) → list_all is_word_byte word ≡ true → list_all is_within_line word ≡ true
-plain_within word plain = all_pass is_word_byte is_within_line word (λ byte is. rw (plain_parts byte is).no_line refl) plain
+plain_within word plain =
+    all_pass is_word_byte is_within_line word (λ byte is. rw (plain_parts byte is).no_line refl) plain
 
 opened-plain : (line : ℕ) (front word more : List ℕ) → list_all is_word_byte word ≡ true
     → opened (outside line) front (word ++ more) ≡ opened (outside line) (front ++ word) more
@@ -82,7 +83,8 @@ abbrev comment_place : ℕ → TextPlace
 comment_place line = record { line = line; in_comment = true }
 
 -- a word and a gap hold one word
-pub passes_front : (line gap : ℕ) (word : List ℕ) → list_all is_word_byte word ≡ true → 0 < length word → is_gap gap ≡ true
+pub passes_front : (line gap : ℕ) (word : List ℕ) → list_all is_word_byte word ≡ true → 0 < length word → is_gap gap
+    ≡ true
     → Passes (outside line) (word ++ gap ∷ []) (record { line = line; bytes = word } ∷ [])
     (outside (line_behind line gap))
 passes_front line gap word digits some is = λ more.
@@ -219,7 +221,12 @@ module _ {line lines halves : ℕ} {in_comment closed : Bool} {fault : Option Ke
       let gap = get_or source.ahead len 0 in
       passes_ahead (len + 1) next _ (omega arith) (omega arith) room consumed
       (λ byte more.
-      rw (behind_gap, take_more source.ahead len 0 inside, append_assoc (take len source.ahead) (gap ∷ []) (byte ∷ more))
+      rw (
+        behind_gap,
+        take_more source.ahead len 0 inside,
+        append_assoc (take len source.ahead) (gap ∷ [])
+            (byte ∷ more),
+      )
       (lines_of_used lines line _ gap (byte ∷ more) some (plain_within _ begins.plain)))
       (rw (no_comment, behind_gap, take_more source.ahead len 0 inside)
       (passes_front line gap (take len source.ahead) begins.plain some begins.gap))
@@ -293,7 +300,8 @@ pub takes_line_at : {line lines halves : ℕ} {in_comment closed : Bool} {fault 
     → Consumes source.text later.text (take (len + 1) source.ahead) → later.failures ≡ source.failures → fault ≡ None
     → ReadsLine (state_of source line lines in_comment closed halves bytes fault) line text
     (state_of later (line + 1) line in_comment closed halves (bytes - (len + 1)) fault)
-takes_line_at {line = line} {closed = closed} source later bytes len text at_end fits front count consumed failures none =
+takes_line_at {line = line} {closed = closed} source later bytes len text at_end fits front count consumed failures none
+    =
     let is_open = open_with closed source.ahead 0 at_end (rw front.whole (simp length-append (omega arith))) in
     let is_front = line_of_front source.ahead text (len + 1) (omega (arith, count)) front in
     rw is_open record {
@@ -320,7 +328,8 @@ count_is : (word : List ℕ) (n : ℕ) → SpellsNumber n word → 0 < length wo
     → count_in_word word ≡ Some n
 count_is word n spells some few above =
     let small = le-leb n 16777216 (omega (arith, spells.small)) in
-    rw (← spells.value, lt-ltb 0 (length word) some, le-leb (length word) 8 few, spells.digits, lt-ltb 0 n above, small) refl
+    rw (← spells.value, lt-ltb 0 (length word) some, le-leb (length word) 8 few, spells.digits, lt-ltb 0 n above, small)
+    refl
 
 plain_star : is_word_byte 42 ≡ true
 unfolding is_gap
@@ -356,11 +365,23 @@ is_front_run bytes rest star count number us n behind inside duration some few i
       begins = record {
         inside = omega (arith, within, ap length behind, length-drop (star + 1) bytes);
         some = omega arith;
-        plain = rw (word, list_all-append is_word_byte front (42 ∷ tail), plain_digits front duration.digits, plain_star)
+        plain = rw (
+          word,
+          list_all-append is_word_byte front (42 ∷ tail),
+          plain_digits front duration.digits,
+          plain_star,
+        )
             (plain_digits tail counted.digits);
         gap = rw at gap;
         ends = rw at refl;
       };
-      spells = rw (word, parts.0, append-nil, parts.1, duration_is front number us duration (omega arith) (omega arith) value)
+      spells = rw (
+        word,
+        parts.0,
+        append-nil,
+        parts.1,
+        duration_is front number us duration (omega arith) (omega arith)
+            value,
+      )
           (ap (run_with (Some us)) (count_is tail n counted (omega arith) (omega arith) above));
     }

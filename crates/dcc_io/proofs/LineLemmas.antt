@@ -33,13 +33,15 @@ good_parts : (line more : List ℕ) → is_good (line ++ more) ≡ true
     → (length line + length more ≤ 512) × (list_all is_ascii line ≡ true) × (list_all is_ascii more ≡ true)
 good_parts line more good =
     let parts = and_parts (nat_le (length (line ++ more)) 512) (list_all is_ascii (line ++ more)) good in
-    let all = and_parts (list_all is_ascii line) (list_all is_ascii more) (rw (list_all-append is_ascii line more) at parts.1) in
+    let all = and_parts (list_all is_ascii line) (list_all is_ascii more)
+    (rw (list_all-append is_ascii line more) at parts.1) in
     (rw (length-append line more) at (leb-true _ _ parts.0), all.0, all.1)
 
 -- a byte too many or past ASCII makes the line bad, whatever follows
 pub bad-more : (line more : List ℕ) → is_good line ≡ false → is_good (line ++ more) ≡ false
 bad-more line more bad = false_from_ne_true _ (λ good.
-    let parts = good_parts line more good in both_ways _ bad (and_from _ _ (le-leb _ _ (omega (arith, parts.0))) parts.1))
+    let parts = good_parts line more good
+    in both_ways _ bad (and_from _ _ (le-leb _ _ (omega (arith, parts.0))) parts.1))
 
 bad-byte : (line : List ℕ) (byte : ℕ) → (nat_lt (length line) 512 && is_ascii byte) ≡ false
     → is_good (line ++ byte ∷ []) ≡ false
@@ -63,8 +65,10 @@ pub record OpensLine (old : InputState) (line : List ℕ) (now : InputState) : T
 -- a byte that makes the line bad was taken
 pub OpensLine-bad : {old now mid new : InputState} {line : List ℕ} {byte : ℕ} (number : ℕ) → OpensLine old line now
     → TakesByte now byte mid → byte ≢ 10 → (nat_lt (length line) 512 && is_ascii byte) ≡ false
-    → number ≡ old.place.line → new ≡ record mid { fault = Some (Line number faults.Word) } → MeetsBadLine old number new
-OpensLine-bad {old = old} {now = now} {mid = mid} {line = line} {byte = byte} number opens takes other fails is_number is_new =
+    → number ≡ old.place.line → new ≡ record mid { fault = Some (Line number faults.Word) }
+    → MeetsBadLine old number new
+OpensLine-bad {old = old} {now = now} {mid = mid} {line = line} {byte = byte} number opens takes other fails is_number
+    is_new =
     rw is_new record {
       at = is_number;
       text = if_some_map _ _ old.text (λ text found. found.0) found;
@@ -77,7 +81,8 @@ OpensLine-bad {old = old} {now = now} {mid = mid} {line = line} {byte = byte} nu
     used = Took-join opens.took (took_byte takes) (λ front back is more. rw (is, more) refl)
 
     found : IfSome old.text (λ text. IsBadAt old text × (mid.lines ≡ number))
-    found = told_behind used (λ rest. (rest ≡ [] → byte ≡ 10) × (mid.lines ≡ lines_with now.lines now.place.line rest)) _
+    found = told_behind used (λ rest. (rest ≡ [] → byte ≡ 10) × (mid.lines ≡ lines_with now.lines now.place.line rest))
+        _
         (λ text rest uses facts.
         let more : length rest ≡ 0 → ⊥ = λ none. other (facts.0 (nil_from_length rest none)) in
         let some : 0 < length uses.used = rw uses.is (simp length-append (omega arith)) in
@@ -90,7 +95,8 @@ OpensLine-bad {old = old} {now = now} {mid = mid} {line = line} {byte = byte} nu
             one = rw uses.is (no_feed-more line byte opens.is_line.one (ne_eqb byte 10 other));
             within = omega (arith, uses.bytes);
           },
-          facts.1 ∙ lines_with-some _ _ rest (omega arith) ∙ ap (λ (place : TextPlace). place.line) opens.place ∙ sym is_number,
+          facts.1 ∙ lines_with-some _ _ rest (omega arith) ∙ ap (λ (place : TextPlace). place.line) opens.place
+              ∙ sym is_number,
         )) (if_some_both mid.text takes.last takes.lines (λ rest last lines. (last, lines)))
 
 -- no byte more of a line could be read
@@ -128,7 +134,8 @@ took_line old new number line ends = record {
     next = ap (λ (place : TextPlace). place.line) ends.next
 
     go : (x y : Option (List ℕ)) → Both x y (λ text rest. text ≡ line ++ 10 ∷ rest)
-        → Both x y (λ text rest. new.lines ≡ lines_with (lines_within old.lines old.place.line line) old.place.line rest)
+        → Both x y (λ text rest. new.lines
+        ≡ lines_with (lines_within old.lines old.place.line line) old.place.line rest)
         → (new.bytes ≡ 0 → IsAtEnd y) → Both x y (Uses (IsThrough old new line) old new)
     go (Some text) (Some rest) whole lines end = record {
       used = line ++ 10 ∷ [];

@@ -45,4 +45,5 @@ unfolding is_gap
 numbers_back line n [] more small = decimal_passes line n 10 more small.0 refl
 numbers_back line n (m ∷ ns) more small =
     let here = decimal_passes line n 32 (decimal m ++ (flat_map behind_space ns ++ 10 ∷ more)) small.0 refl in
-    rw (append_assoc (behind_space m) (flat_map behind_space ns) (10 ∷ more), here, numbers_back line m ns more small.1) refl
+    rw (append_assoc (behind_space m) (flat_map behind_space ns) (10 ∷ more), here, numbers_back line m ns more small.1)
+    refl

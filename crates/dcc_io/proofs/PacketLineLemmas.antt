@@ -65,7 +65,8 @@ module _ {A B : Type 0} (saying : Saying A B) where
         → lines_by saying old ((line ++ 10 ∷ []) ++ more) last ≡ behind_line saying (numbered old.place.line line)
         (lines_by saying mid more last)
     from_line more last =
-        let front = rw (append-nil line) at (lines_from-front old.place.line line (10 ∷ more) [] _ ends.is_line.one refl) in
+        let front = rw (append-nil line) at
+        (lines_from-front old.place.line line (10 ∷ more) [] _ ends.is_line.one refl) in
         let next = begins (old.place.line + 1) more in
         rw (append_assoc line (10 ∷ []) more, front, ends.next, next.2) refl
 
@@ -100,7 +101,8 @@ module _ {A B : Type 0} (saying : Saying A B) where
           ),
           refl,
           map_text (Uses (IsThrough old mid line) old mid) _ old.text mid.text (λ text rest uses.
-              omega (arith, uses.is.1 (said_some line some), ap (λ (place : TextPlace). place.line) ends.next, ends.at)) took.text,
+              omega (arith, uses.is.1 (said_some line some), ap (λ (place : TextPlace). place.line) ends.next, ends.at))
+              took.text,
         )
 
   -- a line that is bad at its last byte so far
@@ -113,7 +115,8 @@ module _ {A B : Type 0} (saying : Saying A B) where
           within_limit-front old (lines_by saying old) _ text bad.line bad.rest bad.whole bad.within (λ more last.
           let first = begins old.place.line more in
           rw (lines_from-front _ bad.line more first.0 first.1 bad.one first.2, meets.at)
-          (items_of-bad (numbered _ (bad.line ++ first.0)) first.1 last (bad-more bad.line first.0 bad.bad)))) meets.text,
+          (items_of-bad (numbered _ (bad.line ++ first.0)) first.1 last (bad-more bad.line first.0 bad.bad))))
+          meets.text,
     ),
     meets.fault,
     meets.lines,
@@ -174,7 +177,8 @@ module _ {A B C : Type 0} (saying : Saying A B) (as_said : C → B) where
     answer.2,
   )
   answers_fault {now = now} new TooMuch gave answer = behind_said new TooMuch gave (
-    overflows IsOneLine (lines_by saying now) _ now new answer.0 (λ used. open_says saying now.place.line used (Some TooMuch)),
+    overflows IsOneLine (lines_by saying now) _ now new answer.0
+        (λ used. open_says saying now.place.line used (Some TooMuch)),
     answer.1,
     answer.2,
   )

@@ -50,7 +50,8 @@ pub record TakesNoted (old : InputState) (byte : ℕ) (gap : Bool) (new : InputS
   pub lines : IfSome new.text (λ rest. new.lines ≡ lines_with old.lines old.place.line rest)
 
 -- one byte was read
-pub took_byte : {old mid : InputState} {byte : ℕ} → TakesByte old byte mid → Took (λ used. used ≡ byte ∷ []) old (noted mid byte)
+pub took_byte : {old mid : InputState} {byte : ℕ} → TakesByte old byte mid
+    → Took (λ used. used ≡ byte ∷ []) old (noted mid byte)
 took_byte {old = old} {mid = mid} {byte = byte} takes = record {
   text = go old.text mid.text takes.text takes.lines takes.room;
   bytes = let bytes = takes.bytes in omega arith;
@@ -58,7 +59,8 @@ took_byte {old = old} {mid = mid} {byte = byte} takes = record {
   failures = takes.failures;
 }
   where
-    go : (x y : Option (List ℕ)) → StartsWithByte x byte y → IfSome y (λ rest. mid.lines ≡ lines_with old.lines old.place.line rest)
+    go : (x y : Option (List ℕ)) → StartsWithByte x byte y
+        → IfSome y (λ rest. mid.lines ≡ lines_with old.lines old.place.line rest)
         → (mid.bytes ≡ 0 → IsAtEnd y)
         → Both x y (Uses (λ used. used ≡ byte ∷ []) old (noted mid byte))
     go (Some text) (Some rest) begins lines end = record {
@@ -205,7 +207,8 @@ open_word {some = some} opens told is = go (is_some_byte opens.word) some (sym (
     go a b same = cc
 
 -- these words were passed, and then those
-pub Passed-join : {old mid new : InputState} {front words : List PlacedWord} → Passed old front mid → Passed mid words new
+pub Passed-join : {old mid new : InputState} {front words : List PlacedWord} → Passed old front mid
+    → Passed mid words new
     → Passed old (front ++ words) new
 Passed-join {new = new} {front = front} {words = words} first next = record {
   took = Took-join first.took next.took (λ used behind passes then more.

@@ -8,7 +8,8 @@ use Rattle.dcc_io.specs.declared.station_line.SendCount.{SendCount}
 use Rattle.dcc_io.specs.StationLines.{send_field}
 
 few : (send : SendCount) → send_field.Fits send → send.count < 65536
-few send fits = omega (arith, leb-true send.count 1000 (and_parts (nat_le 1 send.count) (nat_le send.count 1000) fits).1)
+few send fits = omega
+    (arith, leb-true send.count 1000 (and_parts (nat_le 1 send.count) (nat_le send.count 1000) fits).1)
 
 pub send_is_back : IsReadBack send_field
 send_is_back =

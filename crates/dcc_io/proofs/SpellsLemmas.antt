@@ -44,7 +44,8 @@ AreDigits-digit old new bytes byte low high len same capped digits =
     record {
       len = simp length-append (omega arith);
       all_digits =
-          rw (same, digits.all_digits, all_push is_ascii_digit bytes byte, is_ascii_digit-digit byte low high) (sym (and-true _));
+          rw (same, digits.all_digits, all_push is_ascii_digit bytes byte, is_ascii_digit-digit byte low high)
+          (sym (and-true _));
       capped = λ all. let before = digits.capped (sym same ∙ all) in omega arith;
     }
 
@@ -77,7 +78,8 @@ count_behind [] count byte some = cc
 count_behind (first ∷ word) count byte some = elim (cases_Bool (eqb first 42)) [
   | inl star ↦ rw star (refl, ap (option_map (λ (l : List ℕ). l ++ byte ∷ [])) (rw star at some))
   | inr other ↦
-      let more = count_behind word count byte (rw other at some) in rw other (ap (λ (l : List ℕ). first ∷ l) more.0, more.1)
+      let more = count_behind word count byte (rw other at some)
+      in rw other (ap (λ (l : List ℕ). first ∷ l) more.0, more.1)
 ]
 
 -- what is kept of a count says whether there is a `*`

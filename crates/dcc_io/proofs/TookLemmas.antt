@@ -142,7 +142,8 @@ cut_behind : {P : List ℕ → Type 0} {old mid : InputState} {text rest : List 
     → (old.bytes < length text) × (take (old.bytes - 1) text ≡ uses.used ++ take (mid.bytes - 1) rest)
 cut_behind {old = old} {mid = mid} {text = text} {rest = rest} uses longer =
     let whole : length text ≡ length uses.used + length rest = ap length uses.whole ∙ length-append uses.used rest in
-    let none : 0 < length uses.used → mid.bytes ≡ 0 → length rest ≡ 0 = λ some empty. ap length (uses.room some empty) in
+    let none : 0 < length uses.used → mid.bytes ≡ 0 → length rest ≡ 0 =
+    λ some empty. ap length (uses.room some empty) in
     let count : old.bytes - 1 ≡ length uses.used + (mid.bytes - 1) = let total = uses.bytes in grind arith in
     (omega (arith, uses.bytes), rw (count, uses.whole) (take-append-add uses.used rest (mid.bytes - 1)))
 
@@ -154,15 +155,17 @@ fails_to_read {old = old} {now = now} {new = new} took fails each = (
     fails.failures ∙ ap one_more took.failures,
     fails.ahead,
     both_kept _ old.text now.text new.text
-        (map_both old.text now.text took.text (λ text rest uses. (uses.used, uses.whole, each uses.used uses.is))) fails.text,
+        (map_both old.text now.text took.text (λ text rest uses. (uses.used, uses.whole, each uses.used uses.is)))
+        fails.text,
   ),
   fails.fault,
-  both_kept _ old.text now.text new.text (both_with old.text now.text took.text fails.more (λ text rest uses some. record {
-    used = uses.used;
-    whole = uses.whole;
-    more = some;
-    lines = fails.lines ∙ uses.counts some 10 [];
-  })) fails.text,
+  both_kept _ old.text now.text new.text
+      (both_with old.text now.text took.text fails.more (λ text rest uses some. record {
+        used = uses.used;
+        whole = uses.whole;
+        more = some;
+        lines = fails.lines ∙ uses.counts some 10 [];
+      })) fails.text,
 )
 
 -- behind bytes that were read, more are left than may be taken
@@ -242,12 +245,14 @@ module _ {P : List ℕ → Type 0} {old mid : InputState} (front : Took P old mi
 
   -- the lines that were used when a fault came, told from further back
   pub LinesAt-behind : (new : InputState) (fault : KeptFault) → LinesAt mid fault new → LinesAt old fault new
-  LinesAt-behind new Read lines = join_both old.text mid.text new.text front.text lines (λ text between rest a b. record {
-    used = a.used ++ b.used;
-    whole = rw (a.whole, b.whole) (sym (append_assoc a.used b.used rest));
-    more = b.more;
-    lines = b.lines ∙ counts_on old mid a.used b.used (a.counts (rw b.whole (some_before b.used rest b.more))) 10 [];
-  })
+  LinesAt-behind new Read lines =
+      join_both old.text mid.text new.text front.text lines (λ text between rest a b. record {
+        used = a.used ++ b.used;
+        whole = rw (a.whole, b.whole) (sym (append_assoc a.used b.used rest));
+        more = b.more;
+        lines = b.lines ∙ counts_on old mid a.used b.used (a.counts (rw b.whole (some_before b.used rest b.more))) 10
+            [];
+      })
   LinesAt-behind new TooMuch lines = told_behind (λ text. (mid.bytes < length text) × _) _ (λ text rest uses over.
       let cut = cut_behind uses over.0 in
       (cut.0, rw cut.1 (over.1 ∙ counts_on old mid uses.used _ (uses.counts (omega (arith, over.0))) 10 []))) lines
@@ -264,8 +269,12 @@ module _ {P : List ℕ → Type 0} {old mid : InputState} (front : Took P old mi
 -- what stops an input, in other words
 pub Stops-map : (F G Q R : List ℕ → Type 0) (old new : InputState) (fault : KeptFault) → Stops F Q old fault new
     → ((used : List ℕ) → F used → G used) → ((text : List ℕ) → Q text → R text) → Stops G R old fault new
-Stops-map F G Q R old new Read stops fails says =
-    (stops.0, stops.1, map_both old.text new.text stops.2 (λ text rest behind. (behind.0, behind.1, fails behind.0 behind.2)))
+Stops-map F G Q R old new Read stops fails says = (
+  stops.0,
+  stops.1,
+  map_both old.text new.text stops.2
+      (λ text rest behind. (behind.0, behind.1, fails behind.0 behind.2)),
+)
 Stops-map F G Q R old new fault stops fails says = (stops.0, if_some_map Q R old.text says stops.1)
 
 -- what is said of the bytes that may be taken, where there are more
@@ -307,7 +316,8 @@ within_limit-used old new said rest_said text rest uses each =
     ])
 
 -- what is said of the text whatever follows what was read
-pub within_limit-stops : {A : Type 0} {P : List ℕ → Type 0} {old mid : InputState} (said : List ℕ → Option KeptFault → A)
+pub within_limit-stops : {A : Type 0} {P : List ℕ → Type 0} {old mid : InputState}
+    (said : List ℕ → Option KeptFault → A)
     (x : A) → Took P old mid
     → ((used more : List ℕ) (last : Option KeptFault) → P used → said (used ++ more) last ≡ x)
     → IfSome old.text (λ text. within_limit said old text ≡ x)

@@ -52,7 +52,8 @@ opened-word place front byte text no_comment no_gap =
     rw (no_comment, no_gap, eqb_line_feed byte no_gap, onto_front-onto_first) refl
 
 -- some word is the first
-some_pieces : (line : ℕ) (text : List ℕ) → (word : PlacedWord) × (rest : List PlacedWord) × (pieces line text ≡ word ∷ rest)
+some_pieces : (line : ℕ) (text : List ℕ) → (word : PlacedWord) × (rest : List PlacedWord)
+    × (pieces line text ≡ word ∷ rest)
 some_pieces line [] = (record { line = line; bytes = [] }, [], refl)
 some_pieces line (byte ∷ text) =
     let more = some_pieces (line_behind line byte) text in elim (cases_Bool (is_gap byte)) [

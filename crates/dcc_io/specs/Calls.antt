@@ -11,9 +11,9 @@ use Rattle.dcc_io.specs.Took.{LinesAt}
 use Rattle.dcc_io.specs.Items.{Grammar, ReadsUpTo, in_text}
 use Rattle.dcc_io.specs.WriterState.{WriterState}
 
--- If the result is Ok, `done` holds for its value. If it is an error, `stopped` holds for a stored
--- error of the input, `unwritten` for a failed write, or `no_memory` for a failed allocation. Only
--- a failed write raises the count of failures of the writer.
+-- if the result is Ok, `done` holds for its value. If the result is an error, `stopped` holds for a
+-- stored error of the input, `unwritten` holds after a failed write, or `no_memory` holds after a
+-- failed allocation. Only a failed write increases the count of failures of the writer.
 abbrev pub CallPost : {A : Type 0} → (A → Type 0) → (KeptFault → Type 0) → Type 0 → Type 0 → WriterState
     → Result A ToolFault → WriterState → Type 0
 CallPost done stopped unwritten no_memory before (Ok answer) after =
@@ -22,22 +22,22 @@ CallPost done stopped unwritten no_memory before (Err fault) after =
     ErrorPost (λ kept. stopped kept × (after.failures ≡ before.failures))
     (unwritten × HasRisen before.failures after.failures) (no_memory × (after.failures ≡ before.failures)) fault
 
--- the whole input was read from `old` to `new` without an error, and `fact` holds for the list of
--- its items
+-- the input in state `old` was read to its end without an error, and is then in state `new`. `fact`
+-- holds for the list of its items.
 pub record ReadsAll {A : Type 0} (grammar : Grammar A) (old new : InputState) (fact : List A → Type 0) : Type 0 where
   pub items : ReadsUpTo grammar old None new fact
   pub at_end : IsAtEnd new.text
   pub lines : UsesAllLines old new
   pub fault : new.fault ≡ None
 
--- the input was read from `old` to `new` up to the error `fault`, which `new` stores, and `fact`
--- holds for the list of items before it
+-- the input in state `old` was read up to the error `fault`. It is then in state `new`, which
+-- stores this error. `fact` holds for the list of items before the error.
 pub record ReadsTo {A : Type 0} (grammar : Grammar A) (old : InputState) (fault : KeptFault) (new : InputState)
     (fact : List A → Type 0) : Type 0 where
   pub kept : new.fault ≡ Some fault
   pub items : ReadsUpTo grammar old (Some fault) new fact
 
--- the error can occur in an input of lines: it is not U2
+-- the error `fault` can occur in an input of lines: it is not U2
 abbrev pub IsOfLines : KeptFault → Type 0
 IsOfLines (kept.Number line) = ⊥
 IsOfLines fault = Unit {0}

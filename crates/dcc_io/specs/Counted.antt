@@ -7,8 +7,8 @@ use Rattle.dcc_io.specs.InputState.{InputState}
 use Rattle.dcc_io.specs.Words.{duration_of, run_of}
 use Rattle.dcc_io.specs.PassedWords.{Passed}
 
--- the half-bits of `run` were subtracted from the limit of half-bits, or the result is the error U7
--- if the limit does not allow them
+-- the half-bits of `run` were subtracted from the limit of half-bits. If the limit has too few
+-- half-bits, the result is the error U7.
 abbrev pub CountsRun : InputState → Run → Result (Option Run) KeptFault → InputState → Type 0
 CountsRun old run (Ok (Some taken)) new =
     (taken ≡ run) × (run.n ≤ old.halves) × (new ≡ record old { halves = old.halves - run.n })
@@ -16,7 +16,7 @@ CountsRun old run (Ok None) new = ⊥
 CountsRun old run (Err fault) new =
     (fault ≡ TooMuch) × (old.halves < run.n) × (new ≡ record old { fault = Some TooMuch })
 
--- the next word, on the current line of `old`, was removed. It is the duration `us`, and one
+-- the next word is on the current line of `old` and is the duration `us`. It was removed, and one
 -- half-bit was subtracted from the limit.
 pub record TakesHalf (old : InputState) (us : ℕ) (new : InputState) : Type 0 where
   pub word : List ℕ
@@ -27,8 +27,8 @@ pub record TakesHalf (old : InputState) (us : ℕ) (new : InputState) : Type 0 w
   pub counted : new ≡ record mid { halves = mid.halves - 1 }
   pub fewer : new.bytes < old.bytes
 
--- the next word, on the current line of `old`, was removed. It is `run`, and the half-bits of `run`
--- were subtracted from the limit.
+-- the next word is on the current line of `old` and is `run`. It was removed, and the half-bits of
+-- `run` were subtracted from the limit.
 pub record TakesRun (old : InputState) (run : Run) (new : InputState) : Type 0 where
   pub word : List ℕ
   pub spells : run_of word ≡ Some run

@@ -1,5 +1,4 @@
--- The numbers of the error codes, the stored errors, and the statement that holds after each error
--- of a function.
+-- The numbers of the error codes, the stored errors, and what holds after each error of a function.
 use Rattle.std.specs.Prelude.{ℕ}
 use Rattle.dcc_io.specs.declared.fault.ToolFault.{ToolFault}
 use Rattle.dcc_io.specs.declared.fault.ToolFault.TheVariants.{Usage, Number, Line, Read, Write, NoMemory, TooMuch}
@@ -23,8 +22,8 @@ as_tool_fault (kept.Line line fault) = Line line fault
 as_tool_fault kept.Read = Read
 as_tool_fault kept.TooMuch = TooMuch
 
--- The statement that holds after an error of a function. It is `stopped` for a stored error of its
--- input, `unwritten` for a failed write, and `no_memory` for a failed allocation. The function does
+-- the property that holds after an error of a function: `stopped` after a stored error of its
+-- input, `unwritten` after a failed write, `no_memory` after a failed allocation. The function does
 -- not return U1.
 abbrev pub ErrorPost : (KeptFault → Type 0) → Type 0 → Type 0 → ToolFault → Type 0
 ErrorPost stopped unwritten no_memory (Number line) = stopped (kept.Number line)

@@ -7,17 +7,17 @@ use Rattle.dcc_io.specs.Items.{in_text}
 use Rattle.dcc_io.specs.PacketLines.{packet_lines}
 use Rattle.dcc_io.specs.StationLines.{Asked, Command, Next, station_lines}
 
--- in each `text` of an input, each packet line before the first error means a frame
+-- for each `text` of an input, each packet line before the first error means a frame
 abbrev pub PacketLinesSayFrames : Type 0
 PacketLinesSayFrames = (input : InputState) (text : List ℕ) → AllByRecursion IsFrame
     (in_text packet_lines input text).said
 
--- the bytes of the request are a frame, if it is a command
+-- if a request is a command, its bytes are a frame
 abbrev pub AsksForFrame : Asked → Type 0
 AsksForFrame (Command frame) = IsFrame frame
 AsksForFrame Next = Unit {0}
 
--- in each `text` of an input, each command to a station before the first error means a frame
+-- for each `text` of an input, each command to a station before the first error means a frame
 abbrev pub StationLinesSayFrames : Type 0
 StationLinesSayFrames =
     (input : InputState) (text : List ℕ) → AllByRecursion AsksForFrame (in_text station_lines input text).said

@@ -11,37 +11,36 @@ use Rattle.dcc_io.specs.ReaderState.{StartsWithByte, IsAtEnd}
 
 -- the state of an input
 pub record InputState : Type 0 where
-  -- the bytes that are still to be read and the line feed that closes them, or `None` if the reader
-  -- does not reveal them
+  -- the bytes that are still to be read, and a line feed after them, or `None` if the contract of
+  -- the reader does not give its bytes
   pub text : Option (List ℕ)
   -- the buffered bytes, which are the first bytes of `text`
   pub ahead : List ℕ
   pub place : TextPlace
-  -- the number of lines used, which includes a line that was read in part. The line feed that
-  -- closes the text is on no line.
+  -- the number of lines that were read, including a line that was read in part. The line feed after
+  -- the text is on no line.
   pub lines : ℕ
   -- the number of half-bits that the limit still allows
   pub halves : ℕ
-  -- the number of bytes that the limit still allows, plus one for the line feed that closes the
-  -- text
+  -- the number of bytes that the limit still allows, plus one for the line feed after the text
   pub bytes : ℕ
   -- the stored error
   pub fault : Option KeptFault
   -- the number of failed reads
   pub failures : ℕ
 
--- the number of line feeds that the input still has to append to its text: 0 if `closed` is true,
+-- the number of line feeds that the input still appends to its text: 0 if `closed` is true,
 -- otherwise 1
 abbrev pub closing : Bool → ℕ
 closing closed = if closed then 0 else 1
 
--- the bytes `coming` of the reader, followed by the line feed that closes them; no bytes if this
--- line feed was already read
+-- the bytes `coming` of the reader, and a line feed after them. If this line feed was already read,
+-- there are no bytes.
 abbrev pub closed_text : Bool → Option (List ℕ) → Option (List ℕ)
 closed_text closed coming = option_map (λ bytes. if closed then [] else bytes ++ 10 ∷ []) coming
 
--- the state of an input from which no byte was read. The reader has the bytes `remaining` and its
--- count of failures; `halves` and `bytes` are the limits.
+-- the state of an input from which no byte was read. Its reader has the bytes `remaining` and the
+-- count `failures`. The limits are `halves` and `bytes`.
 abbrev pub fresh : Option (List ℕ) → ℕ → ℕ → ℕ → InputState
 fresh remaining failures halves bytes = record {
   text = closed_text false remaining;
@@ -54,15 +53,16 @@ fresh remaining failures halves bytes = record {
   failures = failures;
 }
 
--- the number of lines used after all bytes of `text` were read from `input`
+-- the number of lines that are read after all bytes of `text` were read from `input`
 abbrev pub all_lines : InputState → List ℕ → ℕ
 all_lines input text = lines_through input.lines input.place.line text
 
--- the number of lines used after the bytes `used` were read from `input`, if more bytes follow them
+-- the number of lines that are read after the bytes `used` were read from `input` and more bytes
+-- follow
 abbrev pub lines_up_to : InputState → List ℕ → ℕ
 lines_up_to input used = all_lines input (used ++ 10 ∷ [])
 
--- `new` has used all lines of the text of `old`
+-- the input has read all lines of the text of `old`
 abbrev pub UsesAllLines : InputState → InputState → Type 0
 UsesAllLines old new = IfSome old.text (λ text. new.lines ≡ all_lines old text)
 
@@ -70,7 +70,7 @@ UsesAllLines old new = IfSome old.text (λ text. new.lines ≡ all_lines old tex
 abbrev pub ReadHasFailure : Option KeptFault → ℕ → Type 0
 ReadHasFailure fault failures = fault ≡ Some Read → 0 < failures
 
--- the next byte of the input, which is `byte`, was removed
+-- the next byte of the input, `byte`, was removed
 pub record TakesByte (old : InputState) (byte : ℕ) (new : InputState) : Type 0 where
   pub text : StartsWithByte old.text byte new.text
   pub line : new.place.line ≡ line_behind old.place.line byte
@@ -79,13 +79,13 @@ pub record TakesByte (old : InputState) (byte : ℕ) (new : InputState) : Type 0
   pub halves : new.halves ≡ old.halves
   pub bytes : new.bytes + 1 ≡ old.bytes
   pub room : new.bytes ≡ 0 → IsAtEnd new.text
-  -- if no byte is left, `byte` is the line feed that closes the text
+  -- if no byte is left, `byte` is the line feed after the text
   pub last : IfSome new.text (λ rest. rest ≡ [] → byte ≡ 10)
   pub fault : new.fault ≡ None
   pub failures : new.failures ≡ old.failures
 
--- a read failed, and the buffer is empty. The failed read removed no byte, and the line feed that
--- closes the text is still to come.
+-- a read failed when the buffer was empty. It removed no byte, and the line feed after the text is
+-- still to be read.
 pub record FailsToRead (old new : InputState) : Type 0 where
   pub text : Keeps old.text new.text
   pub more : IfSome old.text (λ text. 0 < length text)

@@ -6,7 +6,7 @@ use Rattle.dcc_io.specs.Failures.{HasRisen}
 use Rattle.dcc_io.specs.InputState.{InputState}
 use Rattle.dcc_io.specs.Took.{Uses, Took, within_limit, StandsBehind, Stops}
 
--- the items before the first error, and this error, or `None` if there is no error
+-- the items of a text before its first error, and this error, or `None` if the text has no error
 pub record Items (A : Type 0) : Type 0 where
   pub said : List A
   pub fault : Option KeptFault
@@ -23,25 +23,25 @@ items_behind front items = record { said = front ++ items.said; fault = items.fa
 abbrev pub Grammar : Type 0 → Type 0
 Grammar A = InputState → List ℕ → Option KeptFault → Items A
 
--- the items in an `input` whose text is `text`
+-- the items of an `input` with the text `text`
 abbrev pub in_text : {A : Type 0} → Grammar A → InputState → List ℕ → Items A
 in_text grammar input text = within_limit (grammar input) input text
 
--- the items in an `input` whose reader fails after the bytes `used`
+-- the items of an `input` whose reader fails after the bytes `used`
 abbrev pub before_failure : {A : Type 0} → Grammar A → InputState → List ℕ → Items A
 before_failure grammar input used = grammar input used (Some kept.Read)
 
--- the items of `used` and any further bytes in `old` are `items`, followed by the items of the
--- further bytes in `new`
+-- for any bytes that follow `used`: the items of `used` and these bytes in `old` are `items`,
+-- followed by the items of these bytes in `new`
 abbrev pub PrefixParsesTo : {A : Type 0} → Grammar A → InputState → List A → InputState → List ℕ → Type 0
 PrefixParsesTo grammar old items new used = (more : List ℕ) (last : Option KeptFault)
     → grammar old (used ++ more) last ≡ items_behind items (grammar new more last)
 
--- the input has used the bytes of `text` before `rest`, and these bytes have the items `items`
+-- the input has read the bytes of `text` before `rest`, and these bytes have the items `items`
 abbrev pub Gives : {A : Type 0} → Grammar A → InputState → List A → InputState → List ℕ → List ℕ → Type 0
 Gives grammar old items new text rest = Uses (PrefixParsesTo grammar old items new) old new text rest
 
--- the items `items` were read from `old` to `new` without an error
+-- the input has read bytes with the items `items`, without an error
 abbrev pub Gave : {A : Type 0} → Grammar A → InputState → List A → InputState → Type 0
 Gave grammar old items new = Took (PrefixParsesTo grammar old items new) old new
 
@@ -51,8 +51,8 @@ StopsAt grammar old fault new =
     Stops (λ used. before_failure grammar old used ≡ only_fault (Some kept.Read))
     (λ text. in_text grammar old text ≡ only_fault (Some fault)) old fault new
 
--- `fact` holds for the items before the error `fault`; if `fault` is `None`, there is no error and
--- `fact` holds for all items
+-- `fact` holds for the items before the error `fault`. If `fault` is `None`, there is no error, and
+-- `fact` holds for all items.
 abbrev pub EndsWith : {A : Type 0} → Option KeptFault → (List A → Type 0) → Items A → Type 0
 EndsWith fault fact items = (items.fault ≡ fault) × fact items.said
 

@@ -1,15 +1,16 @@
--- The skipping of the rest of a line.
+-- How an input skips the rest of a line.
 use Rattle.std.specs.Prelude.{◌≡◌, ◌⊎◌, ℕ, ◌<◌, ◌∷◌, List, [], Bool, true, false, Result, Ok, Err, IfSome}
 use Rattle.dcc_io.specs.declared.fault.KeptFault.{KeptFault}
 use Rattle.dcc_io.specs.InputState.{InputState}
 use Rattle.dcc_io.specs.PassedWords.{Passed, AnswersWord}
 
--- the state `input` is on a line after line `line`, or at its end
+-- `input` is on a line after the line with number `line`, or at its end
 abbrev pub IsBehindLine : ℕ → InputState → Type 0
 IsBehindLine line input = IfSome input.text (λ rest. (rest ≡ []) ⊎ (line < input.place.line))
 
--- If the result is true, no further word is on the line of `old`, and `new` is on a later line or
--- at the end. If it is false, a further word has ended on this line, which is the last line used.
+-- If the result is true, the line of `old` has no further word, and `new` is on a later line or at
+-- the end. If the result is false, a further word was read on this line, and no byte of a later
+-- line.
 abbrev pub SkipsToLineEnd : InputState → Result Bool KeptFault → InputState → Type 0
 SkipsToLineEnd old (Ok true) new = Passed old [] new × IsBehindLine old.place.line new
 SkipsToLineEnd old (Ok false) new = (word : List ℕ) × Passed old

@@ -1,4 +1,4 @@
--- The reading of the lines of an input.
+-- How an input reads lines.
 use Rattle.std.specs.Prelude.{◌≡◌, ℕ, ◌+◌, ◌<◌, ◌∷◌, ◌++◌, ◌==◌, List, [], Bool, true, false, Option, None}
 use Rattle.std.specs.Prelude.{Some, Result, Ok, Err, length, IfSome, IsSomeAnd}
 use Rattle.std.specs.List.{list_any}
@@ -21,14 +21,14 @@ pub record IsOneLine (line : List ℕ) : Type 0 where
   pub good : is_good line ≡ true
   pub one : has_line_feed line ≡ false
 
--- the number of lines used after some bytes of line `line` were read, without the line feed that
--- ends it. It stays `lines` if no byte was read.
+-- the number of lines that were read after some bytes of line `line`, without the line feed at its
+-- end. It stays `lines` if no byte was read.
 abbrev pub lines_within : ℕ → ℕ → List ℕ → ℕ
 lines_within lines line [] = lines
 lines_within lines line (byte ∷ front) = line
 
--- the line `line` with the number `number`, and the line feed that ends it, were read from `old` to
--- `new`
+-- between the states `old` and `new`, the input read the line `line` with the number `number`, and
+-- the line feed after it
 pub record ReadsLine (old : InputState) (number : ℕ) (line : List ℕ) (new : InputState) : Type 0 where
   pub at : number ≡ old.place.line
   pub is_line : IsOneLine line
@@ -43,7 +43,7 @@ pub record ReadsLine (old : InputState) (number : ℕ) (line : List ℕ) (new : 
   pub fault : new.fault ≡ None
   pub failures : new.failures ≡ old.failures
 
--- the text of `old` has ended, and no line has begun
+-- the text of `old` has no byte left, and the input is at the start of a line
 pub record EndsText (old new : InputState) : Type 0 where
   pub text : IfSome old.text (λ text. IsSomeAnd new.text (λ rest. (text ≡ []) × (rest ≡ [])))
   pub at_end : IsAtEnd new.text
@@ -51,7 +51,7 @@ pub record EndsText (old new : InputState) : Type 0 where
   pub place : new.place ≡ old.place
   pub halves : new.halves ≡ old.halves
 
--- `text` begins with bytes of one line that are invalid, and the limit of `old` allows these bytes
+-- `text` begins with an invalid line or a prefix of one, and the limit of `old` allows its bytes
 pub record IsBadAt (old : InputState) (text : List ℕ) : Type 0 where
   pub line : List ℕ
   pub rest : List ℕ
@@ -67,11 +67,12 @@ pub record MeetsBadLine (old : InputState) (number : ℕ) (new : InputState) : T
   pub fault : new.fault ≡ Some (Line number faults.Word)
   pub failures : new.failures ≡ old.failures
 
--- a read failed after bytes of one valid line
+-- a read failed, and the input had read a prefix of one valid line before it
 abbrev pub FailsInLine : InputState → InputState → Type 0
 FailsInLine old new = FailsBehind IsOneLine old new × (new.fault ≡ Some Read) × LinesAt old Read new
 
--- no line ends in the bytes that the limit of `old` allows, and the text has more bytes
+-- the bytes that the limit of `old` allows are a prefix of one valid line, and the text has more
+-- bytes
 abbrev pub OverflowsInLine : InputState → InputState → Type 0
 OverflowsInLine old new = OverflowsBehind IsOneLine old new × (new.fault ≡ Some TooMuch) × LinesAt old TooMuch new
 

@@ -3,7 +3,7 @@ use Rattle.std.specs.Prelude.{ℕ, ◌+◌, ◌∷◌, List, [], Bool, length, n
 use Rattle.std.specs.Char.{is_ascii}
 use Rattle.std.specs.List.{list_all}
 
--- a line, without the line feed that ends it, and its number
+-- a line without its line feed, and its number
 pub record NumberedLine : Type 0 where
   pub number : ℕ
   pub bytes : List ℕ
@@ -12,7 +12,7 @@ abbrev pub onto_first_line : ℕ → List NumberedLine → List NumberedLine
 onto_first_line byte [] = []
 onto_first_line byte (line ∷ lines) = record { number = line.number; bytes = byte ∷ line.bytes } ∷ lines
 
--- the lines of a text, the first of which has the number `number`. No line feed ends the last line.
+-- the lines of a text. The first line has the number `number`. The last line has no line feed.
 abbrev pub lines_from : ℕ → List ℕ → List NumberedLine
 lines_from number [] = record { number = number; bytes = [] } ∷ []
 lines_from number (byte ∷ text) =

@@ -21,32 +21,33 @@ is_comment_line (byte ∷ line) = byte == 35
 abbrev pub is_skipped : List ℕ → Bool
 is_skipped line = is_comment_line line || list_all is_separator line
 
--- the meaning of lines: `said` gives the value of the words of a line, and `items` gives the items
--- of this value
+-- the meaning of the lines of a text. `said` gives the value that the words of a line mean, and
+-- `items` gives the items of this value.
 pub record Saying (A B : Type 0) : Type 0 where
   pub said : List Word → Result B PacketFault
   pub items : B → List A
 
--- the items of the value of line `number`, followed by the items `rest`; or the error of this line
+-- the items of the value of line `number`, followed by the items `rest`, or the error of this line
 abbrev pub behind_words : {A B : Type 0} → Saying A B → ℕ → Result B PacketFault → Items A → Items A
 behind_words saying number (Ok says) rest = items_behind (saying.items says) rest
 behind_words saying number (Err fault) rest = only_fault (Some (kept.Line number fault))
 
--- the items of the ended line `line`, followed by the items `rest`; or the error of this line
+-- the items of the line `line`, which a line feed ends, followed by the items `rest`, or the error
+-- of this line
 abbrev pub behind_line : {A B : Type 0} → Saying A B → NumberedLine → Items A → Items A
 behind_line saying line rest =
     if not (is_good line.bytes) then only_fault (Some (kept.Line line.number faults.Word))
     else if is_skipped line.bytes then rest
     else behind_words saying line.number (saying.said (words line.bytes)) rest
 
--- the error after `line`, which has not ended: P10 if the line is invalid, otherwise `last`. A line
--- that has not ended has no items.
+-- the result for a last line without a line feed. It has no items. Its error is P10 if the line is
+-- invalid, otherwise `last`.
 abbrev pub open_line : {A : Type 0} → NumberedLine → Option KeptFault → Items A
 open_line line last =
     if is_good line.bytes then only_fault last else only_fault (Some (kept.Line line.number faults.Word))
 
--- the items of a list of lines up to the first error. The last line has not ended. If no line has
--- an error, the error is `last`.
+-- the items of a list of lines up to the first error. The last line has no line feed. If no line
+-- has an error, the error is `last`.
 abbrev pub items_of : {A B : Type 0} → Saying A B → List NumberedLine → Option KeptFault → Items A
 items_of saying [] last = only_fault last
 items_of saying (line ∷ []) last = open_line line last
@@ -60,11 +61,11 @@ lines_by saying input bytes last = items_of saying (lines_from input.place.line 
 abbrev pub items_in : {A B : Type 0} → Saying A B → InputState → List ℕ → Items A
 items_in saying input text = in_text (lines_by saying) input text
 
--- the meaning of packet lines: the words of a line mean one frame, which is its item
+-- the meaning of packet lines: the words of a line mean a frame, which is the only item of the line
 abbrev pub packet_words : Saying (List ℕ) (List ℕ)
 packet_words = record { said = frame_of_words; items = λ frame. frame ∷ [] }
 
--- the frames of the packet lines in an `input` whose text is `text`
+-- the frames that the packet lines of an `input` with the text `text` mean
 abbrev pub frames_in : InputState → List ℕ → Items (List ℕ)
 frames_in input text = items_in packet_words input text
 

@@ -1,4 +1,4 @@
--- The reading of the parsed lines of an input.
+-- How an input reads lines and parses them.
 use Rattle.std.specs.Prelude.{◌≡◌, ◌<◌, [], Option, None, Some, Result, Ok, Err, IfSome}
 use Rattle.dcc_packet.specs.declared.fault.PacketFault.{PacketFault}
 use Rattle.dcc_packet.specs.Words.{words}
@@ -11,7 +11,7 @@ use Rattle.dcc_io.specs.Took.{LinesAt}
 use Rattle.dcc_io.specs.Items.{Gave, StopsAt, only_fault}
 use Rattle.dcc_io.specs.PacketLines.{Saying, lines_by, items_in}
 
--- the value that `as_said` gives for a parsed line, or the error of the line
+-- the value that `as_said` returns for a parsed line, or the error of the line
 abbrev pub map_parsed : {B C : Type 0} → (C → B) → Result C PacketFault → Result B PacketFault
 map_parsed as_said (Ok says) = Ok (as_said says)
 map_parsed as_said (Err fault) = Err fault
@@ -29,7 +29,8 @@ AnswersSaid saying as_said old (Err (kept.Number line)) new = ⊥
 AnswersSaid saying as_said old (Err fault) new =
     StopsAt (lines_by saying) old fault new × (new.fault ≡ Some fault) × LinesAt old fault new
 
--- the result is the value of the words of `line`, or their error, which is stored
+-- the result is the value that the words of `line` mean, or their error, which the input then
+-- stores
 abbrev pub ReadsSaid : {A B C : Type 0} → Saying A B → (C → B) → InputState → TextLine → Result (Option C) KeptFault
     → InputState → Type 0
 ReadsSaid saying as_said old line (Ok (Some says)) new =

@@ -1,4 +1,4 @@
--- The reading of the words of an input.
+-- How an input reads words.
 use Rattle.std.specs.Prelude.{◌≡◌, ℕ, ◌<◌, ◌≤◌, ◌∷◌, List, [], Option, None, Some, Result, Ok, Err, IfSome}
 use Rattle.dcc_io.specs.declared.fault.KeptFault.{KeptFault}
 use Rattle.dcc_io.specs.declared.fault.KeptFault.TheVariants.{Number, Line, Read, TooMuch}
@@ -9,18 +9,18 @@ use Rattle.dcc_io.specs.Words.{PlacedWord, ended_words, Passes}
 use Rattle.dcc_io.specs.SpelledWords.{Spells}
 use Rattle.dcc_io.specs.Took.{Took, FailsBehind, OverflowsBehind, LinesAt}
 
--- `words` were read from `old` to `new` without an error
+-- between the states `old` and `new`, the input read `words` without an error
 pub record Passed (old : InputState) (words : List PlacedWord) (new : InputState) : Type 0 where
   pub took : Took (λ used. Passes old.place used words new.place) old new
   pub open took use *
   pub halves : new.halves ≡ old.halves
 
--- no word of the input has ended in `bytes`
+-- `bytes` have no complete word of the input
 abbrev pub IsBeforeWord : InputState → List ℕ → Type 0
 IsBeforeWord input bytes = ended_words input.place bytes ≡ []
 
--- the next word has ended. It is on line `line`, which is the last line used, and `so_far` is its
--- stored form.
+-- the next word was read. It is on line `line`, no byte of a later line was read, and `so_far` is
+-- its stored form.
 pub record EndsWord (old : InputState) (line : ℕ) (so_far : RunWord) (new : InputState) : Type 0 where
   pub word : List ℕ
   pub spelled : Spells so_far word

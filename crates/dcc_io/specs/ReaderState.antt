@@ -8,29 +8,30 @@ use Rattle.dcc_io.specs.Failures.{one_more}
 pub record ReaderState : Type 0 where
   -- the buffered bytes
   pub ahead : List ℕ
-  -- the buffered bytes and the bytes to come, or `None` if the reader does not reveal them
+  -- the buffered bytes and the bytes that are still to be read, or `None` if the contract of the
+  -- reader does not give its bytes
   pub text : Option (List ℕ)
   -- the number of failed reads
   pub failures : ℕ
   -- the number of reads, if the reader counts them
   pub reads : ℕ
 
--- `text` begins with `bytes`, if it is known
+-- `text` begins with `bytes`, or it is `None`
 abbrev pub StartsWithBytes : List ℕ → Option (List ℕ) → Type 0
 StartsWithBytes bytes text = IfSome text (λ all. (rest : List ℕ) × (all ≡ bytes ++ rest))
 
--- `text` consists of `byte` followed by `rest`, if the text is known
+-- `text` consists of `byte` and then `rest`, or `text` is `None`
 abbrev pub StartsWithByte : Option (List ℕ) → ℕ → Option (List ℕ) → Type 0
 StartsWithByte None byte rest = Unit {0}
 StartsWithByte (Some text) byte None = ⊥
 StartsWithByte (Some text) byte (Some rest) = text ≡ byte ∷ rest
 
--- `text` has no byte left, if it is known
+-- `text` has no byte left, or it is `None`
 abbrev pub IsAtEnd : Option (List ℕ) → Type 0
 IsAtEnd text = IfSome text (λ bytes. bytes ≡ [])
 
--- from `old` to `new` at most one read was made, and no read if the buffer was not empty. So a
--- reader that has returned its end is not read again in the same call.
+-- between the states `old` and `new`, the reader was read at most once, and not at all if the
+-- buffer had bytes. So a reader that has returned its end is not read again in the same call.
 pub record ReadsAtMostOnce (old new : ReaderState) : Type 0 where
   pub most : new.reads ≤ old.reads + 1
   pub ahead : 0 < length old.ahead → new.reads ≡ old.reads
@@ -47,7 +48,7 @@ AnswersNext old (Err failed) new =
     (old.ahead ≡ []) × (new.ahead ≡ []) × Keeps old.text new.text × (new.failures ≡ one_more old.failures)
     × ReadsAtMostOnce old new
 
--- the text is unchanged, and the buffer is empty only if the text has ended
+-- the text is unchanged, and the buffer is empty only if the text has no byte left
 pub record IsFilled (old new : ReaderState) : Type 0 where
   pub text : Keeps old.text new.text
   pub failures : new.failures ≡ old.failures

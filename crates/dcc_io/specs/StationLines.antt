@@ -39,21 +39,23 @@ send_field =
       written = λ send. decimal send.count ∷ [];
     }
 
--- the request of a packet line, which is one command with its frame, or the error of the line
+-- the request of a packet line: a command with the frame of this line. Or the error of the line.
 abbrev pub command_of : Result (List ℕ) PacketFault → Result (List Asked) PacketFault
 command_of (Ok frame) = Ok (Command frame ∷ [])
 command_of (Err fault) = Err fault
 
--- the N requests of the line `send N`, each for one packet, or the error of the line
+-- the requests of the line `send N`: N requests for a packet. Or the error of the line.
 abbrev pub packets_of : Result SendCount PacketFault → Result (List Asked) PacketFault
 packets_of (Ok send) = Ok (replicate send.count Next)
 packets_of (Err fault) = Err fault
 
--- the requests of the words of a line, which is `send N` or a packet line, or the error of the line
+-- the requests of a line with these words, which is `send N` or a packet line, or the error of the
+-- line
 unfoldable pub station_requests : List Word → Result (List Asked) PacketFault
 station_requests [] = command_of (frame_of_words [])
 station_requests (word ∷ rest) =
-    if is_word word (codes "send") then packets_of (whole send_field rest) else command_of (frame_of_words (word ∷ rest))
+    if is_word word (codes "send") then packets_of (whole send_field rest)
+    else command_of (frame_of_words (word ∷ rest))
 
 abbrev pub station_words : Saying Asked (List Asked)
 station_words = record { said = station_requests; items = λ items. items }

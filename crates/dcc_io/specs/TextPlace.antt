@@ -1,6 +1,6 @@
 use Rattle.std.specs.Prelude.{ℕ, ◌+◌, ◌∷◌, List, [], Bool, ◌==◌, if◌then◌else◌}
 
--- a position in a text: the number of its line, which begins at 1, and whether the position is in a
+-- a position in a text: the number of its line, which begins at 1, and true if the position is in a
 -- comment
 pub record TextPlace : Type 0 where
   pub line : ℕ
@@ -10,14 +10,14 @@ pub record TextPlace : Type 0 where
 abbrev pub line_behind : ℕ → ℕ → ℕ
 line_behind line byte = if byte == 10 then line + 1 else line
 
--- the number of lines used after a byte on line `line`. It stays `lines` if no byte follows, since
--- the last byte of a text is the line feed that closes it, which is on no line.
+-- the number of lines that were read after a byte on line `line`. It stays `lines` if no byte
+-- follows: the last byte is then the line feed after the text, which is on no line.
 abbrev pub lines_with : ℕ → ℕ → List ℕ → ℕ
 lines_with lines line [] = lines
 lines_with lines line (byte ∷ rest) = line
 
--- the number of lines used after all bytes of a text that begins on line `line`, if `lines` were
--- used before
+-- the number of lines that were read after all bytes of a text that begins on line `line`. Before
+-- the text, `lines` lines were read.
 abbrev pub lines_through : ℕ → ℕ → List ℕ → ℕ
 lines_through lines line [] = lines
 lines_through lines line (byte ∷ rest) = lines_through (lines_with lines line rest) (line_behind line byte) rest

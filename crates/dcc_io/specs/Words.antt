@@ -16,13 +16,13 @@ pub record PlacedWord : Type 0 where
 unfoldable pub is_gap : ℕ → Bool
 is_gap byte = byte == 32 || (byte == 9 || (byte == 13 || byte == 10))
 
--- true if `byte` is in a comment, which begins with `#` and ends before a line feed; `in_comment`
--- is true if the byte before is in a comment
+-- true if `byte` is in a comment, which begins with `#` and ends before a line feed. `in_comment`
+-- is true if the byte before `byte` is in a comment.
 unfoldable pub comments : Bool → ℕ → Bool
 comments in_comment byte = if byte == 10 then false else (in_comment || byte == 35)
 
--- the text with a space in place of each byte of a comment; `in_comment` is true if the text begins
--- in a comment
+-- the text with a space in place of each byte of a comment. `in_comment` is true if the text begins
+-- in a comment.
 abbrev pub without_comments : Bool → List ℕ → List ℕ
 without_comments in_comment [] = []
 without_comments in_comment (byte ∷ text) =
@@ -32,7 +32,8 @@ abbrev pub onto_first : ℕ → List PlacedWord → List PlacedWord
 onto_first byte [] = []
 onto_first byte (word ∷ words) = record { line = word.line; bytes = byte ∷ word.bytes } ∷ words
 
--- the pieces of a text between gaps, each with its line; `line` is the line of the first piece
+-- the parts of a text between gaps, each with the number of its line. `line` is the number of the
+-- first line.
 abbrev pub pieces : ℕ → List ℕ → List PlacedWord
 pieces line [] = record { line = line; bytes = [] } ∷ []
 pieces line (byte ∷ text) =
@@ -51,20 +52,20 @@ is_some_byte (byte ∷ bytes) = true
 abbrev pub has_bytes : PlacedWord → Bool
 has_bytes word = is_some_byte word.bytes
 
--- the words that have ended in `text`, which begins at `place`. The bytes after the last gap may be
--- the beginning of a further word and do not count.
+-- the complete words of `text`, which begins at `place`. The bytes after the last gap are not a
+-- complete word, since a word can go on after them.
 abbrev pub ended_words : TextPlace → List ℕ → List PlacedWord
 ended_words place text = filter has_bytes (but_last (pieces place.line (without_comments place.in_comment text)))
 
--- the duration of a word of 1 to 10 digits, or `None` for any other word; a duration above 65,535
--- counts as 65,535
+-- the duration of a word of 1 to 10 digits, or `None` for any other word. A duration above 65,535
+-- counts as 65,535.
 abbrev pub duration_of : List ℕ → Option ℕ
 duration_of word =
     if nat_lt 0 (length word) && (nat_le (length word) 10 && list_all is_ascii_digit word)
     then Some (min (digits_value 10 word) 65535) else None
 
--- the number from 1 to 16,777,216 that `bytes` write in 1 to 8 digits, or `None` if they do not
--- write such a number
+-- the number from 1 to 16,777,216 that `bytes` write in 1 to 8 digits, or `None` if `bytes` have no
+-- such number
 abbrev pub count_in_word : List ℕ → Option ℕ
 count_in_word bytes =
     if nat_lt 0
@@ -82,7 +83,7 @@ abbrev pub behind_star : List ℕ → Option (List ℕ)
 behind_star [] = None
 behind_star (byte ∷ word) = if byte == 42 then Some word else behind_star word
 
--- the count that the bytes after the `*` write, or 1 if there is no `*`
+-- the count that is written after the `*`, or 1 if there is no `*`
 abbrev pub times : Option (List ℕ) → Option ℕ
 times None = Some 1
 times (Some count) = count_in_word count
@@ -92,7 +93,8 @@ run_with None n = None
 run_with (Some us) None = None
 run_with (Some us) (Some n) = Some (record { us = us; n = n })
 
--- the run of a word: a duration, or a duration, `*` and a count; `None` for any other word
+-- the run of a word, which is a duration, or a duration, `*` and a count. It is `None` for any
+-- other word.
 abbrev pub run_of : List ℕ → Option Run
 run_of word = run_with (duration_of (before_star word)) (times (behind_star word))
 
@@ -103,7 +105,7 @@ is_dash byte = byte == 45
 abbrev pub is_mark : List ℕ → Bool
 is_mark word = length word == 3 && list_all is_dash word
 
--- the words of `bytes` and any further bytes from the position `from` are `words`, followed by the
--- words of the further bytes from the position `to`
+-- for any bytes that follow `bytes`: the words of all these bytes from the position `from` are
+-- `words`, followed by the words of the following bytes from the position `to`
 abbrev pub Passes : TextPlace → List ℕ → List PlacedWord → TextPlace → Type 0
 Passes from bytes words to = (more : List ℕ) → ended_words from (bytes ++ more) ≡ words ++ ended_words to more

@@ -183,7 +183,8 @@ module _ {start now : InputState} {before : ℕ} {framer : Framer} {packets : Li
   first_up_to new (Line line why) stops = (stops.0 ∙ so_far.leads.failures, stopped_behind (Line line why) stops.1)
   first_up_to new TooMuch stops = (stops.0 ∙ so_far.leads.failures, stopped_behind TooMuch stops.1)
 
-  pub first_stops : (new : InputState) (fault : KeptFault) → start.fault ≡ None → AnswersFirst before now (Err fault) new
+  pub first_stops : (new : InputState) (fault : KeptFault) → start.fault ≡ None
+      → AnswersFirst before now (Err fault) new
       → BothFail start (as_tool_fault fault) new
   first_stops new fault none answer =
       gives_up (λ kept. StopsBothAt start kept new) _ _ fault

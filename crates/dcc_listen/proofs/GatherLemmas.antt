@@ -18,7 +18,8 @@ use Rattle.dcc_listen.specs.Taking.{Gathering}
 use Rattle.dcc_io.proofs.CallLemmas.{gives_up}
 use Rattle.dcc_capture.proofs.CaptureLemmas.{CaptureLinesAt-behind}
 use Rattle.dcc_io.proofs.ItemsLemmas.{Gave-append, up_to_fault, reads_up_to, uses_all_lines}
-use Rattle.dcc_capture.proofs.ShowLemmas.{Answers, GaveHalves-none, GaveHalves-append, stops_at_run_fault}
+use Rattle.dcc_capture.proofs.ShowLemmas.{Answers}
+use Rattle.dcc_capture.proofs.LinesLemmas.{GaveHalves-none, GaveHalves-append, stops_at_run_fault}
 
 pub Gathering-start : (input : InputState) (framer : Framer) → input.fault ≡ None → StandsFor framer []
     → Gathering input input framer []

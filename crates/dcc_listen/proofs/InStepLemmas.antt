@@ -132,7 +132,8 @@ right_given who Took OtherTook OtherTook' progress other next c new (Some p) s i
 }
 
 -- held packets that were all taken
-pub all_held : (start now packets : List Packet) → TakesAll (λ packets progress. HeldTook start now packets progress.ended) packets
+pub all_held : (start now packets : List Packet)
+    → TakesAll (λ packets progress. HeldTook start now packets progress.ended) packets
     → packets ≡ start
 all_held start now packets (progress, ended, took) =
     let none : now ≡ [] = subst (λ e. MayFollow e now) ended took.all in

@@ -4,3 +4,6 @@ pub mod GatherFirstLemmas
 pub mod InStepLemmas
 pub mod TimingLemmas
 pub mod TimingTextLemmas
+pub mod LostCallLemmas
+pub mod LostTextLemmas
+pub mod WorkedExamples

@@ -21,7 +21,7 @@ use Rattle.dcc_listen.specs.FleetRun.{HaveHeard, HearsAll, Runs}
 use Rattle.dcc_io.proofs.CallLemmas.{gives_up}
 use Rattle.dcc_io.proofs.ItemsLemmas.{Gave-none, Gave-append, reads_up_to, up_to_fault, uses_all_lines}
 use Rattle.dcc_capture.proofs.CaptureLemmas.{CaptureLinesAt-behind}
-use Rattle.dcc_capture.proofs.ShowLemmas.{stops_at_run_fault}
+use Rattle.dcc_capture.proofs.LinesLemmas.{stops_at_run_fault}
 
 -- these halves were taken, and the decoders, by who each is and what it holds, have heard them
 pub record Hearing {C : Type 0} (view : C → Who × RegisterMap) (old : InputState) (olds : List C) (now : InputState)
@@ -29,7 +29,8 @@ pub record Hearing {C : Type 0} (view : C → Who × RegisterMap) (old : InputSt
   pub halves : List ℕ
   pub gave : Gave captures old halves now
   pub stands : StandsFor framer halves
-  pub heard : AllZip (λ start end. HasHeardHalves halves start.0 start.1 (view end).0 (view end).1) (map view olds) decoders
+  pub heard : AllZip (λ start end. HasHeardHalves halves start.0 start.1 (view end).0 (view end).1) (map view olds)
+      decoders
 
 AllZip-views : {A B : Type 0} (R : A → B → Type 0) {C : Type 0} (view : C → B) (xs : List A) (ys : List C)
     → AllZip (λ x y. R x (view y)) xs ys → AllZip R xs (map view ys)

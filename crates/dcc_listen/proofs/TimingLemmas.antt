@@ -20,7 +20,7 @@ use Rattle.dcc_timing.specs.declared.timings.Timings.{Timings}
 use Rattle.dcc_timing.specs.Measures.{Measures}
 use Rattle.dcc_listen.specs.Timed.{MeasuresCapture, StopsTiming, Times}
 use Rattle.dcc_listen.specs.TimingText.{timing_text}
-use Rattle.dcc_capture.proofs.ShowLemmas.{GaveHalves-none, GaveHalves-append, stops_at_run_fault}
+use Rattle.dcc_capture.proofs.LinesLemmas.{GaveHalves-none, GaveHalves-append, stops_at_run_fault}
 
 -- so far these halves were read, and measured
 pub record Measuring (start now : InputState) (timings : Timings) : Type 0 where
@@ -77,7 +77,8 @@ measuring_stops start now new timings fault so_far answer =
       of_capture = stops.2;
       reads = record {
         kept = stops.1;
-        items = reads_up_to captures start now new fault so_far.halves (λ halves. Unit {0}) so_far.gave.items stops.0 tt;
+        items = reads_up_to captures start now new fault so_far.halves (λ halves. Unit {0}) so_far.gave.items stops.0
+            tt;
       };
       lines = CaptureLinesAt-behind start now new so_far.halves fault so_far.gave.items stops.3;
     }
@@ -99,7 +100,8 @@ pub timed : (old new : InputState) (before after : WriterState) (timings : Timin
     → bytes ≡ text → Writes before bytes (Ok tt) after → Times old before (Ok tt) new after
 timed old new before after timings text bytes measured spelled same wrote = (
   reads_other old new (λ halves. Measures timings halves × (new.halves + length halves ≡ old.halves))
-      (λ halves. Appends before.contents after.contents (timing_text halves) × (new.halves + length halves ≡ old.halves))
+      (λ halves. Appends before.contents after.contents (timing_text halves)
+      × (new.halves + length halves ≡ old.halves))
       (λ halves is. (
         subst (λ (l : List ℕ). Appends before.contents after.contents l) (same ∙ spelled halves is.0) wrote.0,
         is.1,

@@ -19,9 +19,9 @@ use Rattle.dcc_listen.specs.VerdictLine.{verdict_line}
 use Rattle.dcc_io.specs.WriterState.{WriterState}
 use Rattle.dcc_io.specs.WrittenBytes.{AppendsFront}
 
--- two captures were read to their ends, and `verdict` is the verdict on their packets. It is
--- `Alike` if and only if these packets are alike for decoder `who`. If so, both captures lead the
--- decoder to the same registers, from all registers at the start.
+-- two captures were read to their ends, and `verdict` is the verdict on their packets. If and only
+-- if it is `Alike`, these packets are alike for decoder `who`. Then the decoder has equal registers
+-- after both captures, from all registers at the start.
 pub record Compared (who : Who) (left right left' right' : InputState) (verdict : Verdict) : Type 0 where
   pub packets : List Packet
   pub others : List Packet
@@ -31,7 +31,7 @@ pub record Compared (who : Who) (left right left' right' : InputState) (verdict 
   pub alike_is : (verdict ≡ Alike) ↔ AlikeFor who packets others
   pub alike : verdict ≡ Alike → LeaveTheSame who packets others
 
--- nothing or a part of the capture was read, without an error
+-- no byte or a part of a capture was read, without an error
 abbrev pub ReadsSome : InputState → InputState → Type 0
 ReadsSome old new = (new ≡ old) ⊎ ReadsOn old new
 

@@ -14,11 +14,11 @@ use Rattle.dcc_io.specs.WriterState.{WriterState}
 use Rattle.dcc_io.specs.WrittenBytes.{AppendsFront}
 use Rattle.dcc_saved.specs.FleetText.{fleet_text}
 
--- a fleet as the identities and the registers of its decoders
+-- a fleet: the identity and the registers of each of its decoders
 abbrev pub Fleet : Type 0
 Fleet = List (Who × RegisterMap)
 
--- each decoder of the fleet `starts` has heard the packets in `halves` and is now the decoder at
+-- each decoder of the fleet `starts` has heard the packets in `halves` and then is the decoder at
 -- the same place of `ends`
 abbrev pub HaveHeard : Fleet → Fleet → List ℕ → Type 0
 HaveHeard starts ends halves = AllZip (λ start end. HasHeardHalves halves start.0 start.1 end.0 end.1) starts ends

@@ -1,4 +1,4 @@
--- The reading of all packets of the two captures of an input.
+-- How an input reads all packets of two captures.
 use Rattle.std.specs.Prelude.{◌≡◌, ◌⊎◌, ℕ, List, [], ◌++◌, None, Some, IfSome, IsSomeAnd}
 use Rattle.dcc_packet.specs.declared.packet.Packet.{Packet}
 use Rattle.dcc_order.specs.Hearing.{ArePackets}
@@ -13,15 +13,15 @@ use Rattle.dcc_capture.specs.Capture.{RunsOver}
 use Rattle.dcc_capture.specs.BothCaptures.{Both, both_from, in_limit}
 use Rattle.dcc_capture.specs.FirstRead.{EndsFirst, FirstLinesAt}
 
--- both captures of an `input` whose text is `text`, up to its limits
+-- both captures of an `input` with the text `text`, up to its limits
 abbrev pub both_in : InputState → List ℕ → Both
 both_in input text = in_limit (both_from 0 input) input text
 
 abbrev pub both_before_failure : InputState → List ℕ → Both
 both_before_failure input used = both_from 0 input 0 used (Some kept.Read)
 
--- the first capture was read from `old` to the end of the line `---` without an error, and
--- `packets` are the packets in its half-bits
+-- the first capture and the line `---` were read without an error, between the states `old` and
+-- `new` of the input. `packets` are the packets in the half-bits of this capture.
 pub record GatheredFirst (old : InputState) (packets : List Packet) (new : InputState) : Type 0 where
   pub none_kept : old.fault ≡ None
   pub halves : List ℕ
@@ -35,8 +35,8 @@ pub record HoldBoth (packets others : List Packet) (both : Both) : Type 0 where
   pub first : ArePackets packets both.first
   pub second : ArePackets others both.second
 
--- both captures were read from `old` to their ends without an error, and `packets` and `others` are
--- the packets in their half-bits
+-- both captures were read to their ends without an error, between the states `old` and `new` of the
+-- input. `packets` and `others` are the packets in their half-bits.
 pub record GatheredBoth (old : InputState) (packets others : List Packet) (new : InputState) : Type 0 where
   pub none_kept : old.fault ≡ None
   pub hold : IfSome old.text (λ text. HoldBoth packets others (both_in old text))
@@ -45,8 +45,8 @@ pub record GatheredBoth (old : InputState) (packets others : List Packet) (new :
   pub lines : UsesAllLines old new
   pub fault : new.fault ≡ None
 
--- both captures were read from `old` up to a given error: their text has this error, or it is U4
--- and a read failed
+-- both captures were read up to an error. If the error is U4, a read failed. Otherwise the text of
+-- the captures has this error.
 abbrev pub ReadsBothUpTo : InputState → KeptFault → InputState → Type 0
 ReadsBothUpTo old kept.Read new = HasRisen old.failures new.failures × (new.ahead ≡ [])
     × IfSome old.text
@@ -59,7 +59,7 @@ ReadsBothUpTo old (kept.Line line fault) new =
 ReadsBothUpTo old kept.TooMuch new =
     (new.failures ≡ old.failures) × IfSome old.text (λ text. (both_in old text).fault ≡ Some kept.TooMuch)
 
--- the first capture was read to the end of the line `---`, and a run of the second capture has more
+-- the first capture and the line `---` were read, and a run of the second capture has more
 -- half-bits than the remaining limit allows
 pub record SecondRunsOver (old new : InputState) : Type 0 where
   pub halves : List ℕ
@@ -67,21 +67,20 @@ pub record SecondRunsOver (old new : InputState) : Type 0 where
   pub ends : EndsFirst 0 old halves mid
   pub over : RunsOver mid new
 
--- `new` has used the lines up to an error of one of the two captures, as `FirstLinesAt` says. If a
--- run of the second capture exceeds the limit, these are the lines up to this run.
+-- the input has read the lines up to an error of one of the two captures, as `FirstLinesAt` gives
+-- them. If a run of the second capture exceeds the limit, these are the lines up to this run.
 abbrev pub BothLinesAt : InputState → KeptFault → InputState → Type 0
 BothLinesAt old kept.TooMuch new = FirstLinesAt 0 old kept.TooMuch new ⊎ SecondRunsOver old new
 BothLinesAt old fault new = FirstLinesAt 0 old fault new
 
--- `old` has stored the error `fault`, or both captures were read up to this error, which `new`
--- stores
+-- `old` stores the error `fault`, or both captures were read up to this error, which `new` stores
 abbrev pub StopsBothAt : InputState → KeptFault → InputState → Type 0
 StopsBothAt old fault new =
     ((old.fault ≡ Some fault) × ReadHasFailure old.fault old.failures × (new ≡ old))
     ⊎ ((old.fault ≡ None) × (new.fault ≡ Some fault) × ReadsBothUpTo old fault new × BothLinesAt old fault new)
 
--- the packets of both captures were not read: a capture has an error, which is `fault`, or `fault`
--- is U6 and an allocation failed
+-- the packets of both captures could not be read: a capture has the error `fault`, or `fault` is U6
+-- and an allocation failed
 abbrev pub BothFail : InputState → ToolFault → InputState → Type 0
 BothFail old fault new =
     ErrorPost (λ kept. StopsBothAt old kept new) ⊥ ((old.fault ≡ None) × (new.fault ≡ None)) fault

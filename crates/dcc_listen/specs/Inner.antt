@@ -2,3 +2,5 @@
 pub mod InStep
 pub mod Sides
 pub mod Pushing
+pub mod LostTexts
+pub mod LostRuns

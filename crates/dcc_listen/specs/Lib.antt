@@ -7,4 +7,5 @@ pub mod ComparedBoth
 pub mod Taking
 pub mod TimingText
 pub mod Timed
+pub mod LostListing
 pub mod Inner

@@ -10,8 +10,8 @@ use Rattle.dcc_io.specs.Faults.{as_tool_fault}
 use Rattle.dcc_io.specs.InputState.{InputState}
 use Rattle.dcc_listen.specs.Gathered.{Gathered, GatherFails}
 
--- half-bits were read from `start` to `now`, `packets` are the packets in them, and `framer`
--- represents them
+-- half-bits were read between the states `start` and `now`. `packets` are the packets in them, and
+-- `framer` represents these half-bits.
 pub record Gathering (start now : InputState) (framer : Framer) (packets : List Packet) : Type 0 where
   pub halves : List ℕ
   pub gave : GaveHalves start halves now
@@ -26,7 +26,8 @@ ReadsPacket start packets (Ok (Some p)) now framer = Gathering start now framer 
 ReadsPacket start packets (Ok None) now framer = Gathered start packets now
 ReadsPacket start packets (Err fault) now framer = GatherFails start (as_tool_fault fault) now
 
--- a part of the capture, or the whole capture, was read from `old` to `new` without an error
+-- a part of a capture, or a whole capture, was read between the states `old` and `new` without an
+-- error
 pub record ReadsOn (old new : InputState) : Type 0 where
   pub none_kept : old.fault ≡ None
   pub fault : new.fault ≡ None

@@ -12,14 +12,14 @@ use Rattle.dcc_timing.specs.declared.timings.Timings.{Timings}
 use Rattle.dcc_timing.specs.Measures.{Measures}
 use Rattle.dcc_listen.specs.TimingText.{timing_text}
 
--- the capture was read from `old` up to the error `fault`, which `new` stores
+-- a capture was read up to the error `fault`, which the input then stores
 pub record StopsTiming (old : InputState) (fault : KeptFault) (new : InputState) : Type 0 where
   pub of_capture : IsOfCapture fault
   pub reads : ReadsTo captures old fault new (λ halves. Unit {0})
   pub lines : CaptureLinesAt old fault new
 
 -- if the result is Ok, the whole capture was read, and `timings` are the statistics of its
--- half-bits. If it is an error, the capture was read up to this error.
+-- half-bits. If the result is an error, the capture was read up to this error.
 abbrev pub MeasuresCapture : InputState → Result Timings KeptFault → InputState → Type 0
 MeasuresCapture old (Ok timings) new =
     ReadsAll captures old new (λ halves. Measures timings halves × (new.halves + length halves ≡ old.halves))

@@ -59,7 +59,8 @@ bit_lines halves bits =
     tally_lines (codes "ones") (filter is_half_of_one halves) ++ codes "ones station 55 61\nones decoder 52 64\n"
     ++ tally_lines (codes "differences") (map difference (filter is_one_pair bits))
     ++ codes "differences station 3\ndifferences decoder 6\n"
-    ++ tally_lines (codes "zeros") (filter is_half_of_zero halves) ++ codes "zeros station 95 9900\nzeros decoder 90 10000\n"
+    ++ tally_lines (codes "zeros") (filter is_half_of_zero halves)
+    ++ codes "zeros station 95 9900\nzeros decoder 90 10000\n"
     ++ tally_lines (codes "sums") (map bit_duration (filter is_zero_pair bits)) ++ codes "sums station 12000\n"
 
 -- the lines of the half-bits that are neither half of a one nor half of a zero

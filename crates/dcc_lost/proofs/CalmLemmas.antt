@@ -20,7 +20,7 @@ use Rattle.dcc_wire.proofs.ByteBits.{cases_Option}
 use Rattle.dcc_wire.proofs.FramingLemmas.{rest-push, seen-push}
 use Rattle.dcc_wire.proofs.OutcomeLemmas.{outcome_of-something, ones_left_le}
 use Rattle.dcc_lost.specs.Nearest.{nearest_class}
-use Rattle.dcc_lost.specs.Lost.{is_hunting}
+use Rattle.dcc_wire.specs.Framing.{is_hunting}
 use Rattle.dcc_lost.specs.Unused.{unused_at_end}
 use Rattle.dcc_lost.specs.LostLaws.{OneOutcomeUsesThePreamble}
 use Rattle.dcc_lost.proofs.CauseLaw.{parts, ones_before-few}
@@ -116,7 +116,14 @@ unfolding rest_after
 next_by n ones One half halves few calm (inl same) =
     record { left = min 20 (n + 1); hunts = rw same; most = ones + 1; few = omega arith; calm = calm }
 next_by n ones Zero half halves few calm (inl same) =
-    record { left = 0; hunts = rw (same, lt-leb 20 n (omega (arith, few, calm.0))); most = 0; few = omega arith; calm = calm.1 }
+    record {
+      left = 0;
+      hunts = rw (same, lt-leb 20 n (omega (arith, few, calm.0)));
+      most = 0;
+      few = omega arith;
+      calm =
+          calm.1;
+    }
 next_by n ones Bad half halves few calm (inl same) =
     record { left = 0; hunts = rw same; most = 0; few = omega arith; calm = calm }
 next_by n ones One half halves few calm (inr bad) =
@@ -156,20 +163,24 @@ ends_once : (before more : List ℕ) (halves : List Half) → rest before ≡ In
     → (outcome : ℕ × Seen) × (seen (before ++ more) ≡ seen before ++ outcome ∷ [])
 unfolding rest_after answer_to left_of answer_of report_at
 ends_once before [] halves inside calm hunts =
-    let e : is_hunting (InBody halves) ≡ true = ap is_hunting (sym inside ∙ ap rest (sym (append-nil before))) ∙ hunts in
+    let e : is_hunting (InBody halves) ≡ true =
+    ap is_hunting (sym inside ∙ ap rest (sym (append-nil before))) ∙ hunts in
     absurd cc
 ends_once before (us ∷ more) halves inside calm hunts =
     let whole = append_assoc before (us ∷ []) more in
-    let hunts_on : is_hunting (rest ((before ++ us ∷ []) ++ more)) ≡ true = ap (λ l. is_hunting (rest l)) whole ∙ hunts in
+    let hunts_on : is_hunting (rest ((before ++ us ∷ []) ++ more)) ≡ true =
+    ap (λ l. is_hunting (rest l)) whole ∙ hunts in
     elim (cases_Option (outcome_of (halves ++ class_of us ∷ []))) [
       | inl none ↦
-          let here : rest (before ++ us ∷ []) ≡ InBody (halves ++ class_of us ∷ []) = rest-push before us ∙ rw (inside, none) in
+          let here : rest (before ++ us ∷ []) ≡ InBody (halves ++ class_of us ∷ []) =
+          rest-push before us ∙ rw (inside, none) in
           let same : seen (before ++ us ∷ []) ≡ seen before =
           seen-push before us ∙ rw (inside, none) (append-nil (seen before)) in
           let on = ends_once (before ++ us ∷ []) more (halves ++ class_of us ∷ []) here calm.1 hunts_on in
           (on.0, ap seen (sym whole) ∙ on.1 ∙ ap (λ l. l ++ on.0 ∷ []) same)
       | inr some ↦
-          let here : rest (before ++ us ∷ []) ≡ Hunting (ones_left some.0.1) = rest-push before us ∙ rw (inside, some.1) in
+          let here : rest (before ++ us ∷ []) ≡ Hunting (ones_left some.0.1) =
+          rest-push before us ∙ rw (inside, some.1) in
           let something : some.0.1 ≢ Nothing = λ e.
           absurd (cc (outcome_of-something (halves ++ class_of us ∷ []) (rw some.1 e))) in
           let shows : seen (before ++ us ∷ []) ≡ seen before ++ (length before, some.0.1) ∷ [] =
@@ -187,7 +198,14 @@ unfolding rest_at hunting ones_at_end
 ones_unused_by halves [] n e =
     let used = used_up halves [] in
     let same : min 20 (ones_before (reverse (drop used halves))) ≡ n = cc in
-    omega (arith, same, ones_before-few (reverse (drop used halves)), length-reverse (drop used halves), length-drop used halves)
+    omega (
+      arith,
+      same,
+      ones_before-few (reverse (drop used halves)),
+      length-reverse (drop used halves),
+      length-drop
+          used halves,
+    )
 ones_unused_by halves (start ∷ earlier) n e =
     let used = used_up halves (start ∷ earlier) in
     elim (cases_Option (outcome_of (drop start halves))) [
@@ -211,7 +229,8 @@ ones_unused durations n e =
 
 -- the law
 
-calm_law_by : (before more : List ℕ) (frame : List ℕ) (was : Rest) → rest before ≡ was → map nearest_class more ≡ body frame
+calm_law_by : (before more : List ℕ) (frame : List ℕ) (was : Rest) → rest before ≡ was → map nearest_class more
+    ≡ body frame
     → unused_at_end before < 20 → is_hunting (rest (before ++ more)) ≡ true
     → (is_hunting was ≡ true → seen (before ++ more) ≡ seen before)
     × (is_hunting was ≡ false → (outcome : ℕ × Seen) × (seen (before ++ more) ≡ seen before ++ outcome ∷ []))

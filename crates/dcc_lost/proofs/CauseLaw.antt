@@ -1,6 +1,8 @@
 -- A packet without a cause would be seen.
-use Rattle.std.proofs.Common.{◌≡◌, ◌≢◌, ℕ, suc, zero, ◌+◌, ◌-◌, ◌*◌, ◌<◌, ◌≤◌, min, List, [], ◌∷◌, ◌++◌, length, take, drop, map}
-use Rattle.std.proofs.Common.{replicate, reverse, Option, Some, None, Bool, true, false, refl, sym, ap, ◌∙◌, arith, inl, inr}
+use Rattle.std.proofs.Common.{◌≡◌, ◌≢◌, ℕ, suc, zero, ◌+◌, ◌-◌, ◌*◌, ◌<◌, ◌≤◌, min, List, [], ◌∷◌, ◌++◌, length, take}
+use Rattle.std.proofs.Common.{drop, map}
+use Rattle.std.proofs.Common.{replicate, reverse, Option, Some, None, Bool, true, false, refl, sym, ap, ◌∙◌, arith, inl}
+use Rattle.std.proofs.Common.{inr}
 use Rattle.std.proofs.Common.{append_assoc, append-nil, length-append, length-drop, if◌then◌else◌}
 use Rattle.std.specs.List.{filter}
 use Rattle.std.proofs.lemmas.Bool.{cases_Bool, cases_lt, le-leb, lt-ltb}
@@ -26,9 +28,11 @@ use Rattle.dcc_wire.proofs.SendingLemmas.{outcome_of-body, unfinished}
 use Rattle.dcc_timing.specs.Numbers.{keep_last}
 use Rattle.dcc_lost.specs.declared.causes.LostPacket.{LostPacket}
 use Rattle.dcc_lost.specs.Nearest.{nearest_class}
-use Rattle.dcc_lost.specs.Lost.{is_hunting, frame_lost}
+use Rattle.dcc_wire.specs.Framing.{is_hunting}
+use Rattle.dcc_lost.specs.Lost.{frame_lost}
 use Rattle.dcc_lost.specs.Unused.{last_outcome, unused_after, unused_at_end}
-use Rattle.dcc_lost.specs.Causes.{is_off_one, is_off_zero, off_limits, ones_before_body, short_preamble, with_causes, packet_lost}
+use Rattle.dcc_lost.specs.Causes.{is_off_one, is_off_zero, off_limits, ones_before_body, short_preamble, with_causes}
+use Rattle.dcc_lost.specs.Causes.{packet_lost}
 use Rattle.dcc_lost.specs.LostLaws.{EndsWithFrame, IsLost, LostPacketsHaveCauses}
 use Rattle.dcc_lost.proofs.HeardLemmas.{last_outcome-push}
 use Rattle.dcc_lost.proofs.UsedLemmas.{unused_by_last}
@@ -82,7 +86,8 @@ all_within (us ∷ durations) one low good =
 
 Counts : List ℕ → ℕ → Type 0
 Counts durations n =
-    (ones : ℕ) → rest durations ≡ Hunting ones → min n (unused_after (length durations) (last_outcome (seen durations))) ≤ ones
+    (ones : ℕ) → rest durations ≡ Hunting ones
+    → min n (unused_after (length durations) (last_outcome (seen durations))) ≤ ones
 
 unused_after-suc : (count : ℕ) (last : Option (ℕ × Seen)) → unused_after (count + 1) last ≤ unused_after count last + 1
 unfolding unused_after
@@ -115,7 +120,14 @@ count_from durations us n (Hunting before) is one few counts ones e =
     let more = hunting_same (min 20 (before + 1)) ones now in
     let count : length (durations ++ us ∷ []) ≡ length durations + 1 = length-append durations (us ∷ []) in
     rw (same, count)
-    (omega (arith, few, more, counts before (sym is), unused_after-suc (length durations) (last_outcome (seen durations))))
+    (omega (
+      arith,
+      few,
+      more,
+      counts before (sym is),
+      unused_after-suc (length durations)
+          (last_outcome (seen durations)),
+    ))
 count_from durations us n (InBody halves) is one few counts ones e =
     elim (cases_Option (outcome_of (halves ++ One ∷ []))) [
       | inl none ↦
@@ -258,7 +270,8 @@ split_same a b c d count e = (
 
 -- 20 half-bits of ones within the limits, and a body within the limits after them
 within : (ones last : List ℕ) (frame : List ℕ) → map nearest_class ones ≡ replicate 20 One
-    → map nearest_class last ≡ body frame → filter is_off_one (ones ++ last) ≡ [] → filter is_off_zero (ones ++ last) ≡ []
+    → map nearest_class last ≡ body frame → filter is_off_one (ones ++ last) ≡ [] → filter is_off_zero (ones ++ last)
+    ≡ []
     → (map class_of ones ≡ replicate 20 One) × (map class_of last ≡ body frame)
 unfolding body
 within ones last frame twenty is one low =
@@ -280,7 +293,8 @@ pub record Parts (durations : List ℕ) (us : ℕ) (frame : List ℕ) : Type 0 w
   pub last : map nearest_class (most ++ us ∷ []) ≡ body frame
   pub front : take (length (durations ++ us ∷ []) - (18 * length frame + 2)) (durations ++ us ∷ []) ≡ before
 
-pub parts : (durations : List ℕ) (us : ℕ) (frame : List ℕ) → EndsWithFrame (durations ++ us ∷ []) frame → Parts durations us frame
+pub parts : (durations : List ℕ) (us : ℕ) (frame : List ℕ) → EndsWithFrame (durations ++ us ∷ []) frame
+    → Parts durations us frame
 parts durations us frame ends =
     let long : List ℕ = durations ++ us ∷ [] in
     let front : List Half = ends.before ++ replicate 8 One in
@@ -288,7 +302,8 @@ parts durations us frame ends =
     let halves : map nearest_class long ≡ front ++ body frame =
     ends.halves ∙ sym (append_assoc ends.before (replicate 8 One) (body frame)) in
     let count : length long ≡ length front + (18 * length frame + 2) =
-    omega (arith, length-map long nearest_class, ap length halves, length-append front (body frame), length-body frame) in
+    omega (arith, length-map long nearest_class, ap length halves, length-append front (body frame), length-body frame)
+    in
     let place : k ≡ length front = omega (arith, count) in
     let within_all : k ≤ length durations =
     omega (arith, count, length-append durations (us ∷ [])) in
@@ -304,7 +319,8 @@ parts durations us frame ends =
     }
 
 no_cause : (durations : List ℕ) (us : ℕ) (frame : List ℕ) → IsLost durations us frame
-    → (with_causes (durations ++ us ∷ []) frame).preamble ≡ None → (with_causes (durations ++ us ∷ []) frame).ones ≡ None
+    → (with_causes (durations ++ us ∷ []) frame).preamble ≡ None → (with_causes (durations ++ us ∷ []) frame).ones
+    ≡ None
     → (with_causes (durations ++ us ∷ []) frame).zeros ≡ None → ⊥
 unfolding with_causes ones_before_body ones_at_end ones_before
 no_cause durations us frame is preamble one low =

@@ -1,6 +1,8 @@
 -- Half-bits outside the limits, and half-bits of ones at the end of a list.
-use Rattle.std.proofs.Common.{◌≡◌, ◌≢◌, ℕ, suc, ◌+◌, ◌-◌, ◌<◌, ◌≤◌, min, max, List, [], ◌∷◌, ◌++◌, length, take, get_or, map}
-use Rattle.std.proofs.Common.{Option, Some, None, refl, sym, ap, ◌∙◌, arith, add-one, fold, length-append, Bool, true, false}
+use Rattle.std.proofs.Common.{◌≡◌, ◌≢◌, ℕ, suc, ◌+◌, ◌-◌, ◌<◌, ◌≤◌, min, max, List, [], ◌∷◌, ◌++◌, length, take, get_or}
+use Rattle.std.proofs.Common.{map}
+use Rattle.std.proofs.Common.{Option, Some, None, refl, sym, ap, ◌∙◌, arith, add-one, fold, length-append, Bool, true}
+use Rattle.std.proofs.Common.{false}
 use Rattle.std.proofs.Common.{append-nil, IfSome, length-take}
 use Rattle.std.proofs.Math.Seq.{take-suc}
 use Rattle.std.proofs.lemmas.List.{take_all, map-append, reverse-append}
@@ -61,9 +63,11 @@ noted-more has_kind durations us count least most kind e =
 pub not_noted : (has_kind : ℕ → Bool) (durations : List ℕ) (us : ℕ) (off : Option OffLimits) → has_kind us ≡ false
     → off ≡ off_limits (filter has_kind durations) → off ≡ off_limits (filter has_kind (durations ++ us ∷ []))
 not_noted has_kind durations us off other e =
-    e ∙ ap off_limits (sym (filter-append has_kind durations (us ∷ []) ∙ rw other (append-nil (filter has_kind durations))))
+    e ∙ ap off_limits (sym
+    (filter-append has_kind durations (us ∷ []) ∙ rw other (append-nil (filter has_kind durations))))
 
-count_few : (n : ℕ) (durations : List ℕ) → length durations ≤ n → IfSome (off_limits durations) (λ figures. figures.count ≤ n)
+count_few : (n : ℕ) (durations : List ℕ) → length durations ≤ n
+    → IfSome (off_limits durations) (λ figures. figures.count ≤ n)
 unfolding off_limits
 count_few n [] few = tt
 count_few n (us ∷ durations) few = few
@@ -72,7 +76,13 @@ pub few_noted : (has_kind : ℕ → Bool) (halves : List ℕ) (i : ℕ) (off : O
     → off ≡ off_limits (filter has_kind (take i halves)) → IfSome off (λ figures. figures.count ≤ 1000)
 few_noted has_kind halves i off few e =
     rw e (count_few 1000 (filter has_kind (take i halves))
-    (omega (arith, length-filter has_kind (take i halves), count_by-le-length has_kind (take i halves), length-take i halves)))
+    (omega (
+      arith,
+      length-filter has_kind (take i halves),
+      count_by-le-length has_kind (take i halves),
+      length-take i
+          halves,
+    )))
 
 pub noted_next : (has_kind : ℕ → Bool) (halves : List ℕ) (i : ℕ) (off : Option OffLimits) → i < length halves
     → off ≡ off_limits (filter has_kind (take i halves ++ get_or halves i 0 ∷ []))

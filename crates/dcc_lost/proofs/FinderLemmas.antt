@@ -1,5 +1,6 @@
 -- What a finder of lost packets has read, and the packet at its end.
-use Rattle.std.proofs.Common.{◌≡◌, ◌≢◌, ℕ, suc, ◌+◌, ◌-◌, ◌*◌, ◌<◌, ◌≤◌, List, [], ◌∷◌, ◌++◌, length, take, drop, get_or, map}
+use Rattle.std.proofs.Common.{◌≡◌, ◌≢◌, ℕ, suc, ◌+◌, ◌-◌, ◌*◌, ◌<◌, ◌≤◌, List, [], ◌∷◌, ◌++◌, length, take, drop}
+use Rattle.std.proofs.Common.{get_or, map}
 use Rattle.std.proofs.Common.{Option, Some, None, refl, sym, ap, ◌∙◌, arith, length-drop, length-take}
 use Rattle.std.proofs.Common.{append_assoc, append-nil}
 use Rattle.std.proofs.lemmas.List.{drop-take, get_or-drop}
@@ -7,7 +8,8 @@ use Rattle.std.proofs.lemmas.List.{length-take-le}
 use Rattle.std.specs.Option.{option_map}
 use Rattle.dcc_wire.specs.declared.seen.Seen.{Seen}
 use Rattle.dcc_wire.specs.declared.seen.Seen.TheVariants.{Nothing}
-use Rattle.dcc_wire.specs.Framing.{seen, rest, rest_at, hunting, starts_below, outcomes_at, report_at, used_up, ones_at_end}
+use Rattle.dcc_wire.specs.Framing.{seen, rest, rest_at, hunting, starts_below, outcomes_at, report_at, used_up}
+use Rattle.dcc_wire.specs.Framing.{ones_at_end}
 use Rattle.dcc_wire.specs.Framing.{ones_before}
 use Rattle.dcc_timing.specs.Numbers.{keep_last}
 use Rattle.dcc_timing.proofs.RecentLemmas.{keep_last_keep, keep_last_behind}
@@ -21,14 +23,17 @@ use Rattle.dcc_lost.specs.declared.causes.OffLimits.{OffLimits}
 use Rattle.dcc_lost.specs.declared.causes.ShortPreamble.{ShortPreamble}
 use Rattle.dcc_lost.specs.declared.causes.LostPacket.{LostPacket}
 use Rattle.dcc_lost.specs.Nearest.{nearest_class}
-use Rattle.dcc_lost.specs.Lost.{is_hunting, longest_frame_at_end}
-use Rattle.dcc_lost.specs.Causes.{is_off_one, is_off_zero, off_limits, ones_before_body, short_preamble, with_causes, packet_lost}
+use Rattle.dcc_wire.specs.Framing.{is_hunting}
+use Rattle.dcc_lost.specs.Lost.{longest_frame_at_end}
+use Rattle.dcc_lost.specs.Causes.{is_off_one, is_off_zero, off_limits, ones_before_body, short_preamble, with_causes}
+use Rattle.dcc_lost.specs.Causes.{packet_lost}
 use Rattle.dcc_lost.proofs.LostLemmas.{longest_recent, heard, found}
 
 -- the numbers of unused half-bits
 
 pub unused_from-push : (before durations : List ℕ) (us : ℕ)
-    → unused_from before (durations ++ us ∷ []) ≡ unused_from before durations ++ unused_at_end (before ++ durations) ∷ []
+    → unused_from before (durations ++ us ∷ []) ≡ unused_from before durations ++ unused_at_end (before ++ durations)
+    ∷ []
 unfolding unused_from
 unused_from-push before [] us = rw append-nil refl
 unused_from-push before (first ∷ durations) us =
@@ -52,7 +57,8 @@ unused_from-at before (us ∷ durations) (suc i) within =
     ∙ ap unused_at_end (append_assoc before (us ∷ []) (take i durations))
 
 unused_none : unused_at_end [] ≡ 0
-unfolding unused_at_end unused_after last_outcome seen rest rest_at hunting starts_below outcomes_at used_up ones_at_end ones_before
+unfolding unused_at_end unused_after last_outcome seen rest rest_at hunting starts_below outcomes_at used_up ones_at_end
+    ones_before
 unused_none = refl
 
 -- the number before the last so many half-bits
@@ -96,7 +102,8 @@ pub before_body : (durations : List ℕ) (body count : ℕ) → count ≡ length
 before_body durations body count is =
     let all = length durations in
     let left = length-drop (all - (body + 20)) durations in
-    let front : length (take (all - body) durations) ≡ all - body = length-take-le (all - body) durations (omega arith) in
+    let front : length (take (all - body) durations) ≡ all - body =
+    length-take-le (all - body) durations (omega arith) in
     let from : length (take (all - body) durations) - 20 ≡ all - (body + 20) = omega (arith, front) in
     let upto : (all - (body + 20)) + count ≡ all - body = omega (arith, is, left) in
     sym (ap (λ n. drop n (take (all - body) durations)) from
@@ -115,7 +122,8 @@ causes_are : (durations frame : List ℕ) (decoder : Heard) (last free : List �
     → off_zeros ≡ off_limits (filter is_off_zero (keep_last (18 * length frame + 2 + ones) last))
     → record { frame = frame; preamble = short; ones = off_ones; zeros = off_zeros } ≡ with_causes durations frame
 unfolding with_causes ones_before_body
-causes_are durations frame decoder last free count ones unused short off_ones off_zeros read few is ones_are some unused_are
+causes_are durations frame decoder last free count ones unused short off_ones off_zeros read few is ones_are some
+    unused_are
     shorts one zero =
     let body : ℕ = 18 * length frame + 2 in
     let window = last_of durations last (body + 20) read.recent (omega arith) in
@@ -139,7 +147,8 @@ pub causes_found : (durations frame bytes : List ℕ) (decoder : Heard) (last fr
     → unused ≡ get_or before 0 0 → since ≡ decoder.since_refusal → short ≡ short_preamble ones unused since
     → off_ones ≡ off_limits (filter is_off_one counted) → off_zeros ≡ off_limits (filter is_off_zero counted)
     → record { frame = frame; preamble = short; ones = off_ones; zeros = off_zeros } ≡ with_causes durations frame
-causes_found durations frame bytes decoder last free window counted before count ones unused since short off_ones off_zeros
+causes_found durations frame bytes decoder last free window counted before count ones unused since short off_ones
+    off_zeros
     read few same windows counts ones_are some counteds befores unuseds sinces shorts one zero =
     ap (λ (l : List ℕ). record { frame = l; preamble = short; ones = off_ones; zeros = off_zeros }) (sym same)
     ∙ causes_are durations bytes decoder last free count ones unused short off_ones off_zeros read few
@@ -157,10 +166,9 @@ pub unheard_none : (f : List ℕ → LostPacket) (hunts : Bool) (longest : Optio
 unheard_none f true longest e = rw e
 unheard_none f false longest e = refl
 
-pub unheard_some : (f : List ℕ → LostPacket) (hunts : Bool) (longest : Option (List ℕ)) (frame : List ℕ) (packet : LostPacket)
-    → longest ≡ Some frame → true ≡ hunts → packet ≡ f frame
-    → Some packet ≡ option_map f (if hunts then longest else None)
-unheard_some f hunts longest frame packet e so is = rw (← so, e, is)
+pub unheard_found : (f : List ℕ → LostPacket) (hunts : Bool) (longest : Option (List ℕ)) (packet : Option LostPacket)
+    → true ≡ hunts → packet ≡ option_map f longest → packet ≡ option_map f (if hunts then longest else None)
+unheard_found f hunts longest packet so is = rw (← so) is
 
 pub unheard_busy : (f : List ℕ → LostPacket) (hunts : Bool) (longest : Option (List ℕ)) → false ≡ hunts
     → None ≡ option_map f (if hunts then longest else None)
@@ -186,7 +194,8 @@ pub packet_found : (durations : List ℕ) (us : ℕ) (answer : Seen) (decoder : 
     → packet ≡ packet_lost durations us
 unfolding packet_lost
 packet_found durations us answer decoder packet sees nothing stands e =
-    e ∙ ap (option_map (with_causes (durations ++ us ∷ []))) (found durations us answer decoder.framer sees nothing stands)
+    e ∙ ap (option_map (with_causes (durations ++ us ∷ [])))
+    (found durations us answer decoder.framer sees nothing stands)
 
 pub few_before : (last window : List ℕ) (body count ones : ℕ) → window ≡ keep_last (body + 20) last
     → count ≡ length window - body → ones ≤ length (take count window) → ones ≤ 20

@@ -1,8 +1,10 @@
 -- The frame that follows 8 half-bits of ones.
-use Rattle.std.proofs.Common.{◌≡◌, ◌≢◌, ℕ, ◌-◌, ◌<◌, ◌≤◌, List, [], ◌∷◌, length, take, drop, length-drop, map, get_or, Option, Some, None, refl, sym}
+use Rattle.std.proofs.Common.{◌≡◌, ◌≢◌, ℕ, ◌-◌, ◌<◌, ◌≤◌, List, [], ◌∷◌, length, take, drop, length-drop, map, get_or}
+use Rattle.std.proofs.Common.{Option, Some, None, refl, sym}
 use Rattle.std.proofs.Common.{ap, ◌∙◌, arith}
-use Rattle.std.proofs.lemmas.Bool.{lt-leb, le-leb}
-use Rattle.std.proofs.lemmas.List.{drop-map, take_all}
+use Rattle.std.proofs.Common.{inl, inr}
+use Rattle.std.proofs.lemmas.Bool.{cases_lt, lt-leb, le-leb}
+use Rattle.std.proofs.lemmas.List.{drop-map, get_or-drop, take_all}
 use Rattle.dcc_wire.specs.declared.half.Half.{Half}
 use Rattle.dcc_wire.specs.declared.half.Half.TheVariants.{One, Zero, Bad}
 use Rattle.dcc_wire.specs.declared.seen.Seen.{Seen}
@@ -14,7 +16,8 @@ use Rattle.dcc_lost.specs.Nearest.{nearest_class}
 use Rattle.dcc_lost.specs.Lost.{packet_of_length, frame_after_ones}
 
 -- no body begins with another half-bit than one of a zero
-pub no_packet : (n : ℕ) (halves : List Half) → ((more : List Half) → halves ≢ Zero ∷ more) → packet_of_length n (outcome_of halves) ≡ None
+pub no_packet : (n : ℕ) (halves : List Half) → ((more : List Half) → halves ≢ Zero ∷ more)
+    → packet_of_length n (outcome_of halves) ≡ None
 unfolding packet_of_length outcome_of bits_in behind_bits bytes_in by_halves by_bits body_outcome
 no_packet n [] other = refl
 no_packet n (Zero ∷ halves) other = absurd (other halves refl)
@@ -42,13 +45,27 @@ pub no_start : (n : ℕ) (halves : List ℕ) → (0 < length halves → nearest_
     → None ≡ packet_of_length n (outcome_of (map nearest_class halves))
 no_start n halves other = sym (no_packet n (map nearest_class halves) (not_zero halves other))
 
-packet_alike : (n count : ℕ) (answer : Seen) → packet_of_length n (Some (0, answer)) ≡ packet_of_length n (Some (count, answer))
+-- without a zero after the first 8 half-bits
+pub no_start_after : (n : ℕ) (halves : List ℕ) → (8 < length halves → nearest_class (get_or halves 8 0) ≢ Zero)
+    → None ≡ frame_after_ones n halves
+no_start_after n halves other = elim (cases_lt (ones_before (map nearest_class halves)) 8) [
+  | inl few ↦ few_ones n halves few
+  | inr enough ↦
+      no_start n (drop 8 halves)
+      (λ some zero.
+      other (omega (arith, some, length-drop 8 halves)) (ap nearest_class (sym (get_or-drop 8 halves 0 0)) ∙ zero))
+      ∙ after_ones n halves enough
+]
+
+packet_alike : (n count : ℕ) (answer : Seen) → packet_of_length n (Some (0, answer))
+    ≡ packet_of_length n (Some (count, answer))
 unfolding packet_of_length
 packet_alike n count Nothing = refl
 packet_alike n count (Packet bytes) = refl
 packet_alike n count (Refused fault) = refl
 
-packet_answered : (n : ℕ) (outcome : Option (ℕ × Seen)) → packet_of_length n (Some (0, answer_of outcome)) ≡ packet_of_length n outcome
+packet_answered : (n : ℕ) (outcome : Option (ℕ × Seen)) → packet_of_length n (Some (0, answer_of outcome))
+    ≡ packet_of_length n outcome
 unfolding packet_of_length answer_of
 packet_answered n None = refl
 packet_answered n (Some (count, answer)) = packet_alike n count answer

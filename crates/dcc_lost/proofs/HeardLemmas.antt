@@ -72,7 +72,8 @@ left_by (Packet bytes) outcomes count unused since left =
 left_by (Refused fault) outcomes count unused since left =
     rw last_outcome-push (left_new count unused since (Refused fault) (λ e. cc))
 
-pub hears_more : (durations : List ℕ) (us : ℕ) (old new : Rest) (before after : ℕ) (since next : Option ℕ) (answer : Seen)
+pub hears_more : (durations : List ℕ) (us : ℕ) (old new : Rest) (before after : ℕ) (since next : Option ℕ)
+    (answer : Seen)
     → Hears old before since durations → StandsFor new (durations ++ us ∷ [])
     → seen (durations ++ us ∷ []) ≡ seen durations ++ report_at (length durations) answer
     → after ≡ unused_next before answer → next ≡ since_next since answer → Hears new after next (durations ++ us ∷ [])

@@ -1,5 +1,6 @@
 -- The definition of lost packets as a relation.
-use Rattle.std.proofs.Common.{◌≡◌, ◌≢◌, ℕ, suc, zero, ◌+◌, ◌-◌, ◌*◌, ◌<◌, ◌≤◌, List, [], ◌∷◌, ◌++◌, length, take, drop, map}
+use Rattle.std.proofs.Common.{◌≡◌, ◌≢◌, ℕ, suc, zero, ◌+◌, ◌-◌, ◌*◌, ◌<◌, ◌≤◌, List, [], ◌∷◌, ◌++◌, length, take, drop}
+use Rattle.std.proofs.Common.{map}
 use Rattle.std.proofs.Common.{replicate, Option, Some, None, Bool, true, ◌&&◌, refl, sym, ap, ◌∙◌, arith, inl, inr}
 use Rattle.std.proofs.Common.{append-nil, length-append, length-drop}
 use Rattle.std.proofs.lemmas.Bool.{cases_lt, cases_Bool, eqb-true, eq-eqb}
@@ -26,7 +27,8 @@ use Rattle.dcc_wire.proofs.SendingLemmas.{outcome_of-body}
 use Rattle.dcc_timing.specs.Numbers.{keep_last}
 use Rattle.dcc_lost.specs.declared.causes.LostPacket.{LostPacket}
 use Rattle.dcc_lost.specs.Nearest.{nearest_class}
-use Rattle.dcc_lost.specs.Lost.{packet_of_length, frame_at_end, longest_frame_at_end, is_hunting, is_unheard}
+use Rattle.dcc_wire.specs.Framing.{is_hunting}
+use Rattle.dcc_lost.specs.Lost.{packet_of_length, frame_at_end, longest_frame_at_end, is_unheard}
 use Rattle.dcc_lost.specs.Lost.{frame_lost}
 use Rattle.dcc_lost.specs.Causes.{packet_lost, with_causes}
 use Rattle.dcc_lost.specs.LostLaws.{EndsWithFrame, IsLost, LostPacketsAreLost, NoLostPacketIsSeen}
@@ -72,7 +74,8 @@ body_is n halves frame few e =
     let is : halves ≡ comes.0 ++ comes.3.0 = first.1 ∙ comes.3.1 in
     let none : comes.3.0 ≡ [] =
     nil_from_length comes.3.0
-    (omega (arith, few, ap length is, length-append comes.0 comes.3.0, ap length comes.1.1, length-body frame, some.2)) in
+    (omega (arith, few, ap length is, length-append comes.0 comes.3.0, ap length comes.1.1, length-body frame, some.2))
+    in
     (comes.1.0, is ∙ rw none (append-nil comes.0) ∙ comes.1.1, some.2)
 
 pub ones_first : (k : ℕ) (halves : List Half) → k ≤ ones_before halves → take k halves ≡ replicate k One
@@ -211,7 +214,8 @@ pick at frame p = elim (cases_lt 5 p.n) [
         | inr four ↦
             let no_five = p.longer 5 (omega (arith, four)) (omega arith) in
             elim (cases_lt 3 p.n) [
-              | inl above_three ↦ let e : 4 ≡ p.n = omega (arith, four, above_three) in rw (six, no_five, ap at e ∙ p.is)
+              | inl above_three ↦ let e : 4 ≡ p.n =
+                  omega (arith, four, above_three) in rw (six, no_five, ap at e ∙ p.is)
               | inr three ↦
                   let no_four = p.longer 4 (omega (arith, three)) (omega arith) in
                   let e : 3 ≡ p.n = omega (arith, three, p.least) in
@@ -268,8 +272,10 @@ report_alike : (so_far : List (ℕ × Seen)) (place : ℕ) (answer : Seen)
     → length (so_far ++ report_at place answer) ≡ length so_far → so_far ++ report_at place answer ≡ so_far
 unfolding report_at
 report_alike so_far place Nothing e = append-nil so_far
-report_alike so_far place (Packet bytes) e = absurd (omega (arith, e, length-append so_far ((place, Packet bytes) ∷ [])))
-report_alike so_far place (Refused fault) e = absurd (omega (arith, e, length-append so_far ((place, Refused fault) ∷ [])))
+report_alike so_far place (Packet bytes) e =
+    absurd (omega (arith, e, length-append so_far ((place, Packet bytes) ∷ [])))
+report_alike so_far place (Refused fault) e =
+    absurd (omega (arith, e, length-append so_far ((place, Refused fault) ∷ [])))
 
 both : (a b : Bool) → (a && b) ≡ true → (a ≡ true) × (b ≡ true)
 both a b e = grind arith

@@ -1,6 +1,5 @@
 pub mod NearestLemmas
 pub mod BodyLemmas
-pub mod HuntingLemmas
 pub mod FrameLemmas
 pub mod HeardLemmas
 pub mod UsedLemmas
@@ -13,3 +12,4 @@ pub mod StillLemmas
 pub mod CauseLaw
 pub mod CalmLemmas
 pub mod WorkedExamples
+pub mod EndLemmas

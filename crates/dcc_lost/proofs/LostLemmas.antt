@@ -7,11 +7,13 @@ use Rattle.dcc_wire.specs.declared.seen.Seen.TheVariants.{Nothing}
 use Rattle.dcc_wire.specs.Framing.{Rest, seen, StandsFor, report_at}
 use Rattle.dcc_timing.specs.Numbers.{keep_last}
 use Rattle.dcc_timing.proofs.RecentLemmas.{keep_last_keep}
-use Rattle.dcc_lost.specs.Lost.{is_hunting, is_unheard, frame_lost, frame_at_end, longest_frame_at_end}
+use Rattle.dcc_wire.specs.Framing.{is_hunting}
+use Rattle.dcc_lost.specs.Lost.{is_unheard, frame_lost, frame_at_end, longest_frame_at_end}
 
 -- the last half-bits tell the frame at the end
 
-at_end_recent : (n : ℕ) (durations : List ℕ) → n ≤ 6 → frame_at_end n (keep_last 130 durations) ≡ frame_at_end n durations
+at_end_recent : (n : ℕ) (durations : List ℕ) → n ≤ 6 → frame_at_end n (keep_last 130 durations)
+    ≡ frame_at_end n durations
 unfolding frame_at_end
 at_end_recent n durations few = rw (keep_last_keep (18 * n + 10) 130 durations (omega (arith, few)))
 

@@ -1,5 +1,6 @@
 -- Half-bits of ones at the beginning of a list.
-use Rattle.std.proofs.Common.{◌≡◌, ◌≢◌, ℕ, suc, ◌+◌, ◌<◌, ◌≤◌, List, ◌∷◌, length, drop, get_or, map, refl, ap, ◌∙◌, arith}
+use Rattle.std.proofs.Common.{◌≡◌, ◌≢◌, ℕ, suc, ◌+◌, ◌<◌, ◌≤◌, List, ◌∷◌, length, drop, get_or, map, refl, ap, ◌∙◌}
+use Rattle.std.proofs.Common.{arith}
 use Rattle.std.proofs.Common.{drop-cons, add-one}
 use Rattle.std.proofs.Math.ListN.{drop_of_length-le}
 use Rattle.dcc_wire.specs.declared.half.Half.{Half}
@@ -7,7 +8,8 @@ use Rattle.dcc_wire.specs.declared.half.Half.TheVariants.{One, Zero, Bad}
 use Rattle.dcc_wire.specs.Framing.{ones_before}
 use Rattle.dcc_lost.specs.Nearest.{nearest_class}
 
-ones_before-one : (half : Half) (halves : List Half) → half ≡ One → ones_before (half ∷ halves) ≡ suc (ones_before halves)
+ones_before-one : (half : Half) (halves : List Half) → half ≡ One → ones_before (half ∷ halves)
+    ≡ suc (ones_before halves)
 unfolding ones_before
 ones_before-one half halves e = rw e
 
@@ -23,7 +25,8 @@ pub ones_go_on : (halves : List ℕ) (i n : ℕ) → i < length halves → neare
 ones_go_on halves i n within one so =
     let here = ap (map nearest_class) (drop-cons halves i 0 within) in
     let more = ones_before-one (nearest_class (get_or halves i 0)) (map nearest_class (drop (suc i) halves)) one in
-    let next : ones_before (map nearest_class (drop i halves)) ≡ suc (ones_before (map nearest_class (drop (suc i) halves)))
+    let next : ones_before (map nearest_class (drop i halves))
+    ≡ suc (ones_before (map nearest_class (drop (suc i) halves)))
     = ap ones_before here ∙ more in
     rw add-one (omega (arith, so, next))
 

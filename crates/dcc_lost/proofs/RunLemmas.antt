@@ -7,7 +7,8 @@ use Rattle.dcc_lost.specs.Causes.{packet_lost, packets_lost, packets_lost_after,
 
 lost_after-push : (before durations : List ℕ) (us : ℕ)
     → packets_lost_after before (durations ++ us ∷ [])
-    ≡ packets_lost_after before durations ++ report_lost (length (before ++ durations)) (packet_lost (before ++ durations) us)
+    ≡ packets_lost_after before durations
+    ++ report_lost (length (before ++ durations)) (packet_lost (before ++ durations) us)
 unfolding packets_lost_after
 lost_after-push before [] us =
     append-nil (report_lost (length before) (packet_lost before us))
@@ -23,9 +24,11 @@ pub packets_lost-push : (durations : List ℕ) (us : ℕ) (lost : Option LostPac
     → packets_lost (durations ++ us ∷ []) ≡ packets_lost durations ++ report_lost (length durations) lost
 unfolding packets_lost
 packets_lost-push durations us lost is =
-    lost_after-push [] durations us ∙ ap (λ l. packets_lost_after [] durations ++ report_lost (length durations) l) (sym is)
+    lost_after-push [] durations us
+    ∙ ap (λ l. packets_lost_after [] durations ++ report_lost (length durations) l) (sym is)
 
-pub run_more : (durations : List ℕ) (us n : ℕ) → (durations ++ replicate n us) ++ us ∷ [] ≡ durations ++ replicate (n + 1) us
+pub run_more : (durations : List ℕ) (us n : ℕ) → (durations ++ replicate n us) ++ us ∷ [] ≡ durations
+    ++ replicate (n + 1) us
 run_more durations us n =
     append_assoc durations (replicate n us) (us ∷ [])
     ∙ ap (λ l. durations ++ l) (replicate_more n us ∙ ap (λ k. replicate k us) (omega arith))
@@ -50,7 +53,8 @@ pub run_quiet : (durations : List ℕ) (us n place : ℕ) (lost : Option LostPac
 unfolding report_lost
 run_quiet durations us n place lost none e = e ∙ rw none (append-nil (packets_lost durations))
 
-pub run_ends : (durations : List ℕ) (us n place : ℕ) → packets_lost (durations ++ replicate n us) ≡ packets_lost durations
+pub run_ends : (durations : List ℕ) (us n place : ℕ) → packets_lost (durations ++ replicate n us)
+    ≡ packets_lost durations
     → packets_lost (durations ++ replicate n us) ≡ packets_lost durations ++ report_lost place None
 unfolding report_lost
 run_ends durations us n place e = e ∙ sym (append-nil (packets_lost durations))

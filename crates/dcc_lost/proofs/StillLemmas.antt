@@ -1,11 +1,14 @@
 -- A long run of equal half-bits without lost packets.
-use Rattle.std.proofs.Common.{◌≡◌, ◌≢◌, ℕ, suc, zero, ◌+◌, ◌-◌, ◌*◌, ◌<◌, ◌≤◌, min, List, [], ◌∷◌, ◌++◌, length, take, drop, map}
-use Rattle.std.proofs.Common.{replicate, reverse, Option, Some, None, IfSome, Bool, true, false, refl, sym, ap, ◌∙◌, arith, inl, inr}
+use Rattle.std.proofs.Common.{◌≡◌, ◌≢◌, ℕ, suc, zero, ◌+◌, ◌-◌, ◌*◌, ◌<◌, ◌≤◌, min, List, [], ◌∷◌, ◌++◌, length, take}
+use Rattle.std.proofs.Common.{drop, map}
+use Rattle.std.proofs.Common.{replicate, reverse, Option, Some, None, IfSome, Bool, true, false, refl, sym, ap, ◌∙◌}
+use Rattle.std.proofs.Common.{arith, inl, inr}
 use Rattle.std.proofs.Common.{append_assoc, append-nil, length-append, get_or, if◌then◌else◌, leb}
 use Rattle.std.specs.List.{EachIndex}
 use Rattle.std.proofs.lemmas.Bool.{cases_lt, cases_Bool, lt-leb}
 use Rattle.std.proofs.lemmas.Bool.Decides.{nat_tests}
-use Rattle.std.proofs.lemmas.List.{drop-append-le, drop-replicate, length-replicate, replicate-append-replicate, replicate_more}
+use Rattle.std.proofs.lemmas.List.{drop-append-le, drop-replicate, length-replicate, replicate-append-replicate}
+use Rattle.std.proofs.lemmas.List.{replicate_more}
 use Rattle.std.proofs.Math.Seq.{drop-append_seam}
 use Rattle.std.proofs.lemmas.List.{drop-drop, reverse-append, take-append-drop}
 use Rattle.dcc_wire.specs.declared.half.Half.{Half}
@@ -23,7 +26,9 @@ use Rattle.dcc_timing.specs.Numbers.{keep_last}
 use Rattle.dcc_timing.proofs.RecentLemmas.{keep_last_keep, keep_last_behind}
 use Rattle.dcc_lost.specs.declared.heard.Heard.{Heard}
 use Rattle.dcc_lost.specs.Nearest.{nearest_class}
-use Rattle.dcc_lost.specs.Lost.{is_hunting, packet_of_length, frame_after_ones, frame_at_end, longest_frame_at_end, frame_lost, is_unheard}
+use Rattle.dcc_wire.specs.Framing.{is_hunting}
+use Rattle.dcc_lost.specs.Lost.{packet_of_length, frame_after_ones, frame_at_end, longest_frame_at_end, frame_lost}
+use Rattle.dcc_lost.specs.Lost.{is_unheard}
 use Rattle.dcc_lost.specs.Unused.{Hears, last_outcome, unused_after, since_refusal, unused_at_end, unused_from}
 use Rattle.dcc_lost.specs.Causes.{packet_lost, packets_lost, report_lost}
 use Rattle.dcc_lost.specs.Finding.{HasRead}
@@ -59,7 +64,8 @@ keep_last_run k n us halves enough =
     ∙ ap (λ m. replicate m us) left
 
 -- more of the same number at the end
-more_alike : (xs : List ℕ) (n x : ℕ) → keep_last 130 xs ≡ replicate 130 x → keep_last 130 (xs ++ replicate n x) ≡ replicate 130 x
+more_alike : (xs : List ℕ) (n x : ℕ) → keep_last 130 xs ≡ replicate 130 x → keep_last 130 (xs ++ replicate n x)
+    ≡ replicate 130 x
 more_alike xs n x e =
     sym (keep_last_behind 130 xs (replicate n x)) ∙ ap (λ l. keep_last 130 (l ++ replicate n x)) e
     ∙ ap (keep_last 130) (replicate-append-replicate 130 n x) ∙ keep_last_run 130 (130 + n) x [] (omega arith)
@@ -149,7 +155,8 @@ below_more_halves count n None below = tt
 below_more_halves count n (Some outcome) below = omega (arith, below)
 
 pub hears_skip : (durations : List ℕ) (us n ones unused : ℕ) (old new : Rest) (since : Option ℕ) → unused ≡ 20
-    → IfSome since (λ count. count ≡ 255) → Hears old unused since durations → rest durations ≡ Hunting ones → IsQuiet ones (class_of us)
+    → IfSome since (λ count. count ≡ 255) → Hears old unused since durations → rest durations ≡ Hunting ones
+    → IsQuiet ones (class_of us)
     → StandsFor new (durations ++ replicate n us) → Hears new unused since (durations ++ replicate n us)
 hears_skip durations us n ones unused old new since twenty late hears hunts quiet stands =
     let same = (skips n us durations ones quiet hunts).outcomes in
@@ -160,7 +167,8 @@ hears_skip durations us n ones unused old new since twenty late hears hunts quie
       stands = stands;
       below = rw (count, same) (below_more_halves (length durations) n last hears.below);
       left_unused =
-          twenty ∙ rw (count, same) (unused_more (length durations) n last hears.below (sym twenty ∙ hears.left_unused));
+          twenty ∙ rw (count, same)
+          (unused_more (length durations) n last hears.below (sym twenty ∙ hears.left_unused));
       refused = rw (count, same) (since_more (length durations) n last since hears.below late hears.refused);
     }
 
@@ -178,7 +186,8 @@ alike_more : (n x : ℕ) → replicate n x ++ x ∷ [] ≡ replicate (suc n) x
 alike_more zero x = refl
 alike_more (suc n) x = ap (λ l. x ∷ l) (alike_more n x)
 
-unused_from-run : (durations : List ℕ) (us n value : ℕ) → ((i : ℕ) → unused_at_end (durations ++ replicate i us) ≡ value)
+unused_from-run : (durations : List ℕ) (us n value : ℕ)
+    → ((i : ℕ) → unused_at_end (durations ++ replicate i us) ≡ value)
     → unused_from [] (durations ++ replicate n us) ≡ unused_from [] durations ++ replicate n value
 unused_from-run durations us zero value each =
     ap (unused_from []) (append-nil durations) ∙ sym (append-nil (unused_from [] durations))
@@ -198,7 +207,8 @@ ones_not_zero zero more e = cc
 ones_not_zero (suc n) more e = cc
 
 alike_none : (half : Half) (n k : ℕ)
-    → (if leb 8 (ones_before (replicate k half)) then packet_of_length n (outcome_of (drop 8 (replicate k half))) else None) ≡ None
+    → (if leb 8 (ones_before (replicate k half)) then packet_of_length n (outcome_of (drop 8 (replicate k half)))
+    else None) ≡ None
 unfolding ones_before
 alike_none One n k =
     rw (drop-replicate 8 k One, no_packet n (replicate (k - 8) One) (ones_not_zero (k - 8))) (grind arith)

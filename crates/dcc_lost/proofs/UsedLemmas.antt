@@ -4,12 +4,13 @@ use Rattle.std.proofs.Common.{ap, arith, Bool, inl, inr, length-drop, ifâ—Œthenâ
 use Rattle.std.proofs.lemmas.List.{length-map}
 use Rattle.dcc_wire.specs.declared.half.Half.{Half}
 use Rattle.dcc_wire.specs.declared.seen.Seen.{Seen}
-use Rattle.dcc_wire.specs.Framing.{Rest, StandsFor, rest, rest_at, hunting, seen, starts, used_up, halves_used, outcomes_at, outcome_at}
+use Rattle.dcc_wire.specs.Framing.{Rest, StandsFor, rest, rest_at, hunting, seen, starts, used_up, halves_used}
+use Rattle.dcc_wire.specs.Framing.{outcomes_at, outcome_at}
 use Rattle.dcc_wire.specs.Half.{class_of}
 use Rattle.dcc_wire.specs.Outcomes.{outcome_of, ones_left, bits_in, behind_bits, bytes_in, by_halves, by_bits}
 use Rattle.dcc_wire.proofs.ByteBits.{cases_Option, some_same}
 use Rattle.dcc_wire.proofs.OutcomeLemmas.{outcome_of-long, ones_left_le}
-use Rattle.dcc_lost.specs.Lost.{is_hunting}
+use Rattle.dcc_wire.specs.Framing.{is_hunting}
 use Rattle.dcc_lost.specs.Unused.{last_outcome, unused_after, unused_at_end, Hears}
 use Rattle.dcc_lost.proofs.HeardLemmas.{last_outcome-push}
 

@@ -10,7 +10,8 @@ use Rattle.dcc_wire.specs.Outcomes.{outcome_of}
 use Rattle.dcc_lost.specs.declared.causes.OffLimits.{OffLimits}
 use Rattle.dcc_lost.specs.declared.causes.ShortPreamble.{ShortPreamble}
 use Rattle.dcc_lost.specs.declared.causes.LostPacket.{LostPacket}
-use Rattle.dcc_lost.specs.Lost.{packet_of_length, frame_after_ones, frame_at_end, longest_frame_at_end, is_unheard, frame_lost}
+use Rattle.dcc_lost.specs.Lost.{packet_of_length, frame_after_ones, frame_at_end, longest_frame_at_end, is_unheard}
+use Rattle.dcc_lost.specs.Lost.{frame_lost}
 use Rattle.dcc_lost.specs.Unused.{last_outcome, unused_after, since_refusal, unused_at_end}
 use Rattle.dcc_lost.specs.Causes.{off_limits, ones_before_body, short_preamble, with_causes, packet_lost, report_lost}
 use Rattle.dcc_lost.specs.Causes.{packets_lost_after, packets_lost}
@@ -78,8 +79,11 @@ record Rows : Type 0 where
 
 rows : Rows
 unfolding sent_with packet_with loco_3 only between packets_lost packets_lost_after report_lost packet_lost with_causes
-    short_preamble ones_before_body off_limits unused_at_end since_refusal unused_after last_outcome frame_lost is_unheard
-    longest_frame_at_end frame_at_end frame_after_ones packet_of_length seen outcome_at outcomes_at starts_below is_start used_up
-    halves_used ones_at_end ones_before rest rest_at hunting outcome_of bits_in behind_bits bytes_in body_outcome by_bits
+    short_preamble ones_before_body off_limits unused_at_end since_refusal unused_after last_outcome frame_lost
+    is_unheard
+    longest_frame_at_end frame_at_end frame_after_ones packet_of_length seen outcome_at outcomes_at starts_below
+    is_start used_up
+    halves_used ones_at_end ones_before rest rest_at hunting outcome_of bits_in behind_bits bytes_in body_outcome
+    by_bits
     by_halves ones_left body halves_of body_bits bits_of number_of
 rows = assumption

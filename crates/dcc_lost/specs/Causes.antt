@@ -9,7 +9,7 @@ use Rattle.dcc_lost.specs.declared.causes.OffLimits.{OffLimits}
 use Rattle.dcc_lost.specs.declared.causes.ShortPreamble.{ShortPreamble}
 use Rattle.dcc_lost.specs.declared.causes.LostPacket.{LostPacket}
 use Rattle.dcc_lost.specs.Nearest.{nearest_class}
-use Rattle.dcc_lost.specs.Lost.{frame_lost}
+use Rattle.dcc_lost.specs.Lost.{frame_lost, longest_frame_at_end}
 use Rattle.dcc_lost.specs.Unused.{unused_at_end, since_refusal, last_outcome}
 
 -- true if the nearest class of a half-bit is One, and it is outside the limits 52 to 64 of a decoder
@@ -58,6 +58,11 @@ with_causes durations frame =
       ones = off_limits (filter is_off_one counted);
       zeros = off_limits (filter is_off_zero counted);
     }
+
+-- the longest packet whose body is the end of a list, after at least 8 half-bits of ones, with its
+-- causes
+abbrev pub packet_at_end : List ℕ → Option LostPacket
+packet_at_end durations = option_map (with_causes durations) (longest_frame_at_end durations)
 
 -- the packet that is lost at the half-bit `us` that follows these half-bits
 unfoldable pub packet_lost : List ℕ → ℕ → Option LostPacket

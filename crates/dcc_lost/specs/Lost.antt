@@ -4,7 +4,7 @@ use Rattle.std.specs.Prelude.{length, drop, map, Option, None, Some, if◌then�
 use Rattle.std.specs.Option.{option_or}
 use Rattle.dcc_wire.specs.declared.seen.Seen.{Seen}
 use Rattle.dcc_wire.specs.declared.seen.Seen.TheVariants.{Nothing, Packet, Refused}
-use Rattle.dcc_wire.specs.Framing.{ones_before, seen, Rest, Hunting, InBody, rest}
+use Rattle.dcc_wire.specs.Framing.{ones_before, seen, is_hunting, rest}
 use Rattle.dcc_wire.specs.Outcomes.{outcome_of}
 use Rattle.dcc_timing.specs.Numbers.{keep_last}
 use Rattle.dcc_lost.specs.Nearest.{nearest_class}
@@ -33,11 +33,6 @@ unfoldable pub longest_frame_at_end : List ℕ → Option (List ℕ)
 longest_frame_at_end durations =
     option_or (frame_at_end 6 durations)
     (option_or (frame_at_end 5 durations) (option_or (frame_at_end 4 durations) (frame_at_end 3 durations)))
-
--- true if a framer is between bodies
-abbrev pub is_hunting : Rest → Bool
-is_hunting (Hunting ones) = true
-is_hunting (InBody halves) = false
 
 -- true if no outcome ends with the half-bit `us` that follows `durations`, and no body is unfinished
 -- after it

@@ -9,7 +9,7 @@ use Rattle.dcc_wire.specs.Frames.{IsFrame}
 use Rattle.dcc_wire.specs.Framing.{InBody, seen, rest}
 use Rattle.dcc_lost.specs.declared.causes.LostPacket.{LostPacket}
 use Rattle.dcc_lost.specs.Nearest.{nearest_class}
-use Rattle.dcc_lost.specs.Lost.{is_hunting}
+use Rattle.dcc_wire.specs.Framing.{is_hunting}
 use Rattle.dcc_lost.specs.Unused.{unused_at_end}
 use Rattle.dcc_lost.specs.Causes.{packet_lost, with_causes}
 

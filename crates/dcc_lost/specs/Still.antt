@@ -2,7 +2,7 @@
 use Rattle.std.specs.Prelude.{◌≡◌, ℕ, true, List, replicate, IfSome}
 use Rattle.dcc_timing.specs.Numbers.{keep_last}
 use Rattle.dcc_lost.specs.declared.heard.Heard.{Heard}
-use Rattle.dcc_lost.specs.Lost.{is_hunting}
+use Rattle.dcc_wire.specs.Framing.{is_hunting}
 
 -- The last 130 half-bits have this duration, no outcome uses the last 20 half-bits before each of
 -- them, no body is unfinished, and the number of half-bits since a rejection is 255 or none. Then

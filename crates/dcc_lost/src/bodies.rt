@@ -1,6 +1,6 @@
 //! Bodies in the nearest classes of half-bits.
 
-ghost use Rattle.std.specs.Prelude.{◌≡◌, map, get_or, ◌<◌, length, Some};
+ghost use Rattle.std.specs.Prelude.{◌≡◌, ◌↔◌, IsTrue, map, get_or, ◌<◌, length, Some};
 ghost use Rattle.dcc_wire.specs.Inner.Steps.{answer_of};
 ghost use Rattle.dcc_wire.specs.Outcomes.{outcome_of};
 ghost use Rattle.dcc_lost.specs.Nearest.{nearest_class};
@@ -28,21 +28,36 @@ fn outcome_of(halves: &[u16]) -> Seen
 }
 
 /// Returns the frame of n bytes whose body follows the first 8 half-bits, if these are ones.
+#[inline(always)]
 pub(crate) fn frame_after_ones(halves: &[u16], n: usize) -> Option<Frame>
     ensures { result ≡ frame_after_ones n halves.now }
 {
+    // most half-bits begin no body
+    if !is_zero_at(halves, 8) {
+        return None;
+    }
     if ones_before(halves) < 8 {
         return None;
     }
     frame_of_body(&halves[8..], n)
 }
 
+/// Returns true if there is a half-bit at this place, counted from 0, and it is half of a zero in its
+/// nearest class.
+#[inline(always)]
+fn is_zero_at(halves: &[u16], place: usize) -> bool
+    ensures { IsTrue result ↔ ((place < length halves.now) × (nearest_class (get_or halves.now place 0) ≡ Half.Zero)) }
+{
+    place < halves.len() && is_nearest_zero(halves[place])
+}
+
 /// Returns the frame of n bytes whose body begins with the first of these half-bits, in their
 /// nearest classes.
+#[inline(never)]
 fn frame_of_body(body: &[u16], n: usize) -> Option<Frame>
     ensures { result ≡ packet_of_length n (outcome_of (map nearest_class body.now)) }
 {
-    if body.is_empty() || !is_nearest_zero(body[0]) {
+    if !is_zero_at(body, 0) {
         return None;
     }
     of_length(&outcome_of(body), n)

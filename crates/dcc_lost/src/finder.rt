@@ -6,17 +6,17 @@ ghost use Rattle.dcc_lost.specs.Finding.{HasRead};
 use crate::bodies::frame_after_ones;
 use crate::causes::{LostPacket, first_or_zero, off_limits, ones_at_end, short_preamble};
 use crate::heard::Heard;
-use crate::nearest::is_nearest_one;
-use crate::recent::LastHalves;
+use crate::nearest::{is_nearest_one, is_nearest_zero};
+use dcc_timing::LastNumbers;
 use dcc_wire::Frame;
 
 /// Finds the packets that a decoder does not hear, in half-bits that come one at a time.
 #[derive(Drop)]
 pub struct LostFinder {
     heard: Heard,
-    recent: LastHalves,
+    recent: LastNumbers,
     /// For each of these half-bits, the number of half-bits directly before it that no outcome uses.
-    unused: LastHalves,
+    unused: LastNumbers,
     ghost history: { ∥ ((durations : List ℕ) × HasRead heard recent unused durations) ∥₁ },
 }
 
@@ -32,10 +32,10 @@ pub struct LostRun {
 
 impl LostFinder {
     ghost use Rattle.std.specs.Prelude.{◌≡◌, ◌++◌, [], ◌∷◌, ◌≢◌, ◌≤◌, ◌+◌, ◌-◌, ◌↔◌, IsTrue, ℕ, List, None, length};
-    ghost use Rattle.std.specs.Prelude.{replicate, if◌then◌else◌};
-    ghost use Rattle.std.specs.Option.{option_map};
-    ghost use Rattle.dcc_lost.specs.Lost.{is_hunting, longest_frame_at_end};
-    ghost use Rattle.dcc_lost.specs.Causes.{packet_lost, packets_lost, report_lost, with_causes};
+    ghost use Rattle.std.specs.Prelude.{replicate, if◌then◌else◌, true, false};
+    ghost use Rattle.dcc_wire.specs.Framing.{is_hunting};
+    ghost use Rattle.dcc_lost.specs.Lost.{longest_frame_at_end};
+    ghost use Rattle.dcc_lost.specs.Causes.{packet_at_end, packet_lost, packets_lost, report_lost, with_causes};
     ghost use Rattle.dcc_lost.specs.Reads.{Follows};
     ghost use Rattle.dcc_lost.specs.Still.{IsStill};
 
@@ -45,12 +45,13 @@ impl LostFinder {
     {
         LostFinder {
             heard: Heard::new(),
-            recent: LastHalves::new(),
-            unused: LastHalves::new(),
+            recent: LastNumbers::new(),
+            unused: LastNumbers::new(),
         }
     }
 
     /// Takes a half-bit of this many microseconds. Returns the packet that is lost at this half-bit.
+    #[inline(always)]
     pub fn push(&mut self, us: u16) -> Option<LostPacket>
         // The finder has read at least one list of half-bits.
         ensures history { ∥ ((durations : List ℕ) × Follows self.old durations) ∥₁ }
@@ -64,18 +65,38 @@ impl LostFinder {
         ensures grows { (durations : List ℕ) → Follows self.old durations
             → packets_lost (durations ++ us ∷ []) ≡ packets_lost durations ++ report_lost (length durations) result }
     {
+        if !self.take(us) {
+            return None;
+        }
+        self.packet_at_end()
+    }
+
+    /// Takes a half-bit of this many microseconds. Returns false if no packet is lost at this half-bit.
+    /// If it returns true, the result of [`packet_at_end`](Self::packet_at_end) is lost at this half-bit.
+    #[inline(always)]
+    pub fn take(&mut self, us: u16) -> bool
+        // The finder has read at least one list of half-bits.
+        ensures history { ∥ ((durations : List ℕ) × Follows self.old durations) ∥₁ }
+        // If it has read a list, it has then read the list with this half-bit at its end.
+        ensures reads { (durations : List ℕ) → Follows self.old durations
+            → Follows self.new (durations ++ us ∷ []) }
+        ensures none { (durations : List ℕ) → Follows self.old durations → result ≡ false
+            → packet_lost durations us ≡ None }
+        ensures some { (durations : List ℕ) → Follows self.old durations → result ≡ true
+            → packet_lost durations us ≡ packet_at_end (durations ++ us ∷ []) }
+    {
         let unused = self.heard.unused();
         self.unused.push(u16::from(unused));
         let seen = self.heard.push(us);
         self.recent.push(us);
-        if !seen.is_nothing() {
-            return None;
-        }
         // most half-bits are no end of a packet
-        if !is_nearest_one(us) {
-            return None;
+        if !seen.is_nothing() {
+            return false;
         }
-        self.packet_unheard()
+        if !is_nearest_one(us) {
+            return false;
+        }
+        self.can_end_packet()
     }
 
     /// Takes n half-bits of this many microseconds, up to the first at which a packet is lost, as
@@ -128,22 +149,28 @@ impl LostFinder {
         self.heard.skip(us, n);
     }
 
-    /// Returns the packet whose body is the end of the list, if no body is unfinished.
-    fn packet_unheard(&self) -> Option<LostPacket>
-        ensures { (durations : List ℕ) → Follows self.now durations
-            → result ≡ option_map (with_causes durations)
-            (if is_hunting self.now.heard.framer then longest_frame_at_end durations else None) }
+    /// Returns false if no packet is lost at the end of the list.
+    #[inline(always)]
+    fn can_end_packet(&self) -> bool
+        ensures no { (durations : List ℕ) → Follows self.now durations → result ≡ false
+            → (if is_hunting self.now.heard.framer then longest_frame_at_end durations else None) ≡ None }
+        ensures yes { result ≡ true → is_hunting self.now.heard.framer ≡ true }
     {
-        let frame = longest_frame_at_end(&self.recent);
-        match frame {
+        if !self.heard.is_hunting() {
+            return false;
+        }
+        has_start_bits(self.recent.last(56))
+    }
+
+    /// Returns the longest packet whose body is the end of the list, after at least 8 half-bits of ones,
+    /// with the causes for which it is lost if no decoder hears it.
+    #[inline(never)]
+    pub fn packet_at_end(&self) -> Option<LostPacket>
+        ensures { (durations : List ℕ) → Follows self.now durations → result ≡ packet_at_end durations }
+    {
+        match longest_frame_at_end(&self.recent) {
             None => None,
-            Some(frame) => {
-                if self.heard.is_hunting() {
-                    Some(self.with_causes(frame))
-                } else {
-                    None
-                }
-            }
+            Some(frame) => Some(self.with_causes(frame)),
         }
     }
 
@@ -167,7 +194,20 @@ impl LostFinder {
 }
 
 ghost use Rattle.std.specs.Prelude.{◌↔◌, IsTrue, EachIndex, slice_index, replicate};
+ghost use Rattle.dcc_lost.specs.Inner.{HasStartBits};
 ghost use Rattle.dcc_lost.specs.Lost.{frame_at_end, longest_frame_at_end};
+
+/// Returns true if the last 56 half-bits can be the last three bytes of a body and its end bit: the
+/// first half-bit of each byte, that of a start bit, is a zero in its nearest class.
+#[inline(always)]
+fn has_start_bits(halves: &[u16]) -> bool
+    ensures { IsTrue result ↔ HasStartBits halves.now }
+{
+    halves.len() == 56
+        && is_nearest_zero(halves[0])
+        && is_nearest_zero(halves[18])
+        && is_nearest_zero(halves[36])
+}
 
 /// Returns true if there are 130 numbers, and each is this number.
 fn are_all(numbers: &[u16], number: u16) -> bool
@@ -186,7 +226,7 @@ fn each_is(numbers: &[u16], number: u16) -> bool
 /// Returns the longest frame whose body is the end of the last half-bits, after at least 8 half-bits
 /// of ones.
 #[tactic(auto, unfolding(crate::specs::Lost::longest_frame_at_end))]
-fn longest_frame_at_end(recent: &LastHalves) -> Option<Frame>
+fn longest_frame_at_end(recent: &LastNumbers) -> Option<Frame>
     ensures { result ≡ longest_frame_at_end recent.now }
 {
     if let Some(frame) = frame_at_end(recent, 6) {
@@ -204,7 +244,8 @@ fn longest_frame_at_end(recent: &LastHalves) -> Option<Frame>
 /// Returns the frame of n bytes whose body is the end of the last half-bits, after at least 8
 /// half-bits of ones.
 #[tactic(auto, unfolding(crate::specs::Lost::frame_at_end))]
-fn frame_at_end(recent: &LastHalves, n: usize) -> Option<Frame>
+#[inline(always)]
+fn frame_at_end(recent: &LastNumbers, n: usize) -> Option<Frame>
     requires { n ≤ 6 }
     ensures { result ≡ frame_at_end n recent.now }
 {

@@ -1,7 +1,7 @@
 //! A framer, and the half-bits that its outcomes do not use.
 
 ghost use Rattle.std.specs.Prelude.{◌≡◌, ◌≤◌};
-ghost use Rattle.dcc_lost.specs.Lost.{is_hunting};
+ghost use Rattle.dcc_wire.specs.Framing.{is_hunting};
 
 use dcc_wire::{Fault, Framer, Seen};
 
@@ -22,7 +22,8 @@ impl Heard {
     ghost use Rattle.dcc_wire.specs.Half.{class_of};
     ghost use Rattle.dcc_wire.specs.Runs.{IsQuiet};
     ghost use Rattle.dcc_lost.specs.Unused.{Hears, since_refusal, last_outcome, unused_at_end};
-    ghost use Rattle.dcc_lost.specs.Lost.{is_hunting};
+    ghost use Rattle.dcc_wire.specs.Framing.{is_hunting};
+    ghost use Rattle.dcc_lost.specs.Inner.{unused_next, since_next};
 
     /// Creates the state without half-bits.
     pub(crate) fn new() -> Heard
@@ -36,6 +37,7 @@ impl Heard {
     }
 
     /// Takes a half-bit of this many microseconds. Returns the outcome that ends with this half-bit.
+    #[inline(always)]
     pub(crate) fn push(&mut self, us: u16) -> Seen
         ensures hears { (durations : List ℕ) → Hears self.old.framer self.old.unused self.old.since_refusal durations
             → Hears self.new.framer self.new.unused self.new.since_refusal (durations ++ us ∷ []) }
@@ -43,17 +45,31 @@ impl Heard {
             → seen (durations ++ us ∷ []) ≡ seen durations ++ report_at (length durations) result }
     {
         let seen = self.framer.push(us);
-        self.unused = unused_next(self.unused, &seen);
-        self.since_refusal = since_next(self.since_refusal, &seen);
+        self.count(&seen);
         seen
+    }
+
+    /// Counts one more half-bit with this outcome.
+    #[inline(always)]
+    #[tactic(auto, unfolding(crate::specs::Inner::unused_next, crate::specs::Inner::since_next))]
+    fn count(&mut self, seen: &Seen)
+        ensures framer { self.new.framer ≡ self.old.framer }
+        ensures unused { self.new.unused ≡ unused_next self.old.unused seen.now }
+        ensures since { self.new.since_refusal ≡ since_next self.old.since_refusal seen.now }
+    {
+        // most half-bits of a body change nothing
+        if seen.is_nothing() && self.unused == 20 && self.since_refusal.is_none() {
+            return;
+        }
+        self.unused = unused_next(self.unused, seen);
+        self.since_refusal = since_next(self.since_refusal, seen);
     }
 
     /// Returns true if no body is unfinished.
     pub(crate) fn is_hunting(&self) -> bool
         ensures { result ≡ is_hunting self.now.framer }
     {
-        let mut kept = self.framer.keep();
-        kept.pass(0)
+        self.framer.is_hunting()
     }
 
     /// Returns true if no body is unfinished, no outcome uses the last 20 half-bits, and the number of

@@ -13,7 +13,6 @@ mod finder;
 mod heard;
 pub mod laws;
 mod nearest;
-mod recent;
 #[cfg(test)]
 mod tests;
 

@@ -62,7 +62,8 @@ pub record LastSetter (f : Packet → Option Value) (block : List Packet) (v : V
 abbrev SetLast : (Packet → Option Value) → List Packet → Option Value → Type 0
 SetLast f block (Some v) = LastSetter f block v
 SetLast f block None = ((p : Packet) → Contains block p → f p ≡ None)
-    × ((test : Packet → Bool) → AllSet f test → (before : Option Packet) → last_behind before (filter test block) ≡ before)
+    × ((test : Packet → Bool) → AllSet f test → (before : Option Packet) → last_behind before (filter test block)
+    ≡ before)
 
 set_last : (f : Packet → Option Value) (l : List Packet) → SetLast f l (last_set f l)
 set_last f [] = (λ p h. absurd (contains_none p h), λ test only before. refl)
@@ -95,7 +96,8 @@ same_setter : (f : Packet → Option Value) (left right : List Packet) (v w : Va
 same_setter f left right v w a b e =
     let pair = is_one_of a.setter b.setter in
     let here = a.ends pair (rw (same-refl a.setter) refl) pair_sets None in
-    let there = b.ends pair (or_right (same a.setter b.setter) (same b.setter b.setter) (same-refl b.setter)) pair_sets None in
+    let there = b.ends pair (or_right (same a.setter b.setter) (same b.setter b.setter) (same-refl b.setter)) pair_sets
+    None in
     cc (here, there, last_behind-unrepeated None (filter pair left), last_behind-unrepeated None (filter pair right))
   where
     pair_sets : AllSet f (is_one_of a.setter b.setter)
@@ -158,7 +160,8 @@ run_block who s p (q ∷ l) all =
     ∙ run_block who (run s (p ∷ [])) q l all.1
     ∙ same_state (run (run s (p ∷ [])) (q ∷ l)) (run s (p ∷ q ∷ l))
     (overwritten-twice s.pending (Some (PendingValue None))) (λ r. refl)
-    (λ r. overwritten-overwritten (s.plain r) (sets (mode_in s.bits) p r) (last_set (λ q. sets (mode_in s.bits) q r) (q ∷ l)))
+    (λ r. overwritten-overwritten (s.plain r) (sets (mode_in s.bits) p r)
+    (last_set (λ q. sets (mode_in s.bits) q r) (q ∷ l)))
 
 -- alike blocks leave the same state
 pub alike_blocks : (who : Who) (s : State) (left right : List Packet) → AllByRecursion (InBlock who) left

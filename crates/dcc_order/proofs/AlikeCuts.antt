@@ -95,7 +95,8 @@ through_all (suc k) (Block block write rest) all = ap (λ l. block ++ write ∷ 
 -- a third copy of an own write writes the same again
 third_copy : (s : State) (p : Packet) → is_own_write p ≡ true → step (step (step s p) p) p ≡ step (step s p) p
 third_copy s p write = same_state (step (step (step s p) p) p) (step (step s p) p)
-    (overwritten-twice (value_over s.pending (Some (PendingValue (left_pending p)))) (Some (PendingValue (left_pending p))))
+    (overwritten-twice (value_over s.pending (Some (PendingValue (left_pending p))))
+    (Some (PendingValue (left_pending p))))
     (λ r. ap
     (λ v. cond (is_own_write p && is_pending v p) (value_over ((step (step s p) p).bits r) (sets_bit p r))
     ((step (step s p) p).bits r)) (overwritten-twice s.pending (Some (PendingValue (left_pending p))))
@@ -130,7 +131,8 @@ state_after-capped s (p ∷ l) = elim (cases_Bool (is_own_write p && begins_with
 -- a list leaves what it leaves as it is cut for the decoder
 state_after-cut_for : (who : Who) (s : State) (k : ℕ) (l : List Packet) → writes_in (cut_for who l) ≤ k
     → state_after s (through_block k (cut_for who l)) ≡ state_after s (heard who l)
-state_after-cut_for who s k l all = rw (through_all k (cut_for who l) all, flat-cut (without_third_copies (heard who l)))
+state_after-cut_for who s k l all =
+    rw (through_all k (cut_for who l) all, flat-cut (without_third_copies (heard who l)))
     (state_after-capped s (heard who l))
 
 pub alike_lists : AlikeListsLeaveTheSame

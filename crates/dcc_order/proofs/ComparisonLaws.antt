@@ -71,7 +71,8 @@ one_heard who l p before third is hear e = (
 
 -- where blocks that are alike end with one write, the next ones begin
 up_to_next : (end : Option Packet) (k : ℕ) (x y : Cut) (left right : List Packet) (p : Packet)
-    → AlikeUpTo k x y (open_cut left end) (Block right p (LastBlock [])) → AlikeBlocks left right → EndAlike end (Some p)
+    → AlikeUpTo k x y (open_cut left end) (Block right p (LastBlock [])) → AlikeBlocks left right
+    → EndAlike end (Some p)
     → (is_none end ≡ false) × AlikeUpTo (suc k) x y (LastBlock []) (LastBlock [])
 up_to_next None k x y left right p up alike ends = absurd ends
 up_to_next end zero x y left right p up alike ends = (refl, rw (up.0, up.1) (alike, ends, (refl, refl)))
@@ -132,85 +133,89 @@ module _ {c : Comparison} {lists : Lists} (w : WantsRight c lists) where
         (w.left_end ∙ ap is_none ends.0, f ends.1);
   }
 
-module _ {c : Comparison} {lists : Lists} (s : ComparerRepresents c lists) (p : Packet) (hear : hears c.who p ≡ true) where
-  -- while the left side is wanted
-  left_next : c.wants ≡ Left → (third : Bool) → (is_own_write p && is_third c.left_heard p) ≡ third
-      → (heard_next c.left_heard p ≡ last_heard (heard c.who (lists.left ++ p ∷ [])))
-      × AlikeUpTo c.block (cut_for c.who (lists.left ++ p ∷ [])) (cut_for c.who lists.right)
-      (one_cut third p (LastBlock c.held.first)) (LastBlock [])
-  left_next e third is =
-      let w = stage_of s e in
-      let next = one_heard c.who lists.left p c.left_heard third w.goes_on.left_heard hear is in
-      let up = up_to_more third p c.block (cut_for c.who lists.left) (cut_for c.who lists.right) (LastBlock c.held.first)
-      (LastBlock []) w.up_to in (next.0, rw next.1 up.0)
+module _ {c : Comparison} {lists : Lists} (s : ComparerRepresents c lists) (p : Packet) (hear : hears c.who p ≡ true)
+  where
+    -- while the left side is wanted
+    left_next : c.wants ≡ Left → (third : Bool) → (is_own_write p && is_third c.left_heard p) ≡ third
+        → (heard_next c.left_heard p ≡ last_heard (heard c.who (lists.left ++ p ∷ [])))
+        × AlikeUpTo c.block (cut_for c.who (lists.left ++ p ∷ [])) (cut_for c.who lists.right)
+        (one_cut third p (LastBlock c.held.first)) (LastBlock [])
+    left_next e third is =
+        let w = stage_of s e in
+        let next = one_heard c.who lists.left p c.left_heard third w.goes_on.left_heard hear is in
+        let up = up_to_more third p c.block (cut_for c.who lists.left) (cut_for c.who lists.right)
+        (LastBlock c.held.first)
+        (LastBlock []) w.up_to in (next.0, rw next.1 up.0)
 
-  -- the packet is left out, ends the block or joins it
-  pub left_given : c.wants ≡ Left → (own third : Bool) → is_own_write p ≡ own → is_third c.left_heard p ≡ third
-      → ComparerRepresents (cond own (cond third (heard_left c p) (closed_left c p)) (joined_left c p))
-      (with_item Left (Some p) lists)
-  left_given e true true own twice =
-      rw e (search (arith, s, stage_of s e, left_next e true (rw (own, twice)), length-append))
-  left_given e true false own apart =
-      let w = stage_of s e in
-      search (arith, s, w, rw (own, ← w.none_yet) at (left_next e false (rw (own, apart))), length-append)
-  left_given e false third own any =
-      rw e (search (arith, s, stage_of s e, rw own at (left_next e false (rw own)), length-append))
+    -- the packet is left out, ends the block or joins it
+    pub left_given : c.wants ≡ Left → (own third : Bool) → is_own_write p ≡ own → is_third c.left_heard p ≡ third
+        → ComparerRepresents (cond own (cond third (heard_left c p) (closed_left c p)) (joined_left c p))
+        (with_item Left (Some p) lists)
+    left_given e true true own twice =
+        rw e (search (arith, s, stage_of s e, left_next e true (rw (own, twice)), length-append))
+    left_given e true false own apart =
+        let w = stage_of s e in
+        search (arith, s, w, rw (own, ← w.none_yet) at (left_next e false (rw (own, apart))), length-append)
+    left_given e false third own any =
+        rw e (search (arith, s, stage_of s e, rw own at (left_next e false (rw own)), length-append))
 
-  -- while the right side is wanted
-  right_next : c.wants ≡ Right → (third : Bool) → (is_own_write p && is_third c.right_heard p) ≡ third
-      → (heard_next c.right_heard p ≡ last_heard (heard c.who (lists.right ++ p ∷ [])))
-      × AlikeUpTo c.block (cut_for c.who lists.left) (cut_for c.who (lists.right ++ p ∷ []))
-      (open_cut c.held.first c.left_end) (one_cut third p (LastBlock c.held.second))
-  right_next e third is =
-      let w = stage_of s e in
-      let next = one_heard c.who lists.right p c.right_heard third w.goes_on.right_heard hear is in
-      let up = up_to_more third p c.block (cut_for c.who lists.left) (cut_for c.who lists.right)
-      (open_cut c.held.first c.left_end) (LastBlock c.held.second) w.up_to in (next.0, rw next.1 up.1)
+    -- while the right side is wanted
+    right_next : c.wants ≡ Right → (third : Bool) → (is_own_write p && is_third c.right_heard p) ≡ third
+        → (heard_next c.right_heard p ≡ last_heard (heard c.who (lists.right ++ p ∷ [])))
+        × AlikeUpTo c.block (cut_for c.who lists.left) (cut_for c.who (lists.right ++ p ∷ []))
+        (open_cut c.held.first c.left_end) (one_cut third p (LastBlock c.held.second))
+    right_next e third is =
+        let w = stage_of s e in
+        let next = one_heard c.who lists.right p c.right_heard third w.goes_on.right_heard hear is in
+        let up = up_to_more third p c.block (cut_for c.who lists.left) (cut_for c.who lists.right)
+        (open_cut c.held.first c.left_end) (LastBlock c.held.second) w.up_to in (next.0, rw next.1 up.1)
 
-  pub right_left_out : c.wants ≡ Right → is_own_write p ≡ true → is_third c.right_heard p ≡ true
-      → ComparerRepresents (heard_right c p) (with_item Right (Some p) lists)
-  right_left_out e own twice =
-      let next = right_next e true (rw (own, twice)) in
-      rw e (search (arith, s, stage_of s e, next, length-append))
+    pub right_left_out : c.wants ≡ Right → is_own_write p ≡ true → is_third c.right_heard p ≡ true
+        → ComparerRepresents (heard_right c p) (with_item Right (Some p) lists)
+    right_left_out e own twice =
+        let next = right_next e true (rw (own, twice)) in
+        rw e (search (arith, s, stage_of s e, next, length-append))
 
-  pub right_joined : c.wants ≡ Right → is_own_write p ≡ false →
-      ComparerRepresents (heard_right (record c { held = record c.held { second = c.held.second ++ p ∷ [] } }) p)
-      (with_item Right (Some p) lists)
-  right_joined e own =
-      let next = rw own at (right_next e false (rw own)) in
-      rw e (search (arith, s, stage_of s e, next, length-append))
+    pub right_joined : c.wants ≡ Right → is_own_write p ≡ false →
+        ComparerRepresents (heard_right (record c { held = record c.held { second = c.held.second ++ p ∷ [] } }) p)
+        (with_item Right (Some p) lists)
+    right_joined e own =
+        let next = rw own at (right_next e false (rw own)) in
+        rw e (search (arith, s, stage_of s e, next, length-append))
 
-  pub right_foreign : c.wants ≡ Right → is_own_write p ≡ false → (Contains c.held.first p → ⊥) →
-      ComparerRepresents (heard_right (record c { wants = Done (Members c.block) }) p) (with_item Right (Some p) lists)
-  right_foreign e own none =
-      let w = stage_of s e in
-      let all = settled_for c.who (with_item Right (Some p) lists) c.block (open_cut c.held.first c.left_end)
-      (LastBlock (c.held.second ++ p ∷ [])) (Members c.block) (rw own at (right_next e false (rw own))).1
-      (rw w.right_open (foreign_packet c.block c.held.first (c.held.second ++ p ∷ []) p lists.left_ended c.left_end
-      (λ e. w.left_end ∙ ap is_none e) none (Contains-push c.held.second p))) in
-      let apart : Members c.block ≡ Alike → ⊥ = λ a. cc in
-      search (arith, s, all, apart, length-append)
+    pub right_foreign : c.wants ≡ Right → is_own_write p ≡ false → (Contains c.held.first p → ⊥) →
+        ComparerRepresents (heard_right (record c { wants = Done (Members c.block) }) p)
+        (with_item Right (Some p) lists)
+    right_foreign e own none =
+        let w = stage_of s e in
+        let all = settled_for c.who (with_item Right (Some p) lists) c.block (open_cut c.held.first c.left_end)
+        (LastBlock (c.held.second ++ p ∷ [])) (Members c.block) (rw own at (right_next e false (rw own))).1
+        (rw w.right_open (foreign_packet c.block c.held.first (c.held.second ++ p ∷ []) p lists.left_ended c.left_end
+        (λ e. w.left_end ∙ ap is_none e) none (Contains-push c.held.second p))) in
+        let apart : Members c.block ≡ Alike → ⊥ = λ a. cc in
+        search (arith, s, all, apart, length-append)
 
-  pub right_settled : (v : Verdict) → c.wants ≡ Right → is_own_write p ≡ true → is_third c.right_heard p ≡ false →
-      IsVerdictAtEnds c.block c.held.first c.left_end c.held.second (Some p) v
-      → ComparerRepresents (heard_right (record c { wants = Done v }) p) (with_item Right (Some p) lists)
-  right_settled v e own apart verdict =
-      let up = (rw own at (right_next e false (rw (own, apart)))).1 in
-      let done = settled (stage_of s e) (lists.right ++ p ∷ []) lists.right_ended (Some p) v verdict (λ e. cc) up in
-      search (arith, s, done, length-append)
+    pub right_settled : (v : Verdict) → c.wants ≡ Right → is_own_write p ≡ true → is_third c.right_heard p ≡ false →
+        IsVerdictAtEnds c.block c.held.first c.left_end c.held.second (Some p) v
+        → ComparerRepresents (heard_right (record c { wants = Done v }) p) (with_item Right (Some p) lists)
+    right_settled v e own apart verdict =
+        let up = (rw own at (right_next e false (rw (own, apart)))).1 in
+        let done = settled (stage_of s e) (lists.right ++ p ∷ []) lists.right_ended (Some p) v verdict (λ e. cc) up in
+        search (arith, s, done, length-append)
 
-  pub right_begun : c.wants ≡ Right → is_own_write p ≡ true → is_third c.right_heard p ≡ false →
-      AlikeBlocks c.held.first c.held.second → EndAlike c.left_end (Some p)
-      → ComparerRepresents (heard_right (begun_block c) p) (with_item Right (Some p) lists)
-  right_begun e own apart alike ends =
-      let w = stage_of s e in
-      let next = rw own at (right_next e false (rw (own, apart))) in
-      let begun = up_to_next c.left_end c.block (cut_for c.who lists.left) (cut_for c.who (lists.right ++ p ∷ []))
-      c.held.first c.held.second p next.1 alike ends in
-      search (arith, s, w, next, rw (← add-one c.block) at begun.1, w.left_end ∙ begun.0, length-append)
+    pub right_begun : c.wants ≡ Right → is_own_write p ≡ true → is_third c.right_heard p ≡ false →
+        AlikeBlocks c.held.first c.held.second → EndAlike c.left_end (Some p)
+        → ComparerRepresents (heard_right (begun_block c) p) (with_item Right (Some p) lists)
+    right_begun e own apart alike ends =
+        let w = stage_of s e in
+        let next = rw own at (right_next e false (rw (own, apart))) in
+        let begun = up_to_next c.left_end c.block (cut_for c.who lists.left) (cut_for c.who (lists.right ++ p ∷ []))
+        c.held.first c.held.second p next.1 alike ends in
+        search (arith, s, w, next, rw (← add-one c.block) at begun.1, w.left_end ∙ begun.0, length-append)
 
 -- the number of a block is no larger than the number of packets
-pub block_given : {c : Comparison} {lists : Lists} → ComparerRepresents c lists → c.wants ≡ Right → c.block ≤ c.right_given
+pub block_given : {c : Comparison} {lists : Lists} → ComparerRepresents c lists → c.wants ≡ Right
+    → c.block ≤ c.right_given
 block_given {c = c} {lists = lists} s e =
     let heard_here = heard c.who lists.right in
     let whole = ap length (flat-cut (without_third_copies heard_here)) in

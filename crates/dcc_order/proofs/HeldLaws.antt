@@ -47,7 +47,8 @@ module _ {members more : List Packet} {n : ℕ} {x : Packet} (g : Grows members 
   packets_more [] all = refl
   packets_more (m ∷ ns) all = rw ((g.kept m Idle all.0).1, packets_more ns all.1) refl
 
-  packets_push : (ns : List ℕ) → Numbered members ns → packets_numbered more (ns ++ n ∷ []) ≡ packets_numbered members ns ++ x ∷ []
+  packets_push : (ns : List ℕ) → Numbered members ns → packets_numbered more (ns ++ n ∷ [])
+      ≡ packets_numbered members ns ++ x ∷ []
   packets_push ns all =
       map-append (λ n. get_or more n Idle) ns (n ∷ [])
       ∙ rw (packets_more ns all, stands_at more x Idle (rw g.number g.inside), g.number) refl
@@ -206,7 +207,8 @@ module _ {places : List Place} {count : ℕ} {others : List ℕ} (held : AreHeld
       ↔ (turns_of own rival (numbers_in_slots places) ≡ turns_of own rival others)
   told own rival own_in before clash =
       rw (numbers_back ms held.members.once (numbers_in_slots places) held.first_numbered, its_numbers) at
-      (same_turns_counted ms held.members.once own rival (within own own_in) (within rival (omega (arith, before, own_in)))
+      (same_turns_counted ms held.members.once own rival (within own own_in)
+      (within rival (omega (arith, before, own_in)))
       (λ e. clash.apart (cc)) first second)
 
   -- any two packets that conflict take the same turns exactly where the number of one of them does with each before it
@@ -233,7 +235,8 @@ module _ {places : List Place} {count : ℕ} {others : List ℕ} (held : AreHeld
       nowhere : Place
       nowhere = record { number = 0; member = Idle }
 
-      numbered : ((own : ℕ) → own < count → NumberedAlike places others own) → (own rival : ℕ) → own < count → rival < own
+      numbered : ((own : ℕ) → own < count → NumberedAlike places others own) → (own rival : ℕ) → own < count
+          → rival < own
           → Conflict (at own) (at rival) → SameTurns first second (at own) (at rival)
       numbered each own rival own_in before clash =
           (told own rival own_in before clash).1 (each own own_in rival nowhere nowhere before

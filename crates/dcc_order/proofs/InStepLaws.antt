@@ -98,7 +98,8 @@ no_more_is_given who left right c s =
     (few c.left_given s.left_front s.stands.left_given, few c.right_given s.right_front s.stands.right_given)
 
 -- no side is wanted whose end was given
-fewer_ends : (w v : Wants) (item : Option Packet) {c : Comparison} (lists : Lists) → ComparerRepresents c (given_more w item lists)
+fewer_ends : (w v : Wants) (item : Option Packet) {c : Comparison} (lists : Lists)
+    → ComparerRepresents c (given_more w item lists)
     → c.wants ≡ v → 0 < ends_wanted w → ends_wanted v < ends_wanted w + 2 * length (option_to_list item)
 fewer_ends Left Left None lists s is some = let going = (stage_of s is).left_open in absurd (cc)
 fewer_ends Right Left None lists s is some = let going = (stage_of s is).right_open in absurd (cc)
@@ -148,7 +149,8 @@ verdict_is_of_the_given who left right c verdict given s is counted =
       taken given.1 s.right_front (ap (λ (p : ℕ × ℕ). p.1) counted ∙ s.stands.right_given),
       sym s.who_is,
     )
-    ((stage_of s.stands (sym is)).of_all [] [] (nothing_follows s.lists.left_ended) (nothing_follows s.lists.right_ended))
+    ((stage_of s.stands (sym is)).of_all [] [] (nothing_follows s.lists.left_ended)
+    (nothing_follows s.lists.right_ended))
 
 -- both lists, as far as they were given: what is left of each, and whether its end was given
 pub record Giving (who : Who) (left right left_rest right_rest : List Packet) (left_ended right_ended : Bool)

@@ -71,7 +71,8 @@ new_member members x none = record {
   kept = λ k d below. (omega (arith, length-append {A = Packet}), get_or-append members (x ∷ []) d k below);
   inside = omega (arith, length-append {A = Packet});
   number = number;
-  others = λ p apart. grind (arith, nat_tests, position_or_len_push (same p) members x, length-append, number-within members p);
+  others = λ p apart. grind
+      (arith, nat_tests, position_or_len_push (same p) members x, length-append, number-within members p);
   are = λ block are. record {
     same_set = λ p. (
       λ h. elim (Contains-push_cases members x p h) [

@@ -27,7 +27,8 @@ pub nothing_else_is_seen : NothingElseIsSeen
 nothing_else_is_seen sent = seen-sent_all (map spelled_out sent) (all_frames sent)
 
 pub frames_at_last_halves : (place : ℕ) (all : List SentPacket)
-    → map spelling (map (λ (one : SentPacket). one.packet) all) ≡ frames_among (at_last_halves place (map spelled_out all))
+    → map spelling (map (λ (one : SentPacket). one.packet) all)
+    ≡ frames_among (at_last_halves place (map spelled_out all))
 unfolding at_last_halves
 frames_at_last_halves place [] = refl
 frames_at_last_halves place (one ∷ more) =
@@ -111,7 +112,8 @@ sent_all-more : (before : List Sent) (one : Sent)
 unfolding sent_all
 sent_all-more [] one = append-nil (sent one.bytes one.timing)
 sent_all-more (p ∷ before) one =
-    rw (sent_all-more before one, append_assoc (sent p.bytes p.timing) (sent_all before) (sent one.bytes one.timing)) refl
+    rw (sent_all-more before one, append_assoc (sent p.bytes p.timing) (sent_all before) (sent one.bytes one.timing))
+    refl
 
 frames-more : (before : List Sent) (one : Sent) → AllFrames before → IsFrame one.bytes → AllFrames (before ++ one ∷ [])
 unfolding AllFrames
@@ -137,7 +139,8 @@ unfolding IsBeingSent HasHeardAll
 frame_is_seen start framer one left kept before sending none f heard =
     let c = sending (sent_all before) heard.1 in
     let last = seen-more 0 before one in
-    let shown = rw (seen-sent_all before heard.0) at (sym c.sees ∙ ap seen (all_come before one left c.come none c.parts)
+    let shown = rw (seen-sent_all before heard.0) at
+    (sym c.sees ∙ ap seen (all_come before one left c.come none c.parts)
     ∙ seen-sent_all (before ++ one ∷ []) (frames-more before one heard.0 f) ∙ last.1) in
     c.last ∙ ap (last_seen Nothing) (append_cancel_left (at_last_halves 0 before) c.more
     ((last.0, PacketSeen one.bytes) ∷ []) shown)

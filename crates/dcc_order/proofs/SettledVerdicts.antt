@@ -62,9 +62,11 @@ pub alike_at_ends : (k : ℕ) (left right : List Packet) (w u : Option Packet) �
     → (w ≡ None) × (u ≡ None)
 alike_at_ends k left right None None d = (refl, refl)
 alike_at_ends k left right None (Some u) d =
-    absurd ((cuts_alike k (LastBlock left) (Block right u (LastBlock [])) Alike (d (LastBlock []) (LastBlock []))).0 refl)
+    absurd ((cuts_alike k (LastBlock left) (Block right u (LastBlock [])) Alike (d (LastBlock []) (LastBlock []))).0
+    refl)
 alike_at_ends k left right (Some w) None d =
-    absurd ((cuts_alike k (Block left w (LastBlock [])) (LastBlock right) Alike (d (LastBlock []) (LastBlock []))).0 refl)
+    absurd ((cuts_alike k (Block left w (LastBlock [])) (LastBlock right) Alike (d (LastBlock []) (LastBlock []))).0
+    refl)
 alike_at_ends k left right (Some w) (Some u) d = absurd ((cuts_alike k (Block left w (LastBlock []))
     (Block right u (Block [] u (LastBlock []))) Alike (d (LastBlock []) (Block [] u (LastBlock [])))).0 refl).2
 

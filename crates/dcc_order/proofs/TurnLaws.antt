@@ -67,13 +67,16 @@ module _ (p q : Packet) where
     differ : (same p q ≡ false) × (same q p ≡ false)
     differ = (grind (arith, same_tells p q), grind (arith, same_tells q p))
 
-    comes : (rival last : Bool) (n : ℕ) → (n ≡ 0 → last ≡ false) → Told (with_packet (ended p q last n) (cond rival q p))
+    comes : (rival last : Bool) (n : ℕ) → (n ≡ 0 → last ≡ false)
+        → Told (with_packet (ended p q last n) (cond rival q p))
         (turn_of rival (record { count = n; rival_last = last }))
     comes true last zero none = rw (none refl) (refl, λ e. absurd (omega arith))
     comes false last zero none = rw (none refl) (refl, λ e. refl)
-    comes true true (suc n) none = rw (last_behind-append None (ended p q false n) q, same-refl q, append-nil) (refl, none)
+    comes true true (suc n) none =
+        rw (last_behind-append None (ended p q false n) q, same-refl q, append-nil) (refl, none)
     comes false false (suc n) none =
-        rw (last_behind-append None (ended p q true n) p, same-refl p, append-nil, ne_eqb (suc n) 0 (omega arith)) (refl, none)
+        rw (last_behind-append None (ended p q true n) p, same-refl p, append-nil, ne_eqb (suc n) 0 (omega arith))
+        (refl, none)
     comes true false (suc n) none =
         rw (last_behind-append None (ended p q true n) p, differ.0, add-one (suc n)) (refl, λ e. absurd (omega arith))
     comes false true (suc n) none =
@@ -88,21 +91,27 @@ module _ (p q : Packet) where
     length_ended last (suc n) =
         omega (arith, length_ended (not last) n, length-append (ended p q (not last) n) (cond last q p ∷ []))
 
-    last_told : (last : Bool) (n : ℕ) → (n ≡ 0 → last ≡ false) → is_repeated (last_behind None (ended p q last n)) q ≡ last
+    last_told : (last : Bool) (n : ℕ) → (n ≡ 0 → last ≡ false) → is_repeated (last_behind None (ended p q last n)) q
+        ≡ last
     last_told last zero none = sym (none refl)
     last_told true (suc n) none = rw (last_behind-append None (ended p q false n) q) (same-refl q)
     last_told false (suc n) none = rw (last_behind-append None (ended p q true n) p) differ.0
 
     read : {taken : List Packet} {t : Turns} → Told taken t
-        → (let z : Turns = record { count = length taken; rival_last = is_repeated (last_behind None taken) q } in z) ≡ t
+        → (let z : Turns = record { count = length taken; rival_last = is_repeated (last_behind None taken) q } in z)
+        ≡ t
     read {t = t} told = rw told.0
-        (λ i. record { count = length_ended t.rival_last t.count i; rival_last = last_told t.rival_last t.count told.1 i })
+        (λ i. record {
+          count = length_ended t.rival_last t.count i;
+          rival_last = last_told t.rival_last t.count told.1 i;
+        })
 
     -- two lists of turns are the same exactly where they are told so
     same_told : {one other : List Packet} {t u : Turns} → Told one t → Told other u → (one ≡ other) ↔ (t ≡ u)
     same_told told then = (
       λ e. sym (read told)
-          ∙ ap (λ l. let z : Turns = record { count = length l; rival_last = is_repeated (last_behind None l) q } in z) e
+          ∙ ap (λ l. let z : Turns = record { count = length l; rival_last = is_repeated (last_behind None l) q } in z)
+          e
           ∙ read then,
       λ e. told.0 ∙ ap (λ (z : Turns). ended p q z.rival_last z.count) e ∙ sym then.0,
     )
@@ -150,7 +159,8 @@ module _ (members : List Packet) (once : EachOnce members) (own rival : ℕ) (ow
 
   -- turns that are counted by numbers tell those of the packets
   turns_counted : (at own ≡ at rival → ⊥) → (block : List Packet)
-      → Told (at own) (at rival) (turns (at own) (at rival) block) (turns_of own rival (map (member_number members) block))
+      → Told (at own) (at rival) (turns (at own) (at rival) block)
+      (turns_of own rival (map (member_number members) block))
   turns_counted apart = snoc
       (λ block. Told (at own) (at rival) (turns (at own) (at rival) block)
       (turns_of own rival (map (member_number members) block))) (refl, λ e. refl)
@@ -161,7 +171,13 @@ module _ (members : List Packet) (once : EachOnce members) (own rival : ℕ) (ow
       ) (elim (placed x own own_in) [
         | inl (i, is) ↦ rw (i, ← is, same-refl (at own)) (one_comes (at own) (at rival) apart false told)
         | inr (i, not_own) ↦ elim (placed x rival rival_in) [
-          | inl (j, is) ↦ rw (i, j, ← is, or_right (same (at own) (at rival)) (same (at rival) (at rival)) (same-refl (at rival)))
+          | inl (j, is) ↦ rw (
+            i,
+            j,
+            ← is,
+            or_right (same (at own) (at rival)) (same (at rival) (at rival))
+                (same-refl (at rival)),
+          )
               (one_comes (at own) (at rival) apart true told)
           | inr (j, not_rival) ↦ rw (i, j, not_own, not_rival) told
         ]

@@ -9,26 +9,26 @@ use Rattle.dcc_regs.specs.Writes.{is_own_write}
 use Rattle.dcc_regs.specs.Result.{is_repeated}
 use Rattle.dcc_regs.specs.Conflict.{Conflict}
 
--- true if the first two packets of the list both equal `p`
+-- true if the list `packets` begins with two packets that equal `p`
 abbrev pub begins_with_two : List Packet → Packet → Bool
 begins_with_two [] p = false
 begins_with_two (q ∷ []) p = false
 begins_with_two (q ∷ r ∷ rest) p = same p q && same p r
 
--- the list without each own write that two equal packets follow directly; so each row of equal own
--- writes is shortened to at most two
+-- the list `packets` without each own write that two equal packets follow directly. So of
+-- successive equal own writes only two stay.
 abbrev pub without_third_copies : List Packet → List Packet
 without_third_copies [] = []
 without_third_copies (p ∷ later) =
     if is_own_write p && begins_with_two later p then without_third_copies later else p ∷ without_third_copies later
 
--- a list of packets that is cut into blocks: one last block, or a block, the own write that ends
--- it, and the rest of the list
+-- a list of packets that is cut into blocks. `LastBlock` is a list without a write. `Block` is a
+-- block, the own write that ends it, and the rest of the list.
 pub data Cut : Type 0 where
   LastBlock : List Packet → Cut
   Block : List Packet → Packet → Cut → Cut
 
--- the cut list with packet `p` added at the start of its first block
+-- a cut list with packet `p` added at the start of its first block
 abbrev pub in_first_block : Packet → Cut → Cut
 in_first_block p (LastBlock block) = LastBlock (p ∷ block)
 in_first_block p (Block block write rest) = Block (p ∷ block) write rest
@@ -37,13 +37,12 @@ abbrev pub cut : List Packet → Cut
 cut [] = LastBlock []
 cut (p ∷ later) = if is_own_write p then Block [] p (cut later) else in_first_block p (cut later)
 
--- the packets of a list that decoder `who` hears, without third copies of own writes, cut into
--- blocks
+-- the packets that decoder `who` hears, without third copies of own writes, as a cut list
 abbrev pub cut_for : Who → List Packet → Cut
 cut_for who packets = cut (without_third_copies (heard who packets))
 
--- the list without each packet that equals the packet directly before it; `before` is the packet
--- before the list
+-- the list `packets` without each packet that equals the packet directly before it. The packet
+-- `before` stands before the list.
 abbrev pub without_repeats : Option Packet → List Packet → List Packet
 without_repeats before [] = []
 without_repeats before (p ∷ later) =
@@ -77,8 +76,8 @@ pub record AlikeBlocks (left right : List Packet) : Type 0 where
   pub members : SameMembers left right
   pub order : SameOrder left right
 
--- two cut lists have the same own writes in the same order, and alike blocks before, between and
--- after them
+-- two cut lists have the same own writes in the same order, and the blocks at equal places are
+-- alike
 abbrev pub AlikeCuts : Cut → Cut → Type 0
 AlikeCuts (LastBlock left) (LastBlock right) = AlikeBlocks left right
 AlikeCuts (Block left write lefts) (Block right other rights) =

@@ -14,38 +14,38 @@ use Rattle.dcc_order.specs.AlikeLists.{Cut, LastBlock, Block, cut_for, SameMembe
 use Rattle.dcc_order.specs.Verdicts.{IsVerdictFrom}
 use Rattle.dcc_order.specs.GivenLists.{Lists, IsVerdictOfAll}
 
--- the record of a list before its first packet
+-- the record of a list of which no packet was heard yet
 abbrev pub nothing_heard : LastHeard
 nothing_heard = record { packet = None; is_second = false }
 
--- the record of a list after its next packet `p`: `p`, and whether the packet before `p` equals it.
--- The record before `p` is `before`.
+-- the record of a list after its next packet `p`: the packet `p`, and true if the packet before `p`
+-- equals `p`. The record before `p` is `before`.
 abbrev pub heard_next : LastHeard → Packet → LastHeard
 heard_next before p = record { packet = Some p; is_second = is_repeated before.packet p }
 
--- the record of the list `packets`: its last packet, and whether the packet before that equals it
+-- the record of the list `packets`: its last packet, and true if the packet before that packet
+-- equals it
 abbrev pub last_heard : List Packet → LastHeard
 last_heard packets = fold heard_next nothing_heard packets
 
--- the cut list that begins with `block`. If there is a write, it ends `block`, and `rest` follows
--- it.
+-- the cut list that begins with `block`. If there is a write, it ends `block`, and the cut list
+-- `rest` follows. If there is no write, `block` is the last block.
 abbrev pub cut_then : List Packet → Option Packet → Cut → Cut
 cut_then block None rest = LastBlock block
 cut_then block (Some write) rest = Block block write rest
 
--- the cut list with the one block `block`, and then the write `end` if there is one, with no packet
--- after it
+-- the cut list that has only the block `block`, or this block and the write `end` after it
 abbrev pub open_cut : List Packet → Option Packet → Cut
 open_cut block end = cut_then block end (LastBlock [])
 
--- `verdict` is the verdict on all lists whose blocks with number `k` are `left` and `right`, if the
--- blocks before are alike. The writes `write` and `other` end these blocks; a block with `None` is
--- the last one.
+-- `verdict` is the verdict on all cut lists that have `left` and `right` as their blocks with
+-- number `k`, if the blocks before are alike. The write `write` ends the block `left`, and `other`
+-- ends `right`. A block without a write is the last block.
 abbrev pub IsVerdictAtEnds : ℕ → List Packet → Option Packet → List Packet → Option Packet → Verdict → Type 0
 IsVerdictAtEnds k left write right other verdict =
     (lefts rights : Cut) → IsVerdictFrom k (cut_then left write lefts) (cut_then right other rights) verdict
 
--- both blocks end with the same write
+-- two blocks end with the same write
 abbrev pub EndAlike : Option Packet → Option Packet → Type 0
 EndAlike (Some write) (Some other) = write ≡ other
 EndAlike (Some write) None = ⊥
@@ -58,8 +58,8 @@ BlocksDiffer k left right verdict =
     (¬ SameMembers left right × (verdict ≡ Members k))
     ⊎ (SameMembers left right × ¬ SameOrder left right × (verdict ≡ Order k))
 
--- two cut lists begin with `k` alike blocks, each of which is followed by equal writes. The cut
--- lists `u` and `w` are the rests after them.
+-- the cut lists `x` and `y` begin with `k` alike blocks, and equal writes end these blocks. The cut
+-- lists `u` and `w` follow them.
 abbrev pub AlikeUpTo : ℕ → Cut → Cut → Cut → Cut → Type 0
 AlikeUpTo zero x y u w = (x ≡ u) × (y ≡ w)
 AlikeUpTo (suc k) (Block left write x) (Block right other y) u w =
@@ -67,17 +67,17 @@ AlikeUpTo (suc k) (Block left write x) (Block right other y) u w =
 AlikeUpTo (suc k) (LastBlock left) y u w = ⊥
 AlikeUpTo (suc k) (Block left write x) (LastBlock right) u w = ⊥
 
--- The comparison `c` stores the last packets of `lists` that its decoder heard. Its two blocks are
--- not longer than the lists.
+-- the comparison `c` stores, for each of the two `lists`, the last packet that its decoder heard.
+-- The two blocks that it stores are not longer than the lists.
 pub record GoesOn (c : Comparison) (lists : Lists) : Type 0 where
   pub left_heard : c.left_heard ≡ last_heard (heard c.who lists.left)
   pub right_heard : c.right_heard ≡ last_heard (heard c.who lists.right)
   pub first_fits : length c.held.first ≤ length lists.left
   pub second_fits : length c.held.second ≤ length lists.right
 
--- The comparison `c` wants a packet of the left list. No list has ended, and the blocks before
--- number `c.block` are alike. The last block of the left list is stored, and the last block of the
--- right list is empty.
+-- the comparison `c` waits for a packet of the left list. Neither list has ended, and the blocks
+-- before block `c.block` are alike. The comparison stores the last block of the left list. The last
+-- block of the right list is empty.
 pub record WantsLeft (c : Comparison) (lists : Lists) : Type 0 where
   pub goes_on : GoesOn c lists
   pub left_open : lists.left_ended ≡ false
@@ -86,8 +86,8 @@ pub record WantsLeft (c : Comparison) (lists : Lists) : Type 0 where
       (LastBlock [])
   pub none_yet : c.held.second ≡ []
 
--- The comparison `c` wants a packet of the right list. The block of the left list was ended by a
--- write, or by the end of the list. The blocks before number `c.block` are alike.
+-- the comparison `c` waits for a packet of the right list. A write or the end of the left list has
+-- ended the block of the left list. The blocks before block `c.block` are alike.
 pub record WantsRight (c : Comparison) (lists : Lists) : Type 0 where
   pub goes_on : GoesOn c lists
   pub left_end : lists.left_ended ≡ is_none c.left_end
@@ -95,7 +95,7 @@ pub record WantsRight (c : Comparison) (lists : Lists) : Type 0 where
   pub up_to : AlikeUpTo c.block (cut_for c.who lists.left) (cut_for c.who lists.right)
       (open_cut c.held.first c.left_end) (LastBlock c.held.second)
 
--- `verdict` is the verdict on all lists that begin with `lists`. It is `Alike` only if both lists
+-- `verdict` is the verdict on every two lists that begin with `lists`. If it is `Alike`, both lists
 -- have ended.
 pub record Settled (c : Comparison) (lists : Lists) (verdict : Verdict) : Type 0 where
   pub of_all : IsVerdictOfAll c.who lists verdict

@@ -1,5 +1,5 @@
--- Fleets that hear half-bits. Two functions, `who` and `registers`, give the identity and the
--- registers of a decoder. So a fleet can have decoders of any type, with or without boxes.
+-- Fleets that hear half-bits. The functions `who` and `registers` give the identity and the
+-- registers of a decoder. So a fleet can have decoders of any type.
 use Rattle.std.specs.Prelude.{ℕ, List, ◌++◌}
 use Rattle.std.specs.List.{AllZip}
 use Rattle.dcc_wire.specs.declared.seen.Seen.{Seen}
@@ -15,8 +15,8 @@ abbrev pub EachHears : {A : Type 0} → (A → Who) → (A → RegisterMap) → 
 EachHears who registers packets old new =
     AllZip (λ one now. HasHeard packets (who one) (registers one) (who now) (registers now)) old new
 
--- each decoder of the list `old` hears the packet of the outcome `shown`, if it is a packet, and
--- becomes the decoder at the same place of `new`
+-- if the outcome `shown` is a packet, each decoder of the list `old` hears it and becomes the
+-- decoder at the same place of `new`. Otherwise `new` equals `old`.
 pub record EachHearsSeen {A : Type 0} (who : A → Who) (registers : A → RegisterMap) (shown : Seen) (old new : List A)
     : Type 0 where
   -- there is a list `packets` of the packets of `shown`: one packet, or an empty list if `shown` is
@@ -31,8 +31,8 @@ abbrev pub EachHearsHalves : {A : Type 0} → (A → Who) → (A → RegisterMap
 EachHearsHalves who registers halves old new =
     AllZip (λ one now. HasHeardHalves halves (who one) (registers one) (who now) (registers now)) old new
 
--- each decoder of `members` has heard `halves` since it had the identity and the registers at the
--- same place of the list `starts`
+-- each decoder of `members` has heard `halves`, and before them it had the identity and the
+-- registers at the same place of the list `starts`
 abbrev pub HaveHeardSince : {A : Type 0} → (A → Who) → (A → RegisterMap) → List (Who × RegisterMap) → List ℕ → List A
     → Type 0
 HaveHeardSince who registers starts halves members =

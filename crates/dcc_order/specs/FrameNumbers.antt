@@ -1,4 +1,4 @@
--- Frames as numbers. The code uses them to find a packet in a list of packets. No main definition
+-- Frames as numbers, by which the code finds a packet in a list of packets. No main definition
 -- depends on this file.
 use Rattle.std.specs.Prelude.{ℕ, ◌+◌, ◌*◌, ◌≡◌, Option, List, [], ◌∷◌}
 use Rattle.std.specs.List.{position}
@@ -7,14 +7,14 @@ use Rattle.dcc_packet.specs.declared.packet.Packet.{Packet}
 use Rattle.dcc_packet.specs.SamePacket.{same}
 use Rattle.dcc_packet.specs.Spelling.{spelling}
 
--- the number of a frame: its first byte is the lowest byte of the number, and a 1 is above its last
--- byte
+-- the number of a frame with these `bytes`. The first byte is the lowest byte of the number, and a
+-- 1 stands above the last byte.
 abbrev pub frame_number : List ℕ → ℕ
 frame_number [] = 1
 frame_number (byte ∷ bytes) = byte + 256 * frame_number bytes
 
--- for the number of the frame of a packet, `found` returns the place of this packet in `members`,
--- or `None` if `members` does not contain it
+-- `found` returns, for the number of the frame of each packet, the place of this packet in
+-- `members`, or `None` if `members` does not contain the packet
 abbrev pub IsIndex : (ℕ → Option ℕ) → List Packet → Type 0
 IsIndex found members =
     (p : Packet) → IsFrame (spelling p) → found (frame_number (spelling p)) ≡ position (same p) members

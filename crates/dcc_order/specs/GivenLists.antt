@@ -1,4 +1,5 @@
--- Two lists of packets that are given packet by packet, and definitions about them before they end.
+-- Two lists of packets that a comparer gets packet by packet, and definitions about lists whose
+-- ends it has not got.
 use Rattle.std.specs.Prelude.{ℕ, zero, suc, ◌+◌, ◌≡◌, min, Bool, true, false, List, [], ◌∷◌, ◌++◌, Option, Some, None}
 use Rattle.std.specs.Prelude.{length}
 use Rattle.dcc_packet.specs.declared.packet.Packet.{Packet}
@@ -9,8 +10,8 @@ use Rattle.dcc_order.specs.declared.wants.Wants.TheVariants.{Left, Right, Done}
 use Rattle.dcc_order.specs.AlikeLists.{Cut, LastBlock, Block, cut_for}
 use Rattle.dcc_order.specs.Verdicts.{IsVerdict}
 
--- the prefixes of two lists that a comparer was given, and whether it was also given the end of
--- each list
+-- the packets of two lists that a comparer has got: a prefix of each list, and true for each list
+-- whose end it has got
 pub record Lists : Type 0 where
   pub left : List Packet
   pub left_ended : Bool
@@ -20,8 +21,8 @@ pub record Lists : Type 0 where
 abbrev pub no_lists : Lists
 no_lists = record { left = []; left_ended = false; right = []; right_ended = false }
 
--- `lists` after a comparer was given one more item, a packet or `None` for the end, of the list
--- that it wants
+-- `lists` after the comparer got one more item of the list that it waits for: a packet, or `None`
+-- for the end of the list
 abbrev pub with_item : Wants → Option Packet → Lists → Lists
 with_item Left (Some p) lists = record lists { left = lists.left ++ p ∷ [] }
 with_item Left None lists = record lists { left_ended = true }
@@ -29,7 +30,8 @@ with_item Right (Some p) lists = record lists { right = lists.right ++ p ∷ [] 
 with_item Right None lists = record lists { right_ended = true }
 with_item (Done verdict) item lists = lists
 
--- the packets `further` can follow a list; if the list has ended, `further` is empty
+-- the packets `further` can follow a list. If the first argument is true, the list has ended, and
+-- `further` is empty.
 abbrev pub MayFollow : Bool → List Packet → Type 0
 MayFollow true further = further ≡ []
 MayFollow false further = Unit {0}
@@ -52,8 +54,8 @@ block_len zero (Block block write rest) = length block
 block_len (suc k) (LastBlock block) = 0
 block_len (suc k) (Block block write rest) = block_len k rest
 
--- the sum of the lengths of block `k` in `left` and in `right`, if `k` is the smaller one of their
--- numbers of writes
+-- the sum of the lengths of block `k` of `left` and block `k` of `right`. `k` is the smaller of the
+-- two numbers of writes in `left` and `right`.
 abbrev pub open_blocks_len : Cut → Cut → ℕ
 open_blocks_len left right = let k = min (writes_in left) (writes_in right) in block_len k left + block_len k right
 

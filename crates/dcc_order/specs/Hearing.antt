@@ -10,13 +10,13 @@ use Rattle.dcc_packet.specs.Spelling.{spelling}
 use Rattle.dcc_regs.specs.declared.register.Who.{Who}
 use Rattle.dcc_regs.specs.Result.{RegisterMap, HasHeard}
 
--- the frame of an outcome as a list with one frame, or an empty list if the outcome is no packet
+-- a list with the frame of an outcome, or an empty list if the outcome is no packet
 abbrev pub frames_of : Seen → List (List ℕ)
 frames_of Nothing = []
 frames_of (PacketSeen frame) = frame ∷ []
 frames_of (Refused fault) = []
 
--- the frames of the packets in a list of outcomes
+-- the frames of all packets among a list of outcomes
 abbrev pub frames_among : List (ℕ × Seen) → List (List ℕ)
 frames_among [] = []
 frames_among (at ∷ later) = frames_of at.1 ++ frames_among later
@@ -29,13 +29,14 @@ AreSpelled packets frames = map spelling packets ≡ frames
 abbrev pub ArePackets : List Packet → List ℕ → Type 0
 ArePackets packets halves = AreSpelled packets (frames_among (seen halves))
 
--- a decoder has heard the half-bits `halves`: it has heard the packets in them
+-- a decoder with identity `who` and registers `start` has heard the packets in the half-bits
+-- `halves`. It then has the identity `who'` and the registers `now`.
 pub record HasHeardHalves (halves : List ℕ) (who : Who) (start : RegisterMap) (who' : Who) (now : RegisterMap) : Type 0
   where
     pub packets : List Packet
     pub seen : ArePackets packets halves
     pub heard : HasHeard packets who start who' now
 
--- all half-bits of a track that is given in `pieces`, as one list
+-- the half-bits of all `pieces` of a track, as one list
 abbrev pub whole_track : List (Bor (List ℕ)) → List ℕ
 whole_track pieces = concat (map (λ piece. piece.now) pieces)

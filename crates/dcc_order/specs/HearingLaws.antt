@@ -12,11 +12,11 @@ abbrev pub OneListOfPackets : Type 0
 OneListOfPackets =
     (halves : List ℕ) (one other : List Packet) → ArePackets one halves → ArePackets other halves → one ≡ other
 
--- each list of half-bits contains a list of packets
+-- for each list of half-bits there is a list of the packets in it
 abbrev pub SomeListOfPackets : Type 0
 SomeListOfPackets = (halves : List ℕ) → (packets : List Packet) × ArePackets packets halves
 
--- a decoder has heard the empty list of half-bits if its identity and its registers are unchanged
+-- a decoder whose identity and registers do not change has heard the empty list of half-bits
 abbrev pub NoHalvesHeard : Type 0
 NoHalvesHeard = (who : Who) (start : RegisterMap) → HasHeardHalves [] who start who start
 
@@ -29,8 +29,8 @@ pub record AlikeHalves (who : Who) (left right : List ℕ) : Type 0 where
   pub others_seen : ArePackets others right
   pub alike : AlikeFor who packets others
 
--- if the packets in `left` and `right` are alike for a decoder, both lead it from the registers
--- `start` to equal registers
+-- if the packets in `left` and the packets in `right` are alike for decoder `who`, it has equal
+-- registers after both, from all registers `start`
 abbrev pub AlikeHalvesLeaveTheSame : Type 0
 AlikeHalvesLeaveTheSame = (who : Who) (start : RegisterMap) (left right : List ℕ) → AlikeHalves who left right →
     (one other : Who) (now after : RegisterMap) → HasHeardHalves left who start one now

@@ -1,5 +1,5 @@
--- The representation of two blocks by numbers. Each packet of a block has a number: its place in
--- the list of the different packets of the first block.
+-- Two blocks that are stored as numbers. The number of a packet is its place in the list of the
+-- different packets of the first block.
 use Rattle.std.specs.Prelude.{ℕ, ◌≡◌, ◌≤◌, ◌<◌, List, length, map, take, slice_index_or}
 use Rattle.std.specs.List.{AllByRecursion}
 use Rattle.dcc_packet.specs.declared.packet.Packet.{Packet}
@@ -10,11 +10,11 @@ use Rattle.dcc_order.specs.Members.{AreMembers}
 use Rattle.dcc_order.specs.Turns.{turns_of}
 use Rattle.dcc_regs.specs.Conflict.{Conflict}
 
--- the different packets of the first block, which are in the first `count` slots of `places`
+-- the different packets of the first block: those in the first `count` slots of `places`
 abbrev pub members_at : List Place → ℕ → List Packet
 members_at places count = map (λ place. place.member) (take count places)
 
--- the numbers of the packets of the first block, which are also in the slots `places`
+-- the numbers of the packets of the first block: those in the slots `places`
 abbrev pub numbers_in_slots : List Place → List ℕ
 numbers_in_slots places = map (λ place. place.number) places
 
@@ -32,15 +32,16 @@ held_at places count others = record {
 abbrev pub Numbered : List Packet → List ℕ → Type 0
 Numbered members numbers = AllByRecursion (λ n. n < length members) numbers
 
--- the first `count` slots of `places` hold the different packets of the first block, each once. All
--- numbers in the slots and in `others` are numbers of these packets.
+-- the first `count` slots of `places` store the different packets of the first block, each once.
+-- Each number in the slots of `places` and in `others` is the number of such a packet.
 pub record AreHeld (places : List Place) (count : ℕ) (others : List ℕ) : Type 0 where
   pub within : count ≤ length places
-  pub members : AreMembers (members_at places count) (packets_numbered (members_at places count) (numbers_in_slots places))
+  pub members : AreMembers (members_at places count)
+      (packets_numbered (members_at places count) (numbers_in_slots places))
   pub first_numbered : Numbered (members_at places count) (numbers_in_slots places)
   pub second_numbered : Numbered (members_at places count) others
 
--- packet number `own` and each packet before it that conflicts with it alternate in the same way in
+-- packet number `own` and each conflicting packet with a lower number alternate in the same way in
 -- both blocks
 abbrev pub NumberedAlike : List Place → List ℕ → ℕ → Type 0
 NumberedAlike places others own =

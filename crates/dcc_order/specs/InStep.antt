@@ -1,4 +1,4 @@
--- Two lists whose packets are given to a comparer in the order that it wants.
+-- Two lists whose packets a comparer gets in the order in which it waits for them.
 use Rattle.std.specs.Prelude.{ℕ, ◌+◌, ◌-◌, ◌*◌, ◌^◌, ◌≡◌, ◌≤◌, ◌<◌, Bool, List, ◌++◌, Option, IfSome, length, take}
 use Rattle.std.specs.Prelude.{slice_get}
 use Rattle.dcc_packet.specs.declared.packet.Packet.{Packet}
@@ -17,7 +17,7 @@ pub record IsGivenPrefix (whole given : List Packet) (ended : Bool) : Type 0 whe
   pub parts : whole ≡ given ++ rest
   pub may : MayFollow ended rest
 
--- the comparer `c` for decoder `who` was given prefixes of the lists `left` and `right`
+-- the comparer `c` for decoder `who` has got prefixes of the lists `left` and `right`
 pub record WasGivenFronts (who : Who) (left right : List Packet) (c : Comparison) : Type 0 where
   pub lists : Lists
   pub stands : ComparerRepresents c lists
@@ -25,20 +25,20 @@ pub record WasGivenFronts (who : Who) (left right : List Packet) (c : Comparison
   pub left_front : IsGivenPrefix left lists.left lists.left_ended
   pub right_front : IsGivenPrefix right lists.right lists.right_ended
 
--- the comparer `c` for decoder `who` is in step: it was given prefixes of the lists `left` and
--- `right`. Clients use this definition only through the theorems below.
+-- the comparer `c` for decoder `who` is in step with the lists `left` and `right`: it has got a
+-- prefix of each list. Clients use this definition only through the theorems below.
 unfoldable pub IsInStep : Who → List Packet → List Packet → Comparison → Type 0
 IsInStep who left right c = WasGivenFronts who left right c
 
--- the rank of the request of a comparer, which falls when the end of a list is given. It is 2 for a
--- packet of the left list, 1 for a packet of the right list, and 0 for a verdict.
+-- a number that falls when a comparer gets the end of a list. It is 2 if the comparer waits for a
+-- packet of the left list, 1 if it waits for a packet of the right list, and 0 if it has a verdict.
 abbrev pub ends_wanted : Wants → ℕ
 ends_wanted Left = 2
 ends_wanted Right = 1
 ends_wanted (Done verdict) = 0
 
--- an upper bound of the number of requests that comparer `c` still makes for the lists `left` and
--- `right`
+-- an upper bound of the number of packets and ends that the comparer `c` still gets of the lists
+-- `left` and `right`
 abbrev pub requests_bound : List Packet → List Packet → Comparison → ℕ
 requests_bound left right c = 2 * (length left - c.left_given + (length right - c.right_given)) + ends_wanted c.wants
 
@@ -46,30 +46,32 @@ requests_bound left right c = 2 * (length left - c.left_given + (length right - 
 pub record IsAt (packets : List Packet) (place : ℕ) (item : Option Packet) : Type 0 where
   pub is : item ≡ slice_get packets place
 
--- a comparer in state `c` that is given `item` is in state `next` after it
+-- a comparer in state `c` that gets `item` goes to state `next`
 pub record BecomesBy (c : Comparison) (item : Option Packet) (next : Comparison) : Type 0 where
   pub same_who : next.who ≡ c.who
   pub stands : (lists : Lists) → ComparerRepresents c lists → ComparerRepresents next (with_item c.wants item lists)
 
--- a new comparer, which was given no packet, is in step with any two lists
+-- a new comparer, which has got no packet, is in step with any two lists
 abbrev pub NothingGivenYet : Type 0
 NothingGivenYet = (who : Who) (left right : List Packet) (c : Comparison) → ComparerRepresents c no_lists → c.who ≡ who
     → IsInStep who left right c
 
--- a comparer in step that is given the next packet of the left list, or its end, stays in step
+-- a comparer in step that gets the next packet of the left list, or the end of this list, stays in
+-- step
 abbrev pub OneMoreOfLeft : Type 0
 OneMoreOfLeft = (who : Who) (left right : List Packet) (c next : Comparison) (item : Option Packet)
     → IsInStep who left right c → Left ≡ c.wants → IsAt left c.left_given item → BecomesBy c item next
     → IsInStep who left right next
 
--- a comparer in step that is given the next packet of the right list, or its end, stays in step
+-- a comparer in step that gets the next packet of the right list, or the end of this list, stays in
+-- step
 abbrev pub OneMoreOfRight : Type 0
 OneMoreOfRight = (who : Who) (left right : List Packet) (c next : Comparison) (item : Option Packet)
     → IsInStep who left right c → Right ≡ c.wants → IsAt right c.right_given item → BecomesBy c item next
     → IsInStep who left right next
 
--- the bound of the remaining requests falls if a comparer in step is given the next packet of the
--- left list, or its end
+-- the number `requests_bound` falls if a comparer in step gets the next packet of the left list, or
+-- the end of this list
 abbrev pub FewerRequestsAfterLeft : Type 0
 FewerRequestsAfterLeft = (who : Who) (left right : List Packet) (c next : Comparison) (item : Option Packet)
     → IsInStep who left right c → Left ≡ c.wants → IsAt left c.left_given item → BecomesBy c item next
@@ -92,13 +94,13 @@ VerdictIsOfBoth = (who : Who) (left right : List Packet) (c : Comparison) (verdi
     → IsInStep who left right c → Done verdict ≡ c.wants → IsVerdict who left right verdict
 
 -- the verdict of a comparer in step is also the verdict on the prefixes of `left` and `right` that
--- it was given
+-- the comparer has got
 abbrev pub VerdictIsOfTheGiven : Type 0
 VerdictIsOfTheGiven = (who : Who) (left right : List Packet) (c : Comparison) (verdict : Verdict) (given : ℕ × ℕ)
     → IsInStep who left right c → Done verdict ≡ c.wants → given ≡ (c.left_given, c.right_given)
     → IsVerdict who (take given.0 left) (take given.1 right) verdict
 
--- a comparer in step was given at most as many packets of each list as the list has
+-- a comparer in step has got at most as many packets of each list as the list has
 abbrev pub NoMoreIsGiven : Type 0
 NoMoreIsGiven = (who : Who) (left right : List Packet) (c : Comparison) → IsInStep who left right c
     → (c.left_given ≤ length left) × (c.right_given ≤ length right)

@@ -1,5 +1,5 @@
--- Theorems about packets that are heard after noise, which is any list of half-bits, and about
--- packets that are measured with an error.
+-- Theorems about packets that are sent after noise, which is any list of half-bits, and about
+-- half-bits that are measured with an error.
 use Rattle.std.specs.Prelude.{◌≡◌, ◌≤◌, ◌<◌, ◌⊎◌, ◌↔◌, ℕ, ◌+◌, true, false, is_some, List, [], ◌∷◌, ◌++◌, length, map}
 use Rattle.std.specs.Prelude.{replicate}
 use Rattle.std.specs.List.{list_any}
@@ -15,7 +15,7 @@ use Rattle.dcc_regs.specs.Safety.{is_standing, is_stop_packet, can_move}
 use Rattle.dcc_order.specs.Hearing.{ArePackets, HasHeardHalves}
 use Rattle.dcc_order.specs.SendingLaws.{SentPacket, spelled_out}
 
--- the half-bits of the packets `sent`, which are sent one after the other
+-- the half-bits of the packets `sent`, one packet after the other
 abbrev pub halves_of_sent : List SentPacket → List ℕ
 halves_of_sent sent = sent_all (map spelled_out sent)
 
@@ -23,9 +23,9 @@ halves_of_sent sent = sent_all (map spelled_out sent)
 abbrev pub packets_of_sent : List SentPacket → List Packet
 packets_of_sent sent = map (λ one. one.packet) sent
 
--- The packets `first` and `others` are sent after `noise`. All half-bits together can contain the
--- packets `all`: those of the noise, at most one packet of an unfinished body, `first` unless it is
--- lost, and `others`.
+-- the packets `first` and `others` are sent after `noise`, and all half-bits together contain the
+-- packets `all`: the packets of the noise, at most one packet of an unfinished body, `first` unless
+-- it is lost, and `others`
 pub record CanBeHeardAfterNoise (noise : List ℕ) (first : SentPacket) (others : List SentPacket) (all : List Packet)
     : Type 0 where
   -- the packets in the noise
@@ -48,15 +48,15 @@ NoiseCostsNoPacketButTheFirst =
     (noise : List ℕ) (first : SentPacket) (others : List SentPacket) (all : List Packet)
     → ArePackets all (noise ++ halves_of_sent (first ∷ others)) → CanBeHeardAfterNoise noise first others all
 
--- if `noise` with the packets `before` leaves no body unfinished, each packet that is sent after it
--- is heard, and nothing else
+-- if no body is unfinished after `noise`, each packet that is sent after it is heard, and no other
+-- packet. The noise contains the packets `before`.
 abbrev pub NoiseBetweenBodiesCostsNoPacket : Type 0
 NoiseBetweenBodiesCostsNoPacket =
     (noise : List ℕ) (ones : ℕ) (before : List Packet) (sent : List SentPacket) → rest noise ≡ Hunting ones
     → ArePackets before noise → ArePackets (before ++ packets_of_sent sent) (noise ++ halves_of_sent sent)
 
--- a decoder that has heard noise and the half-bits of the packets `first` and `others` has the
--- registers after such a list of packets
+-- a decoder hears noise, and then the half-bits of the packets `first` and `others`. Its registers
+-- are then those after a list of packets `all` of which `CanBeHeardAfterNoise` holds.
 abbrev pub DecodersHearPacketsAfterNoise : Type 0
 DecodersHearPacketsAfterNoise =
     (noise : List ℕ) (first : SentPacket) (others : List SentPacket) (who who' : Who) (start now : RegisterMap)
@@ -70,8 +70,8 @@ MeasuredPacketsAreHeard =
     (sent : List SentPacket) (measured : List ℕ) → AreWithin 3 (halves_of_sent sent) measured
     → ArePackets (packets_of_sent sent) measured
 
--- A decoder can have heard half-bits with such errors if and only if it can have heard them without
--- the errors. `before` and `after` are other half-bits.
+-- a decoder can have heard half-bits that are measured with an error of at most 3 microseconds if
+-- and only if it can have heard the exact half-bits. The half-bits `before` and `after` are exact.
 abbrev pub MeasuringChangesNoDecoder : Type 0
 MeasuringChangesNoDecoder =
     (sent : List SentPacket) (before measured after : List ℕ) (who who' : Who) (start now : RegisterMap)
@@ -79,15 +79,15 @@ MeasuringChangesNoDecoder =
     → HasHeardHalves (before ++ measured ++ after) who start who' now
     ↔ HasHeardHalves (before ++ halves_of_sent sent ++ after) who start who' now
 
--- the half-bits of three copies of a packet that are sent after the packets `earlier`, if noise
--- replaces one copy: `copies` copies come before the noise, and `more` copies after it
+-- the half-bits of the packets `earlier`, and then of three copies of a packet, one of which noise
+-- replaces: `copies` copies, the noise, and `more` copies
 abbrev pub copies_around_noise : List SentPacket → SentPacket → ℕ → ℕ → List ℕ → List ℕ
 copies_around_noise earlier copy copies more noise =
     halves_of_sent (earlier ++ replicate copies copy) ++ noise ++ halves_of_sent (replicate more copy)
 
--- If noise replaces one of three copies of a packet, the packet is heard. `all` are the packets in
--- these half-bits and any half-bits `further` after them: the packets `earlier`, some packets
--- `between`, a copy, and the packets `after`.
+-- If noise replaces one of three copies of a packet, the packet is heard. The half-bits of the
+-- copies and any half-bits `further` contain the packets `all`: the packets `earlier`, some packets
+-- `between`, the packet, and the packets `after`.
 abbrev pub OneOfThreeCopiesIsHeard : Type 0
 OneOfThreeCopiesIsHeard =
     (earlier : List SentPacket) (copy : SentPacket) (copies more : ℕ) (noise further : List ℕ) (all : List Packet)

@@ -7,7 +7,7 @@ use Rattle.dcc_regs.specs.Writes.{is_own_write}
 use Rattle.dcc_regs.specs.Heard.{hears, heard}
 use Rattle.dcc_order.specs.AlikeLists.{Cut, LastBlock, Block, cut_for}
 
--- true if the last two packets of the list both equal `p`
+-- true if a list of packets ends with two packets that equal `p`
 abbrev pub ends_with_two : List Packet → Packet → Bool
 ends_with_two [] p = false
 ends_with_two (q ∷ []) p = false
@@ -31,8 +31,8 @@ OneMorePacket = (who : Who) (packets : List Packet) (p : Packet) →
     (cut_for who packets) p)
     else cut_for who packets)
 
--- The second cut list begins like the first: it has all blocks and writes of the first in the same
--- order. Only the last block of the first can be longer in the second.
+-- the first cut list is a prefix of the second. It has the same blocks and writes, but its last
+-- block can be longer in the second, and more blocks can follow.
 abbrev pub GoesOnAs : Cut → Cut → Type 0
 GoesOnAs (LastBlock block) (LastBlock longer) = (more : List Packet) × (longer ≡ block ++ more)
 GoesOnAs (LastBlock block) (Block longer write rest) = (more : List Packet) × (longer ≡ block ++ more)
@@ -40,7 +40,8 @@ GoesOnAs (Block block write rest) (Block same_block same_write further) =
     (same_block ≡ block) × (same_write ≡ write) × GoesOnAs rest further
 GoesOnAs (Block block write rest) (LastBlock longer) = ⊥
 
--- the blocks of `packets` that a write has ended do not change if `further` packets follow
+-- if packets `further` follow the list `packets`, the blocks of `packets` that end with a write do
+-- not change
 abbrev pub FinishedBlocksStay : Type 0
 FinishedBlocksStay =
     (who : Who) (packets further : List Packet) → GoesOnAs (cut_for who packets) (cut_for who (packets ++ further))

@@ -5,8 +5,8 @@ use Rattle.dcc_wire.specs.declared.seen.Seen.TheVariants.{Nothing}
 use Rattle.dcc_wire.specs.Framing.{Rest, Hunting, StandsFor, seen, report_at}
 use Rattle.dcc_wire.specs.Outcomes.{ones_left}
 
--- if `framer` represents some half-bits, `next` represents these half-bits followed by a half-bit
--- of `us` microseconds
+-- for all half-bits that `framer` represents, `next` represents these half-bits followed by a
+-- half-bit of `us` microseconds
 abbrev pub StandsForOneMore : Rest → ℕ → Rest → Type 0
 StandsForOneMore framer us next = (halves : List ℕ) → StandsFor framer halves → StandsFor next (halves ++ us ∷ [])
 
@@ -17,8 +17,8 @@ ShowsAtOneMore framer us answer =
     (halves : List ℕ) → StandsFor framer halves
     → seen (halves ++ us ∷ []) ≡ seen halves ++ report_at (length halves) answer
 
--- a framer in state `old` that gets a half-bit of `us` microseconds returns `shown` and goes to
--- state `new`. After an outcome it looks for a preamble.
+-- a framer in state `old` that takes a half-bit of `us` microseconds returns `shown` and goes to
+-- state `new`. After an outcome it searches for a preamble.
 pub record PushesHalf (old : Rest) (us : ℕ) (shown : Seen) (new : Rest) : Type 0 where
   pub stands : StandsForOneMore old us new
   pub sees : ShowsAtOneMore old us shown

@@ -1,4 +1,4 @@
--- Theorems on the safety of decoders that hear half-bits. The half-bits are any list, noise included.
+-- Theorems on the safety of decoders that hear half-bits. The half-bits can have noise anywhere.
 use Rattle.std.specs.Prelude.{◌≡◌, ◌≢◌, ℕ, true, false, None, Some, is_some, List, ◌∷◌, ◌++◌}
 use Rattle.std.specs.List.{list_any}
 use Rattle.dcc_packet.specs.declared.packet.Packet.{Packet}
@@ -13,17 +13,17 @@ use Rattle.dcc_regs.specs.Result.{RegisterMap}
 use Rattle.dcc_regs.specs.Safety.{is_standing, is_stop_packet, can_move, can_have_step, SetByWrite, SetByTwoCopies}
 use Rattle.dcc_order.specs.Hearing.{ArePackets, HasHeardHalves}
 
--- if the speed in the registers `start` is a stop, it is a stop after `halves`, provided that the
--- decoder hears no packet of `halves` that sets the speed to a step
+-- if the speed in the registers `start` is a stop, and the decoder hears no packet of `halves` that
+-- sets the speed to a step, the speed is a stop after `halves`
 abbrev pub StandingLocoStandsOnTrack : Type 0
 StandingLocoStandsOnTrack =
     (halves : List ℕ) (packets : List Packet) (who who' : Who) (start now : RegisterMap) → ArePackets packets halves
     → HasHeardHalves halves who start who' now → list_any can_move (heard who packets) ≡ false
     → is_standing (start SpeedRegister) ≡ true → is_standing (now SpeedRegister) ≡ true
 
--- if the speed in the registers `start` is a stop, it is a stop after `halves`, provided that the
--- decoder hears no speed packet to its own address in `halves`, and no speed packet of 128 steps to
--- all locomotives
+-- if the speed in the registers `start` is a stop, and the decoder hears in `halves` no speed
+-- packet to its own address and no speed packet of 128 steps to all locomotives, the speed is a
+-- stop after `halves`
 abbrev pub OnlySpeedPacketsOfTrackMove : Type 0
 OnlySpeedPacketsOfTrackMove =
     (halves : List ℕ) (packets : List Packet) (who who' : Who) (start now : RegisterMap) → ArePackets packets halves
@@ -39,16 +39,16 @@ LastStopOfTrackStops =
     → is_some (start SpeedRegister) ≡ true → hears who stop ≡ true → is_stop_packet stop ≡ true
     → list_any can_move (heard who later) ≡ false → is_standing (now SpeedRegister) ≡ true
 
--- if `halves` change bit k of CV n, an own write among their packets sets this bit while an equal
--- write is pending
+-- if half-bits `halves` change bit k of CV n, a write to the decoder's own address among their
+-- packets sets this bit while an equal write is pending
 abbrev pub CvsOfTrackChangeByWrites : Type 0
 CvsOfTrackChangeByWrites =
     (halves : List ℕ) (packets : List Packet) (who who' : Who) (start now : RegisterMap) (n k : ℕ)
     → ArePackets packets halves → HasHeardHalves halves who start who' now
     → now (CvBit n k) ≢ start (CvBit n k) → SetByWrite who start packets n k
 
--- if no write is pending in the registers `start` and `halves` change bit k of CV n, two copies of
--- an own write among their packets set this bit
+-- if no write is pending in the registers `start`, and half-bits `halves` change bit k of CV n, two
+-- copies of a write to the decoder's own address among their packets set this bit
 abbrev pub CvsOfTrackChangeByTwoCopies : Type 0
 CvsOfTrackChangeByTwoCopies =
     (halves : List ℕ) (packets : List Packet) (who who' : Who) (start now : RegisterMap) (n k : ℕ)

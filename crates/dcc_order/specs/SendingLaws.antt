@@ -9,30 +9,31 @@ use Rattle.dcc_regs.specs.declared.register.Who.{Who}
 use Rattle.dcc_regs.specs.Result.{RegisterMap, step}
 use Rattle.dcc_order.specs.Hearing.{ArePackets, HasHeardHalves}
 
--- a packet to send, with its timing. Its bytes are below 256, as in every `Packet` of a program.
+-- a packet that is sent, and its timing. The numbers in the packet are below 256, as in every
+-- `Packet` of a program.
 pub record SentPacket : Type 0 where
   pub packet : Packet
   pub fits : BytesFit packet
   pub timing : Timing
 
--- the frame of the packet of `one`, with its timing
+-- the frame of the packet of `one`, and its timing
 abbrev pub spelled_out : SentPacket → Sent
 spelled_out one = record { bytes = spelling one.packet; timing = one.timing }
 
--- the half-bits of packets that are sent one after the other contain exactly these packets, in the
+-- if packets are sent one after the other, their half-bits contain exactly these packets, in the
 -- same order
 abbrev pub SentPacketsAreHeard : Type 0
 SentPacketsAreHeard =
     (sent : List SentPacket) → ArePackets (map (λ one. one.packet) sent) (sent_all (map spelled_out sent))
 
--- the outcomes in the half-bits of packets that are sent one after the other are the frames of
--- these packets, each at its last half-bit
+-- if packets are sent one after the other, the outcomes in their half-bits are the frames of these
+-- packets, each at its last half-bit
 abbrev pub NothingElseIsSeen : Type 0
 NothingElseIsSeen =
     (sent : List SentPacket) → seen (sent_all (map spelled_out sent)) ≡ at_last_halves 0 (map spelled_out sent)
 
--- a decoder that has heard the half-bits of one packet `p`, sent with any timing, has the registers
--- after `p`
+-- a decoder that has heard the half-bits of a packet `p` with any timing has the registers after
+-- `p`
 abbrev pub SentPacketIsDone : Type 0
 SentPacketIsDone =
     (p : Packet) (timing : Timing) (halves : List ℕ) (who who' : Who) (start now : RegisterMap) → BytesFit p

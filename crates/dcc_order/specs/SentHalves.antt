@@ -1,4 +1,4 @@
--- The half-bits of a frame that is sent to a framer, one half-bit after the other.
+-- The half-bits of a frame that a framer takes, one half-bit after the other.
 use Rattle.std.specs.Prelude.{ℕ, ◌≡◌, List, [], ◌∷◌, ◌++◌}
 use Rattle.dcc_wire.specs.declared.seen.Seen.{Seen}
 use Rattle.dcc_wire.specs.declared.seen.Seen.TheVariants.{Nothing, Packet as PacketSeen}
@@ -7,8 +7,8 @@ use Rattle.dcc_wire.specs.Frames.{IsFrame}
 use Rattle.dcc_wire.specs.Sending.{Sent, sent, sent_all, AllFrames}
 use Rattle.dcc_order.specs.OneMoreHalf.{StandsForOneMore, ShowsAtOneMore}
 
--- `framer` has heard the half-bits of `frames`, sent one after the other, and no other half-bits.
--- Each of `frames` is a frame.
+-- `framer` has taken the half-bits of `frames`, sent one after the other, and no other half-bits.
+-- Each element of `frames` is a frame.
 unfoldable pub HasHeardAll : List Sent → Rest → Type 0
 HasHeardAll frames framer = AllFrames frames × StandsFor framer (sent_all frames)
 
@@ -17,8 +17,8 @@ abbrev pub last_seen : Seen → List (ℕ × Seen) → Seen
 last_seen before [] = before
 last_seen before (at ∷ later) = last_seen at.1 later
 
--- after the half-bits `track`, all half-bits of `halves` except `left` have come to `framer`. The
--- last outcome in them is `kept`, or `Nothing` if they have no outcome.
+-- after the half-bits `track`, `framer` has taken all half-bits of `halves` except the last ones,
+-- `left`. The last outcome among these half-bits is `kept`, or `Nothing` if they have no outcome.
 pub record HasComeBehind (track halves left : List ℕ) (framer : Rest) (kept : Seen) : Type 0 where
   pub come : List ℕ
   pub parts : come ++ left ≡ halves
@@ -27,9 +27,9 @@ pub record HasComeBehind (track halves left : List ℕ) (framer : Rest) (kept : 
   pub sees : seen (track ++ come) ≡ seen track ++ more
   pub last : kept ≡ last_seen Nothing more
 
--- the frame of `one` is being sent to a framer that was in state `start` before it. The state of
--- the framer is now `framer`, the half-bits `left` are still to be sent, and `kept` is the last
--- outcome so far.
+-- the frame of `one` is being sent to a framer that was in state `start` before. The framer is now
+-- in state `framer`, and the half-bits `left` are still to be sent. The last outcome so far is
+-- `kept`.
 unfoldable pub IsBeingSent : Rest → Sent → List ℕ → Rest → Seen → Type 0
 IsBeingSent start one left framer kept =
     (track : List ℕ) → StandsFor start track → HasComeBehind track (sent one.bytes one.timing) left framer kept
@@ -54,15 +54,15 @@ SomethingIsSeen =
     → IsBeingSent start one left framer kept → left ≡ us ∷ later → StandsForOneMore framer us next
     → ShowsAtOneMore framer us answer → (answer ≡ Nothing → ⊥) → IsBeingSent start one later next answer
 
--- after the last half-bit of a frame, the frame is the last outcome, if the framer had heard only
--- whole frames before
+-- after the last half-bit of a frame, the frame is the last outcome, if the framer took only whole
+-- frames before it
 abbrev pub FrameIsSeen : Type 0
 FrameIsSeen =
     (start framer : Rest) (one : Sent) (left : List ℕ) (kept : Seen) (before : List Sent)
     → IsBeingSent start one left framer kept → left ≡ [] → IsFrame one.bytes → HasHeardAll before start
     → kept ≡ PacketSeen one.bytes
 
--- after the last half-bit of a frame, the framer has heard the whole frames before it and then this
+-- after the last half-bit of a frame, the framer has taken the whole frames before it and then this
 -- frame
 abbrev pub FramesAreHeard : Type 0
 FramesAreHeard =

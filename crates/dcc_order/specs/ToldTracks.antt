@@ -14,14 +14,14 @@ use Rattle.dcc_regs.specs.Result.{RegisterMap, HasHeard, step}
 use Rattle.dcc_order.specs.Hearing.{ArePackets, HasHeardHalves}
 use Rattle.dcc_order.specs.OneMoreHalf.{StandsForOneMore, ShowsAtOneMore}
 
--- the listener was notified of the packets of a list, one after the other, each by the callback of
--- its kind. The callbacks changed the listener from `old` to `now`.
+-- a listener was notified of each packet of a list in order, by the callback for its kind. The
+-- callbacks changed the listener from `old` to `now`.
 abbrev pub IsTold : {L : Type 0} → (L → Note → L → Type 0) → List Packet → L → L → Type 0
 IsTold told [] old now = now ≡ old
 IsTold {L} told (p ∷ later) old now = (between : L) × told old (note_of p) between × IsTold told later between now
 
--- the half-bits `halves` have come to a framer, and the decoder has heard the packets in them. The
--- listener was notified of the packets that the decoder hears.
+-- a framer took the half-bits `halves`, the decoder heard the packets in them, and the listener was
+-- notified of the packets that the decoder hears
 pub record WereHeardAndTold {L : Type 0} (told : L → Note → L → Type 0) (halves : List ℕ) (framer : Rest) (who : Who)
     (start : RegisterMap) (who' : Who) (now : RegisterMap) (listener listener' : L) : Type 0 where
   pub stands : StandsFor framer halves
@@ -30,15 +30,15 @@ pub record WereHeardAndTold {L : Type 0} (told : L → Note → L → Type 0) (h
   pub heard_all : HasHeard packets who start who' now
   pub told_all : IsTold told (heard who packets) listener listener'
 
--- the half-bits `halves` have come to a framer, a decoder and a listener. Clients use this
+-- a framer, a decoder and a listener have received the half-bits `halves`. Clients use this
 -- definition only through the theorems below.
 unfoldable pub HaveCome : {L : Type 0} → (L → Note → L → Type 0) → List ℕ → Rest → Who → RegisterMap → Who → RegisterMap
     → L → L → Type 0
 HaveCome told halves framer who start who' now listener listener' =
     WereHeardAndTold told halves framer who start who' now listener listener'
 
--- if the framer represents no half-bits, the empty list of half-bits has come to the framer, to any
--- decoder and to any listener
+-- if a framer represents the empty list of half-bits, the framer, any decoder and any listener have
+-- received the empty list
 abbrev pub NoHalfHasCome : {L : Type 0} → (L → Note → L → Type 0) → Type 0
 NoHalfHasCome {L} told = (framer : Rest) (who : Who) (start : RegisterMap) (listener : L) → StandsFor framer []
     → HaveCome told [] framer who start who start listener listener
@@ -92,7 +92,7 @@ PacketIsHeardAndTold {L} told =
     → StandsForOneMore framer (slice_index_or track n 0) next → ShowsAtOneMore framer (slice_index_or track n 0) answer
     → n < length track → HaveCome told (take (n + 1) track) next who start who'' after listener listener''
 
--- after all half-bits of `track`, the decoder has heard `track`
+-- after all half-bits of `track`, the decoder has heard the packets in `track`
 abbrev pub TrackIsHeard : {L : Type 0} → (L → Note → L → Type 0) → Type 0
 TrackIsHeard {L} told =
     (track : List ℕ) (n : ℕ) (framer : Rest) (who who' : Who) (start now : RegisterMap) (listener listener' : L)

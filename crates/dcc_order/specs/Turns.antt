@@ -1,5 +1,6 @@
--- The alternation of a packet and its rival in a block as two values: the number of its turns, and
--- whether the rival took the last turn. A turn is a row of occurrences of one of the two packets.
+-- How a packet and its rival alternate in a block, as two values: the number of turns, and true if
+-- the rival took the last turn. A turn is a sequence of occurrences of one of the two packets with
+-- no occurrence of the other one between them.
 use Rattle.std.specs.Prelude.{ℕ, ◌+◌, ◌≡◌, ◌<◌, slice_index_or, ◌||◌, ◌==◌, true, false, List, [], ◌∷◌, Option, Some}
 use Rattle.std.specs.Prelude.{fold, length, if◌then◌else◌}
 use Rattle.dcc_packet.specs.declared.packet.Packet.{Packet}
@@ -14,14 +15,14 @@ last_behind before (p ∷ later) = last_behind (Some p) later
 abbrev pub no_turns : Turns
 no_turns = record { count = 0; rival_last = false }
 
--- the alternation `taken` after an occurrence of the packet itself. This is a new turn if it is the
--- first turn, or if the rival took the last turn.
+-- the alternation `taken` after an occurrence of the packet itself, which is a new turn if it is
+-- the first turn, or if the rival took the last turn
 abbrev pub own_turn : Turns → Turns
 own_turn taken =
     if taken.rival_last || taken.count == 0 then record { count = taken.count + 1; rival_last = false } else taken
 
--- the alternation `taken` after an occurrence of the rival. This is a new turn unless the rival
--- took the last turn.
+-- the alternation `taken` after an occurrence of the rival, which is a new turn unless the rival
+-- took the last turn
 abbrev pub rival_turn : Turns → Turns
 rival_turn taken = if taken.rival_last then taken else record { count = taken.count + 1; rival_last = true }
 
@@ -33,17 +34,18 @@ with_turn own rival taken number =
     else if number == rival then rival_turn taken
     else taken
 
--- the alternation of packets number `own` and `rival` in a block of the packets `numbers`
+-- the alternation of packet number `own` and packet number `rival` in a block, whose packets have
+-- the numbers `numbers`
 abbrev pub turns_of : ℕ → ℕ → List ℕ → Turns
 turns_of own rival numbers = fold (with_turn own rival) no_turns numbers
 
--- `turns` has `count` entries, one for each rival, and each of them has no turns
+-- `turns` has an entry without turns for each of `count` rivals
 pub record Started (turns : List Turns) (count : ℕ) : Type 0 where
   pub each : length turns ≡ count
   pub none : (rival : ℕ) (d : Turns) → rival < length turns → slice_index_or turns rival d ≡ no_turns
 
--- `turns` has `count` entries, one for each rival: entry `rival` is the alternation of packets
--- `own` and `rival` in a block of the packets `numbers`
+-- `turns` has an entry for each of `count` rivals: the alternation of packet number `own` and this
+-- rival in a block, whose packets have the numbers `numbers`
 pub record Counted (turns : List Turns) (own count : ℕ) (numbers : List ℕ) : Type 0 where
   pub each : length turns ≡ count
   pub told : (rival : ℕ) (d : Turns) → rival < length turns → slice_index_or turns rival d ≡ turns_of own rival numbers

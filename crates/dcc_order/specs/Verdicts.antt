@@ -6,8 +6,8 @@ use Rattle.dcc_order.specs.declared.verdict.Verdict.{Verdict}
 use Rattle.dcc_order.specs.declared.verdict.Verdict.TheVariants.{Alike, Writes, Members, Order}
 use Rattle.dcc_order.specs.AlikeLists.{Cut, LastBlock, Block, cut_for, SameMembers, SameOrder}
 
--- `verdict` names the difference of blocks `left` and `right` with number `k`; if they do not
--- differ, `further` holds
+-- `verdict` names the difference of the blocks `left` and `right`, which have number `k`. If the
+-- blocks do not differ, `further` holds.
 abbrev pub BlocksVerdict : ℕ → List Packet → List Packet → Verdict → Type 0 → Type 0
 BlocksVerdict k left right verdict further =
     (¬ SameMembers left right × (verdict ≡ Members k))

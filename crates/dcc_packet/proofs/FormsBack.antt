@@ -16,7 +16,8 @@ use Rattle.dcc_packet.proofs.Tokens.{keyword_token}
 
 -- a form is read back
 module _ {A B : Type 0} (fields : FieldOf B) (form : FormOf A B) (h : IsReadBack fields) (k : IsForm form) where
-  row_reads : (x : A) (ws rest : List Word) (said : Option B) → form.said x ≡ said → MatchOption said (Unit {0}) fields.Fits
+  row_reads : (x : A) (ws rest : List Word) (said : Option B) → form.said x ≡ said
+      → MatchOption said (Unit {0}) fields.Fits
       → option_map fields.written said ≡ Some ws → (row fields form).read (ws ++ rest) ≡ Ok (x, rest)
   row_reads x ws rest None e fits w = absurd cc
   row_reads x ws rest (Some y) e fits w =

@@ -25,7 +25,8 @@ byte_back : IsReadBack (both cv_field small_field)
 byte_back = both_back cv_field small_field cv_is_back small_is_back
 
 bit_back : IsReadBack (both cv_field (both place_field bit_field))
-bit_back = both_back cv_field (both place_field bit_field) cv_is_back (both_back place_field bit_field place_is_back bit_is_back)
+bit_back = both_back cv_field (both place_field bit_field) cv_is_back
+    (both_back place_field bit_field place_is_back bit_is_back)
 
 cv_accesses_are_back : AreBack cv_access_forms
 cv_accesses_are_back = (
@@ -73,16 +74,19 @@ instructions_are_back = (
   row_back no_fields reset_form nothing_is_back
       (record { token = refl; back = elim [ Reset ↦ λ x e. cc | what ↦ λ x e. absurd cc ] }),
   (
-    row_back (both direction_field speed28_field) speed28_form (both_back direction_field speed28_field direction_is_back speed28_is_back)
+    row_back (both direction_field speed28_field) speed28_form
+        (both_back direction_field speed28_field direction_is_back speed28_is_back)
         (record { token = refl; back = elim [ Speed28 forward bits ↦ λ x e. cc | what ↦ λ x e. absurd cc ] }),
     (
-      row_back (both direction_field speed128_field) speed128_form (both_back direction_field speed128_field direction_is_back speed128_is_back)
+      row_back (both direction_field speed128_field) speed128_form
+          (both_back direction_field speed128_field direction_is_back speed128_is_back)
           (record { token = refl; back = elim [ Speed128 forward bits ↦ λ x e. cc | what ↦ λ x e. absurd cc ] }),
       (
         row_back functions_field functions_form functions_are_back
             (record { token = refl; back = elim [ Functions functions ↦ λ x e. cc | what ↦ λ x e. absurd cc ] }),
         (
-          row_back (both state_field switch_field) state_form (both_back state_field switch_field state_is_back switch_is_back)
+          row_back (both state_field switch_field) state_form
+              (both_back state_field switch_field state_is_back switch_is_back)
               (record { token = refl; back = elim [ BinaryState number on ↦ λ x e. cc | what ↦ λ x e. absurd cc ] }),
           (
             row_back cv_access_field cv_access_form cv_access_is_back

@@ -29,7 +29,8 @@ address_is_back = one_word_back address address_word address_back address_word_t
 
 pub board_is_back : IsReadBack board_field
 board_is_back =
-    one_word_back board_number (λ board. decimal board.number) board_back (λ board. decimal_token board.number (omega arith))
+    one_word_back board_number (λ board. decimal board.number) board_back
+    (λ board. decimal_token board.number (omega arith))
 
 pub output_is_back : IsReadBack output_field
 output_is_back =

@@ -37,17 +37,20 @@ both_steps (Ok x) second y e = (x, refl, e)
 both_steps (Err fault) second y e = absurd (cc)
 
 -- what is read is one value and the words after it
-same_value : {A : Type 0} (one other : A × List Word) → (◌≡◌ {A = Result (A × List Word) PacketFault} (Ok one) (Ok other))
+same_value : {A : Type 0} (one other : A × List Word)
+    → (◌≡◌ {A = Result (A × List Word) PacketFault} (Ok one) (Ok other))
     → one.0 ≡ other.0
 same_value one other e = let same : one ≡ other = cc e in ap (λ read. read.0) same
 
 -- if a choice gives a value, one of its sides does
-choice_gives : {A P : Type 0} (b : Bool) (one other : Result A PacketFault) (y : A) → (one ≡ Ok y → P) → (other ≡ Ok y → P)
+choice_gives : {A P : Type 0} (b : Bool) (one other : Result A PacketFault) (y : A) → (one ≡ Ok y → P)
+    → (other ≡ Ok y → P)
     → (if b then one else other) ≡ Ok y → P
 choice_gives true one other y left right e = left e
 choice_gives false one other y left right e = right e
 
-word_gives : {A : Type 0} (P : A → Type 0) (rule : Word → Result A PacketFault) → ((word : Word) (x : A) → rule word ≡ Ok x → P x)
+word_gives : {A : Type 0} (P : A → Type 0) (rule : Word → Result A PacketFault)
+    → ((word : Word) (x : A) → rule word ≡ Ok x → P x)
     → (words rest : List Word) (x : A) → word_and_rest rule words ≡ Ok (x, rest) → P x
 word_gives P rule fact [] rest x e = absurd (cc)
 word_gives P rule fact (word ∷ words) rest x e =
@@ -101,9 +104,11 @@ small_gives =
 
 cv_accesses_give : AllGive ValueFits cv_access_forms
 cv_accesses_give = (
-  row_gives ValueFits (both cv_field small_field) cv_write_form (second_gives (λ n. n < 256) cv_field small_field small_gives),
+  row_gives ValueFits (both cv_field small_field) cv_write_form
+      (second_gives (λ n. n < 256) cv_field small_field small_gives),
   (
-    row_gives ValueFits (both cv_field small_field) cv_verify_form (second_gives (λ n. n < 256) cv_field small_field small_gives),
+    row_gives ValueFits (both cv_field small_field) cv_verify_form
+        (second_gives (λ n. n < 256) cv_field small_field small_gives),
     (
       row_gives ValueFits (both cv_field (both place_field bit_field)) cv_bit_write_form (λ words rest x e. tt),
       (row_gives ValueFits (both cv_field (both place_field bit_field)) cv_bit_verify_form (λ words rest x e. tt), tt),
@@ -114,7 +119,8 @@ cv_accesses_give = (
 access_gives : (words rest : List Word) (access : CvAccess) → cv_access_field.read words ≡ Ok (access, rest)
     → ValueFits access.what
 access_gives words rest access e =
-    let steps = both_steps (read_line_by cv_access_forms words) (λ x. Ok (record { what = x.0 }, x.1)) (access, rest) e in
+    let steps = both_steps (read_line_by cv_access_forms words) (λ x. Ok (record { what = x.0 }, x.1)) (access, rest) e
+    in
     let same = same_value (record { what = steps.0.0 }, steps.0.1) (access, rest) steps.2 in
     subst (λ (access : CvAccess). ValueFits access.what) same
     (line_gives ValueFits cv_access_forms cv_accesses_give words steps.0.1 steps.0.0 steps.1)
@@ -142,7 +148,8 @@ packets_give = (
   row_gives BytesFit no_fields idle_form (λ words rest x e. tt),
   (
     row_gives BytesFit (both address_field instruction_field) loco_form
-        (second_gives ValueFits address_field instruction_field (line_gives ValueFits instruction_forms instructions_give)),
+        (second_gives ValueFits address_field instruction_field
+        (line_gives ValueFits instruction_forms instructions_give)),
     (
       row_gives BytesFit (both board_field (both output_field switch_field)) accessory_form (λ words rest x e. tt),
       (
@@ -173,7 +180,8 @@ frame_gives : (bytes told : List ℕ) → IsBytes bytes → frame_or_fault (fram
 frame_gives bytes told each e =
     go (nat_lt (length bytes) 3) (nat_lt 6 (length bytes)) (xor_of bytes == 0) refl refl refl e
   where
-    go : (few many even : Bool) → nat_lt (length bytes) 3 ≡ few → nat_lt 6 (length bytes) ≡ many → (xor_of bytes == 0) ≡ even
+    go : (few many even : Bool) → nat_lt (length bytes) 3 ≡ few → nat_lt 6 (length bytes) ≡ many → (xor_of bytes == 0)
+        ≡ even
         → frame_or_fault (if few || many then Err Length else if even then Ok bytes else Err XorNotZero) ≡ Ok told
         → IsFrame told
     go true many even f m x e = absurd (cc)
@@ -182,12 +190,19 @@ frame_gives bytes told each e =
     go false false true f m x e =
         let same : bytes ≡ told = cc e in
         subst IsFrame same
-        (record { least = grind (arith, f); most = grind (arith, m); error_byte = eqb-true (xor_of bytes) 0 x; each = each })
+        (record {
+          least = grind (arith, f);
+          most = grind (arith, m);
+          error_byte = eqb-true (xor_of bytes) 0 x;
+          each =
+              each;
+        })
 
 hex_gives : (word : Word) (bytes : List ℕ) → hex_frame word ≡ Ok bytes → IsFrame bytes
 hex_gives word bytes e = go (decode_of word) refl e
   where
-    go : (decoded : Result (List ℕ) FromHexError) → decode_of word ≡ decoded → framed_bytes decoded ≡ Ok bytes → IsFrame bytes
+    go : (decoded : Result (List ℕ) FromHexError) → decode_of word ≡ decoded → framed_bytes decoded ≡ Ok bytes
+        → IsFrame bytes
     go (Ok decoded) is e = frame_gives decoded bytes (decode_of-ok word decoded is).3 e
     go (Err fault) is e = absurd (cc)
 
@@ -203,5 +218,6 @@ pub lines_say_frames : LinesSayFrames
 unfolding frame_of_words
 lines_say_frames [] bytes e = absurd (cc)
 lines_say_frames (word ∷ words) bytes e =
-    choice_gives (is_word word (codes "frame")) (frame words) (spelling_or_fault (whole_by packet_forms word words)) bytes
+    choice_gives (is_word word (codes "frame")) (frame words) (spelling_or_fault (whole_by packet_forms word words))
+    bytes
     (hex_line_gives words bytes) (spelling_gives (whole_by packet_forms word words) bytes (whole_gives word words)) e

@@ -204,7 +204,8 @@ one_packet (Accessory b o x) (Accessory c u y) e =
     let bytes : accessory_bytes b o x ≡ accessory_bytes c u y =
     same_bytes (accessory_bytes b o x) (accessory_bytes c u y) e in
     let first : 128 + b.number % 64 ≡ 128 + c.number % 64 = cc in
-    let second : 128 + 16 * (7 - b.number / 64) + 8 * bit x + o.number ≡ 128 + 16 * (7 - c.number / 64) + 8 * bit y + u.number =
+    let second : 128 + 16 * (7 - b.number / 64) + 8 * bit x + o.number ≡ 128 + 16 * (7 - c.number / 64) + 8 * bit y
+    + u.number =
     cc in
     let below_x = bit_below x in
     let below_y = bit_below y in
@@ -215,7 +216,8 @@ one_packet (Accessory b o x) (Accessory c u y) e =
 one_packet (Signal a x) (Signal b y) e =
     let bytes : signal_bytes a x ≡ signal_bytes b y = same_bytes (signal_bytes a x) (signal_bytes b y) e in
     let first : 128 + a.number / 4 % 64 ≡ 128 + b.number / 4 % 64 = cc in
-    let second : 16 * (7 - a.number / 4 / 64) + 2 * (a.number % 4) + 1 ≡ 16 * (7 - b.number / 4 / 64) + 2 * (b.number % 4) + 1 =
+    let second : 16 * (7 - a.number / 4 / 64) + 2 * (a.number % 4) + 1 ≡ 16 * (7 - b.number / 4 / 64)
+    + 2 * (b.number % 4) + 1 =
     cc in
     let address : a ≡ b = same_signal a b (omega arith) in
     let aspect : x ≡ y = cc in

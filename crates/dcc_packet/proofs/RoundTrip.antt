@@ -35,14 +35,17 @@ back = (
   row_back no_fields idle_form nothing_is_back
       (record { token = refl; back = elim [ Idle ↦ λ x e. cc | packet ↦ λ x e. absurd cc ] }),
   (
-    row_back (both address_field instruction_field) loco_form (both_back address_field instruction_field address_is_back instruction_is_back)
+    row_back (both address_field instruction_field) loco_form
+        (both_back address_field instruction_field address_is_back instruction_is_back)
         (record { token = refl; back = elim [ Loco to what ↦ λ x e. cc | packet ↦ λ x e. absurd cc ] }),
     (
       row_back (both board_field (both output_field switch_field)) accessory_form
-          (both_back board_field (both output_field switch_field) board_is_back (both_back output_field switch_field output_is_back switch_is_back))
+          (both_back board_field (both output_field switch_field) board_is_back
+          (both_back output_field switch_field output_is_back switch_is_back))
           (record { token = refl; back = elim [ Accessory board output on ↦ λ x e. cc | packet ↦ λ x e. absurd cc ] }),
       (
-        row_back (both signal_field small_field) signal_form (both_back signal_field small_field signal_is_back small_is_back)
+        row_back (both signal_field small_field) signal_form
+            (both_back signal_field small_field signal_is_back small_is_back)
             (record { token = refl; back = elim [ Signal address aspect ↦ λ x e. cc | packet ↦ λ x e. absurd cc ] }),
         tt,
       ),
@@ -73,7 +76,8 @@ form_line p s = sym (ap frame_of_words (form_words p s) ∙ form_says p s)
 pub says_back : (p : Packet) → BytesFit p → Says (words (written_line p)) (Ok p)
 says_back (Other o) h =
     let text = hex_token o.frame (omega (arith, o.valid.least)) (omega (arith, o.valid.most)) in
-    let line = words_spaced (codes "frame") (encode_lower o.frame ∷ []) (keyword_token (codes "frame") refl) (text, tt) in
+    let line = words_spaced (codes "frame") (encode_lower o.frame ∷ []) (keyword_token (codes "frame") refl) (text, tt)
+    in
     sym (ap frame_of_words line ∙ frame_back o.frame h o.valid)
 says_back Idle h = form_line Idle tt
 says_back (Signal s a) h = form_line (Signal s a) (tt, h)

@@ -14,23 +14,25 @@ use Rattle.dcc_packet.specs.Fields.{FieldOf, IsToken, is_keyword, no_more_words}
 pub record FormOf (A B : Type 0) : Type 0 where
   -- the word before the field
   pub keyword : Word
-  -- the value of a line whose field has the given value
+  -- the value that a line of this form means if its field has a given value
   pub says : B → A
-  -- the value of the field in a line with the given value, or `None` if no line of this form has it
+  -- the value of the field in the line that means a given value, or `None` if no line of this form
+  -- means it
   pub said : A → Option B
 
 -- a form together with its field, which is a row of a table of forms
 pub record RowOf (A : Type 0) : Type 1 where
   pub keyword : Word
-  -- a line of this form can have the given value
+  -- the values that a line of this form can mean
   pub Fits : A → Type 0
-  -- the value of the words after the keyword together with the words that are left, or the first
-  -- error
+  -- the value that the words after the keyword mean, together with the words after the field, or
+  -- the first error
   pub read : List Word → Result (A × List Word) PacketFault
-  -- the words after the keyword for the given value, or `None` if no line of this form has it
+  -- the words after the keyword in the line that means a given value, or `None` if no line of this
+  -- form means it
   pub written : A → Option (List Word)
 
--- the row of the form `form` with the field `fields`
+-- the row that consists of `form` and its field `fields`
 abbrev pub row : {A B : Type 0} → FieldOf B → FormOf A B → RowOf A
 row fields form = record {
   keyword = form.keyword;
@@ -41,44 +43,47 @@ row fields form = record {
   written = λ value. option_map fields.written (form.said value);
 }
 
--- the value of the keyword `word` and the words `words` after it, together with the words that are
--- left. The first row with this keyword parses them.
+-- the value that a line of the keyword `word` and then `words` means, together with the words after
+-- its field. The first row of the table with this keyword parses the line. If no row has the
+-- keyword, the result is the error P10.
 abbrev pub read_by : {A : Type 0} → List (RowOf A) → Word → List Word → Result (A × List Word) PacketFault
 read_by [] word words = Err faults.Word
 read_by (form ∷ forms) word words = if is_word word form.keyword then form.read words else read_by forms word words
 
--- the value of the keyword `word` and the words `words` after it; if a word is left, the error P10
+-- the value that a line of the keyword `word` and then `words` means. If a word follows the field,
+-- the result is the error P10.
 abbrev pub whole_by : {A : Type 0} → List (RowOf A) → Word → List Word → Result A PacketFault
 whole_by forms word words = do
   x ← read_by forms word words
   end ← no_more_words x.1
   Ok x.0
 
--- the words of a line for `value`, as the first row that can express `value` writes them
+-- the words of the line that means `value`, by the first row of the table that has such a line
 abbrev pub written_by : {A : Type 0} → List (RowOf A) → A → List Word
 written_by [] value = []
 written_by (form ∷ forms) value =
     option_map_or (λ words. form.keyword ∷ words) (form.written value) (written_by forms value)
 
--- the value of the words of a line, together with the words that are left. The first row whose
--- keyword is the first word parses them.
+-- the value that a line means, together with the words after its field. The first row of the table
+-- whose keyword is the first word of the line parses the line.
 abbrev pub read_line_by : {A : Type 0} → List (RowOf A) → List Word → Result (A × List Word) PacketFault
 read_line_by forms [] = Err faults.Word
 read_line_by forms (word ∷ words) = read_by forms word words
 
--- the field whose first word is the keyword of a row of `forms`; it can have each value for which
--- `Fits` holds
+-- the field that consists of a whole line of one of the `forms`: the keyword of a row and its
+-- words. The predicate `Fits` gives the values that the field can have.
 abbrev pub choice : {A : Type 0} → (A → Type 0) → List (RowOf A) → FieldOf A
-choice Fits forms = record { Fits = Fits; read = λ words. read_line_by forms words; written = λ value. written_by forms value }
+choice Fits forms = record
+    { Fits = Fits; read = λ words. read_line_by forms words; written = λ value. written_by forms value }
 
--- the keyword of `form` can be written in a line. If `said` gives the field value `x` for `value`,
--- then `says` gives `value` for `x`.
+-- the keyword of `form` can be written in a line. If the line for `value` has the field value `x`,
+-- then `x` means `value`.
 pub record IsForm {A B : Type 0} (form : FormOf A B) : Type 0 where
   pub token : is_keyword form.keyword ≡ true
   pub back : (value : A) (x : B) → form.said value ≡ Some x → form.says x ≡ value
 
--- the words that the row `form` writes for a value can be written in a line. If any words follow
--- them, the row parses them as this value and leaves the words that follow.
+-- the words that the row `form` writes for a value can be written in a line. If words `rest` follow
+-- them, the row parses the written words as this value and returns `rest`.
 pub record IsRowBack {A : Type 0} (form : RowOf A) : Type 0 where
   pub keyword : IsToken form.keyword
   pub back : (value : A) (words rest : List Word) → form.Fits value → form.written value ≡ Some words
@@ -86,27 +91,27 @@ pub record IsRowBack {A : Type 0} (form : RowOf A) : Type 0 where
   pub tokens : (value : A) (words : List Word) → form.Fits value → form.written value ≡ Some words
       → AllByRecursion IsToken words
 
--- each row of the list parses the words that it writes for a value as this value
+-- each row of a table parses the words that it writes for a value as this value
 abbrev pub AreBack : {A : Type 0} → List (RowOf A) → Type 0
 AreBack [] = Unit {0}
 AreBack (form ∷ forms) = IsRowBack form × AreBack forms
 
--- the first row of the list that can express `value` allows `value`
+-- some row of a table writes a line for `value`, and the first such row can have `value`
 abbrev pub SaidBy : {A : Type 0} → List (RowOf A) → A → Type 0
 SaidBy [] value = ⊥
 SaidBy (form ∷ forms) value = MatchOption (form.written value) (SaidBy forms value) (λ words. form.Fits value)
 
--- true if a row of the list can express `value`
+-- true if some row of a table writes a line for `value`
 abbrev pub is_said_by : {A : Type 0} → List (RowOf A) → A → Bool
 is_said_by [] value = false
 is_said_by (form ∷ forms) value = is_some (form.written value) || is_said_by forms value
 
--- true if a row of the list has the keyword `word`
+-- true if some row of a table has the keyword `word`
 abbrev pub has_keyword : {A : Type 0} → List (RowOf A) → Word → Bool
 has_keyword [] word = false
 has_keyword (form ∷ forms) word = is_word word form.keyword || has_keyword forms word
 
--- true if all rows of the list have different keywords
+-- true if no two rows of a table have the same keyword
 abbrev pub are_distinct : {A : Type 0} → List (RowOf A) → Bool
 are_distinct [] = true
 are_distinct (form ∷ forms) = not (has_keyword forms form.keyword) && are_distinct forms

@@ -4,7 +4,7 @@ use Rattle.dcc_packet.specs.declared.instruction.What.{What}
 use Rattle.dcc_packet.specs.declared.instruction.What.TheVariants.{Reset, Speed28, Speed128, Functions, BinaryState}
 use Rattle.dcc_packet.specs.declared.instruction.What.TheVariants.{CvWrite, CvVerify, CvBitWrite, CvBitVerify}
 
--- true if the instruction is one of the four instructions of CV access (RCN-214)
+-- true for the four instructions of CV access (RCN-214)
 abbrev pub is_cv_access : What → Bool
 is_cv_access Reset = false
 is_cv_access (Speed28 forward bits) = false

@@ -4,6 +4,6 @@ use Rattle.dcc_wire.specs.Frames.{IsFrame}
 use Rattle.dcc_packet.specs.Line.{frame_of_words}
 use Rattle.dcc_packet.specs.Words.{Word}
 
--- if the words of a packet line mean a list of bytes, these bytes are a frame
+-- if `words` of a packet line mean the bytes `bytes`, these bytes are a frame
 abbrev pub LinesSayFrames : Type 0
 LinesSayFrames = (words : List Word) (bytes : List ℕ) → frame_of_words words ≡ Ok bytes → IsFrame bytes

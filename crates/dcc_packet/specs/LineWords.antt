@@ -52,7 +52,8 @@ small_number word = do
   n ← number word
   if nat_le n 255 then Ok n else Err faults.Number
 
--- the address that a word TO means: `all`, or `s` (code 115) or `l` (code 108) followed by a number
+-- the address that a word TO stands for: `all`, or `s` (code 115) or `l` (code 108) followed by a
+-- number
 abbrev pub address : Word → Result Address PacketFault
 address word =
     if is_word word (codes "all") then Ok Broadcast
@@ -147,7 +148,7 @@ framed_bytes (Err fault) = Err faults.Frame
 abbrev pub hex_frame : Word → Result (List ℕ) PacketFault
 hex_frame word = framed_bytes (decode_of word)
 
--- the word TO that is written for an address
+-- the word TO of an address
 abbrev pub address_word : Address → Word
 address_word Broadcast = codes "all"
 address_word (Short a) = codes "s" ++ decimal a.number

@@ -18,8 +18,7 @@ spelling (Accessory board output on) = with_error_byte (accessory_bytes board ou
 spelling (Signal address aspect) = with_error_byte (signal_bytes address aspect)
 spelling (Other other) = other.frame
 
--- the value that an instruction writes to a CV or compares with a CV, if it has such a value, is
--- below 256
+-- an instruction has no CV value, or its CV value is below 256
 abbrev pub ValueFits : What → Type 0
 ValueFits Reset = Unit {0}
 ValueFits (Speed28 forward bits) = Unit {0}

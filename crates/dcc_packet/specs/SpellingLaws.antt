@@ -3,6 +3,6 @@ use Rattle.dcc_wire.specs.Frames.{IsFrame}
 use Rattle.dcc_packet.specs.declared.packet.Packet.{Packet}
 use Rattle.dcc_packet.specs.Spelling.{spelling, BytesFit}
 
--- `spelling` of a packet is a frame if the numbers in the packet fit into bytes
+-- if the numbers in `packet` fit into bytes, `spelling packet` is a frame
 abbrev pub SpellingsAreFrames : Type 0
 SpellingsAreFrames = (packet : Packet) → BytesFit packet → IsFrame (spelling packet)

@@ -38,3 +38,18 @@ pub fn write_cv(cvs: &mut [u8; 1024], cv: CvNumber, value: u8) -> bool
     cvs[number - 1] = value;
     true
 }
+
+/// Writes `new` to `value`, which is the value of the CV `cv`, and returns true. If `cv` is CV7
+/// (version) or CV8 (manufacturer), which never change, the function returns false and writes
+/// nothing.
+#[inline]
+pub fn write_value(value: &mut u8, cv: CvNumber, new: u8) -> bool
+    ensures value { value.new ≡ (if is_writable cv then new else value.old) }
+    ensures done { result ≡ is_writable cv }
+{
+    if cv.number() == 7 || cv.number() == 8 {
+        return false;
+    }
+    *value = new;
+    true
+}

@@ -7,6 +7,7 @@ use Rattle.dcc_packet.specs.declared.packet.Packet.{Packet}
 use Rattle.dcc_regs.specs.declared.register.Who.{Who}
 use Rattle.dcc_packet.specs.declared.accessory.Board.{Board as OwnBoard}
 use Rattle.dcc_regs.specs.declared.register.Who.TheVariants.{Board as BoardWho}
+use Rattle.dcc_regs.specs.declared.register.SpeedMode.TheVariants.{Steps14}
 use Rattle.dcc_regs.specs.declared.register.Register.{Register}
 use Rattle.dcc_regs.specs.declared.register.Register.TheVariants.{Out, Position, Aspect}
 use Rattle.dcc_regs.specs.declared.register.Value.TheVariants.{Flag, Number}
@@ -17,7 +18,7 @@ use Rattle.dcc_regs.specs.Result.{result_of_heard, step}
 use Rattle.dcc_regs.specs.Board.{BoardContent, TakesPacket, board_registers}
 use Rattle.dcc_regs.specs.Possible.{IsPossible, may_hold}
 use Rattle.dcc_regs.proofs.PossibleLemmas.{held_by}
-use Rattle.dcc_regs.proofs.LocoStep.{set_there}
+use Rattle.dcc_regs.proofs.LocoStep.{set_there, by_table}
 
 there : (n last : ℕ) → nat_le n last ≡ true → n ≤ last
 there n last t = grind (arith, nat_tests)
@@ -26,10 +27,13 @@ at_register : (p : Packet) (d d' : BoardContent) → TakesPacket p d d' → (r :
     → board_registers d' r ≡ result_of_heard (board_registers d) (p ∷ []) r
 at_register p d d' o (Out n) =
     set_there Flag (nat_le n 7) (out_set p n) (d'.outs n) (d.outs n) (λ t. o.outs n (there n 7 t))
+    ∙ by_table Steps14 p (Out n) (board_registers d (Out n))
 at_register p d d' o (Position n) =
     set_there side (nat_le n 3) (position_set p n) (d'.positions n) (d.positions n) (λ t. o.positions n (there n 3 t))
+    ∙ by_table Steps14 p (Position n) (board_registers d (Position n))
 at_register p d d' o (Aspect n) =
     set_there Number (nat_le n 3) (aspect_set p n) (d'.aspects n) (d.aspects n) (λ t. o.aspects n (there n 3 t))
+    ∙ by_table Steps14 p (Aspect n) (board_registers d (Aspect n))
 at_register p d d' o r = refl
 
 pub step-heard : (who : Who) (p : Packet) (d d' : BoardContent) → hears who p ≡ true → TakesPacket p d d'

@@ -1,12 +1,13 @@
 -- A conflict, from its parts.
-use Rattle.std.proofs.Common.{◌≡◌, ◌≢◌, refl}
+use Rattle.std.proofs.Common.{◌≡◌, ◌≢◌, refl, sym}
 use Rattle.std.specs.Prelude.{Option, None, Some}
 use Rattle.dcc_packet.specs.declared.packet.Packet.{Packet}
 use Rattle.dcc_regs.specs.declared.register.SpeedMode.{SpeedMode}
 use Rattle.dcc_regs.specs.declared.register.Value.{Value}
 use Rattle.dcc_regs.specs.Sets.{sets}
 use Rattle.dcc_regs.specs.Conflict.{Conflict}
-use Rattle.dcc_regs.specs.Inner.ConflictParts.{Differ, DifferIn, HeardTogether}
+use Rattle.dcc_regs.specs.Effects.{Differ}
+use Rattle.dcc_regs.specs.Inner.ConflictParts.{DifferIn, HeardTogether}
 
 record TwoValues (a b : Option Value) : Type 0 where
   one : Value
@@ -49,3 +50,8 @@ differ_of p q c = (
         c.apart;
   },
 )
+
+pub differ-sym : {A : Type 0} (a b : Option A) → Differ a b → Differ b a
+differ-sym (Some v) (Some w) d = λ e. d (sym e)
+differ-sym (Some v) None d = d
+differ-sym None b d = absurd d

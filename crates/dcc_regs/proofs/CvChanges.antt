@@ -1,6 +1,5 @@
 -- The bits of CVs change only by writes that take effect.
-use Rattle.std.proofs.Common.{◌≡◌, ◌≢◌, ℕ, Bool, true, false, List, [], ◌∷◌, ◌++◌, refl, sym, ◌∙◌, ap}
-use Rattle.std.specs.List.{list_any}
+use Rattle.std.proofs.Common.{◌≡◌, ℕ, Bool, true, false, List, [], ◌∷◌, ◌++◌, refl, sym, ◌∙◌, ap}
 use Rattle.std.specs.Prelude.{not, ◌&&◌, ◌==◌, ◌⊎◌, Option, None, Some, if◌then◌else◌}
 use mathlib.Core.Logic.{inl, inr}
 use Rattle.std.proofs.lemmas.Bool.Decides.{Decides-eqb}
@@ -14,7 +13,7 @@ use Rattle.dcc_regs.specs.declared.register.Value.TheVariants.{Flag, Pending as 
 use Rattle.dcc_regs.specs.Heard.{hears, heard}
 use Rattle.dcc_regs.specs.Writes.{CvChange, Byte, OneBit, change_of, is_own_write, bit_by, bit_set}
 use Rattle.dcc_regs.specs.Result.{RegisterMap, is_pending, left_pending, result, step}
-use Rattle.dcc_regs.specs.Setting.{set_from, value_over}
+use Rattle.dcc_regs.specs.Setting.{value_over}
 use Rattle.dcc_regs.specs.Safety.{SetByWrite, SetByTwoCopies, CvsChangeByWrites, CvsChangeByTwoCopies}
 use Rattle.dcc_regs.specs.Safety.{CvsStayWithoutWrites, ReadOnlyCvsStay}
 use Rattle.dcc_regs.proofs.InParts.{result-append, result-nothing}

@@ -40,7 +40,8 @@ filter_map-places : (F G : List Packet × Packet → Option Value) (l before k :
     → filter_map F (places_from (l ++ before) k) ≡ filter_map G (places_from before k)
 filter_map-places F G l before [] same = refl
 filter_map-places F G l before (p ∷ k) same =
-    let rest : filter_map F (places_from ((l ++ before) ++ p ∷ []) k) ≡ filter_map G (places_from (before ++ p ∷ []) k) =
+    let rest : filter_map F (places_from ((l ++ before) ++ p ∷ []) k)
+    ≡ filter_map G (places_from (before ++ p ∷ []) k) =
     rw append_assoc (filter_map-places F G l (before ++ p ∷ []) k same) in
     rw (same before p, rest) refl
 

@@ -9,14 +9,16 @@ use Rattle.dcc_packet.specs.declared.address.Address.{Address}
 use Rattle.dcc_packet.specs.declared.address.Address.TheVariants.{Broadcast, Short, Long}
 use Rattle.dcc_packet.specs.declared.instruction.What.{What}
 use Rattle.dcc_packet.specs.declared.packet.Packet.{Packet}
-use Rattle.dcc_packet.specs.declared.packet.Packet.TheVariants.{Loco as ToLoco}
+use Rattle.dcc_packet.specs.declared.packet.Packet.TheVariants.{Idle, Loco as ToLoco}
 use Rattle.dcc_packet.specs.SamePacket.{same}
 use Rattle.dcc_packet.proofs.Same.{same_short, same_long}
 use Rattle.dcc_packet.proofs.SameFrames.{Decides-same}
 use Rattle.dcc_regs.specs.declared.register.Who.TheVariants.{Loco as LocoWho, Board as BoardWho}
 use Rattle.dcc_regs.specs.declared.register.Register.TheVariants.{CvBit, Pending as PendingRegister}
 use Rattle.dcc_regs.specs.declared.register.Value.TheVariants.{Flag}
-use Rattle.dcc_regs.specs.Heard.{hears, is_for}
+use Rattle.dcc_regs.specs.Heard.{hears}
+use Rattle.dcc_regs.specs.Inner.HearsByAddress.{is_for}
+use Rattle.dcc_regs.proofs.HearsByBytes.{hears_at}
 use Rattle.dcc_regs.specs.Writes.{CvChange, Byte, OneBit, change_of, bit_by, bit_set, is_of_cv29, writes_cv29}
 use Rattle.dcc_regs.specs.Result.{is_effective, mode_of}
 use Rattle.dcc_regs.specs.Laws.{ConflictIsMutual, IdleIsUnheard, ModeStays, NoConflictWithItself, OneAddress}
@@ -26,7 +28,7 @@ use Rattle.dcc_regs.proofs.SameValues.{same_value, Decides-same_value}
 use Rattle.dcc_regs.proofs.OwnWrites.{sets-own_write}
 
 pub idle_is_unheard : IdleIsUnheard
-idle_is_unheard (LocoWho active) = refl
+idle_is_unheard (LocoWho active) = hears_at active Idle
 idle_is_unheard (BoardWho own) = refl
 
 one_number : (own n m : ℕ) → (own == n) ≡ true → (own == m) ≡ true → n ≡ m
@@ -50,7 +52,8 @@ no_board own Broadcast what n h = n refl
 no_board own to what n h = absurd (cc)
 
 pub one_address : OneAddress
-one_address (LocoWho active) a b x y n m h k = one_for active a b n m h k
+one_address (LocoWho active) a b x y n m h k =
+    one_for active a b n m (sym (hears_at active (ToLoco a x)) ∙ h) (sym (hears_at active (ToLoco b y)) ∙ k)
 one_address (BoardWho own) a b x y n m h k = absurd (no_board own a x n h)
 
 other_cv : (cv : ℕ) (t one : Bool) → (cv == 29) ≡ false → (if (29 == cv) && t then Some one else None) ≡ None

@@ -25,7 +25,10 @@ use Rattle.dcc_regs.specs.Writes.{bit_set, is_own_write}
 use Rattle.dcc_regs.specs.Result.{RegisterMap, set_in_turn, mode_of, is_effective, effective_set, left_pending}
 use Rattle.dcc_regs.specs.Result.{result_of_heard, step}
 use Rattle.dcc_regs.specs.Loco.{LocoContent, loco_registers, is_byte_write, is_pending_for, is_function, is_cv_bit}
+use Rattle.dcc_regs.specs.Sets.{sets}
+use Rattle.dcc_regs.specs.Inner.SetsByKind.{sets_by_kind}
 use Rattle.dcc_regs.proofs.InParts.{result-nothing}
+use Rattle.dcc_regs.proofs.OneTable.{same_table}
 
 -- how the decoder reads speed instructions
 abbrev pub mode_held : LocoContent → SpeedMode
@@ -62,22 +65,34 @@ where_there : (t : Bool) (new old : Value) (vs : List Value) → (t ≡ true →
 where_there true new old vs h = h refl
 where_there false new old vs h = refl
 
-pub set_there : {A : Type 0} (wrap : A → Value) (t : Bool) (o : Option A) (new old : A) → (t ≡ true → new ≡ unwrap_or o old)
+pub set_there : {A : Type 0} (wrap : A → Value) (t : Bool) (o : Option A) (new old : A) → (t ≡ true → new
+    ≡ unwrap_or o old)
     → (if t then Some (wrap new) else None) ≡ set_in_turn (if t then Some (wrap old) else None)
     (cons_option (option_map wrap o) [])
 set_there wrap true o new old h = rw (h refl) (set_by wrap o old)
 set_there wrap false o new old h = refl
 
+-- what a packet sets by kind of register is what it sets by the table
+pub by_table : (mode : SpeedMode) (p : Packet) (r : Register) (held : Option Value)
+    → set_in_turn held (cons_option (sets_by_kind mode p r) []) ≡ set_in_turn held (cons_option (sets mode p r) [])
+by_table mode p r held = ap (λ set. set_in_turn held (cons_option set [])) (sym (same_table mode p r))
+
 at_register : (p : Packet) (mode : SpeedMode) (d d' : LocoContent) → Obeys p mode d d' → (r : Register)
     → loco_registers d' r ≡ result_of_heard (loco_registers d) (p ∷ []) r
-at_register p mode d d' o SpeedRegister = rw (o.speed, o.reads) (set_by SpeedValue (speed_set (mode_held d) p) d.speed)
-at_register p mode d d' o Direction = rw o.forward (set_by Forward (direction_set p) d.forward)
+at_register p mode d d' o SpeedRegister =
+    (rw (o.speed, o.reads) (set_by SpeedValue (speed_set (mode_held d) p) d.speed))
+    ∙ by_table (mode_held d) p SpeedRegister (Some (SpeedValue d.speed))
+at_register p mode d d' o Direction =
+    (rw o.forward (set_by Forward (direction_set p) d.forward))
+    ∙ by_table (mode_held d) p Direction (Some (Forward d.forward))
 at_register p mode d d' o (Function n) =
     set_there Flag (is_function n) (function_set (mode_held d) p n) (d'.functions n) (d.functions n)
     (λ t. rw o.reads at (o.functions n (grind (arith, nat_tests))))
+    ∙ by_table (mode_held d) p (Function n) (loco_registers d (Function n))
 at_register p mode d d' o (StateRegister n) =
     set_there Flag (is_binary_state n) (state_set p n) (d'.states n) (d.states n)
     (λ t. o.states n (grind (arith, nat_tests)))
+    ∙ by_table (mode_held d) p (StateRegister n) (loco_registers d (StateRegister n))
 at_register p mode d d' o (CvBit cv place) =
     where_there (is_cv_bit cv place) (Flag (is_one (d'.cvs cv) place)) (Flag (is_one (d.cvs cv) place))
     (cons_option (effective_set (Some (PendingValue d.pending)) p cv place) [])

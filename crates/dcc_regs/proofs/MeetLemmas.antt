@@ -11,7 +11,9 @@ use Rattle.dcc_packet.specs.declared.packet.Packet.{Packet}
 use Rattle.dcc_packet.specs.declared.packet.Packet.TheVariants.{Loco as ToLoco, Accessory, Signal}
 use Rattle.dcc_regs.specs.declared.register.Who.{Who}
 use Rattle.dcc_regs.specs.declared.register.Who.TheVariants.{Loco as LocoWho, Board as BoardWho}
-use Rattle.dcc_regs.specs.Heard.{hears, is_for, is_full_reset, address_of}
+use Rattle.dcc_regs.specs.Heard.{hears, is_full_reset, address_of}
+use Rattle.dcc_regs.specs.Inner.HearsByAddress.{is_for}
+use Rattle.dcc_regs.proofs.HearsByBytes.{hears_at}
 use Rattle.dcc_regs.specs.Inner.ConflictParts.{HeardTogether, meets, both_meet, boards_meet, board_of_packet, some_loco}
 use Rattle.dcc_regs.specs.Inner.ConflictParts.{some_board}
 
@@ -142,11 +144,12 @@ together_board p q h = by_boards p q (board_of_packet p) (board_of_packet q) ref
 pub together_loco : (p q : Packet) → some_loco p q ≡ true → HeardTogether p q
 together_loco p q h =
     let m = loco_from (address_of p) (address_of q) h in
-    record { who = LocoWho m.active; first = m.first; second = m.second }
+    record { who = LocoWho m.active; first = hears_at m.active p ∙ m.first; second = hears_at m.active q ∙ m.second }
 
 by_who : (p q : Packet) (who : Who) → hears who p ≡ true → hears who q ≡ true → (some_loco p q || some_board p q) ≡ true
 by_who p q (LocoWho active) h k =
-    or_first (some_loco p q) (some_board p q) (loco_to (address_of p) (address_of q) active h k)
+    or_first (some_loco p q) (some_board p q) (loco_to (address_of p) (address_of q) active
+    (sym (hears_at active p) ∙ h) (sym (hears_at active q) ∙ k))
 by_who p q (BoardWho own) h k =
     let t : some_board p q ≡ true =
     board_to (board_of_packet p) (board_of_packet q) own.number (sym (hears_board own p) ∙ h)

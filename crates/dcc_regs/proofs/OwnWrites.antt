@@ -1,5 +1,5 @@
 -- A CV write to the own address sets no plain register.
-use Rattle.std.proofs.Common.{ℕ, true, ◌≡◌, ap, refl, None}
+use Rattle.std.proofs.Common.{ℕ, true, ◌≡◌, ◌∙◌, ap, refl, None}
 use Rattle.std.specs.Prelude.{option_map}
 use Rattle.dcc_packet.specs.declared.address.Address.TheVariants.{Broadcast}
 use Rattle.dcc_packet.specs.declared.instruction.What.TheVariants.{CvWrite, CvBitWrite}
@@ -16,12 +16,14 @@ use Rattle.dcc_regs.specs.FunctionBits.{function_set}
 use Rattle.dcc_regs.specs.States.{state_set}
 use Rattle.dcc_regs.specs.Outputs.{out_set, position_set, aspect_set}
 use Rattle.dcc_regs.specs.Sets.{sets, side}
+use Rattle.dcc_regs.specs.Inner.SetsByKind.{sets_by_kind}
 use Rattle.dcc_regs.specs.Writes.{is_own_write}
+use Rattle.dcc_regs.proofs.OneTable.{same_table}
 
 pub none_of : (mode : SpeedMode) (p : Packet) (r : Register) → speed_set mode p ≡ None → direction_set p ≡ None
     → ((n : ℕ) → function_set mode p n ≡ None) → ((n : ℕ) → state_set p n ≡ None)
     → ((n : ℕ) → out_set p n ≡ None) → ((n : ℕ) → position_set p n ≡ None) → ((n : ℕ) → aspect_set p n ≡ None)
-    → sets mode p r ≡ None
+    → sets_by_kind mode p r ≡ None
 none_of mode p SpeedRegister a b c s d f g = ap (option_map SpeedValue) a
 none_of mode p Direction a b c s d f g = ap (option_map Forward) b
 none_of mode p (Function n) a b c s d f g = ap (option_map Flag) (c n)
@@ -36,8 +38,10 @@ pub sets-own_write : (mode : SpeedMode) (p : Packet) (register : Register) → i
     → sets mode p register ≡ None
 sets-own_write mode (Loco Broadcast what) r e = cc
 sets-own_write mode (Loco to (CvWrite cv value)) r e =
-    none_of mode (Loco to (CvWrite cv value)) r refl refl (λ n. refl) (λ n. refl) (λ n. refl) (λ n. refl) (λ n. refl)
+    same_table mode (Loco to (CvWrite cv value)) r
+    ∙ none_of mode (Loco to (CvWrite cv value)) r refl refl (λ n. refl) (λ n. refl) (λ n. refl) (λ n. refl) (λ n. refl)
 sets-own_write mode (Loco to (CvBitWrite cv place one)) r e =
-    none_of mode (Loco to (CvBitWrite cv place one)) r refl refl (λ n. refl) (λ n. refl) (λ n. refl) (λ n. refl)
+    same_table mode (Loco to (CvBitWrite cv place one)) r
+    ∙ none_of mode (Loco to (CvBitWrite cv place one)) r refl refl (λ n. refl) (λ n. refl) (λ n. refl) (λ n. refl)
     (λ n. refl)
 sets-own_write mode p r e = cc

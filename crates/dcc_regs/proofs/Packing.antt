@@ -1,15 +1,15 @@
 -- Truth values that are packed into a number, one to a bit, from the lowest bit up.
 use Rattle.std.proofs.Common.{◌≡◌, ◌≢◌, ℕ, zero, suc, ◌+◌, ◌-◌, ◌*◌, ◌/◌, ◌^◌, ◌%◌, ◌<◌, ◌≤◌, Bool, true, false, refl}
 use Rattle.std.proofs.Common.{sym, ◌∙◌, ap, arith, below_more, bit_and, bit_or}
-use Rattle.std.specs.Prelude.{◌==◌, if◌then◌else◌}
-use Rattle.std.specs.Int.{bit_at, w128}
+use Rattle.std.specs.Prelude.{if◌then◌else◌}
+use Rattle.std.specs.Int.{bit_at}
 use Rattle.std.proofs.lemmas.Grind.{common_steps}
 use Rattle.std.proofs.lemmas.Nat.{or_lt, pow_below, pow_pos, and_le_r}
 use Rattle.std.proofs.lemmas.Nat.Bits.{bit_at_or, bit_at_and, bit_at-zero, bit_at-lt, bit_at-suc, bit_at_above}
-use Rattle.std.proofs.lemmas.Nat.Bits.{bit_at_ones, bit_at_clear_same, bit_at_clear_other}
+use Rattle.std.proofs.lemmas.Nat.Bits.{bit_at_ones}
 use mir.Val.{bool_byte}
 use Rattle.dcc_packet.specs.Bits.{is_one}
-use Rattle.dcc_packet.proofs.BitLemmas.{same_bit, other_bit, by_number}
+use Rattle.dcc_packet.proofs.BitLemmas.{same_bit, other_bit}
 
 -- a one that is shifted to its place is not cut off
 pub shifted_one_128 : (n : ℕ) → n ≤ 127 → 1 * 2 ^ n % 340282366920938463463374607431768211456 ≡ 2 ^ n
@@ -45,12 +45,6 @@ packed_more word n limit on f fits before free here =
     below_more (λ k. is_one (bit_or word (bool_byte on * 2 ^ n % limit)) k ≡ f k) n
     (λ k lt. put_elsewhere word n _ k on (shifted on n limit fits) (omega arith) ∙ before k lt)
     (put_here word n _ on (shifted on n limit fits) free ∙ here)
-
--- above them all bits are zero
-pub zero_above : (word n limit : ℕ) (on : Bool) → 1 * 2 ^ n % limit ≡ 2 ^ n → ((k : ℕ) → n ≤ k → is_one word k ≡ false)
-    → (k : ℕ) → n + 1 ≤ k → is_one (bit_or word (bool_byte on * 2 ^ n % limit)) k ≡ false
-zero_above word n limit on fits none k h =
-    put_elsewhere word n _ k on (shifted on n limit fits) (omega arith) ∙ none k (omega arith)
 
 -- a number below a power of two has no bit from there on
 pub zero_from : (word n : ℕ) → word < 2 ^ n → is_one word n ≡ false
@@ -90,51 +84,3 @@ high_bits word (suc k) h =
     let b : bit_at (word - word % 2) (suc k) ≡ bit_at word (suc k) =
     bit_at-suc (word - word % 2) k ∙ ap (λ x. bit_at x k) half ∙ sym (bit_at-suc word k) in
     rw b refl
-
--- all bits but the lowest are turned off
-off_above : (word k : ℕ) → k ≢ 0 → is_one (word % 2) k ≡ false
-off_above word zero some = absurd (some refl)
-off_above word (suc k) some =
-    let none : word % 2 / 2 ≡ 0 = omega arith in
-    let b : bit_at (word % 2) (suc k) ≡ 0 = bit_at-suc (word % 2) k ∙ ap (λ x. bit_at x k) none ∙ bit_at-zero k in
-    rw b refl
-
-pub all_off : (word k : ℕ) → is_one (word % 2) k ≡ (if k == 0 then is_one word k else false)
-all_off word k =
-    by_number k 0 _ _ _
-    (λ lowest. let b : bit_at (word % 2) 0 ≡ bit_at word 0 = omega arith in rw (lowest, b) refl)
-    (off_above word k)
-
--- and turned on, in a word of 128 bits
-on_above : (word k : ℕ) → k ≢ 0 → k ≤ 127 → is_one (340282366920938463463374607431768211454 + word % 2) k ≡ true
-on_above word zero some h = absurd (some refl)
-on_above word (suc k) some h =
-    let half : (340282366920938463463374607431768211454 + word % 2) / 2 ≡ 2 ^ 127 - 1 = omega arith in
-    let b : bit_at (340282366920938463463374607431768211454 + word % 2) (suc k) ≡ 1 =
-    bit_at-suc (340282366920938463463374607431768211454 + word % 2) k ∙ ap (λ x. bit_at x k) half
-    ∙ bit_at_ones 127 k (omega arith) in
-    rw b refl
-
-pub all_on : (word k : ℕ) → k ≤ 127
-    → is_one (340282366920938463463374607431768211454 + word % 2) k ≡ (if k == 0 then is_one word k else true)
-all_on word k h =
-    by_number k 0 _ _ _
-    (λ lowest.
-    let b : bit_at (340282366920938463463374607431768211454 + word % 2) 0 ≡ bit_at word 0 = omega arith in
-    rw (lowest, b) refl)
-    (λ some. on_above word k some h)
-
--- a word of 128 bits with one bit turned off
-pub turned_off : (word n k : ℕ) → n ≤ 127 → k ≤ 127
-    → is_one
-    (bit_and word (340282366920938463463374607431768211455 - 1 * 2 ^ n % 340282366920938463463374607431768211456))
-    k ≡ (if k == n then false else is_one word k)
-turned_off word n k here there =
-    by_number k n _ _ _
-    (λ same.
-    let b : bit_at (bit_and word (340282366920938463463374607431768211455 - 1 * 2 ^ n % 340282366920938463463374607431768211456)) n ≡ 0 =
-    bit_at_clear_same w128 word n (omega arith) in rw (same, b) refl)
-    (λ other.
-    let b : bit_at (bit_and word (340282366920938463463374607431768211455 - 1 * 2 ^ n % 340282366920938463463374607431768211456)) k
-    ≡ bit_at word k =
-    bit_at_clear_other w128 word n (omega arith) k (omega arith) other in rw b refl)

@@ -1,5 +1,5 @@
 -- Locomotives that stand still keep standing.
-use Rattle.std.proofs.Common.{◌≡◌, Bool, true, false, List, [], ◌∷◌, ◌++◌, refl, ◌∙◌, ap}
+use Rattle.std.proofs.Common.{◌≡◌, Bool, true, false, List, [], ◌∷◌, refl, ◌∙◌, ap}
 use Rattle.std.specs.Prelude.{not, ◌&&◌, ◌||◌, nat_lt, Option, None, Some, option_map, is_some, if◌then◌else◌}
 use Rattle.std.specs.List.{filter_map, list_any}
 use Rattle.std.specs.Option.{option_map_or}
@@ -23,6 +23,7 @@ use Rattle.dcc_regs.specs.Setting.{mode_in, set_from, value_over}
 use Rattle.dcc_regs.specs.Safety.{is_stop, is_standing, is_stop_packet, can_move, can_have_step}
 use Rattle.dcc_regs.specs.Safety.{StandingLocoStands, OnlySpeedPacketsMove, LastStopStops}
 use Rattle.dcc_regs.proofs.InParts.{result-append, result-nothing}
+use Rattle.dcc_regs.proofs.OneTable.{same_table}
 use Rattle.dcc_regs.proofs.RegisterStep.{step-sets}
 
 neither : (a b : Bool) → (a || b) ≡ false → (a ≡ false) × (b ≡ false)
@@ -78,7 +79,8 @@ step_stands who m p calm s = ap is_standing (step-sets who m p SpeedRegister) �
     by_hearing : (t : Bool) → hears who p ≡ t
         → is_standing (if t then value_over (m SpeedRegister) (set_from m p SpeedRegister) else m SpeedRegister) ≡ true
     by_hearing true e =
-        keeps_standing (m SpeedRegister) (speed_set (mode_in m) p) (no_step_in (mode_in m) p (calm e)) s
+        rw (same_table (mode_in m) p SpeedRegister)
+        (keeps_standing (m SpeedRegister) (speed_set (mode_in m) p) (no_step_in (mode_in m) p (calm e)) s)
     by_hearing false e = s
 
 pub standing_loco_stands : StandingLocoStands
@@ -128,7 +130,8 @@ stop_stands : (who : Who) (m : RegisterMap) (stop : Packet) → is_some (m Speed
     → is_stop_packet stop ≡ true → is_standing (step who m stop SpeedRegister) ≡ true
 stop_stands who m stop there h stops =
     ap is_standing (step-sets who m stop SpeedRegister)
-    ∙ rw h (comes_to_stand (m SpeedRegister) (speed_set (mode_in m) stop) there (stop_in (mode_in m) stop stops))
+    ∙ rw (h, same_table (mode_in m) stop SpeedRegister)
+    (comes_to_stand (m SpeedRegister) (speed_set (mode_in m) stop) there (stop_in (mode_in m) stop stops))
 
 pub last_stop_stops : LastStopStops
 last_stop_stops who start before stop later there h stops calm =

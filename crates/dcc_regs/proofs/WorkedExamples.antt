@@ -19,6 +19,8 @@ use Rattle.dcc_regs.specs.declared.register.Value.TheVariants.{Speed as SpeedVal
 use Rattle.dcc_regs.specs.declared.register.Value.TheVariants.{Pending as PendingValue}
 use Rattle.dcc_regs.specs.declared.register.Who.TheVariants.{Loco as LocoWho, Board as BoardWho}
 use Rattle.dcc_packet.specs.SamePacket.{same}
+use Rattle.dcc_regs.specs.Effects.{masked_bit, where_one}
+use Rattle.dcc_regs.specs.Heard.{is_sent_to}
 use Rattle.dcc_regs.specs.Board.{board_registers, made}
 use Rattle.dcc_regs.specs.Loco.{loco_registers, start_content}
 use Rattle.dcc_regs.specs.Result.{result}
@@ -191,9 +193,21 @@ record Rows : Type 0 where
   zero_on : board_after (five ∷ all_zero ∷ []) (Out 0) ≡ on
   zero_off : board_after (five ∷ all_zero ∷ reset ∷ []) (Out 0) ≡ off
   side_kept : board_after (five ∷ reset ∷ []) (Position 2) ≡ Some (Number 1)
+  -- a mask of the bits 1 and 2, of which bit 2 is one
+  masked_one : masked_bit 6 4 2 ≡ Some true
+  masked_zero : masked_bit 6 4 1 ≡ Some false
+  masked_none : masked_bit 6 4 0 ≡ None
+  chosen_signal : where_one 8 on 3 ≡ Some on
+  other_signal : where_one 8 on 2 ≡ None
+  -- a frame to all locomotives, one to the short address 3, and one to the long address 3
+  to_all : is_sent_to None (0 ∷ 0 ∷ 0 ∷ []) ≡ true
+  to_own : is_sent_to (Some short_3) (3 ∷ 96 ∷ 99 ∷ []) ≡ true
+  to_another : is_sent_to (Some short_3) (4 ∷ 96 ∷ 100 ∷ []) ≡ false
+  to_long_3 : is_sent_to (Some short_3) (192 ∷ 3 ∷ 96 ∷ 163 ∷ []) ≡ false
+  idle_is_for_none : is_sent_to (Some short_3) (255 ∷ 0 ∷ 255 ∷ []) ≡ false
 
 rows : Rows
-unfolding same
+unfolding same is_sent_to
 rows = record {
   state_up = refl;
   state_before = refl;
@@ -246,4 +260,14 @@ rows = record {
   zero_on = refl;
   zero_off = refl;
   side_kept = refl;
+  masked_one = refl;
+  masked_zero = refl;
+  masked_none = refl;
+  chosen_signal = refl;
+  other_signal = refl;
+  to_all = refl;
+  to_own = refl;
+  to_another = refl;
+  to_long_3 = refl;
+  idle_is_for_none = refl;
 }

@@ -14,8 +14,8 @@ pub record BoardContent : Type 0 where
   pub positions : ℕ → Bool
   pub aspects : ℕ → ℕ
 
--- the registers of an accessory decoder with content `d`; `None` for a register that it does not
--- have
+-- the registers of an accessory decoder with content `d`. A register that an accessory decoder does
+-- not have is `None`.
 abbrev pub board_registers : BoardContent → RegisterMap
 board_registers d (Out n) = if nat_le n 7 then Some (Flag (d.outs n)) else None
 board_registers d (Position n) = if nat_le n 3 then Some (side (d.positions n)) else None
@@ -34,8 +34,8 @@ pub record TakesPacket (p : Packet) (d d' : BoardContent) : Type 0 where
 abbrev pub made : BoardContent
 made = record { outs = λ n. false; positions = λ n. false; aspects = λ n. 0 }
 
--- the registers of an accessory decoder after power-up, if `m` are its registers before: all
--- outputs are off, and every other register is unchanged
+-- the registers of an accessory decoder after power-up. `m` are its registers before. All outputs
+-- are off, and every other register is unchanged.
 abbrev pub board_powered_up : RegisterMap → RegisterMap
 board_powered_up m (Out n) = board_registers made (Out n)
 board_powered_up m r = m r

@@ -8,8 +8,8 @@ use Rattle.dcc_regs.specs.Board.{BoardContent, board_registers}
 use Rattle.dcc_regs.specs.Result.{RegisterMap}
 
 -- the content of an accessory decoder in state `s`
-abbrev pub content : BoardState → BoardContent
-content s =
+abbrev pub board_state_content : BoardState → BoardContent
+board_state_content s =
     record {
       outs = is_one s.outs;
       positions = λ n. slice_index_or s.positions n false;
@@ -21,4 +21,4 @@ abbrev pub board_who : BoardState → Who
 board_who s = BoardWho s.board
 
 abbrev pub board_map : BoardState → RegisterMap
-board_map s = board_registers (content s)
+board_map s = board_registers (board_state_content s)

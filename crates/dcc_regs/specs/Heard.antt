@@ -2,11 +2,13 @@
 use Rattle.std.specs.Prelude.{ℕ, Bool, true, false, ◌&&◌, ◌||◌, ◌==◌, nat_lt, nat_le, ◌+◌, ◌-◌, ◌*◌, ◌/◌, Option}
 use Rattle.std.specs.Prelude.{None, Some, List, slice_index, filter, if◌then◌else◌}
 use Rattle.std.specs.Option.{option_map_or}
+use Rattle.std.specs.List.{starts_with}
 use Rattle.std.specs.Result.{result_ok}
-use Rattle.dcc_packet.specs.Address.{same_address}
+use Rattle.dcc_packet.specs.Rows.{address_bytes}
+use Rattle.dcc_packet.specs.Spelling.{spelling}
 use Rattle.dcc_packet.specs.Values.{long_of, short_of}
 use Rattle.dcc_packet.specs.declared.address.Address.{Address}
-use Rattle.dcc_packet.specs.declared.address.Address.TheVariants.{Broadcast, Short, Long}
+use Rattle.dcc_packet.specs.declared.address.Address.TheVariants.{Broadcast}
 use Rattle.dcc_packet.specs.declared.instruction.What.{What}
 use Rattle.dcc_packet.specs.declared.instruction.What.TheVariants.{Reset}
 use Rattle.dcc_packet.specs.declared.packet.Packet.{Packet}
@@ -14,14 +16,11 @@ use Rattle.dcc_packet.specs.declared.packet.Packet.TheVariants.{Idle, Loco as To
 use Rattle.dcc_regs.specs.declared.register.Who.{Who}
 use Rattle.dcc_regs.specs.declared.register.Who.TheVariants.{Loco, Board}
 
--- true if a locomotive decoder with the active address `active` hears instructions to the address
--- `to`
-abbrev pub is_for : Option Address → Address → Bool
-is_for active Broadcast = true
-is_for None (Short to) = false
-is_for None (Long to) = false
-is_for (Some own) (Short to) = same_address own (Short to)
-is_for (Some own) (Long to) = same_address own (Long to)
+-- true if a frame is for a locomotive decoder with the active address `active`: it begins with 0, the
+-- broadcast, or with the bytes of the address
+unfoldable pub is_sent_to : Option Address → List ℕ → Bool
+is_sent_to active frame =
+    slice_index frame 0 == 0 || option_map_or (λ own. starts_with ◌==◌ frame (address_bytes own)) active false
 
 -- the address of locomotive decoders at the beginning of the frame `bytes`, or `None` if the frame
 -- has no such address
@@ -50,7 +49,7 @@ is_full_reset x what = false
 -- and accessory decoders hear no other packets. All accessory decoders hear packets to board 511
 -- and to signal 2047. No accessory decoder has the signals 2044 to 2046.
 abbrev pub hears : Who → Packet → Bool
-hears (Loco active) p = option_map_or (is_for active) (address_of p) false
+hears (Loco active) p = is_sent_to active (spelling p)
 hears (Board own) Idle = false
 hears (Board own) (ToLoco to what) = is_full_reset to what
 hears (Board own) (Accessory board output on) = own.number == board.number || board.number == 511

@@ -22,14 +22,14 @@ use Rattle.dcc_regs.specs.Result.{RegisterMap, HasHeard, result, step}
 use Rattle.dcc_regs.specs.Notes.{Note, note_of, packet_told}
 use Rattle.dcc_regs.specs.Setting.{mode_in, set_from, value_over}
 
--- the result of `first ++ second` is the result of `second`, if the registers at its start are the
--- result of `first`
+-- the result of the list `first ++ second` is the result of `second` from those registers at its
+-- start that are the result of `first`
 abbrev pub ResultInParts : Type 0
 ResultInParts =
     (who : Who) (start : RegisterMap) (first second : List Packet)
     → result who start (first ++ second) ≡ result who (result who start first) second
 
--- a decoder has heard the empty list of packets if its identity and its registers are unchanged
+-- a decoder whose identity and registers do not change has heard the empty list of packets
 abbrev pub NoPacketHeard : Type 0
 NoPacketHeard = (who : Who) (start : RegisterMap) → HasHeard [] who start who start
 

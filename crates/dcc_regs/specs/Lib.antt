@@ -4,6 +4,7 @@ pub mod FunctionBits
 pub mod States
 pub mod Outputs
 pub mod Sets
+pub mod Effects
 pub mod Writes
 pub mod Result
 pub mod Setting
@@ -11,6 +12,7 @@ pub mod Addresses
 pub mod Loco
 pub mod LocoDecoder
 pub mod LocoRegisters
+pub mod AccessedCv
 pub mod LocoState
 pub mod Board
 pub mod BoardDecoder
@@ -24,5 +26,6 @@ pub mod Safety
 pub mod Inner
 -- Definitions of lower crates that the contracts of this crate use.
 pub use Rattle.dcc_packet.specs.Cvs
+pub use Rattle.dcc_packet.specs.StoredCvs
 pub use Rattle.dcc_packet.specs.Spelling
 pub use Rattle.dcc_wire.specs.Frames

@@ -22,7 +22,7 @@ use Rattle.dcc_regs.specs.Writes.{CvChange, Byte, OneBit, cv_change, change_of, 
 use Rattle.dcc_regs.specs.Result.{RegisterMap}
 
 -- the content of a locomotive decoder. `functions`, `states` and `cvs` map a number to the value of
--- this function, binary state or CV.
+-- the function, the binary state or the CV with this number.
 pub record LocoContent : Type 0 where
   pub speed : Speed
   pub forward : Bool
@@ -39,8 +39,8 @@ is_function n = nat_le n 68
 abbrev pub is_cv_bit : ℕ → ℕ → Bool
 is_cv_bit cv place = nat_le 1 cv && nat_le cv 1024 && nat_le place 7
 
--- the registers of a locomotive decoder with content `d`; `None` for a register that it does not
--- have
+-- the registers of a locomotive decoder with content `d`. A register that a locomotive decoder does
+-- not have is `None`.
 abbrev pub loco_registers : LocoContent → RegisterMap
 loco_registers d SpeedRegister = Some (SpeedValue d.speed)
 loco_registers d Direction = Some (Forward d.forward)
@@ -71,7 +71,7 @@ is_speed (Step14 n) = nat_le 1 n && nat_le n 14
 is_speed (Step28 n) = nat_le 1 n && nat_le n 28
 is_speed (Step126 n) = nat_le 1 n && nat_le n 126
 
--- true if a change of a CV, if there is one, writes a value of at most 255
+-- true if there is no change of a CV, or if the change writes a value of at most 255
 abbrev pub change_fits : Option CvChange → Bool
 change_fits None = true
 change_fits (Some (Byte cv value)) = nat_le value 255
@@ -100,8 +100,8 @@ holds_one held = false
 abbrev pub cv_held : RegisterMap → ℕ → ℕ
 cv_held m cv = byte_of (λ place. holds_one (m (CvBit cv place)))
 
--- the registers of a locomotive decoder after power-up, if `m` are its registers before: the CVs
--- are unchanged, and all other registers have their start values
+-- the registers of a locomotive decoder after power-up. `m` are its registers before. The CVs are
+-- unchanged, and all other registers have their start values.
 abbrev pub powered_up : RegisterMap → RegisterMap
 powered_up m (CvBit cv place) = m (CvBit cv place)
 powered_up m r = start_map (cv_held m) r

@@ -4,8 +4,8 @@ use Rattle.dcc_regs.specs.declared.loco.LocoDecoder.{LocoDecoder}
 use Rattle.dcc_packet.specs.Cvs.{cv_in}
 use Rattle.dcc_regs.specs.Loco.{LocoContent}
 
-abbrev pub content : LocoDecoder → LocoContent
-content d = record {
+abbrev pub loco_content : LocoDecoder → LocoContent
+loco_content d = record {
   speed = d.speed;
   forward = d.forward;
   functions = λ n. slice_index_or d.functions n false;

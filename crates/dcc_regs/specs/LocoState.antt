@@ -18,8 +18,8 @@ is_state s =
     s.address s.pending
 
 -- the content of a locomotive decoder in state `s`
-abbrev pub content : LocoState → LocoContent
-content s =
+abbrev pub loco_state_content : LocoState → LocoContent
+loco_state_content s =
     record {
       speed = s.speed;
       forward = s.forward;
@@ -34,4 +34,4 @@ abbrev pub loco_who : LocoState → Who
 loco_who s = LocoWho s.address
 
 abbrev pub loco_map : LocoState → RegisterMap
-loco_map s = loco_registers (content s)
+loco_map s = loco_registers (loco_state_content s)

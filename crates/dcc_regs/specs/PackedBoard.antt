@@ -5,5 +5,9 @@ use Rattle.dcc_regs.specs.declared.packed_board.PackedBoard.{PackedBoard}
 use Rattle.dcc_packet.specs.Bits.{is_one}
 use Rattle.dcc_regs.specs.Board.{BoardContent}
 
-abbrev pub content : PackedBoard → BoardContent
-content d = record { outs = is_one d.outs; positions = is_one d.positions; aspects = λ n. slice_index d.aspects n }
+abbrev pub packed_content : PackedBoard → BoardContent
+packed_content d = record {
+  outs = is_one d.outs;
+  positions = is_one d.positions;
+  aspects = λ n. slice_index d.aspects n;
+}

@@ -1,6 +1,5 @@
 -- The binary states that a packet turns on and off (RCN-212, short form).
-use Rattle.std.specs.Prelude.{ℕ, Bool, false, ◌&&◌, ◌||◌, ◌==◌, nat_le, Option, None, Some, unwrap_or, if◌then◌else◌}
-use Rattle.std.specs.Option.{option_or}
+use Rattle.std.specs.Prelude.{ℕ, Bool, false, ◌&&◌, ◌||◌, ◌==◌, nat_le, Option, None, Some, if◌then◌else◌}
 use Rattle.dcc_packet.specs.declared.instruction.What.{What}
 use Rattle.dcc_packet.specs.declared.instruction.What.TheVariants.{Reset, BinaryState}
 use Rattle.dcc_packet.specs.declared.packet.Packet.{Packet}
@@ -32,13 +31,3 @@ state_by (Some told) n = if is_binary_state n && (told.0 == 0 || n == told.0) th
 -- mode does not matter, and packets to the broadcast address set states too.
 abbrev pub state_set : Packet → ℕ → Option Bool
 state_set p n = state_by (turned_states p) n
-
--- the number of the binary state that is set, or `None` if no state or each state is set
-abbrev pub single_state : Option (ℕ × Bool) → Option ℕ
-single_state None = None
-single_state (Some told) = if told.0 == 0 then None else Some told.0
-
--- the number of a binary state that two packets set to different values, if such a state exists. It
--- is the single state of one of the packets, or 1 if both set all states.
-abbrev pub differing_state : Option (ℕ × Bool) → Option (ℕ × Bool) → ℕ
-differing_state c d = unwrap_or (option_or (single_state c) (single_state d)) 1

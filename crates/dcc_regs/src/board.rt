@@ -7,8 +7,7 @@ use crate::board_state::{BoardState, outs_of, sides_of};
 use crate::decoder::Decoder;
 use crate::heard::hears;
 use crate::loco_state::packed;
-use crate::outputs::aspect_set;
-use crate::packed_board::{outs_after, positions_after};
+use crate::outputs::{aspects_set, outs_set, positions_set};
 use crate::register::{Register, Value, Who};
 use dcc_packet::{Board, Packet, PacketFault};
 
@@ -100,9 +99,10 @@ pub fn set_aspects(aspects: &mut [u8; 4], packet: &Packet)
     ensures { (n : ℕ) → n ≤ 3
         → slice_index aspects.new n ≡ unwrap_or (table.aspect_set packet.now n) (slice_index aspects.old n) }
 {
+    let set = aspects_set(packet);
     for n in 0..4u8 {
         let at = n as usize;
-        aspects[at] = aspect_set(packet, n).unwrap_or(aspects[at]);
+        aspects[at] = set.at(n).unwrap_or(aspects[at]);
     }
 }
 
@@ -112,13 +112,13 @@ pub fn are_bytes(aspects: &[u8])
 {}
 
 impl Decoder for BoardDecoder {
-    ghost use Rattle.dcc_regs.specs.BoardDecoder.{content};
+    ghost use Rattle.dcc_regs.specs.BoardDecoder.{board_content};
     ghost use Rattle.dcc_regs.specs.Board.{board_registers};
     ghost use Rattle.dcc_regs.specs.declared.register.Who.TheVariants.{Board as BoardWho};
 
     ghost who = { λ d. BoardWho d.board };
 
-    ghost registers = { λ d. board_registers (content d) };
+    ghost registers = { λ d. board_registers (board_content d) };
 
     fn who(&self) -> Who {
         are_bytes(&self.aspects);
@@ -127,8 +127,8 @@ impl Decoder for BoardDecoder {
 
     fn apply(&mut self, packet: &Packet) {
         if hears(self.who(), packet) {
-            self.outs = outs_of(outs_after(packed(&self.outs) as u8, packet));
-            self.positions = sides_of(positions_after(packed(&self.positions) as u8, packet));
+            self.outs = outs_of(outs_set(packet).over(packed(&self.outs) as u8));
+            self.positions = sides_of(positions_set(packet).over(packed(&self.positions) as u8));
             set_aspects(&mut self.aspects, packet);
         }
     }

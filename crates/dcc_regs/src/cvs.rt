@@ -1,5 +1,6 @@
 //! Functions that read the CVs of a locomotive decoder, and write CVs after a heard packet.
 ghost use Rattle.std.specs.Prelude.{◌≡◌, ℕ, ◌≤◌, true, Some, None, unwrap_or, if◌then◌else◌};
+ghost use Rattle.dcc_regs.specs.AccessedCv.{HaveAddress};
 ghost use Rattle.dcc_regs.specs.Addresses.{active_address as address_at, is_active};
 ghost use Rattle.dcc_packet.specs.Bits.{is_one};
 ghost use Rattle.dcc_packet.specs.Cvs.{cv_in};
@@ -18,12 +19,20 @@ pub fn active_address(cvs: &[u8; 1024]) -> Option<Address>
     ensures address { result ≡ address_at (cv_in cvs.now) }
     ensures active { is_active result ≡ true }
 {
-    let high = cvs[16];
-    if cvs[28] >> 5 & 1 == 1 && (192..=231).contains(&high) {
-        let number = (high as u16 - 192) * 256 + cvs[17] as u16;
+    address_of_cvs(cvs[0], cvs[16], cvs[17], cvs[28])
+}
+
+/// Returns the active address that a decoder has after power-up, if CV1, CV17, CV18 and CV29 have
+/// these values. Returns `None` if these CVs give no address.
+pub fn address_of_cvs(cv1: u8, cv17: u8, cv18: u8, cv29: u8) -> Option<Address>
+    ensures address { (cvs : ℕ → ℕ) → HaveAddress cvs cv1 cv17 cv18 cv29 → result ≡ address_at cvs }
+    ensures active { is_active result ≡ true }
+{
+    if cv29 >> 5 & 1 == 1 && (192..=231).contains(&cv17) {
+        let number = (cv17 as u16 - 192) * 256 + cv18 as u16;
         Address::long(number).ok()
     } else {
-        Address::short(cvs[0]).ok()
+        Address::short(cv1).ok()
     }
 }
 
@@ -77,12 +86,19 @@ fn write(cvs: &mut [u8; 1024], packet: &Packet)
     }
 }
 
-/// Returns the mode in which a decoder with these CVs reads speed instructions: bit 1 of CV29 is
-/// one for 28 steps.
+/// Returns the mode in which a decoder with these CVs reads speed instructions.
 pub fn mode(cvs: &[u8; 1024]) -> SpeedMode
     ensures { result ≡ mode_of (Some (Flag (is_one (cv_in cvs.now 29) 1))) }
 {
-    if cvs[28] >> 1 & 1 == 1 {
+    mode_of(cvs[28])
+}
+
+/// Returns the mode in which a decoder reads speed instructions, if CV29 has the value `cv29`: bit
+/// 1 is one for 28 steps.
+pub fn mode_of(cv29: u8) -> SpeedMode
+    ensures { result ≡ mode_of (Some (Flag (is_one cv29 1))) }
+{
+    if cv29 >> 1 & 1 == 1 {
         SpeedMode::Steps28
     } else {
         SpeedMode::Steps14

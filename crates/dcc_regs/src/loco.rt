@@ -149,13 +149,13 @@ impl LocoDecoder {
 }
 
 impl Decoder for LocoDecoder {
-    ghost use Rattle.dcc_regs.specs.LocoDecoder.{content};
+    ghost use Rattle.dcc_regs.specs.LocoDecoder.{loco_content};
     ghost use Rattle.dcc_regs.specs.Loco.{loco_registers};
     ghost use Rattle.dcc_regs.specs.declared.register.Who.TheVariants.{Loco as LocoWho};
 
     ghost who = { λ d. LocoWho d.address };
 
-    ghost registers = { λ d. loco_registers (content d) };
+    ghost registers = { λ d. loco_registers (loco_content d) };
 
     fn who(&self) -> Who {
         Who::Loco(self.address)

@@ -1,23 +1,23 @@
 //! The registers of a locomotive decoder except its CVs, and the effect of a packet on registers
 //! and CVs.
 
-ghost use Rattle.std.specs.Prelude.{◌≡◌, ◌==◌, ℕ, ◌<◌, ◌≤◌, ◌%◌, ◌^◌, if◌then◌else◌, unwrap_or};
+ghost use Rattle.std.specs.Prelude.{◌≡◌, ◌≤◌, ℕ, unwrap_or};
 ghost use Rattle.dcc_packet.specs.Bits.{is_one};
 ghost use Rattle.dcc_regs.specs.Addresses.{is_active as is_active_address};
-ghost use Rattle.dcc_regs.specs.FunctionBits.{function_set as function_set_of, group_bit};
+ghost use Rattle.dcc_regs.specs.FunctionBits.{function_set as function_set_of};
 ghost use Rattle.dcc_regs.specs.Loco.{is_pending_for as is_pending_packet_for, is_speed as is_speed_in_range};
+ghost use Rattle.dcc_regs.specs.Speeds.{direction_set as direction_set_of, speed_set as speed_set_of};
 ghost use Rattle.dcc_regs.specs.States.{state_set as state_set_of};
-ghost use Rattle.dcc_regs.specs.declared.register.SpeedMode.{SpeedMode as SpeedModeOf};
 
 use crate::cvs;
-use crate::function_bits::{first_function, function_set, ones_of};
+use crate::function_bits::functions_set;
 use crate::heard::hears;
 use crate::loco_state::{LocoState, functions_in};
 use crate::register::{Speed, SpeedMode, Who};
 use crate::speeds::{direction_set, speed_set};
-use crate::states::turned_states;
+use crate::states::states_set;
 use crate::writes::{is_own_write, leave_pending};
-use dcc_packet::{Address, GroupBits, Packet, What};
+use dcc_packet::{Address, Packet};
 
 /// The registers of a locomotive decoder except its CVs: a [`LocoState`] without `cvs`. A caller
 /// can store the CVs anywhere.
@@ -42,6 +42,7 @@ pub struct LocoRegisters {
 impl LocoRegisters {
     ghost use Rattle.std.specs.Prelude.{◌≡◌, ℕ, List, None, true, false};
     ghost use Rattle.dcc_packet.specs.Cvs.{cv_in};
+    ghost use Rattle.dcc_regs.specs.AccessedCv.{HaveAddress};
     ghost use Rattle.dcc_regs.specs.declared.register.Register.{Register};
     ghost use Rattle.dcc_regs.specs.Heard.{hears};
     ghost use Rattle.dcc_regs.specs.Loco.{start_map, start_who};
@@ -57,8 +58,20 @@ impl LocoRegisters {
         ensures registers { loco_map (with_cvs result cvs.now) ≡ start_map (cv_in cvs.now) }
         ensures pending { result.pending ≡ None }
     {
+        LocoRegisters::powered_up(cvs[0], cvs[16], cvs[17], cvs[28])
+    }
+
+    /// Creates the registers of a decoder that was powered up, if CV1, CV17, CV18 and CV29 have
+    /// these values. No other CV matters.
+    pub fn powered_up(cv1: u8, cv17: u8, cv18: u8, cv29: u8) -> LocoRegisters
+        ensures possible { (cvs : List ℕ) → is_state (with_cvs result cvs) ≡ true }
+        ensures who { (cvs : List ℕ) → HaveAddress (cv_in cvs) cv1 cv17 cv18 cv29
+            → loco_who (with_cvs result cvs) ≡ start_who (cv_in cvs) }
+        ensures registers { (cvs : List ℕ) → loco_map (with_cvs result cvs) ≡ start_map (cv_in cvs) }
+        ensures pending { result.pending ≡ None }
+    {
         LocoRegisters {
-            address: cvs::active_address(cvs),
+            address: cvs::address_of_cvs(cv1, cv17, cv18, cv29),
             speed: Speed::Stop,
             forward: true,
             functions: 0,
@@ -116,12 +129,31 @@ impl LocoRegisters {
         }
         let mode = cvs::mode(cvs);
         cvs::hear(cvs, &self.pending, packet);
+        self.obey(mode, packet);
+        true
+    }
+
+    /// Sets all registers except the CVs, after the decoder has heard the packet. The parameter
+    /// `mode` is the speed mode before the packet.
+    // inlined in both callers, since a call of its own takes 15 instructions more for each packet
+    #[inline(always)]
+    pub(crate) fn obey(&mut self, mode: SpeedMode, packet: &Packet)
+        ensures address { self.new.address ≡ self.old.address }
+        ensures speed { self.new.speed ≡ unwrap_or (speed_set_of mode packet.now) self.old.speed }
+        ensures forward { self.new.forward ≡ unwrap_or (direction_set_of packet.now) self.old.forward }
+        ensures functions { (n : ℕ) → n ≤ 68 → is_one self.new.functions n
+            ≡ unwrap_or (function_set_of mode packet.now n) (is_one self.old.functions n) }
+        ensures states { (n : ℕ) → n ≤ 127 → is_one self.new.states n
+            ≡ unwrap_or (state_set_of packet.now n) (is_one self.old.states n) }
+        ensures pending { self.new.pending ≡ left_pending packet.now }
+        ensures possible { (cvs after : List ℕ) → hears (loco_who (with_cvs self.old cvs)) packet.now ≡ true
+            → is_state (with_cvs self.old cvs) ≡ true → is_state (with_cvs self.new after) ≡ true }
+    {
         self.speed = speed_set(mode, packet).unwrap_or(self.speed);
         self.forward = direction_set(packet).unwrap_or(self.forward);
-        self.functions = functions_in(functions_after(self.functions, mode, packet));
-        self.states = states_after(self.states, packet);
+        self.functions = functions_in(functions_set(mode, packet).over(self.functions));
+        self.states = states_set(packet).over(self.states);
         leave_pending(&mut self.pending, packet);
-        true
     }
 }
 
@@ -149,83 +181,4 @@ fn is_pending_for(active: &Option<Address>, pending: &Option<Packet>) -> bool
         None => true,
         Some(packet) => is_own_write(packet) && hears(Who::Loco(*active), packet),
     }
-}
-
-/// Returns the functions after a heard packet. All functions of a group are set together, since a
-/// loop over single functions takes long.
-fn functions_after(functions: u128, mode: SpeedMode, packet: &Packet) -> u128
-    ensures { (n : ℕ) → n ≤ 68 → is_one result n ≡ unwrap_or (function_set_of mode packet.now n) (is_one functions n) }
-{
-    let Packet::Loco { what, .. } = packet else {
-        return functions
-    };
-    match what {
-        What::Reset => 0,
-        What::Speed28 { .. } => with_f0(functions, mode, packet),
-        What::Functions(bits) => with_group(with_f0(functions, mode, packet), *bits),
-        _ => functions,
-    }
-}
-
-/// Returns the functions after a heard packet has set F0. If the packet does not set F0, no
-/// function changes.
-fn with_f0(functions: u128, mode: SpeedMode, packet: &Packet) -> u128
-    ensures f0 { is_one result 0 ≡ unwrap_or (function_set_of mode packet.now 0) (is_one functions 0) }
-    ensures others { (n : ℕ) → 1 ≤ n → n ≤ 127 → is_one result n ≡ is_one functions n }
-{
-    with_bit_set(functions, 0, function_set(mode, packet, 0))
-}
-
-/// Returns `functions` with the functions of a group, except F0, set to the bits `bits`. The code
-/// inverts the bits that differ.
-fn with_group(functions: u128, bits: GroupBits) -> u128
-    ensures f0 { is_one result 0 ≡ is_one functions 0 }
-    ensures others { (mode : SpeedModeOf) (n : ℕ) → 1 ≤ n → n ≤ 68
-        → is_one result n ≡ unwrap_or (group_bit mode bits n) (is_one functions n) }
-{
-    let first = first_function(bits.group());
-    let before = (functions >> first & 255) as u8;
-    let differing = (before ^ bits.bits()) & ones_of(bits.group());
-    functions ^ u128::from(differing) << first
-}
-
-/// Returns the binary states after a heard packet, as bits.
-fn states_after(states: u128, packet: &Packet) -> u128
-    ensures { (n : ℕ) → n ≤ 127 → is_one result n ≡ unwrap_or (state_set_of packet.now n) (is_one states n) }
-{
-    match turned_states(packet) {
-        Some((0, on)) => all_turned(states, on),
-        Some((number, on)) if number <= 127 => with_bit(states, number, on),
-        _ => states,
-    }
-}
-
-/// Returns `word` with all bits except the lowest set to `on`.
-fn all_turned(word: u128, on: bool) -> u128
-    ensures { (k : ℕ) → k ≤ 127 → is_one result k ≡ (if k == 0 then is_one word k else on) }
-{
-    if on {
-        u128::MAX - 1 + word % 2
-    } else {
-        word % 2
-    }
-}
-
-/// Returns `word` with bit `n` set to the value in `set`. If `set` is `None`, the result is `word`.
-fn with_bit_set(word: u128, n: u8, set: Option<bool>) -> u128
-    requires { n ≤ 127 }
-    ensures { (k : ℕ) → k ≤ 127 → is_one result k ≡ (if k == n then unwrap_or set (is_one word k) else is_one word k) }
-{
-    match set {
-        Some(on) => with_bit(word, n, on),
-        None => word,
-    }
-}
-
-/// Returns `word` with bit `n` set to `on`.
-fn with_bit(word: u128, n: u8, on: bool) -> u128
-    requires { n ≤ 127 }
-    ensures { (k : ℕ) → k ≤ 127 → is_one result k ≡ (if k == n then on else is_one word k) }
-{
-    if on { word | 1 << n } else { word & !(1 << n) }
 }

@@ -1,15 +1,13 @@
 //! An accessory decoder that stores its outputs and positions as bits of two bytes.
 ghost use Rattle.std.specs.Prelude.{◌≡◌, ℕ, ◌<◌, ◌≤◌, ◌↔◌, unwrap_or, slice_index_or, false, true, nat_le, IsOk};
 ghost use Rattle.std.specs.Prelude.{IfOk, IfErr};
-ghost use Rattle.dcc_packet.specs.Bits.{is_one};
-ghost use Rattle.dcc_regs.specs.Outputs as table;
 
 use crate::board::{are_bytes, set_aspects};
 use crate::board_state::{BoardState, sides_of};
 use crate::decoder::Decoder;
 use crate::heard::hears;
 use crate::loco_state::packed;
-use crate::outputs::{out_set, position_set};
+use crate::outputs::{outs_set, positions_set};
 use crate::register::{Register, Value, Who};
 use dcc_packet::{Board, Packet, PacketFault};
 
@@ -96,38 +94,14 @@ impl PackedBoard {
     }
 }
 
-/// Returns the outputs after a heard packet, as bits.
-pub(crate) fn outs_after(outs: u8, packet: &Packet) -> u8
-    ensures { (n : ℕ) → n ≤ 7 → is_one result n ≡ unwrap_or (table.out_set packet.now n) (is_one outs n) }
-{
-    let mut after = 0;
-    for n in 0..8 {
-        let on = out_set(packet, n).unwrap_or(outs >> n & 1 == 1);
-        after |= (on as u8) << n;
-    }
-    after
-}
-
-/// Returns the positions of the pairs after a heard packet, as bits.
-pub(crate) fn positions_after(positions: u8, packet: &Packet) -> u8
-    ensures { (n : ℕ) → n ≤ 3 → is_one result n ≡ unwrap_or (table.position_set packet.now n) (is_one positions n) }
-{
-    let mut after = 0;
-    for n in 0..4 {
-        let one = position_set(packet, n).unwrap_or(positions >> n & 1 == 1);
-        after |= (one as u8) << n;
-    }
-    after
-}
-
 impl Decoder for PackedBoard {
-    ghost use Rattle.dcc_regs.specs.PackedBoard.{content};
+    ghost use Rattle.dcc_regs.specs.PackedBoard.{packed_content};
     ghost use Rattle.dcc_regs.specs.Board.{board_registers};
     ghost use Rattle.dcc_regs.specs.declared.register.Who.TheVariants.{Board as BoardWho};
 
     ghost who = { λ d. BoardWho d.board };
 
-    ghost registers = { λ d. board_registers (content d) };
+    ghost registers = { λ d. board_registers (packed_content d) };
 
     fn who(&self) -> Who {
         are_bytes(&self.aspects);
@@ -136,8 +110,8 @@ impl Decoder for PackedBoard {
 
     fn apply(&mut self, packet: &Packet) {
         if hears(self.who(), packet) {
-            self.outs = outs_after(self.outs, packet);
-            self.positions = positions_after(self.positions, packet);
+            self.outs = outs_set(packet).over(self.outs);
+            self.positions = positions_set(packet).over(self.positions);
             set_aspects(&mut self.aspects, packet);
         }
     }

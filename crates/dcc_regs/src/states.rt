@@ -1,56 +1,40 @@
 //! Functions that return the binary states that a packet turns on and off (RCN-212, short form).
 
-ghost use Rattle.std.specs.Prelude.{◌≡◌, ◌≤◌};
+ghost use Rattle.std.specs.Prelude.{◌≡◌, ℕ, ◌≤◌, ◌&&◌, ◌||◌, ◌==◌};
+ghost use Rattle.dcc_packet.specs.Bits.{is_one};
+ghost use Rattle.dcc_regs.specs.Effects.{masked_bit};
 ghost use Rattle.dcc_regs.specs.States as table;
 
+use crate::masked::Masked;
 use dcc_packet::{Packet, What};
 
-/// Returns the number of the binary state that a packet switches, and true if the packet switches
-/// it on. The number 0 stands for all states, which a reset turns off. Returns `None` if the packet
-/// switches no state.
-pub fn turned_states(packet: &Packet) -> Option<(u8, bool)>
-    ensures { result ≡ table.turned_states packet.now }
+/// Returns a word in which bit n is one if `number` stands for binary state n: the number itself, or
+/// 1 to 127 if the number is 0.
+fn state_mask(number: u8) -> u128
+    requires { number ≤ 127 }
+    ensures { (n : ℕ) → is_one result n ≡ (table.is_binary_state n && (number == 0 || n == number)) }
+{
+    if number == 0 {
+        u128::MAX - 1
+    } else {
+        1 << number
+    }
+}
+
+/// Returns the binary states that a packet sets. Bit n is binary state n, 1 to 127.
+#[inline(always)]
+pub fn states_set(packet: &Packet) -> Masked
+    ensures { (n : ℕ) → masked_bit result.mask result.bits n ≡ table.state_set packet.now n }
 {
     match packet {
         Packet::Loco {
             what: What::Reset,
             ..
-        } => Some((0, false)),
+        } => Masked::new(state_mask(0), false),
         Packet::Loco {
             what: What::BinaryState { number, on },
             ..
-        } => Some((number.number(), *on)),
-        _ => None,
+        } => Masked::new(state_mask(number.number()), *on),
+        _ => Masked::nothing(),
     }
-}
-
-/// Returns true if a packet turns binary state `n` on, and false if it turns the state off. Returns
-/// `None` if the packet does not set this state.
-pub fn state_set(packet: &Packet, n: u8) -> Option<bool>
-    ensures { result ≡ table.state_set packet.now n }
-{
-    match turned_states(packet) {
-        Some((number, on)) if (1..=127).contains(&n) && (number == 0 || n == number) => Some(on),
-        _ => None,
-    }
-}
-
-/// Returns the number of the binary state that a packet sets. Returns `None` if the packet sets all
-/// states or no state.
-fn single_state(packet: &Packet) -> Option<u8>
-    ensures { result ≡ table.single_state (table.turned_states packet.now) }
-{
-    match turned_states(packet) {
-        Some((number, _)) if number != 0 => Some(number),
-        _ => None,
-    }
-}
-
-/// Returns the number of a binary state that two packets set to different values, if they do so for
-/// some state. The result is the single state of one of the packets, or 1 if both packets set all
-/// states.
-pub fn looked(p: &Packet, q: &Packet) -> u8
-    ensures { result ≡ table.differing_state (table.turned_states p.now) (table.turned_states q.now) }
-{
-    single_state(p).or(single_state(q)).unwrap_or(1)
 }

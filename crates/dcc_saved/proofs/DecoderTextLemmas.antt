@@ -31,7 +31,8 @@ no_more version zero before = refl
 no_more version (suc room) before = refl
 
 -- some bytes were used where the reader does not go on as from no bytes
-whole_line : {rest : Reader (List Saved)} {old new : InputState} (bytes : List ℕ) → ContinuesAs decoder_text old rest new bytes
+whole_line : {rest : Reader (List Saved)} {old new : InputState} (bytes : List ℕ)
+    → ContinuesAs decoder_text old rest new bytes
     → (rest (at new []) ≡ Err (cut old.place.line) → ⊥) → new.lines + 1 ≡ new.place.line
 unfolding decoder_text
 whole_line [] goes more = absurd (more (sym (goes.goes_on [])))
@@ -56,7 +57,8 @@ too_many_decoders old now leads = (
   ),
   refl,
   inr (map_text _ (λ text. StopsAtDecoder (decoder_text (at old text)) (now.lines + 1)) old.text now.text
-      (λ text behind uses. rw (uses.whole, uses.is.goes_on behind) (whole_line uses.used uses.is (λ same. cc))) leads.text),
+      (λ text behind uses. rw (uses.whole, uses.is.goes_on behind) (whole_line uses.used uses.is (λ same. cc)))
+      leads.text),
 )
 
 -- the fault of a text, as it is told

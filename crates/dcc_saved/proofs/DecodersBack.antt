@@ -39,7 +39,8 @@ abbrev next_head : List (Who × RegisterMap) → Head
 next_head [] = heads.End
 next_head (decoder ∷ fleet) = heads.Decoder decoder.0
 
-head_fits : (fleet : List (Who × RegisterMap)) → AllByRecursion IsPossibleDecoder fleet → IsPossibleHead (next_head fleet)
+head_fits : (fleet : List (Who × RegisterMap)) → AllByRecursion IsPossibleDecoder fleet
+    → IsPossibleHead (next_head fleet)
 head_fits [] possible = tt
 head_fits (decoder ∷ fleet) possible = possible.0.decoder
 

@@ -45,12 +45,14 @@ pub Writes-stopped : {before mid : WriterState} (after : WriterState) {whole res
 Writes-stopped after xs ys (Ok done) failed none so_far is next = cc
 Writes-stopped {before} {mid} after xs ys (Err other) failed some so_far is next = (
   rw (so_far.is, is)
-      (front_behind before mid after so_far.front (xs ++ ys) so_far.written.0 (AppendsFront-more mid after xs ys next.0)),
+      (front_behind before mid after so_far.front (xs ++ ys) so_far.written.0
+      (AppendsFront-more mid after xs ys next.0)),
   rw so_far.written.1 at next.1,
 )
 
 -- nothing is left, and the last piece
-pub Wrote-all : {before : WriterState} {whole rest : List ℕ} (now : WriterState) → Wrote before whole rest now → rest ≡ []
+pub Wrote-all : {before : WriterState} {whole rest : List ℕ} (now : WriterState) → Wrote before whole rest now → rest
+    ≡ []
     → Writes before whole (Ok tt) now
 Wrote-all now so_far is = rw (so_far.is, is, append-nil) so_far.written
 

@@ -16,11 +16,11 @@ use Rattle.dcc_regs.specs.declared.register.Value.TheVariants as values
 use Rattle.dcc_regs.specs.declared.register.Who.TheVariants as who
 use Rattle.dcc_regs.specs.Loco.{is_function, is_cv_bit, is_speed, is_pending_for, holds_one, cv_held, loco_registers}
 use Rattle.dcc_regs.specs.States.{is_binary_state}
-use Rattle.dcc_regs.specs.LocoState.{content as loco_content}
+use Rattle.dcc_regs.specs.LocoState.{loco_state_content}
 use Rattle.dcc_regs.specs.Possible.{may_hold, IsPossible}
 use Rattle.dcc_regs.specs.Result.{RegisterMap}
 use Rattle.dcc_regs.specs.Board.{board_registers}
-use Rattle.dcc_regs.specs.BoardState.{content as board_content}
+use Rattle.dcc_regs.specs.BoardState.{board_state_content}
 use Rattle.dcc_saved.specs.declared.decoder_line.Head.{Head}
 use Rattle.dcc_saved.specs.declared.decoder_line.Numbered.TheVariants as kinds
 use Rattle.dcc_saved.specs.FleetText.{speed_held, forward_held, pending_held, number_held, numbers_held, first_four}
@@ -111,7 +111,7 @@ module _ (address : Option Address) (m : RegisterMap) (possible : IsPossible (wh
       ap (λ n. is_one n place) (cvs.each cv (leb-true 1 cv range.0) (leb-true cv 1024 range.1))
       ∙ is_one-byte_of (λ k. holds_one (m (registers.CvBit cv k))) place (leb-true place 7 parts.1)
 
-  pub same_loco : SameRegisters (loco_registers (loco_content loco_state)) m
+  pub same_loco : SameRegisters (loco_registers (loco_state_content loco_state)) m
   same_loco registers.Speed = (speed_is address (possible.registers registers.Speed)).0
   same_loco registers.Direction = direction_is address (possible.registers registers.Direction)
   same_loco registers.Pending = (pending_is address (possible.registers registers.Pending)).0
@@ -120,7 +120,8 @@ module _ (address : Option Address) (m : RegisterMap) (possible : IsPossible (wh
       (λ there. held_are kinds.Function m n (omega (arith, leb-true n 68 there)))
   same_loco (registers.State n) =
       flag_is (is_binary_state n) _ (possible.registers (registers.State n))
-      (λ there. held_are kinds.State m n (omega (arith, leb-true n 127 (and_parts (nat_le 1 n) (nat_le n 127) there).1)))
+      (λ there. held_are kinds.State m n
+      (omega (arith, leb-true n 127 (and_parts (nat_le 1 n) (nat_le n 127) there).1)))
   same_loco (registers.CvBit cv place) =
       flag_is _ _ (possible.registers (registers.CvBit cv place)) (same_cv_bit cv place)
   same_loco (registers.Out n) = none_is (possible.registers (registers.Out n))
@@ -165,7 +166,7 @@ module _ (board : Board) (m : RegisterMap) (possible : IsPossible (who.Board boa
   abbrev pub board_state : BoardState
   board_state = board_read board (numbers_held kinds.Out m) (first_four (sides_of m)) (first_four (aspects_of m))
 
-  pub same_board : SameRegisters (board_registers (board_content board_state)) m
+  pub same_board : SameRegisters (board_registers (board_state_content board_state)) m
   same_board (registers.Out n) =
       flag_is (nat_le n 7) _ (possible.registers (registers.Out n))
       (λ there. held_are kinds.Out m n (omega (arith, leb-true n 7 there)))

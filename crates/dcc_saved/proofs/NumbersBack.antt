@@ -132,7 +132,8 @@ top_bit true n v fits =
 top_bit false n v fits = rw (zero-add v, bit_at_above v n n fits (omega arith)) refl
 
 below_top : (b : Bool) (n v j : ℕ) → j < n → is_one ((if b then 2 ^ n else 0) + v) j ≡ is_one v j
-below_top true n v j within = let is : 2 ^ n + v ≡ 1 * 2 ^ n + v = omega arith in rw (is, bit_at_cat_low 1 n v j within) refl
+below_top true n v j within = let is : 2 ^ n + v ≡ 1 * 2 ^ n + v =
+    omega arith in rw (is, bit_at_cat_low 1 n v j within) refl
 below_top false n v j within = rw (zero-add v) refl
 
 -- the bits of those that are on

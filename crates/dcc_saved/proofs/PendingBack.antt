@@ -1,6 +1,6 @@
 -- A frame is read as the packet that it spells where that may be pending, and so a pending write is read again.
 use Rattle.std.proofs.Common.{◌≡◌, ℕ, ◌+◌, ◌-◌, ◌*◌, ◌/◌, ◌%◌, ◌<◌, List, [], ◌∷◌, ◌++◌, Bool, true, false, eqb, ◌&&◌}
-use Rattle.std.proofs.Common.{length, drop, codes, bytes_eq, Option, None, Some, Result, Ok, Err, refl, ap}
+use Rattle.std.proofs.Common.{length, drop, codes, bytes_eq, Option, None, Some, Result, Ok, Err, refl, sym, ap}
 use Rattle.std.proofs.Common.{◌∙◌, append_assoc, if◌then◌else◌, arith}
 use Rattle.std.proofs.Math.Seq.{drop-append_seam}
 use Rattle.std.proofs.lemmas.Bool.{and_parts, false_from_ne_true, leb-true}
@@ -28,7 +28,10 @@ use Rattle.dcc_packet.proofs.SameAddresses.{one_short, one_long}
 use Rattle.dcc_packet.proofs.Tokens.{hex_token, keyword_token}
 use Rattle.dcc_packet.proofs.UpTo.{up_to_ok, from_one_to_ok}
 use Rattle.dcc_packet.proofs.WordsBack.{hex_back}
-use Rattle.dcc_regs.specs.Heard.{is_for}
+use Rattle.dcc_regs.specs.declared.register.Who.TheVariants.{Loco as LocoWho}
+use Rattle.dcc_regs.specs.Heard.{hears}
+use Rattle.dcc_regs.specs.Inner.HearsByAddress.{is_for}
+use Rattle.dcc_regs.proofs.HearsByBytes.{hears_at}
 use Rattle.dcc_regs.specs.Loco.{writes_byte, is_pending_for}
 use Rattle.dcc_regs.specs.Writes.{is_cv_write, is_own_write}
 use Rattle.dcc_saved.specs.DecoderLines.{pending_word, pending_text, pending_field, pending_line}
@@ -84,7 +87,8 @@ pub record IsWrite (active : Option Address) (p : Packet) : Type 0 where
   pub frame : IsFrame (spelling p)
   pub read : pending_write active (spelling p) ≡ Ok p
 
-read_back : (to : Address) (what : What) → is_cv_write what ≡ true → is_pending_for (Some to) (Some (Loco to what)) ≡ true
+read_back : (to : Address) (what : What) → is_cv_write what ≡ true
+    → is_pending_for (Some to) (Some (Loco to what)) ≡ true
     → pending_write (Some to) (spelling (Loco to what)) ≡ Ok (Loco to what)
 unfolding pending_write
 read_back to what write h =
@@ -97,8 +101,8 @@ read_back to what write h =
 
 pub IsWrite-pending : (active : Option Address) (p : Packet) → is_pending_for active (Some p) ≡ true → IsWrite active p
 IsWrite-pending active (Loco to what) h =
-    let parts = all_three (is_own_write (Loco to what)) (writes_byte what) (is_for active to) h in
-    let own = own_to to active what parts.0 parts.2 in
+    let parts = all_three (is_own_write (Loco to what)) (writes_byte what) (hears (LocoWho active) (Loco to what)) h in
+    let own = own_to to active what parts.0 (sym (hears_at active (Loco to what)) ∙ parts.2) in
     record {
       frame = spellings_are_frames (Loco to what) (value_fits what own.1 parts.1);
       read = rw own.0 (read_back to what own.1 (rw own.0 at h));

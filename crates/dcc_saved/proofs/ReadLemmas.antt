@@ -99,7 +99,8 @@ module _ {A B : Type 0} (first : Reader A) (next : A → Reader B) {whole : Read
   stops_at_decoder (Err (too_many n)) line stops = stops
 
   -- the lines that were used where the first of two readers stops, told of both
-  lines_behind : (new : InputState) (fault : KeptFault) → TextLinesAt first now fault new → TextLinesAt whole old fault new
+  lines_behind : (new : InputState) (fault : KeptFault) → TextLinesAt first now fault new
+      → TextLinesAt whole old fault new
   lines_behind new (Line line why) (inl lines) = inl (LinesAt-behind leads.took new (Line line why) lines)
   lines_behind new (Line line why) (inr (at_end, all, last)) =
       inr (
@@ -147,7 +148,8 @@ module _ {A : Type 0} (line_is : LineOf A) where
       let parts = line-parts line rest is_line.one in rw (parts.0, parts.1, ends, append-nil, is_line.good) refl
 
   -- a line that has not ended
-  line-cut : (n : ℕ) (line : List ℕ) → IsOneLine line → line_by line_is (record { line = n; bytes = line }) ≡ Err (cut n)
+  line-cut : (n : ℕ) (line : List ℕ) → IsOneLine line → line_by line_is (record { line = n; bytes = line })
+      ≡ Err (cut n)
   line-cut n line is_line = rw append-nil at (line-front n line [] is_line refl)
 
   -- a line that is bad from its first bytes on, or none

@@ -56,7 +56,10 @@ back = (
       (record { token = refl; back = elim [ heads.Decoder (who.Loco address) ↦ λ x e. cc | head ↦ λ x e. absurd cc ] }),
   (
     row_back own_board_field board_form own_board_is_back
-        (record { token = refl; back = elim [ heads.Decoder (who.Board board) ↦ λ x e. cc | head ↦ λ x e. absurd cc ] }),
+        (record {
+          token = refl;
+          back = elim [ heads.Decoder (who.Board board) ↦ λ x e. cc | head ↦ λ x e. absurd cc ];
+        }),
     (
       row_back no_fields end_form nothing_is_back
           (record { token = refl; back = elim [ heads.End ↦ λ x e. cc | head ↦ λ x e. absurd cc ] }),

@@ -1,7 +1,7 @@
--- The lines of a decoder text. The definition of a line has the values that the line can have, the
--- rule that parses its words, and the rule that writes its words. The first error from left to
--- right counts. Within one word the order of errors is: no number, a number out of range, a number
--- out of order.
+-- The lines of a decoder text. The definition of a line has the values that the line can have, a
+-- rule that parses its words, and a rule that writes its words. The result is the first error from
+-- left to right. In a word that must be a number, the error P11 comes first, then the error of a
+-- number out of range, then the error P10 of a number out of order.
 use Rattle.std.specs.Prelude.{◌≡◌, zero, suc, ℕ, ◌+◌, ◌^◌, ◌/◌, ◌%◌, ◌<◌, ◌==◌, nat_le, nat_lt, true, List, [], ◌∷◌}
 use Rattle.std.specs.Prelude.{◌++◌}
 use Rattle.std.specs.Prelude.{codes, Option, None, Some, Result, Ok, Err, if◌then◌else◌}
@@ -57,7 +57,8 @@ keyed name field = record {
   written = λ x. name ∷ field.written x;
 }
 
--- `Ok` if `n` is at least `least`, otherwise the error P10; so the numbers of a line ascend
+-- `Ok` if `n` is at least `least`, otherwise the error P10. So the numbers of a line are in
+-- ascending order.
 abbrev pub in_order : ℕ → ℕ → Result (Unit {0}) PacketFault
 in_order least n = if nat_lt n least then Err faults.Word else Ok tt
 
@@ -84,7 +85,7 @@ some_address word = do
   to ← address word
   Ok (Some to)
 
--- the word ADDRESS that is written for an active address
+-- the word ADDRESS of an active address
 abbrev pub own_address_word : Option Address → Word
 own_address_word None = codes "none"
 own_address_word (Some address) = address_word address
@@ -110,7 +111,7 @@ own_address_field =
       written = λ own. own_address_word own.address ∷ [];
     }
 
--- the number of an accessory decoder in a word BOARD, from 0 to 510. The number 511 is an error,
+-- the number of an accessory decoder in a word BOARD, from 0 to 510. The number 511 has an error,
 -- since it is the broadcast address.
 abbrev pub own_board : Word → Result OwnBoard PacketFault
 own_board word = do
@@ -181,8 +182,8 @@ speed_after word rest =
     else if is_word word (codes "126") then step_words (λ n. speeds.Step126 n) 126 rest
     else Err faults.Word
 
--- the speed that the first words mean, and the words after them. A speed is `stop`, `emergency`,
--- `14 STEP`, `28 STEP` or `126 STEP`.
+-- the speed that the first words of a list mean, and the words after them. A speed is `stop`,
+-- `emergency`, `14 STEP`, `28 STEP` or `126 STEP`.
 abbrev pub speed_of : List Word → Result (Speed × List Word) PacketFault
 speed_of [] = Err faults.Word
 speed_of (word ∷ rest) = speed_after word rest
@@ -234,8 +235,8 @@ number_word_of kinds.Function word = function_number word
 number_word_of kinds.State word = binary_state word
 number_word_of kinds.Out word = out_number word
 
--- the number with a one bit for the number in each word of a list. These numbers ascend, and the
--- first is at least `least`.
+-- a number with a one bit for the number in each word of a list. The numbers in the words ascend
+-- from `least` or a greater number.
 abbrev pub numbers_from : Numbered → ℕ → List Word → Result ℕ PacketFault
 numbers_from kind least [] = Ok 0
 numbers_from kind least (word ∷ rest) = do
@@ -244,8 +245,8 @@ numbers_from kind least (word ∷ rest) = do
   others ← numbers_from kind (n + 1) rest
   Ok (2 ^ n + others)
 
--- the words of the numbers from `n` on whose bits in `bits` are one; the lowest bit belongs to the
--- number `n`
+-- the words of the numbers from `n` on whose bits in `bits` are one. The lowest bit stands for the
+-- number `n`.
 unfoldable pub numbers_on : ℕ → ℕ → ℕ → List Word
 numbers_on n zero bits = []
 numbers_on n (suc more) bits =
@@ -257,7 +258,7 @@ numbers_of kind line = do
   numbers_from kind 0 key.1
 
 -- the line `on FUNCTION ..`, `states STATE ..` or `out OUTPUT ..`. Its value is a number with a one
--- bit for each number in the line. No binary state has the number 0.
+-- bit for each number in the line. There is no binary state 0.
 abbrev pub numbers_line : Numbered → LineOf ℕ
 numbers_line kind = record {
   Fits = λ bits. (bits < 2 ^ end_of kind) × (kind ≡ kinds.State → bits % 2 ≡ 0);
@@ -271,8 +272,9 @@ framed_write active word = do
   packet ← pending_write active frame
   Ok (Some packet)
 
--- the packet in a word PACKET. It is `None` for `none`, or the CV write with the frame in `word`
--- that can be pending in a decoder with the address `active`.
+-- the packet in a word PACKET. It is `None` for the word `none`. For another word it is the CV
+-- write whose frame is in the word. This write must be one that can be pending in a decoder with
+-- the address `active`.
 abbrev pub pending_word : Option Address → Word → Result (Option Packet) PacketFault
 pending_word active word = if is_word word (codes "none") then Ok None else framed_write active word
 
@@ -293,7 +295,8 @@ pending_field active = record {
 abbrev pub pending_line : Option Address → LineOf (Option Packet)
 pending_line active = keyed (codes "pending") (pending_field active)
 
--- the values of the words `CV VALUE` if the number of the CV is at least `least`
+-- the CV and the value that the words `CV VALUE` mean. The number of the CV must be at least
+-- `least`.
 abbrev pub cv_words : ℕ → List Word → Result LocoLine PacketFault
 cv_words least rest = do
   cv ← word_and_rest cv_number rest
@@ -321,7 +324,7 @@ abbrev pub loco_line_written : LocoLine → List Word
 loco_line_written (behind.Cv cv value) = cv_written cv.number value
 loco_line_written (behind.Head head) = written_by head_forms head
 
--- the line `cv CV VALUE` with a CV number of at least `least`, or the line after the CVs
+-- the line `cv CV VALUE` with a CV number of at least `least`, or the line that follows the CVs
 abbrev pub loco_line : ℕ → LineOf LocoLine
 loco_line least = record { Fits = IsSoundLine least; read = loco_line_of least; written = loco_line_written }
 

@@ -19,32 +19,31 @@ use Rattle.dcc_saved.specs.DecoderLines.{version_line, head_line, speed_line, nu
 use Rattle.dcc_saved.specs.DecoderLines.{loco_line, Four, listed, positions_line, aspects_line}
 use Rattle.dcc_saved.specs.TextReader.{Reader, ◌>>=◌, done, stop_at_decoder, line_by}
 
--- the reader after a line in the CVs of a decoder. A line of a CV sets its value in `cvs`, and
--- `again` reads the next line. Any other line ends the CVs.
+-- the reader that goes on after a line among the lines of CVs. After the line of a CV, its value is
+-- set in `cvs`, and `again` reads the next line. Any other line ends the CVs.
 abbrev pub behind_loco_line : (ℕ → List ℕ → Reader (List ℕ × Head)) → List ℕ → LocoLine → Reader (List ℕ × Head)
 behind_loco_line again cvs (behind.Cv cv value) = again (cv.number + 1) (slice_set cvs (cv.number - 1) value)
 behind_loco_line again cvs (behind.Head head) = done (cvs, head)
 
--- the reader of the lines of CVs, in ascending order from CV `least` on, and of one further line.
--- It sets the values in `cvs` and reads at most `most` lines of CVs, which is enough since the CV
--- numbers end at 1024.
+-- the reader of the lines of CVs from CV `least` on, in ascending order, and of the line that
+-- follows them. It sets the values in `cvs`. It reads at most `most` lines of CVs.
 abbrev pub cvs_from : ℕ → ℕ → List ℕ → Reader (List ℕ × Head)
 cvs_from zero least cvs = stop_at_decoder
 cvs_from (suc most) least cvs = line_by (loco_line least) >>= behind_loco_line (cvs_from most) cvs
 
--- the reader of the lines of CV1 to CV1024, and of one further line; a CV without a line has the
--- value 0
+-- the reader of the lines of CV1 to CV1024, and of the line that follows them. A CV without a line
+-- has the value 0.
 unfoldable pub cvs_lines : Reader (List ℕ × Head)
 cvs_lines = cvs_from 1025 1 (replicate 1024 0)
 
--- the reader of the line of the binary states that are on. Version 1 has no such line, and all its
+-- the reader of the line of the binary states that are on. Version 1 has no such line: all its
 -- binary states are off.
 abbrev pub states_by : Version → Reader ℕ
 states_by versions.One = done 0
 states_by versions.Two = line_by (numbers_line kinds.State)
 
--- the reader of the lines of a locomotive decoder after its first line, and of one further line.
--- The further line is the first line of the next decoder, or `end`.
+-- the reader of the lines of a locomotive decoder after its first line, and of the line that
+-- follows the decoder. That line is the first line of the next decoder, or `end`.
 unfoldable pub loco_lines : Version → Option Address → Reader (Saved × Head)
 loco_lines version address = do
   speed ← line_by speed_line
@@ -76,8 +75,8 @@ board_read board outs positions aspects =
       aspects = listed aspects;
     }
 
--- the reader of the lines of an accessory decoder after its first line, and of one further line.
--- The further line is the first line of the next decoder, or `end`.
+-- the reader of the lines of an accessory decoder after its first line, and of the line that
+-- follows the decoder. That line is the first line of the next decoder, or `end`.
 unfoldable pub board_lines : Board → Reader (Saved × Head)
 board_lines board = do
   outs ← line_by (numbers_line kinds.Out)
@@ -86,13 +85,13 @@ board_lines board = do
   head ← line_by head_line
   done (saved.Board (board_read board outs positions aspects), head)
 
--- the reader of the lines of a decoder after its first line, and of one further line. The further
--- line is the first line of the next decoder, or `end`.
+-- the reader of the lines of a decoder after its first line, and of the line that follows the
+-- decoder. That line is the first line of the next decoder, or `end`.
 abbrev pub decoder_lines : Version → Who → Reader (Saved × Head)
 decoder_lines version (who.Loco address) = loco_lines version address
 decoder_lines version (who.Board board) = board_lines board
 
--- the reader of at most `room` decoders. The first line of the first of them was already read. The
+-- the reader of at most `room` decoders. The first line of the first decoder was already read. The
 -- result is the list `before` followed by these decoders.
 abbrev pub decoders_from : Version → ℕ → List Saved → Head → Reader (List Saved)
 decoders_from version room before heads.End = done before

@@ -24,7 +24,7 @@ use Rattle.dcc_saved.specs.DecoderLines.{Four, version_line, head_line, speed_li
 use Rattle.dcc_saved.specs.DecoderLines.{cv_written}
 use Rattle.dcc_saved.specs.DecoderLines.{positions_line, aspects_line}
 
--- the speed in a register, or `Stop` if the register has no speed
+-- the speed that a register holds, or `Stop` if it holds no speed
 abbrev pub speed_held : Option Value → Speed
 speed_held (Some (values.Speed speed)) = speed
 speed_held held = Stop
@@ -46,7 +46,7 @@ unfoldable pub bits_on : (ℕ → Bool) → ℕ → ℕ
 bits_on on zero = 0
 bits_on on (suc n) = (if on n then 2 ^ n else 0) + bits_on on n
 
--- the registers of kind `kind` in `m` as a number: bit n is one if register n is on
+-- the registers of kind `kind` in `m` as a number. Bit n of the number is one if register n is on.
 abbrev pub numbers_held : Numbered → RegisterMap → ℕ
 numbers_held kind m = bits_on (λ n. holds_one (m (register_of kind n))) (end_of kind)
 
@@ -56,8 +56,8 @@ written_speed m =
     line_text speed_line
     (record { speed = speed_held (m registers.Speed) }, record { forward = forward_held (m registers.Direction) })
 
--- the text of the line of all registers of kind `kind` that are on in `m`: functions, binary states
--- or outputs
+-- the text of the line with all registers of kind `kind` that are on in `m`: functions, binary
+-- states or outputs
 abbrev pub written_numbers : Numbered → RegisterMap → List ℕ
 written_numbers kind m = line_text (numbers_line kind) (numbers_held kind m)
 
@@ -65,8 +65,8 @@ written_numbers kind m = line_text (numbers_line kind) (numbers_held kind m)
 abbrev pub written_pending : Option Address → RegisterMap → List ℕ
 written_pending address m = line_text (pending_line address) (pending_held (m registers.Pending))
 
--- the text of a locomotive decoder with the active address `address` and the registers `m`, from
--- its second line to the line before its CVs
+-- part of the text of a locomotive decoder with the active address `address` and the registers `m`:
+-- from its second line to the line before its CVs
 abbrev pub before_cvs : Option Address → RegisterMap → List ℕ
 before_cvs address m =
     written_speed m
@@ -76,7 +76,7 @@ before_cvs address m =
 abbrev pub cv_line : ℕ → ℕ → List ℕ
 cv_line cv value = words_in_line (cv_written cv value) ++ codes "\n"
 
--- the text of the lines of CV1 to CV `n` with the values `cvs`; a CV with the value 0 has no line
+-- the text of the lines of CV1 to CV `n` with the values `cvs`. A CV with the value 0 has no line.
 unfoldable pub cvs_text : (ℕ → ℕ) → ℕ → List ℕ
 cvs_text cvs zero = []
 cvs_text cvs (suc n) = cvs_text cvs n ++ (if cvs (suc n) == 0 then [] else cv_line (suc n) (cvs (suc n)))
@@ -85,12 +85,12 @@ cvs_text cvs (suc n) = cvs_text cvs n ++ (if cvs (suc n) == 0 then [] else cv_li
 abbrev pub first_four : {A : Type 0} → (ℕ → A) → Four A
 first_four each = (each 0, (each 1, (each 2, each 3)))
 
--- the text of the line of the sides of the pairs of outputs in `m`
+-- the text of the line with the positions of the four pairs of outputs in `m`
 abbrev pub written_positions : RegisterMap → List ℕ
 written_positions m =
     line_text positions_line (first_four (λ n. record { one = number_held (m (registers.Position n)) == 1 }))
 
--- the text of the line of the aspects in `m`
+-- the text of the line with the four aspects in `m`
 abbrev pub written_aspects : RegisterMap → List ℕ
 written_aspects m = line_text aspects_line (first_four (λ n. number_held (m (registers.Aspect n))))
 

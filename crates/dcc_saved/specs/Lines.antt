@@ -6,11 +6,11 @@ use Rattle.dcc_packet.specs.Written.{words_in_line}
 
 -- a kind of line with values of type `A`
 pub record LineOf (A : Type 0) : Type 1 where
-  -- the line can have the given value
+  -- the values that the line can have
   pub Fits : A → Type 0
-  -- the value of the words of a line, or their first error
+  -- the value that the words of a line mean, or their first error
   pub read : List Word → Result A PacketFault
-  -- the words that are written for the given value
+  -- the words of the line for a value
   pub written : A → List Word
 
 -- the text of the line of kind `line` with the value `x`

@@ -1,4 +1,4 @@
--- The lines that list all registers of a kind that are on.
+-- The lines that list all registers of a kind that are on: functions, binary states, outputs.
 use Rattle.std.specs.Prelude.{ℕ, List, codes}
 use Rattle.dcc_regs.specs.declared.register.Register.{Register}
 use Rattle.dcc_regs.specs.declared.register.Register.TheVariants as registers
@@ -11,8 +11,8 @@ name_of Function = codes "on"
 name_of State = codes "states"
 name_of Out = codes "out"
 
--- the number after the greatest number of a kind: functions F0 to F68, binary states up to 127,
--- outputs 0 to 7
+-- one more than the greatest number of a kind: 69 for functions, 128 for binary states, 8 for
+-- outputs
 abbrev pub end_of : Numbered → ℕ
 end_of Function = 69
 end_of State = 128

@@ -4,8 +4,8 @@ use Rattle.std.specs.List.{AllByRecursion}
 use Rattle.dcc_regs.specs.declared.register.Register.{Register}
 use Rattle.dcc_regs.specs.declared.register.Who.{Who}
 use Rattle.dcc_regs.specs.declared.register.Who.TheVariants as who
-use Rattle.dcc_regs.specs.LocoState.{content as loco_content}
-use Rattle.dcc_regs.specs.BoardState.{content as board_content}
+use Rattle.dcc_regs.specs.LocoState.{loco_state_content}
+use Rattle.dcc_regs.specs.BoardState.{board_state_content}
 use Rattle.dcc_regs.specs.Loco.{loco_registers}
 use Rattle.dcc_regs.specs.Board.{board_registers}
 use Rattle.dcc_regs.specs.Possible.{IsPossible}
@@ -19,13 +19,13 @@ use Rattle.dcc_saved.specs.FleetText.{fleet_text}
 abbrev pub SameRegisters : RegisterMap → RegisterMap → Type 0
 SameRegisters one other = (r : Register) → one r ≡ other r
 
--- the saved state is the state of a decoder: both have one identity, and a decoder that `restore`
--- makes from the state has the same registers
+-- a saved state is the state of a decoder with a given identity and given registers: it has this
+-- identity, and a decoder that `restore` creates from it has these registers
 abbrev pub Saves : Saved → Who × RegisterMap → Type 0
 Saves (saved.Loco state) (who.Loco address, m) =
-    (state.address ≡ address) × SameRegisters (loco_registers (loco_content state)) m
+    (state.address ≡ address) × SameRegisters (loco_registers (loco_state_content state)) m
 Saves (saved.Board state) (who.Board board, m) =
-    (state.board ≡ board) × SameRegisters (board_registers (board_content state)) m
+    (state.board ≡ board) × SameRegisters (board_registers (board_state_content state)) m
 Saves (saved.Loco state) (who.Board board, m) = ⊥
 Saves (saved.Board state) (who.Loco address, m) = ⊥
 
@@ -44,8 +44,8 @@ abbrev pub line_feeds : List ℕ → ℕ
 line_feeds [] = 0
 line_feeds (byte ∷ bytes) = if byte == 10 then 1 + line_feeds bytes else line_feeds bytes
 
--- the text of `fleet`, from line `line` on and followed by the bytes `rest`, is parsed as the
--- states of the decoders of `fleet`. The reader leaves `rest`.
+-- the text of `fleet`, which begins on line `line` and is followed by the bytes `rest`, is parsed
+-- as the states of the decoders of `fleet`. The reader leaves `rest`.
 pub record ReadsBack (fleet : List (Who × RegisterMap)) (line : ℕ) (rest : List ℕ) : Type 0 where
   pub states : List Saved
   pub behind : ℕ
@@ -54,8 +54,8 @@ pub record ReadsBack (fleet : List (Who × RegisterMap)) (line : ℕ) (rest : Li
   pub saves : SavesEach states fleet
   pub lines : behind ≡ line + line_feeds (fleet_text fleet)
 
--- the text of a fleet of at most 64 possible decoders is parsed as these decoders, from any line of
--- an input on and before any further bytes
+-- the text of a fleet of at most 64 possible decoders is parsed as these decoders, on any line of
+-- an input and before any further bytes
 abbrev pub FleetsAreReadBack : Type 0
 FleetsAreReadBack = (fleet : List (Who × RegisterMap)) (line : ℕ) (rest : List ℕ)
     → length fleet ≤ 64 → AllByRecursion IsPossibleDecoder fleet → ReadsBack fleet line rest

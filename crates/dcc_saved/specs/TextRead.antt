@@ -1,4 +1,4 @@
--- The reading of an input by a reader of a text.
+-- How a reader of a text reads an input.
 use Rattle.std.specs.Prelude.{◌≡◌, ◌⊎◌, ℕ, ◌+◌, ◌<◌, ◌++◌, List, Option, Some, Result, Ok, Err, length, IfSome}
 use Rattle.dcc_io.specs.declared.fault.KeptFault.{KeptFault}
 use Rattle.dcc_io.specs.declared.fault.KeptFault.TheVariants.{Number, Line, Read, TooMuch}
@@ -12,43 +12,43 @@ use Rattle.dcc_saved.specs.TextReader.Stop.{refused, cut, too_many}
 abbrev pub at : InputState → List ℕ → Text
 at input bytes = record { line = input.place.line; bytes = bytes }
 
--- the error if a reader stops before the end of a text. If the bytes of the text end too early,
--- this is `last`, the error after these bytes, or P10 if `last` is `None`.
+-- the error of a reader that stops before the end of a text. If the bytes of the text end too
+-- early, it is `last`, the error after these bytes. If `last` is `None`, it is P10.
 abbrev pub stop_fault : Option KeptFault → Stop → KeptFault
 stop_fault last (refused line fault) = Line line fault
 stop_fault last (cut line) = fault_at_end line last
 stop_fault last (too_many line) = TooMuch
 
--- the value that a reader returned, or the error if it stopped; `last` is the error after the bytes
--- of the text, or `None` at the end
+-- the value that a reader returned, or the error if it stopped. `last` is the error after the bytes
+-- of the text, or `None` if the input ends there.
 abbrev pub result_of : {A : Type 0} → Option KeptFault → Result (A × Text) Stop → Result A KeptFault
 result_of last (Ok read) = Ok read.0
 result_of last (Err stop) = Err (stop_fault last stop)
 
--- the result of the reader `read` for `bytes` on the current line of `input`; `last` is the error
--- after them, or `None` at the end
+-- the result of the reader `read` for `bytes` from the current line of `input` on. `last` is the
+-- error after these bytes, or `None` if the input ends there.
 abbrev pub answer_at : {A : Type 0} → Reader A → InputState → List ℕ → Option KeptFault → Result A KeptFault
 answer_at read input bytes last = result_of last (read (at input bytes))
 
--- the result of the reader `read` for an `input` whose text is `text`
+-- the result of the reader `read` for an `input` with the text `text`
 abbrev pub answer_in : {A : Type 0} → Reader A → InputState → List ℕ → Result A KeptFault
 answer_in read input text = within_limit (answer_at read input) input text
 
--- the result of the reader `read` for an `input` that fails after the bytes `used`
+-- the result of the reader `read` for an `input` whose reader fails after the bytes `used`
 abbrev pub answer_before_failure : {A : Type 0} → Reader A → InputState → List ℕ → Result A KeptFault
 answer_before_failure read input used = answer_at read input used (Some Read)
 
--- after the bytes `used`, the reader `read` continues as the reader `rest_read`, for all bytes that
--- follow them
+-- for any bytes that follow `used`, the result of the reader `read` for all bytes is the result of
+-- the reader `rest_read` for the bytes that follow
 pub record ContinuesAs {A : Type 0} (read : Reader A) (old : InputState) (rest_read : Reader A) (new : InputState)
     (used : List ℕ) : Type 0 where
   pub goes_on : (more : List ℕ) → read (at old (used ++ more)) ≡ rest_read (at new more)
-  -- if a byte was used, the next byte is on the line after the last line used
+  -- if a byte was read, the next byte is on the line after the last line that was read
   pub last : 0 < length used → new.lines + 1 ≡ new.place.line
   pub still : length used ≡ 0 → (new.lines ≡ old.lines) × (new.place.line ≡ old.place.line)
 
--- from `old` to `new` the input was read without an error, and the reader `read` continues as the
--- reader `rest_read` in `new`
+-- between the states `old` and `new`, the input was read without an error, and the reader `read`
+-- continues as the reader `rest_read`
 pub record Leads {A : Type 0} (read : Reader A) (old : InputState) (rest_read : Reader A) (new : InputState) : Type 0
   where
     pub took : Took (ContinuesAs read old rest_read new) old new
@@ -56,7 +56,7 @@ pub record Leads {A : Type 0} (read : Reader A) (old : InputState) (rest_read : 
     pub in_comment : new.place.in_comment ≡ old.place.in_comment
     pub halves : new.halves ≡ old.halves
 
--- the next byte of `new` is on the line after the last line that `new` has used
+-- the next byte of `new` is on the line after the last line that was read
 abbrev pub UsedWholeLines : InputState → InputState → Type 0
 UsedWholeLines old new = IfSome old.text (λ text. new.lines + 1 ≡ new.place.line)
 
@@ -71,22 +71,22 @@ abbrev pub RefusesText : {A : Type 0} → Reader A → InputState → KeptFault 
 RefusesText read old (Number line) new = ⊥
 RefusesText read old fault new = TextStopsAt read old fault new
 
--- `new` has used the lines up to `line`, or all lines if the text has ended. In the second case
--- `line` is the line after the last, if `old` was at the beginning of a line.
+-- the input has read the lines up to `line`, or all lines. If all lines were read and `old` was at
+-- the beginning of a line, `line` is the number of the last line plus one.
 abbrev pub UsesThroughLine : InputState → ℕ → InputState → Type 0
 UsesThroughLine old line new = IfSome old.text (λ text. new.lines ≡ line)
     ⊎ (IsAtEnd new.text × UsesAllLines old new
     × IfSome old.text (λ text. old.lines + 1 ≡ old.place.line → line ≡ new.lines + 1))
 
--- the reader has stopped at a decoder that exceeds the limit of decoders, and `line` is the line
--- after the first line of this decoder
+-- a reader stopped at a decoder that exceeds the limit of decoders, and `line` is the line after
+-- the first line of this decoder
 abbrev pub StopsAtDecoder : {A : Type 0} → Result (A × Text) Stop → ℕ → Type 0
 StopsAtDecoder (Err (too_many behind)) line = line ≡ behind
 StopsAtDecoder read line = ⊥
 
--- `new` has used the lines up to an error of a reader, as `LinesAt` says. For U7 these are the
--- lines of the allowed bytes, or the lines up to the first line of the decoder that exceeds the
--- limit.
+-- the input has read the lines up to an error of a reader, as `LinesAt` gives them. For U7 these
+-- are the lines of the allowed bytes, or the lines up to the first line of the decoder that exceeds
+-- the limit.
 abbrev pub TextLinesAt : {A : Type 0} → Reader A → InputState → KeptFault → InputState → Type 0
 TextLinesAt read old (Line line fault) new = UsesThroughLine old line new
 TextLinesAt read old TooMuch new =
@@ -94,7 +94,7 @@ TextLinesAt read old TooMuch new =
 TextLinesAt read old fault new = LinesAt old fault new
 
 -- the result is the value that the reader `read` returns for the text of `old`, or its error, which
--- is stored
+-- the input then stores
 abbrev pub ReadsValue : {A : Type 0} → Reader A → InputState → Result A KeptFault → InputState → Type 0
 ReadsValue read old (Ok x) new = Leads read old (done x) new
 ReadsValue read old (Err fault) new = RefusesText read old fault new × (new.fault ≡ Some fault)

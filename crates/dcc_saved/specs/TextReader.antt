@@ -13,11 +13,12 @@ pub record Text : Type 0 where
 
 -- the reason why a reader stops before the end of a text
 pub data Stop : Type 0 where
-  -- the line with the given number has the given error
+  -- the line with this number has this error
   refused : ℕ → PacketFault → Stop
-  -- the text ends before the line with the given number ends
+  -- the text ends before the line with this number ends
   cut : ℕ → Stop
-  -- a decoder exceeds the limit of decoders, and its first line is the line before the given number
+  -- a decoder exceeds the limit of decoders, and its first line is the line before the line with
+  -- this number
   too_many : ℕ → Stop
 
 -- a reader: a function from a text to a value and the text after it, or to the reason why the
@@ -37,8 +38,8 @@ abbrev pub ◌>>=◌ : {A B : Type 0} → Reader A → (A → Reader B) → Read
 abbrev pub done : {A : Type 0} → A → Reader A
 done x text = Ok (x, text)
 
--- the reader that stops since a decoder exceeds the limit of decoders; the first line of this
--- decoder is the line before `text`
+-- the reader that stops because a decoder exceeds the limit of decoders. The first line of this
+-- decoder is the line before `text`.
 abbrev pub stop_at_decoder : {A : Type 0} → Reader A
 stop_at_decoder text = Err (too_many text.line)
 
@@ -52,7 +53,7 @@ abbrev pub after_first_line : List ℕ → Option (List ℕ)
 after_first_line [] = None
 after_first_line (byte ∷ text) = if byte == 10 then Some text else after_first_line text
 
--- the value of line `n` and the text `rest` after it, or the error of this line
+-- the value that line `n` means and the text `rest` after the line, or the error of the line
 abbrev pub line_verdict : {A : Type 0} → ℕ → Result A PacketFault → List ℕ → Result (A × Text) Stop
 line_verdict n (Ok x) rest = Ok (x, record { line = n + 1; bytes = rest })
 line_verdict n (Err fault) rest = Err (refused n fault)

@@ -30,7 +30,8 @@ abbrev pub text_of : Timing → List Bool → List ℕ
 text_of timing bits = flat_map behind_space (durations_of timing bits)
 
 module _ (timing : Timing) where
-  durations_of-append : (xs ys : List Bool) → durations_of timing (xs ++ ys) ≡ durations_of timing xs ++ durations_of timing ys
+  durations_of-append : (xs ys : List Bool) → durations_of timing (xs ++ ys) ≡ durations_of timing xs
+      ++ durations_of timing ys
   unfolding durations_of
   durations_of-append [] ys = refl
   durations_of-append (true ∷ xs) ys = rw (durations_of-append xs ys)
@@ -60,7 +61,8 @@ module _ (timing : Timing) where
   unfolding durations_of
   ones_none = refl
 
-  ones_suc : (n : ℕ) → text_of timing (replicate n true) ++ text_of timing (true ∷ []) ≡ text_of timing (replicate (suc n) true)
+  ones_suc : (n : ℕ) → text_of timing (replicate n true) ++ text_of timing (true ∷ [])
+      ≡ text_of timing (replicate (suc n) true)
   ones_suc zero = ap (λ s. s ++ text_of timing (true ∷ [])) (sym ones_none)
   ones_suc (suc n) =
       ap (λ s. s ++ text_of timing (true ∷ [])) (text_of-more true (replicate n true))
@@ -76,7 +78,8 @@ module _ (timing : Timing) where
   -- a byte, bit by bit
   pub bit_step : (byte place : ℕ) (front whole : List ℕ) → place < 8
       → front ++ text_of timing (bits_of (8 - place) byte) ≡ whole
-      → (front ++ text_of timing (eqb (bit_at byte (7 - place)) 1 ∷ [])) ++ text_of timing (bits_of (8 - (place + 1)) byte)
+      → (front ++ text_of timing (eqb (bit_at byte (7 - place)) 1 ∷ []))
+      ++ text_of timing (bits_of (8 - (place + 1)) byte)
       ≡ whole
   unfolding bits_of
   bit_step byte place front whole small e =
@@ -116,8 +119,10 @@ module _ (timing : Timing) where
       ++ text_of timing (body_bits (drop (i + 1) bytes)) ≡ whole
   byte_step bytes i byte front whole within is e =
       let rest = drop (i + 1) bytes in
-      append_assoc (front ++ text_of timing (false ∷ [])) (text_of timing (bits_of 8 byte)) (text_of timing (body_bits rest))
-      ∙ append_assoc front (text_of timing (false ∷ [])) (text_of timing (bits_of 8 byte) ++ text_of timing (body_bits rest))
+      append_assoc (front ++ text_of timing (false ∷ [])) (text_of timing (bits_of 8 byte))
+      (text_of timing (body_bits rest))
+      ∙ append_assoc front (text_of timing (false ∷ []))
+      (text_of timing (bits_of 8 byte) ++ text_of timing (body_bits rest))
       ∙ ap (λ s. front ++ s) (sym (whole_byte byte rest))
       ∙ ap (λ b. front ++ text_of timing (body_bits (b ∷ rest))) is
       ∙ ap (λ d. front ++ text_of timing (body_bits d)) (sym (drop_more bytes i 0 within))
@@ -137,7 +142,8 @@ line_of line len [] within some e = absurd (omega (arith, some))
 line_of line len (n ∷ more) within some e =
     between_is (set line len 10) 1 (len + 1) ∙ ap (drop 1) (take_more_set line len 10 within ∙ ap (λ s. s ++ 10 ∷ []) e)
 
--- a line that begins with the text of a preamble begins with it where halves were written behind it, and a line feed behind them
+-- if a line begins with the text of a preamble, it still begins with this text after halves and a line feed were added
+-- to its end
 pub preamble_kept : (timing : Timing) (bytes old new : List ℕ) (p n : ℕ) → p ≤ length old → n ≤ length new
     → take p old ≡ text_of timing (replicate timing.preamble true)
     → take n new ≡ flat_map behind_space (sent bytes timing) → take p (set new n 10) ≡ take p old
@@ -145,7 +151,8 @@ unfolding sent sent_bits
 preamble_kept timing bytes old new p n within room front all =
     let ones = text_of timing (replicate timing.preamble true) in
     let rest = text_of timing (body_bits bytes) in
-    let parts : take n new ≡ ones ++ rest = all ∙ text_of-append timing (replicate timing.preamble true) (body_bits bytes) in
+    let parts : take n new ≡ ones ++ rest =
+    all ∙ text_of-append timing (replicate timing.preamble true) (body_bits bytes) in
     let long : length ones ≡ p = sym (ap length front) ∙ length-take-le p old within in
     let whole : length ones + length rest ≡ n =
     sym (length-append ones rest) ∙ sym (ap length parts) ∙ length-take-le n new room in

@@ -97,7 +97,8 @@ module _ {how : Encode} {start : InputState} {before : WriterState} where
           so_far.failures risen
 
       -- a write of what was held failed
-      pub stops_before_read : {then : WriterState} → AppendsFront after then held → HasRisen after.failures then.failures
+      pub stops_before_read : {then : WriterState} → AppendsFront after then held
+          → HasRisen after.failures then.failures
           → EncodesText how start before (Err Write) now then
       stops_before_read wrote risen =
           stopped how so_far.frames after so_far.gave (Holds-fails _ _ _ _ _ so_far.holds wrote) so_far.failures risen
@@ -114,7 +115,8 @@ encodes_all how start now new held left before after then so_far answer wrote =
 
 -- the input has a fault, and what was held was written
 pub encodes_up_to : (how : Encode) (start now new : InputState) (held left : List ℕ) (before after then : WriterState)
-    (fault : KeptFault) → Encoding how start now held before after → AnswersSaid packet_words spelling now (Err fault) new
+    (fault : KeptFault) → Encoding how start now held before after
+    → AnswersSaid packet_words spelling now (Err fault) new
     → WritesOut after held left then → EncodesText how start before (Err (as_tool_fault fault)) new then
 encodes_up_to how start now new held left before after then fault so_far answer wrote =
     writes_up_to packet_words spelling start now new so_far.frames (Encodes how before then)

@@ -89,8 +89,8 @@ module _ {how : Encode} where
     written = a.written;
   }
 
--- A front of the answers to items that were read, of which nothing was held at the start, is one of the answers to all, where a
--- write failed.
+-- If a write failed and nothing was held at the start, the front of the answers to the items that were read is a front
+-- of all answers.
 stopped : (how : Encode) (s : Sending) {start now : InputState} (items : List Asked) {before : WriterState}
     (after : WriterState) {then : WriterState} → Gave station_lines start items now
     → HeldFront how s items before then [] → after.failures ≡ before.failures
@@ -250,7 +250,16 @@ holds_answer how s new item bytes before after held left result a holds = go res
         → HoldsAnswersOrFails how s (item ∷ []) before held result new left after
     go (Ok done) holds = (record { bytes = bytes; answers = one; holds = holds.0 }, holds.1)
     go (Err failed) wrote = (
-      record { first = item ∷ []; later = []; whole = refl; bytes = bytes; new = new; answers = one; written = wrote.0 },
+      record {
+        first = item
+            ∷ [];
+        later = [];
+        whole = refl;
+        bytes = bytes;
+        new = new;
+        answers = one;
+        written = wrote.0;
+      },
       wrote.1,
     )
 

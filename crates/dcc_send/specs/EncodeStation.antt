@@ -5,13 +5,13 @@ use Rattle.dcc_io.specs.declared.fault.ToolFault.{ToolFault}
 use Rattle.dcc_io.specs.declared.fault.ToolFault.TheVariants.{Usage, Number, Line, Read, Write, NoMemory, TooMuch}
 use Rattle.dcc_io.specs.declared.fault.Usage.TheVariants.{Words, BadWho, BadStation}
 
--- true if `encode` is requested with a station, and a size of this station is out of its limits
+-- true if a request to `encode` has a station, and a size of this station is out of its limits
 abbrev pub is_past_limits : Option (ℕ × ℕ × ℕ) → Bool
 is_past_limits None = false
 is_past_limits (Some sizes) = not (is_within_limits sizes.0 sizes.1 sizes.2)
 
--- true if the result is not an error of the creation of the station. Such an error comes before
--- anything is read.
+-- true if the result is not an error of the creation of the station. After such an error nothing is
+-- read.
 abbrev pub has_begun : Result (Unit {0}) ToolFault → Bool
 has_begun (Ok done) = true
 has_begun (Err (Usage Words)) = true

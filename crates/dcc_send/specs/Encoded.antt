@@ -15,7 +15,7 @@ use Rattle.dcc_io.specs.WrittenBytes.{AppendsFront}
 use Rattle.dcc_io.specs.Spaced.{behind_space}
 use Rattle.dcc_io.specs.PacketLines.{packet_lines}
 
--- the numbers of a list in decimal digits, with a space between every two numbers
+-- the decimal digits of the numbers of a list, with a space between every two numbers
 abbrev pub spaced_numbers : List ℕ → List ℕ
 spaced_numbers [] = []
 spaced_numbers (n ∷ more) = decimal n ++ flat_map behind_space more
@@ -25,7 +25,7 @@ spaced_numbers (n ∷ more) = decimal n ++ flat_map behind_space more
 abbrev pub timing_of : Encode → Timing
 timing_of how = if how.service then service_timing else main_timing
 
--- the line of `frame` in the encoding `how`: its bytes as hexadecimal digits, or its half-bits
+-- the line of `frame` in the encoding `how`: the hexadecimal digits of its bytes, or its half-bits
 abbrev pub frame_line : Encode → List ℕ → List ℕ
 frame_line how frame =
     (if how.hex then encode_lower frame else spaced_numbers (sent frame (timing_of how))) ++ codes "\n"

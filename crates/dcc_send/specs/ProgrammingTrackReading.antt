@@ -19,8 +19,8 @@ abbrev pub value_on : Option (List ℕ) → CvNumber → Option ℕ
 value_on None cv = None
 value_on (Some cvs) cv = Some (cv_in cvs cv.number)
 
--- the answers to the nine questions about `cv`. For a decoder they are the bits of the value and
--- then yes, for an empty track nine times no.
+-- the answers to the nine questions about `cv`: the bits of the value and then true for a decoder,
+-- nine times false for an empty track
 abbrev pub answers_on : Option (List ℕ) → CvNumber → List Bool
 answers_on None cv = replicate 9 false
 answers_on (Some cvs) cv = true_answers (cv_in cvs cv.number)
@@ -37,8 +37,8 @@ answered_line frame answer = encode_lower frame ++ answer_text answer
 abbrev pub with_answer : CvAnswers → Bool → CvAnswers
 with_answer so_far answer = record { cv = so_far.cv; answers = so_far.answers ++ answer ∷ [] }
 
--- a line for each answer of a list after the reading `so_far`; its question follows from the
--- answers before it
+-- a line for each answer of a list, which follow the reading `so_far`. The line has the question of
+-- the answer, which follows from the answers before it.
 abbrev pub answered_lines : CvAnswers → List Bool → List ℕ
 answered_lines so_far [] = []
 answered_lines so_far (answer ∷ answers) =
@@ -57,8 +57,8 @@ value_line (Some value) = codes "value " ++ (decimal value ++ codes "\n")
 abbrev pub reading_text : Option (List ℕ) → CvNumber → List ℕ
 reading_text track cv = answered_lines (no_answers cv) (answers_on track cv) ++ value_line (value_on track cv)
 
--- the state of a decoder after the ninth question about `cv`, if `before` is its state before the
--- first. It has acknowledged this question, whose packet is still pending.
+-- the state of a decoder after the ninth question about `cv`. `before` is its state before the
+-- first question. It has acknowledged the ninth question, whose packet is still pending.
 abbrev pub after_reading : ServiceState → CvNumber → ServiceState
 after_reading before cv =
     record { in_service = true; pending = Some (Verify cv (cv_in before.cvs cv.number)); cvs = before.cvs }

@@ -18,8 +18,8 @@ use Rattle.dcc_send.specs.Encoded.{frame_line}
 use Rattle.dcc_io.specs.StationLines.{Asked, Command, Next, station_lines}
 
 -- the error of the command `packet` for a station in state `s`, or `None` if the station accepts
--- it. The error C3, that a station does not send such packets, comes before the error C4, that the
--- queue is full.
+-- the command. First comes the error C3: stations do not send such packets. Then comes the error
+-- C4: the queue is full.
 abbrev pub refusal : sending.Sending → Packet → Option Refused
 refusal s packet =
     if not (is_sendable packet) then Some NotSendable
@@ -30,18 +30,19 @@ abbrev pub refusal_line : Refused → List ℕ
 refusal_line NotSendable = codes "# refused C3\n"
 refusal_line QueueFull = codes "# refused C4\n"
 
--- the bytes that are written for a command: no bytes if the station accepts it, otherwise the line
--- of its error
+-- the bytes that are written for a command: the line of its error, or no bytes if the station
+-- accepts it
 abbrev pub command_line : Option Refused → List ℕ
 command_line None = []
 command_line (Some refused) = refusal_line refused
 
--- the state of a station after the command `packet`, which is added to the queue if it has no error
+-- the state of a station after the command `packet`. The station adds it to its queue if it has no
+-- error.
 abbrev pub after_command : sending.Sending → Packet → Option Refused → sending.Sending
 after_command s packet None = sending.with_command s packet
 after_command s packet (Some refused) = s
 
--- a station in state `s` answers a request with `bytes` and is then in state `new`
+-- a station in state `s` answers a request with `bytes` and goes to state `new`
 abbrev pub Answers : Encode → sending.Sending → Asked → List ℕ → sending.Sending → Type 0
 Answers how s (Command frame) bytes new =
     (packet : Packet) × (spelling packet ≡ frame) × (bytes ≡ command_line (refusal s packet))
@@ -49,15 +50,15 @@ Answers how s (Command frame) bytes new =
 Answers how s Next bytes new =
     (packet : Packet) × sending.Next s packet new × (bytes ≡ frame_line how (spelling packet))
 
--- a station in state `s` answers the requests of a list, one after the other, with `bytes` and is
--- then in state `new`
+-- a station in state `s` answers the requests of a list, one after the other, with `bytes` and goes
+-- to state `new`
 abbrev pub AnswersAll : Encode → sending.Sending → List Asked → List ℕ → sending.Sending → Type 0
 AnswersAll how s [] bytes new = (bytes ≡ []) × (new ≡ s)
 AnswersAll how s (item ∷ later) bytes new =
     (between : sending.Sending) × (first rest : List ℕ) × (bytes ≡ first ++ rest) × Answers how s item first between
     × AnswersAll how between later rest new
 
--- a station in state `s` that gets the requests `items` is in state `new`, and its answers were
+-- a station in state `s` that gets the requests `items` goes to state `new`, and its answers were
 -- written
 pub record Wrote (how : Encode) (s : sending.Sending) (items : List Asked) (new : sending.Sending)
     (before after : WriterState) : Type 0 where

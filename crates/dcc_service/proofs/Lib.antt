@@ -1,4 +1,5 @@
 pub mod OneSpelling
+pub mod ExecuteLemmas
 pub mod FrameLemmas
 pub mod BitsLemmas
 pub mod StepLemmas

@@ -22,7 +22,8 @@ after_reset : (before after : ServiceState) (answer : Bool) → Step before rese
 after_reset before after answer step = step.reset refl
 
 after_first : (packet : ServicePacket) (cvs : List ℕ) (after : ServiceState) (answer : Bool)
-    → Step (waiting None cvs) (service_spelling packet) after answer → (after ≡ waiting (Some packet) cvs) × (answer ≡ false)
+    → Step (waiting None cvs) (service_spelling packet) after answer → (after ≡ waiting (Some packet) cvs)
+    × (answer ≡ false)
 after_first packet cvs after answer step = step.first packet refl refl (λ e. cc)
 
 after_again : (packet : ServicePacket) (cvs : List ℕ) (after : ServiceState) (answer : Bool)

@@ -66,7 +66,8 @@ comes_true : (cv : CvNumber) (cvs now after : List ℕ) (so_far : CvAnswers) (qu
 comes_true cv cvs now after so_far question answer reading s asks put many comes =
     let value : ℕ = cv_in cvs cv.number in
     let all : so_far.answers ++ answer ∷ [] ≡ true_answers value =
-    all_of (so_far.answers ++ answer ∷ []) value many (next_answer cv cvs now after so_far question answer s asks put) in
+    all_of (so_far.answers ++ answer ∷ []) value many (next_answer cv cvs now after so_far question answer s asks put)
+    in
     let P : List Bool → Type 0 = λ xs. ReadingEnds so_far.cv xs reading in
     let bytes : IsCvs cvs = subst IsCvs s.kept put.bytes in
     truth_is_the_value so_far.cv value reading (bytes.bytes (cv.number - 1)) (subst P all comes)

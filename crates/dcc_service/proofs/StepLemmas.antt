@@ -27,7 +27,8 @@ compared false q p decides = inr (λ same.
 is_pending : (pending : Option ServicePacket) (p : ServicePacket) → (pending ≡ Some p) ⊎ (pending ≢ Some p)
 is_pending None p = inr (λ e. absurd (cc))
 is_pending (Some q) p =
-    compared (pointwise eqb (service_spelling q) (service_spelling p)) q p (pointwise_decides Decides-eqb (service_spelling q) (service_spelling p))
+    compared (pointwise eqb (service_spelling q) (service_spelling p)) q p
+    (pointwise_decides Decides-eqb (service_spelling q) (service_spelling p))
 
 by_pending : (packet : ServicePacket) (frame : List ℕ) (before after other : ServiceState) (answer reply : Bool)
     → frame ≡ service_spelling packet → before.in_service ≡ true
@@ -46,7 +47,8 @@ by_service : (on : Bool) (read : Option ServicePacket) (frame : List ℕ) (befor
 by_service false read frame before after other answer reply on no_reset spelled only step again =
     both_are (step.ignored no_reset on) (again.ignored no_reset on)
 by_service true None frame before after other answer reply on no_reset spelled only step again =
-    let none : (packet : ServicePacket) → frame ≢ service_spelling packet = λ packet e. let bad = only packet (sym e) in absurd (cc) in
+    let none : (packet : ServicePacket) → frame ≢ service_spelling packet = λ packet e. let bad =
+    only packet (sym e) in absurd (cc) in
     both_are (step.other no_reset none on) (again.other no_reset none on)
 by_service true (Some packet) frame before after other answer reply on no_reset spelled only step again =
     by_pending packet frame before after other answer reply (sym spelled) on (is_pending before.pending packet) step

@@ -7,13 +7,13 @@ use Rattle.dcc_service.specs.declared.packet.ServicePacket.TheVariants.{Write, V
 use Rattle.dcc_service.specs.Bits.{number_from_lowest}
 use Rattle.dcc_service.specs.Table.{access_bytes}
 
--- the CV that is being read, and the answers to the questions so far
+-- a reading: the CV that is read, and the answers to the questions so far
 pub record CvAnswers : Type 0 where
   pub cv : CvNumber
   pub answers : List Bool
 
--- The packet is the next question of the reading `so_far`. After k answers, with k below 8, it
--- compares bit k of the CV with one. After eight answers it compares the CV with the value whose
+-- a service packet is the next question of the reading `so_far`. After k answers, with k below 8,
+-- it compares bit k of the CV with one. After eight answers it compares the CV with the value whose
 -- bits are the answers.
 abbrev pub Asks : CvAnswers → ServicePacket → Type 0
 Asks so_far (BitVerify cv bits one) = (cv ≡ so_far.cv) × (bits.place ≡ length so_far.answers) × (one ≡ true)

@@ -1,6 +1,7 @@
 pub mod Table
 pub mod Machine
 pub mod Progress
+pub mod AccessedServiceCv
 pub mod Question
 pub mod Bits
 pub mod CvAnswers
@@ -9,3 +10,4 @@ pub mod QuestionLaws
 pub mod ReadingLaws
 -- Definitions of lower crates that the contracts of this crate use.
 pub use Rattle.dcc_packet.specs.Cvs
+pub use Rattle.dcc_packet.specs.StoredCvs

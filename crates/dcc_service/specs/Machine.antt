@@ -10,7 +10,7 @@ use Rattle.dcc_service.specs.declared.packet.ServicePacket.TheVariants.{Write, V
 use Rattle.dcc_packet.specs.Cvs.{cv_in, is_writable, written}
 use Rattle.dcc_service.specs.Table.{service_spelling}
 
--- the state of a decoder on the programming track: whether it is in service mode, its pending
+-- the state of a decoder on the programming track: true if it is in service mode, its pending
 -- packet, and its CVs
 pub record ServiceState : Type 0 where
   pub in_service : Bool
@@ -21,7 +21,7 @@ pub record ServiceState : Type 0 where
 abbrev pub reset_bytes : List ℕ
 reset_bytes = with_error_byte (0 ∷ 0 ∷ [])
 
--- the CVs of a decoder after it has executed a service packet, if `cvs` are its CVs before
+-- the CVs of a decoder after it has executed a service packet. `cvs` are its CVs before.
 abbrev pub acted_on : ServicePacket → List ℕ → List ℕ
 acted_on (Write cv value) cvs = written cvs cv value
 acted_on (Verify cv value) cvs = cvs
@@ -36,8 +36,8 @@ is_acknowledged (Verify cv value) cvs = cv_in cvs cv.number == value
 is_acknowledged (BitWrite cv bits one) cvs = is_writable cv
 is_acknowledged (BitVerify cv bits one) cvs = bit_at (cv_in cvs cv.number) bits.place == bit one
 
--- A decoder in state `before` that gets `frame` is then in state `after`. It acknowledges `frame`
--- if and only if `answer` is true.
+-- A decoder in state `before` that gets `frame` goes to state `after`. It acknowledges `frame` if
+-- and only if `answer` is true.
 pub record Step (before : ServiceState) (frame : List ℕ) (after : ServiceState) (answer : Bool) : Type 0 where
   -- the reset leads to service mode without a pending packet
   pub reset : frame ≡ reset_bytes

@@ -8,7 +8,7 @@ use Rattle.dcc_service.specs.Table.{service_spelling}
 abbrev pub question_bytes : ServicePacket → List (List ℕ)
 question_bytes packet = replicate 3 reset_bytes ++ replicate 5 (service_spelling packet)
 
--- a decoder in state `before` that gets a list of frames, one after the other, is then in state
+-- a decoder in state `before` that gets a list of frames, one after the other, goes to state
 -- `after`. The list of answers has its acknowledgement of each frame.
 unfoldable pub Steps : ServiceState → List (List ℕ) → ServiceState → List Bool → Type 0
 Steps before [] after [] = after ≡ before
@@ -17,12 +17,12 @@ Steps before (frame ∷ frames) after [] = ⊥
 Steps before (frame ∷ frames) after (answer ∷ answers) =
     (next : ServiceState) × Step before frame next answer × Steps next frames after answers
 
--- the state of a decoder after a question, if `before` is its state before it. The decoder is in
--- service mode and has executed `packet`, which is still pending.
+-- the state of a decoder after a question. `before` is its state before the question. The decoder
+-- is in service mode and has executed `packet`, which is still pending.
 abbrev pub after_question : ServiceState → ServicePacket → ServiceState
 after_question before packet = record { in_service = true; pending = Some packet; cvs = acted_on packet before.cvs }
 
--- the acknowledgements of the eight frames of a question: four times no for the three resets and
--- the first copy, and then four times `answer`
+-- the acknowledgements of the eight frames of a question: `false` for the three resets and the
+-- first copy, and then four times `answer`
 abbrev pub four_no_then : Bool → List Bool
 four_no_then answer = replicate 4 false ++ replicate 4 answer

@@ -10,14 +10,14 @@ use Rattle.dcc_packet.specs.Cvs.{IsCvs, cv_in, is_read_only}
 use Rattle.dcc_service.specs.Machine.{ServiceState, Step, is_acknowledged}
 use Rattle.dcc_service.specs.Question.{Steps, question_bytes, after_question, four_no_then}
 
--- a decoder in state `before` that gets the eight frames of `question` is then in state `after`,
--- and `answers` are its acknowledgements
+-- a decoder in state `before` that gets the eight frames of `question` goes to state `after`, and
+-- `answers` are its acknowledgements
 pub record IsAsked (question : ServicePacket) (before after : ServiceState) (answers : List Bool) : Type 0 where
   pub cvs : IsCvs before.cvs
   pub steps : Steps before (question_bytes question) after answers
 
--- a decoder answers the frames of a question four times with no. It then answers four times with
--- yes if it acknowledges the packet, otherwise with no.
+-- a decoder does not acknowledge the first four frames of a question. It acknowledges the last four
+-- frames if and only if it acknowledges the service packet of the question.
 abbrev pub QuestionsAreAnswered : Type 0
 QuestionsAreAnswered =
     (question : ServicePacket) (before after : ServiceState) (answers : List Bool)
@@ -31,8 +31,8 @@ OneStep frame =
     → Step before frame other reply
     → (after ≡ other) × (answer ≡ reply)
 
--- a decoder acknowledges a question that verifies a CV if and only if `cv` has the value `value`,
--- and no CV changes
+-- a decoder acknowledges a question that verifies a CV if and only if `cv` has the value `value`.
+-- The question changes no CV.
 abbrev pub VerifiesTell : Type 0
 VerifiesTell =
     (cv : CvNumber) (value : ℕ) (before after : ServiceState) (answers : List Bool)
@@ -40,7 +40,7 @@ VerifiesTell =
     → (answers ≡ four_no_then (cv_in before.cvs cv.number == value)) × (after.cvs ≡ before.cvs)
 
 -- a decoder acknowledges a question that verifies a bit of `cv` if and only if the bit has the
--- value `one`, and no CV changes
+-- value `one`. The question changes no CV.
 abbrev pub BitVerifiesTell : Type 0
 BitVerifiesTell = (cv : CvNumber) (bits : BitPlace) (one : Bool) (before after : ServiceState) (answers : List Bool)
     → IsAsked (BitVerify cv bits one) before after answers
@@ -74,7 +74,7 @@ BitWritesAreDone =
     → (answers ≡ four_no_then true) × (bit_at (cv_in after.cvs cv.number) bits.place ≡ bit one)
     × OtherBitsStay bits (cv_in before.cvs cv.number) (cv_in after.cvs cv.number) × OtherCvsStay cv before.cvs after.cvs
 
--- a decoder answers all eight frames of `question` with no, and no CV changes
+-- a decoder acknowledges no frame of `question`, and no CV changes
 abbrev pub Refuses : ServicePacket → Type 0
 Refuses question = (before after : ServiceState) (answers : List Bool) → IsAsked question before after answers
     → (answers ≡ replicate 8 false) × (after.cvs ≡ before.cvs)

@@ -14,8 +14,8 @@ use Rattle.dcc_service.specs.Machine.{is_acknowledged, acted_on}
 use Rattle.dcc_service.specs.Readings.{ReadingEnds}
 use Rattle.dcc_service.specs.Table.{service_spelling}
 
--- the true answers to the nine questions about a CV with the value `value`: its bits, the lowest
--- first, and then yes
+-- the true answers to the nine questions about a CV with the value `value`: its eight bits, the
+-- lowest first, and then true
 abbrev pub true_answers : ℕ → List Bool
 true_answers value = bits_from_lowest 8 value ++ true ∷ []
 
@@ -23,8 +23,8 @@ true_answers value = bits_from_lowest 8 value ++ true ∷ []
 abbrev pub AreFirstOf : List Bool → List Bool → Type 0
 AreFirstOf answers all = answers ≡ take (length answers) all
 
--- if the answers of a reading so far are true, the acknowledgement of its next question by a
--- decoder is the next true answer
+-- if all answers so far of a reading are true answers, the acknowledgement of the next question by
+-- a decoder is the next true answer
 abbrev pub DecodersTellTheTruth : Type 0
 DecodersTellTheTruth = (so_far : CvAnswers) (question : ServicePacket) (cvs : List ℕ) → IsCvs cvs → Asks so_far question
     → AreFirstOf so_far.answers (true_answers (cv_in cvs so_far.cv.number))
@@ -41,7 +41,7 @@ TrueAnswersGiveValue =
     (cv : CvNumber) (value : ℕ) (reading : Reading) → value < 256 → ReadingEnds cv (true_answers value) reading
     → reading ≡ Value value
 
--- if the nine answers of a reading are no, the reading ends without a value
+-- if all nine answers of a reading are false, the reading ends without a value
 abbrev pub AllNoGivesNoValue : Type 0
 AllNoGivesNoValue = (cv : CvNumber) (reading : Reading) → ReadingEnds cv (replicate 9 false) reading
     → reading ≡ NoAnswer
@@ -64,8 +64,8 @@ pub record IsPut (question : ServicePacket) (cvs after : List ℕ) (answer : Boo
   pub is : answer ≡ is_acknowledged question cvs
   pub acted : after ≡ acted_on question cvs
 
--- `cv` is being read in a decoder that had the CVs `cvs` at the start. The decoder still has these
--- CVs, and all answers so far are true.
+-- a reading of `cv` is under way: the decoder still has the CVs `cvs` that it had at the start, and
+-- all answers so far are true answers
 pub record IsReadingUnderWay (cv : CvNumber) (cvs now : List ℕ) (so_far : CvAnswers) : Type 0 where
   pub same_cv : so_far.cv ≡ cv
   pub kept : now ≡ cvs

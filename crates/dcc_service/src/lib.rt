@@ -13,6 +13,7 @@ mod progress;
 mod question;
 mod reader;
 mod state;
+mod stored_cvs;
 mod to_frame;
 
 pub use decoder::ServiceDecoder;

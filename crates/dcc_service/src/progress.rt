@@ -19,9 +19,11 @@ pub struct ServiceProgress {
 }
 
 impl ServiceProgress {
-    ghost use Rattle.std.specs.Prelude.{◌≡◌, ◌↔◌, IsTrue, Some, None, true, false};
+    ghost use Rattle.std.specs.Prelude.{◌≡◌, ◌↔◌, IsTrue, IfSome, IfNone, Some, None, true, false, List, ℕ};
+    ghost use Rattle.dcc_service.specs.AccessedServiceCv.{Executes};
     ghost use Rattle.dcc_service.specs.Machine.{Step};
     ghost use Rattle.dcc_service.specs.Progress.{state_with_cvs};
+    ghost use Rattle.dcc_service.specs.declared.packet.ServicePacket.{ServicePacket};
 
     /// Creates the state of a decoder that is not in service mode.
     pub fn new() -> ServiceProgress
@@ -38,22 +40,40 @@ impl ServiceProgress {
     pub fn apply(&mut self, cvs: &mut [u8; 1024], frame: &Frame) -> bool
         ensures { Step (state_with_cvs self.old cvs.old) frame.now (state_with_cvs self.new cvs.new) result }
     {
+        match self.due(frame) {
+            Some(packet) => act(cvs, &packet),
+            None => false,
+        }
+    }
+
+    /// Applies a frame to the state without the CVs. Returns the packet that the decoder executes
+    /// on its CVs. Returns `None` if the decoder executes no packet, and then does not acknowledge
+    /// the frame.
+    pub(crate) fn due(&mut self, frame: &Frame) -> Option<ServicePacket>
+        ensures executed { IfSome result (λ packet. (cvs : List ℕ)
+            → Executes (state_with_cvs self.old cvs) frame.now packet) }
+        ensures stays { IfSome result (λ packet. self.new ≡ self.old) }
+        ensures silent { IfNone result ((cvs : List ℕ)
+            → Step (state_with_cvs self.old cvs) frame.now (state_with_cvs self.new cvs) false) }
+        ensures none { IfNone result ((cvs : List ℕ) (packet : ServicePacket)
+            → ¬ (Executes (state_with_cvs self.old cvs) frame.now packet)) }
+    {
         if is_reset(frame) {
             self.begin();
-            return false;
+            return None;
         }
         if !self.in_service {
-            return false;
+            return None;
         }
         let Some(packet) = ServicePacket::read(frame) else {
             self.end();
-            return false;
+            return None;
         };
         if self.awaits(&packet) {
-            return act(cvs, &packet);
+            return Some(packet);
         }
         self.wait(packet);
-        false
+        None
     }
 
     fn begin(&mut self)
@@ -77,7 +97,7 @@ impl ServiceProgress {
     }
 
     /// Returns true if the packet equals the pending packet.
-    fn awaits(&self, packet: &ServicePacket) -> bool
+    pub(crate) fn awaits(&self, packet: &ServicePacket) -> bool
         ensures { IsTrue result ↔ (self.now.pending ≡ Some packet.now) }
     {
         match &self.pending {

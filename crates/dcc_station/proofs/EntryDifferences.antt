@@ -7,8 +7,11 @@ use Rattle.dcc_regs.specs.declared.register.SpeedMode.{SpeedMode}
 use Rattle.dcc_regs.specs.declared.register.Register.{Register}
 use Rattle.dcc_regs.specs.declared.register.Register.TheVariants.{Speed as SpeedRegister, Direction, Function}
 use Rattle.dcc_regs.specs.declared.register.Value.{Value}
-use Rattle.dcc_regs.specs.Inner.ConflictParts.{Differ, DifferIn}
-use Rattle.dcc_regs.specs.Sets.{sets}
+use Rattle.dcc_regs.specs.Effects.{Differ}
+use Rattle.dcc_regs.specs.Inner.ConflictParts.{DifferIn}
+use Rattle.dcc_regs.specs.Inner.SetsByKind.{sets_by_kind as sets}
+use Rattle.dcc_regs.specs.Sets.{sets as table}
+use Rattle.dcc_regs.proofs.OneTable.{same_table}
 use Rattle.dcc_station.specs.Commands.{is_refreshed}
 use Rattle.dcc_station.proofs.StatePackets.{entry_tells_none}
 
@@ -23,8 +26,26 @@ pub record SameAll (p e : Packet) : Type 0 where
   pub at : (mode : SpeedMode) (r : Register) → Differ (sets mode p r) (sets mode e r) → ⊥
 
 -- they set some register to two values
+pub record DifferByKind (mode : SpeedMode) (p e : Packet) : Type 0 where
+  pub register : Register
+  pub differ : Differ (sets mode p register) (sets mode e register)
+
 abbrev pub Ends : Packet → Packet → Type 0
-Ends p e = (mode : SpeedMode) × DifferIn mode p e
+Ends p e = (mode : SpeedMode) × DifferByKind mode p e
+
+-- the same by the table of packets and registers
+pub ends_by_table : (p e : Packet) → Ends p e → (mode : SpeedMode) × DifferIn mode p e
+ends_by_table p e (mode, d) = (
+  mode,
+  record {
+    register = d.register;
+    differ = rw (same_table mode p d.register, same_table mode e d.register) d.differ;
+  },
+)
+
+pub differ_by_kind : (p e : Packet) (mode : SpeedMode) (r : Register) → Differ (table mode p r) (table mode e r)
+    → Differ (sets mode p r) (sets mode e r)
+differ_by_kind p e mode r d = rw (same_table mode p r, same_table mode e r) at d
 
 -- a command that leaves an entry, and one that ends it
 abbrev pub Judged : Bool → Packet → Packet → Type 0

@@ -1,7 +1,7 @@
 -- A command that sets functions, and an entry that does.
 use Rattle.std.proofs.Common.{◌≡◌, ◌≢◌, ◌∙◌, refl, sym, ap, Option, Some, inl, inr}
 use Rattle.std.proofs.Common.{ℕ, zero, suc, ◌⊎◌, ◌+◌, ◌^◌, ◌<◌, ◌≤◌, arith}
-use Rattle.std.specs.Prelude.{option_map, nat_lt, if◌then◌else◌}
+use Rattle.std.specs.Prelude.{option_map, ◌==◌, nat_lt, if◌then◌else◌}
 use Rattle.std.specs.Int.{bit_at}
 use Rattle.std.proofs.lemmas.Bool.Decides.{nat_tests}
 use Rattle.std.proofs.lemmas.Nat.Bits.{same_from_bits_below, bit_at-lt}
@@ -20,9 +20,13 @@ use Rattle.dcc_regs.specs.declared.register.Register.TheVariants.{Function}
 use Rattle.dcc_regs.specs.declared.register.Value.{Value}
 use Rattle.dcc_regs.specs.declared.register.Value.TheVariants.{Flag}
 use Rattle.dcc_regs.specs.FunctionBits.{function_set, group_bit, function_place, first_function, count_of}
-use Rattle.dcc_regs.specs.Inner.ConflictParts.{Differ}
-use Rattle.dcc_regs.proofs.DifferLemmas.{differ-sym, either}
+use Rattle.dcc_packet.proofs.BitLemmas.{either_by}
+use Rattle.dcc_regs.specs.Effects.{Differ}
+use Rattle.dcc_regs.proofs.ConflictLemmas.{differ-sym}
 use Rattle.dcc_station.proofs.EntryDifferences.{Ends}
+
+pub either : {A : Type 0} (k n : ℕ) → (k ≡ n → A) → (k ≢ n → A) → A
+either k n f g = either_by k n (k == n) refl f g
 
 -- the group that a function is in, F0 aside
 abbrev group_at : ℕ → Group

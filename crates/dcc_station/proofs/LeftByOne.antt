@@ -1,5 +1,5 @@
 -- A command to the locomotive of an entry.
-use Rattle.std.proofs.Common.{◌≡◌, refl, sym, ap, Bool, true, false, Option, Some, None, inl, inr, arith}
+use Rattle.std.proofs.Common.{◌≡◌, ◌∙◌, refl, sym, ap, Bool, true, false, Option, Some, None, inl, inr, arith}
 use Rattle.std.specs.Prelude.{◌==◌, ◌&&◌, ◌||◌, not}
 use Rattle.std.proofs.lemmas.Bool.Decides.{nat_tests}
 use Rattle.dcc_packet.specs.Address.{same_address}
@@ -12,14 +12,16 @@ use Rattle.dcc_packet.specs.declared.packet.Packet.{Packet}
 use Rattle.dcc_packet.specs.declared.packet.Packet.TheVariants.{Loco}
 use Rattle.dcc_regs.specs.declared.register.Who.TheVariants.{Loco as LocoWho}
 use Rattle.dcc_regs.specs.FunctionBits.{first_function}
-use Rattle.dcc_regs.specs.Heard.{is_for, address_of}
+use Rattle.dcc_regs.specs.Heard.{address_of}
+use Rattle.dcc_regs.specs.Inner.HearsByAddress.{is_for}
+use Rattle.dcc_regs.proofs.HearsByBytes.{hears_at}
 use Rattle.dcc_regs.specs.Inner.ConflictParts.{HeardTogether}
 use Rattle.dcc_regs.specs.Writes.{writes_mode, writes_cv29}
 use Rattle.dcc_regs.proofs.ConflictLemmas.{conflict_from, differ_of}
 use Rattle.dcc_station.specs.Commands.{is_refreshed, sets_speed_or_functions}
 use Rattle.dcc_station.specs.Inner.Kept.{reset_kept, group_kept, kept_by_all, kept_by_one}
 use Rattle.dcc_station.specs.Sending.{Displaces}
-use Rattle.dcc_station.proofs.EntryDifferences.{not_equal, SameAll, Judged, same_all}
+use Rattle.dcc_station.proofs.EntryDifferences.{not_equal, SameAll, Judged, same_all, ends_by_table, differ_by_kind}
 use Rattle.dcc_station.proofs.SpeedLeft.{refreshed_sets, kept_functions}
 use Rattle.dcc_station.proofs.ResetLeft.{judged_reset}
 use Rattle.dcc_station.proofs.LeftByAll.{same_by, judged_group}
@@ -35,7 +37,8 @@ pub told_same : {p e : Packet} → SameAll p e → (e ≡ p → ⊥)
     → ((writes_cv29 p ≡ true) × (address_of e ≡ address_of p) → ⊥) → Displaces p e → ⊥
 told_same {p = p} {e = e} same other cv gone = elim gone [
   | inl is ↦ other is
-  | inr (inl clash) ↦ (let d = differ_of p e clash in same.at d.0 d.1.register d.1.differ)
+  | inr (inl clash) ↦ (let d = differ_of p e clash in same.at d.0 d.1.register
+      (differ_by_kind p e d.0 d.1.register d.1.differ))
   | inr (inr both) ↦ cv both
 ]
 
@@ -43,14 +46,18 @@ told_same {p = p} {e = e} same other cv gone = elim gone [
 told_by : (t : Bool) (p e : Packet) → HeardTogether p e → Judged t p e → (e ≡ p → ⊥)
     → ((writes_cv29 p ≡ true) × (address_of e ≡ address_of p) → ⊥) → Told (Some t) p e
 told_by true p e heard same other cv = told_same same other cv
-told_by false p e heard ends other cv = inr (inl (conflict_from p e heard ends))
+told_by false p e heard ends other cv = inr (inl (conflict_from p e heard (ends_by_table p e ends)))
 
 pub own_address : (own : Address) → (is_for (Some own) own ≡ true) × (same_address own own ≡ true)
 own_address own = (grind (arith, nat_tests), grind (arith, nat_tests))
 
 heard_by : (own to : Address) (what entry : What) → is_for (Some own) to ≡ true
     → HeardTogether (Loco to what) (Loco own entry)
-heard_by own to what entry h = record { who = LocoWho (Some own); first = h; second = (own_address own).0 }
+heard_by own to what entry h = record {
+  who = LocoWho (Some own);
+  first = hears_at (Some own) (Loco to what) ∙ h;
+  second = hears_at (Some own) (Loco own entry) ∙ (own_address own).0;
+}
 
 -- a command to all is no entry, and has no address of one
 pub not_all : (own : Address) (entry : What) → is_refreshed (Loco own entry) ≡ true → Some own ≡ Some Broadcast → ⊥
@@ -89,7 +96,7 @@ told_groups own a b h =
         (λ is. not_equal _ _ e (let same : a ≡ b = cc in rw same refl)) (λ both. cc)
     by_tests true true e f same = inl (ap (λ g. Loco own (Functions g)) (sym (same_by a b e f)))
     by_tests true false e f ends = inr (inl (conflict_from (Loco own (Functions a)) (Loco own (Functions b))
-        (heard_by own own (Functions a) (Functions b) (own_address own).0) ends))
+        (heard_by own own (Functions a) (Functions b) (own_address own).0) (ends_by_table _ _ ends)))
 
 pub told_one : (own : Address) (what entry : What) → is_refreshed (Loco own entry) ≡ true
     → Told (kept_by_one what entry) (Loco own what) (Loco own entry)

@@ -12,7 +12,7 @@ use Rattle.dcc_packet.specs.declared.speed.SpeedBits28.{SpeedBits28}
 use Rattle.dcc_regs.specs.declared.register.SpeedMode.TheVariants.{Steps14}
 use Rattle.dcc_regs.specs.declared.register.Register.TheVariants.{Function}
 use Rattle.dcc_regs.specs.Speeds.{speed_of_126}
-use Rattle.dcc_regs.proofs.DifferLemmas.{either}
+use Rattle.dcc_station.proofs.FunctionsLeft.{either}
 use Rattle.dcc_station.specs.Commands.{is_refreshed}
 use Rattle.dcc_station.specs.Inner.Kept.{reset_kept}
 use Rattle.dcc_station.proofs.EntryDifferences.{not_equal, Ends, Judged, judged_three}

@@ -71,7 +71,8 @@ module _ {X : Type 0} where
       | inl e ↦ ap (λ n. turned n places) e
       | inr e ↦ (
           let first : next ≡ 0 = omega arith in
-          rw (first, append-nil, drop_all (start + 1) places (omega arith), take_all (start + 1) places (omega arith)) refl)
+          rw (first, append-nil, drop_all (start + 1) places (omega arith), take_all (start + 1) places (omega arith))
+          refl)
     ]
 
     -- the front one is taken away
@@ -93,7 +94,8 @@ module _ {X : Type 0} where
         let some : slice_get (turned start places) i ≡ slice_get places at = elim wraps.1 [
           | inl e ↦ (
               let before : i < length (drop start places) = simp length-drop (omega arith) in
-              slice_get-append_left (drop start places) (take start places) i before ∙ slice_get-drop start places i at e
+              slice_get-append_left (drop start places) (take start places) i before
+              ∙ slice_get-drop start places i at e
               )
           | inr e ↦ (
               let behind : i ≡ length (drop start places) + at = simp length-drop (omega arith) in

@@ -1,5 +1,5 @@
 -- Binary states set nothing that an entry sets.
-use Rattle.std.proofs.Common.{◌≡◌, Bool, true, Some, None, arith}
+use Rattle.std.proofs.Common.{◌≡◌, ◌∙◌, sym, Bool, true, Some, None, arith}
 use Rattle.dcc_packet.specs.declared.address.Address.{Address}
 use Rattle.dcc_packet.specs.declared.instruction.What.TheVariants.{BinaryState}
 use Rattle.dcc_packet.specs.declared.packet.Packet.{Packet}
@@ -9,7 +9,8 @@ use Rattle.dcc_regs.specs.declared.register.SpeedMode.{SpeedMode}
 use Rattle.dcc_regs.specs.declared.register.Register.{Register}
 use Rattle.dcc_regs.specs.declared.register.Value.{Value}
 use Rattle.dcc_regs.specs.States.{turned_states}
-use Rattle.dcc_regs.specs.Sets.{sets}
+use Rattle.dcc_regs.specs.Inner.SetsByKind.{sets_by_kind as sets}
+use Rattle.dcc_regs.proofs.OneTable.{same_table}
 use Rattle.dcc_station.specs.Commands.{is_refreshed}
 use Rattle.dcc_station.specs.States.{StatesConflictWithNoEntry}
 
@@ -23,4 +24,7 @@ clash : (mode : SpeedMode) (to : Address) (n : StateNumber) (on : Bool) (e : Pac
 clash mode to n on e r v w h f g = let none = entry_tells_none e h in grind arith
 
 pub no_conflict : StatesConflictWithNoEntry
-no_conflict to n on e h c = clash c.mode to n on e c.register c.one c.other h c.first_sets c.second_sets
+no_conflict to n on e h c =
+    clash c.mode to n on e c.register c.one c.other h (sym (same_table c.mode (Loco to
+    (BinaryState n on)) c.register) ∙ c.first_sets)
+    (sym (same_table c.mode e c.register) ∙ c.second_sets)

@@ -27,7 +27,7 @@ use Rattle.dcc_station.specs.Refresh.{TransparentWhereNothingWaits, WaitingIsSuf
 use Rattle.dcc_station.proofs.Tables.{refreshed_address, refreshed_is_no_write}
 use Rattle.dcc_regs.proofs.LawLemmas.{idle_is_unheard, values_are_decided}
 use Rattle.dcc_regs.proofs.ConflictLemmas.{conflict_from}
-use Rattle.dcc_regs.specs.Inner.ConflictParts.{Differ}
+use Rattle.dcc_regs.specs.Effects.{Differ}
 use Rattle.dcc_station.proofs.Effects.{Core, core, effect, copied, then_effect, Waits, waits, at_once, at_last}
 use Rattle.dcc_station.proofs.Effects.{mode_other}
 use Rattle.dcc_station.proofs.Effects.{after_first, effect_twice, effect_plain_own, mode_kept, no_effect}

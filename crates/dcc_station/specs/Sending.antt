@@ -10,7 +10,7 @@ use Rattle.circular_buffer.specs.Buffer.{keep_last}
 use Rattle.dcc_station.specs.Commands.{is_refreshed}
 
 -- the state of a station: its queue `waiting`, the number `sent` of copies of the first command
--- that were sent, its `entries`, and its sizes
+-- that it has returned, its `entries`, and its sizes
 pub record Sending : Type 0 where
   pub waiting : List Packet
   pub sent : ℕ
@@ -29,8 +29,8 @@ idle_sending queue slots repeats =
 abbrev pub copies : ℕ → Packet → ℕ
 copies repeats p = if is_own_write p then repeats + 1 else repeats
 
--- the command `p` displaces `entry`: they are equal, they conflict, or `p` writes CV29 and both
--- have one address
+-- the command `p` displaces `entry`: they are equal, or they conflict, or `p` writes CV29 and both
+-- have the same address
 abbrev pub Displaces : Packet → Packet → Type 0
 Displaces p entry = (entry ≡ p) ⊎ (Conflict p entry ⊎ ((writes_cv29 p ≡ true) × (address_of entry ≡ address_of p)))
 
@@ -46,8 +46,8 @@ Leaves p (entry ∷ entries) kept =
 abbrev pub with_entry : ℕ → List Packet → Packet → List Packet
 with_entry slots entries p = keep_last slots (entries ++ p ∷ [])
 
--- `new` are the entries of a station after the first copy of the command `p`, if `entries` are its
--- entries before
+-- `new` are the entries of a station after the first copy of the command `p`. `entries` are its
+-- entries before.
 abbrev pub Refreshes : ℕ → Packet → List Packet → List Packet → Type 0
 Refreshes slots p entries new =
     (kept : List Packet) × Leaves p entries kept × (new ≡ (if is_refreshed p then with_entry slots kept p else kept))
@@ -56,8 +56,8 @@ Refreshes slots p entries new =
 abbrev pub with_command : Sending → Packet → Sending
 with_command s p = record s { waiting = s.waiting ++ p ∷ [] }
 
--- the state of a station after one more copy of the command `p`, which leaves the queue after its
--- last copy; `rest` are the commands after `p`
+-- the state of a station after one more copy of the command `p`. The command leaves the queue after
+-- its last copy. `rest` are the commands after `p`.
 abbrev pub sent_once_more : Sending → Packet → List Packet → List Packet → Sending
 sent_once_more s p rest entries =
     if nat_le (copies s.repeats p) (s.sent + 1)
@@ -70,9 +70,9 @@ abbrev pub EntriesAfter : ℕ → ℕ → Packet → List Packet → List Packet
 EntriesAfter zero slots p entries after = Refreshes slots p entries after
 EntriesAfter (suc sent) slots p entries after = after ≡ entries
 
--- a station in state `s` returns the packet `out` and is then in state `new`. This is a copy of the
--- first command in the queue. If no command waits, it is the first entry, which moves to the end.
--- If there is no entry either, it is an idle packet.
+-- a station in state `s` returns the packet `out` and goes to state `new`. This packet is a copy of
+-- the first command in the queue. If no command waits, it is the first entry, which moves to the
+-- end. If there is no entry, it is an idle packet.
 abbrev pub HandsOut : List Packet → List Packet → Sending → Packet → Sending → Type 0
 HandsOut (p ∷ rest) entries s out new =
     (out ≡ p)
@@ -83,7 +83,7 @@ HandsOut [] [] s out new = (out ≡ Idle) × (new ≡ s)
 abbrev pub Next : Sending → Packet → Sending → Type 0
 Next s out new = HandsOut s.waiting s.entries s out new
 
--- a station in state `s` returns the packets of a list, one after the other, and is then in state
+-- a station in state `s` returns the packets of a list, one after the other, and goes to state
 -- `new`
 abbrev pub NextAll : Sending → List Packet → Sending → Type 0
 NextAll s [] new = new ≡ s

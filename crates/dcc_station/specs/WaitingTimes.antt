@@ -9,8 +9,8 @@ use Rattle.dcc_packet.specs.Spelling.{spelling, BytesFit}
 use Rattle.dcc_station.specs.Sending.{Sending, copies, with_command, Next, NextAll}
 use Rattle.dcc_station.specs.Refresh.{StationRepresents}
 
--- a station in state `s` returns the packets of a list, one after the other, and is then in state
--- `new`. It accepts any commands before, between and after these packets.
+-- a station in state `s` returns the packets of a list, one after the other, and goes to state
+-- `new`. It can accept commands before, between and after these packets.
 pub data RunsTo : Sending → List Packet → Sending → Type 0 where
   stays : (s : Sending) → RunsTo s [] s
   accepts_one : (s new : Sending) (packets : List Packet) (p : Packet) → RunsTo (with_command s p) packets new
@@ -18,7 +18,8 @@ pub data RunsTo : Sending → List Packet → Sending → Type 0 where
   returns_one : (s between new : Sending) (p : Packet) (packets : List Packet) → Next s p between
       → RunsTo between packets new → RunsTo s (p ∷ packets) new
 
--- the packets that a station returns one after the other, without accepting a command, are a run
+-- if a station returns `packets` one after the other and accepts no command, these packets are a
+-- run
 abbrev pub ReturnedPacketsAreRuns : Type 0
 ReturnedPacketsAreRuns = (s new : Sending) (packets : List Packet) → NextAll s packets new → RunsTo s packets new
 
@@ -34,8 +35,8 @@ RunsGoOnByCommands =
     (s between : Sending) (packets : List Packet) (p : Packet) → RunsTo s packets between
     → RunsTo s packets (with_command between p)
 
--- the copies of the commands of a list, in order; `repeats` is the number of copies of a command
--- that is no own write
+-- the copies of all commands of a list, in order. `repeats` is the number of copies of a command
+-- that is no write to the decoder's own address.
 abbrev pub all_copies : ℕ → List Packet → List Packet
 all_copies repeats [] = []
 all_copies repeats (p ∷ later) = replicate (copies repeats p) p ++ all_copies repeats later
@@ -45,7 +46,7 @@ all_copies repeats (p ∷ later) = replicate (copies repeats p) p ++ all_copies 
 abbrev pub copies_left : Sending → List Packet → List Packet
 copies_left s before = drop s.sent (all_copies s.repeats before)
 
--- the packets of a list to send with `timing`
+-- the packets of a list, sent with `timing`
 abbrev pub sent_with : Timing → List Packet → List Sent
 sent_with timing packets = map (λ p. record { bytes = spelling p; timing = timing }) packets
 

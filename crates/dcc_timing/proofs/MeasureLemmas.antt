@@ -112,7 +112,8 @@ bits_more : (halves more : List ℕ) (place : ℕ) (shown : Seen) → Shows halv
 unfolding packet_bits_in packets_in
 bits_more halves more place shown shows =
     ap (λ l. flat_map (packet_bits_of (halves ++ more)) (filter_map packet_at l)) shows
-    ∙ ap (flat_map (packet_bits_of (halves ++ more))) (filter_map-append packet_at (seen halves) (report_at place shown))
+    ∙ ap (flat_map (packet_bits_of (halves ++ more)))
+    (filter_map-append packet_at (seen halves) (report_at place shown))
     ∙ flat_map-append (packet_bits_of (halves ++ more)) (filter_map packet_at (seen halves))
     (filter_map packet_at (report_at place shown))
     ∙ ap (λ l. l ++ flat_map (packet_bits_of (halves ++ more)) (filter_map packet_at (report_at place shown)))
@@ -133,7 +134,8 @@ ends_more halves more place shown shows =
 
 bits_here : (halves front later : List ℕ) (place : ℕ) (shown : Seen) → halves ≡ front ++ later
     → length front ≡ place + 1
-    → flat_map (packet_bits_of halves) (filter_map packet_at (report_at place shown)) ≡ bits_among (bits_shown shown) front
+    → flat_map (packet_bits_of halves) (filter_map packet_at (report_at place shown))
+    ≡ bits_among (bits_shown shown) front
 unfolding packet_bits_of report_at
 bits_here halves front later place Nothing whole last = refl
 bits_here halves front later place (Refused fault) whole last = refl

@@ -1,4 +1,5 @@
--- The stored part of the times at which packets end. It is enough to compute the longest gap.
+-- The part of the times at which packets end that is stored. The longest gap follows from this
+-- part.
 use Rattle.std.specs.Prelude.{◌≡◌, ℕ, List, fold, Option, None, Some}
 use Rattle.dcc_timing.specs.declared.gaps.Gaps.{Gaps}
 use Rattle.dcc_timing.specs.Numbers.{most, steps}
@@ -7,8 +8,8 @@ use Rattle.dcc_timing.specs.Numbers.{most, steps}
 unfoldable pub last : List ℕ → Option ℕ
 last numbers = fold (λ (before : Option ℕ) number. Some number) None numbers
 
--- `gaps` holds the last number of `ends`, and the greatest difference of two numbers in `ends` that
--- follow each other
+-- `gaps` has the last number of `ends`, and the greatest difference of two successive numbers of
+-- `ends`
 pub record AreGaps (gaps : Gaps) (ends : List ℕ) : Type 0 where
   pub end : gaps.end ≡ last ends
   pub longest : gaps.longest ≡ most (steps ends)

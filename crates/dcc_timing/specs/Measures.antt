@@ -6,5 +6,6 @@ use Rattle.dcc_timing.specs.Measured.{AreMeasured}
 -- `timings` are the statistics of the list `halves`
 abbrev pub Measures : Timings → List ℕ → Type 0
 Measures timings halves =
-    AreMeasured timings.halves timings.time timings.classes timings.outcomes timings.packets timings.framer timings.recent
+    AreMeasured timings.halves timings.time timings.classes timings.outcomes timings.packets timings.framer
+    timings.recent
     halves

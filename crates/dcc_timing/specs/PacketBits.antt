@@ -10,8 +10,8 @@ use Rattle.dcc_timing.specs.Numbers.{keep_last}
 use Rattle.dcc_timing.specs.Classes.{is_half_of_one, is_half_of_zero}
 use Rattle.dcc_timing.specs.Tallies.{IsTally}
 
--- the number of half-bits from the beginning of the list to the end of a packet, and its bytes;
--- `None` if the outcome is no packet
+-- for an outcome that is a packet: the number of half-bits from the beginning of the list to the
+-- end of the packet, and the bytes of the packet. `None` for any other outcome.
 abbrev pub packet_at : ℕ × Seen → Option (ℕ × List ℕ)
 packet_at (place, Packet bytes) = Some (place + 1, bytes)
 packet_at (place, Refused fault) = None
@@ -22,8 +22,8 @@ packet_at (place, Nothing) = None
 unfoldable pub packets_in : List ℕ → List (ℕ × List ℕ)
 packets_in halves = filter_map packet_at (seen halves)
 
--- the number of half-bits of a packet with `bytes` bytes: those of the ten ones before its start
--- bit, of nine bits for each byte, and of the end bit
+-- the number of half-bits of a packet with `bytes` bytes: those of ten ones before its start bit,
+-- nine bits for each byte, and the end bit
 abbrev pub packet_length : ℕ → ℕ
 packet_length bytes = 22 + 18 * bytes
 

@@ -13,7 +13,7 @@ unfoldable pub mean : List ℕ → Option Mean
 mean [] = None
 mean (number ∷ numbers) = Some (quotient (sum (number ∷ numbers)) (length (number ∷ numbers)))
 
--- `tally` holds the count, the sum, the least number and the greatest number of the list `numbers`
+-- `tally` has the count, the sum, the least number and the greatest number of the list `numbers`
 pub record IsTally (tally : Tally) (numbers : List ℕ) : Type 0 where
   pub count : tally.count ≡ length numbers
   pub total : tally.sum ≡ sum numbers

@@ -19,5 +19,6 @@ mod timings;
 pub use bits::Bits;
 pub use classes::Classes;
 pub use outcomes::Outcomes;
+pub use recent::LastNumbers;
 pub use tally::{Mean, Tally};
 pub use timings::Timings;

@@ -5,7 +5,7 @@ ghost use Rattle.dcc_timing.specs.Inner.Steps.{bits_shown};
 
 use crate::bits::Bits;
 use crate::gaps::Gaps;
-use crate::recent::Recent;
+use crate::recent::LastNumbers;
 use dcc_wire::Seen;
 
 /// The statistics of the bits of the packets in a list of half-bits, and the longest time between
@@ -37,7 +37,7 @@ impl Packets {
 
     /// Adds an outcome that ends at the time `end`, in microseconds. The list `recent` ends with
     /// the last half-bit of this outcome.
-    pub(crate) fn add(&mut self, seen: &Seen, end: u64, recent: &Recent)
+    pub(crate) fn add(&mut self, seen: &Seen, end: u64, recent: &LastNumbers)
         requires { bits_count self.old.bits + 130 < 2 ^ 40 }
         ensures bits { (bits : List (ℕ × ℕ)) → AreBits self.old.bits bits
             → AreBits self.new.bits (bits ++ bits_among (bits_shown seen.now) recent.now) }

@@ -1,4 +1,4 @@
-//! The last 130 half-bits of a list.
+//! The last 130 numbers of a list.
 
 ghost use Rattle.std.specs.Prelude.{◌≡◌, ◌<◌};
 ghost use Rattle.arrayvec.specs.ArrayVec.{array_vec_len};
@@ -7,77 +7,78 @@ ghost use Rattle.dcc_timing.specs.Numbers.{keep_last};
 use arrayvec::ArrayVec;
 use std::marker::Model;
 
-/// The last 130 half-bits of a list. The longest packet has 130 half-bits with the last ten ones of
-/// its preamble.
+/// The last 130 numbers of a list, or all of them if there are fewer. The longest packet has 130
+/// half-bits with the last ten ones of its preamble.
 #[derive(Drop)]
-pub(crate) struct Recent {
-    /// The last 130 half-bits of the list, and sometimes half-bits before them.
-    halves: Halves,
+pub struct LastNumbers {
+    /// The last 130 numbers of the list, and sometimes numbers before them.
+    numbers: Numbers,
 }
 
-type Halves = ArrayVec<u16, 512>;
+type Numbers = ArrayVec<u16, 512>;
 
-impl Model for Recent {
+impl Model for LastNumbers {
     ghost use Rattle.std.specs.Prelude.{ℕ, List};
     ghost use Rattle.dcc_timing.specs.Numbers.{keep_last};
 
     ghost Value = { List ℕ };
 
-    ghost view = { λ r. keep_last 130 r.halves.items };
+    ghost view = { λ r. keep_last 130 r.numbers.items };
 }
 
-impl Recent {
+impl LastNumbers {
     ghost use Rattle.std.specs.Prelude.{◌≡◌, ◌≤◌, ℕ, List, [], ◌∷◌, ◌++◌, replicate};
     ghost use Rattle.dcc_timing.specs.Numbers.{keep_last};
 
     /// Creates an empty list.
-    pub(crate) fn new() -> Recent
+    pub fn new() -> LastNumbers
         ensures { result ≡ [] }
     {
-        Recent {
-            halves: Halves::new(),
+        LastNumbers {
+            numbers: Numbers::new(),
         }
     }
 
-    /// Appends `n` half-bits of `us` microseconds to the list.
-    pub(crate) fn take(&mut self, us: u16, n: u32)
-        ensures { (halves : List ℕ) → self.old ≡ keep_last 130 halves
-            → self.new ≡ keep_last 130 (halves ++ replicate n us) }
+    /// Appends a number to the list.
+    #[inline(always)]
+    pub fn push(&mut self, number: u16)
+        ensures { self.new ≡ keep_last 130 (self.old ++ number ∷ []) }
+    {
+        if self.numbers.is_full() {
+            self.numbers = last_of(self.numbers.as_slice());
+        }
+        self.numbers.push(number);
+    }
+
+    /// Appends a number to the list `n` times.
+    pub fn take(&mut self, number: u16, n: u32)
+        // If these are the last 130 numbers of a list, they are then the last 130 of the longer list.
+        ensures { (numbers : List ℕ) → self.old ≡ keep_last 130 numbers
+            → self.new ≡ keep_last 130 (numbers ++ replicate n number) }
     {
         let mut left = n.min(130);
-        'halves: while left > 0 {
-            self.take_one(us);
+        'numbers: while left > 0 {
+            self.push(number);
             left -= 1;
         }
     }
 
-    /// Appends a half-bit of `us` microseconds to the list.
-    #[inline(always)]
-    fn take_one(&mut self, us: u16)
-        ensures { self.new ≡ keep_last 130 (self.old ++ us ∷ []) }
-    {
-        if self.halves.is_full() {
-            self.halves = last_of(self.halves.as_slice());
-        }
-        self.halves.push(us);
-    }
-
-    /// Returns the last `n` half-bits of the list, or all of them if there are fewer.
-    pub(crate) fn last(&self, n: usize) -> &[u16]
+    /// Returns the last `n` numbers of the list, or all of them if there are fewer.
+    pub fn last(&self, n: usize) -> &[u16]
         requires { n ≤ 130 }
         ensures { result.now ≡ keep_last n self.now }
     {
-        let halves = self.halves.as_slice();
-        &halves[halves.len().saturating_sub(n)..]
+        let numbers = self.numbers.as_slice();
+        &numbers[numbers.len().saturating_sub(n)..]
     }
 }
 
-/// Returns the last 130 half-bits of `halves`, or all of them if there are fewer.
-fn last_of(halves: &[u16]) -> Halves
-    ensures items { result.items ≡ keep_last 130 halves.now }
+/// Returns the last 130 of these numbers, or all of them if there are fewer.
+fn last_of(numbers: &[u16]) -> Numbers
+    ensures items { result.items ≡ keep_last 130 numbers.now }
     ensures room { array_vec_len result < 512 }
 {
-    let mut last = Halves::new();
-    let _ = last.try_extend_from_slice(&halves[halves.len().saturating_sub(130)..]);
+    let mut last = Numbers::new();
+    let _ = last.try_extend_from_slice(&numbers[numbers.len().saturating_sub(130)..]);
     last
 }

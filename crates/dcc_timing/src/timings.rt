@@ -9,7 +9,7 @@ use crate::bits::Bits;
 use crate::classes::Classes;
 use crate::outcomes::Outcomes;
 use crate::packets::Packets;
-use crate::recent::Recent;
+use crate::recent::LastNumbers;
 use dcc_wire::Framer;
 
 /// The statistics of a list of half-bits, which show how near a track is to the limits of NMRA
@@ -27,7 +27,7 @@ pub struct Timings {
     outcomes: Outcomes,
     packets: Packets,
     framer: Framer,
-    recent: Recent,
+    recent: LastNumbers,
     ghost time_fits: { time ≤ 65535 * halves },
     ghost classes_fit: { classes_count classes ≤ halves },
     ghost outcomes_fit: { outcomes_count outcomes ≤ halves },
@@ -55,7 +55,7 @@ impl Timings {
             outcomes: Outcomes::new(),
             packets: Packets::new(),
             framer: Framer::new(),
-            recent: Recent::new(),
+            recent: LastNumbers::new(),
         }
     }
 

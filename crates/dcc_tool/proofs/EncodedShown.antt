@@ -71,7 +71,8 @@ line_back line (n ∷ ns) more small =
 -- a capture with this text and the line feed that closes it holds just the half-bits of these frames
 abbrev pub SaysHalves : Encode → List ℕ → List (List ℕ) → Type 0
 SaysHalves how text frames = (most line : ℕ) → how.hex ≡ false → length (halves_to_send how frames) ≤ most
-    → halves_of_words most (ended_words (outside line) (text ++ 10 ∷ [])) None ≡ record { said = halves_to_send how frames; fault = None }
+    → halves_of_words most (ended_words (outside line) (text ++ 10 ∷ [])) None
+    ≡ record { said = halves_to_send how frames; fault = None }
 
 pub empty_text_says : (how : Encode) → SaysHalves how [] []
 unfolding sent_all
@@ -82,7 +83,8 @@ pub frame_line_says : (how : Encode) (frame rest : List ℕ) (frames : List (Lis
     → SaysHalves how (frame_line how frame ++ rest) (frame ∷ frames)
 unfolding sent_all
 frame_line_says how frame rest frames says most line in_halves fits =
-    ap (λ (t : List ℕ). halves_of_words most (ended_words (outside line) ((t ++ rest) ++ 10 ∷ [])) None) (rw in_halves refl)
+    ap (λ (t : List ℕ). halves_of_words most (ended_words (outside line) ((t ++ rest) ++ 10 ∷ [])) None)
+    (rw in_halves refl)
     ∙ ap (λ (t : List ℕ). halves_of_words most (ended_words (outside line) t) None)
     (append_assoc (spaced_numbers (sent frame (timing_of how)) ++ 10 ∷ []) rest (10 ∷ []))
     ∙ ap (λ (ws : List PlacedWord). halves_of_words most ws None)
@@ -114,14 +116,16 @@ captured how frames text input says takes =
     within fewer = omega (arith, fewer, length-append text (10 ∷ []))
 
 pub shown : (how : Encode) (frames : List (List ℕ)) (text : List ℕ) (words : Bool) (old new : InputState)
-    (before after : WriterState) → SaysHalves how text frames → TakesText how frames text old → AllFrames (to_send how frames)
+    (before after : WriterState) → SaysHalves how text frames → TakesText how frames text old
+    → AllFrames (to_send how frames)
     → old.text ≡ closed_text false (Some text) → Shows words old before (Ok tt) new after
     → ListsSent words before after (to_send how frames)
 shown how frames text words old new before after says takes are whole shows =
     let ends = subst
     (λ (text : Option (List ℕ)).
     IfSome text (λ text. EndsWith None
-    (λ halves. WritesListing words before after halves × (new.halves + length halves ≡ old.halves)) (capture_in old text)))
+    (λ halves. WritesListing words before after halves × (new.halves + length halves ≡ old.halves))
+    (capture_in old text)))
     whole shows.0.items.0 in
     let lists = ends.1.0 in (
       lists.0,
@@ -145,13 +149,15 @@ pub encodings_are_shown : EncodingsAreShown
 encodings_are_shown how frames words old new before after takes are whole shows =
     shown how frames (encoding how frames) words old new before after (encoding_says how frames) takes are whole shows
 
-pub all_frames : (how : Encode) (frames : List (List ℕ)) → AllByRecursion IsFrame frames → AllFrames (to_send how frames)
+pub all_frames : (how : Encode) (frames : List (List ℕ)) → AllByRecursion IsFrame frames
+    → AllFrames (to_send how frames)
 unfolding AllFrames
 all_frames how [] are = tt
 all_frames how (frame ∷ frames) are = (are.0, all_frames how frames are.1)
 
 pub packet_lines_are_shown : PacketLinesAreShown
-packet_lines_are_shown how words lines lines' capture capture' from to before after text encoded encodes known empty gained takes whole shows =
+packet_lines_are_shown how words lines lines' capture capture' from to before after text encoded encodes known empty
+    gained takes whole shows =
     encodings_are_shown how (in_text packet_lines lines text).said words capture capture' before after takes
     (all_frames how (in_text packet_lines lines text).said (packet_lines_say_frames lines text))
     (whole ∙ ap (λ (text : Option (List ℕ)). closed_text false text) is) shows

@@ -51,14 +51,16 @@ record SpellsFrames (s : sending.Sending) : Type 0 where
   waiting : AllByRecursion IsSpelled s.waiting
   entries : AllByRecursion IsSpelled s.entries
 
-what_is_left : (p : Packet) (entries kept : List Packet) → sending.Leaves p entries kept → AllByRecursion IsSpelled entries
+what_is_left : (p : Packet) (entries kept : List Packet) → sending.Leaves p entries kept
+    → AllByRecursion IsSpelled entries
     → AllByRecursion IsSpelled kept
 what_is_left p [] kept leaves all = subst (AllByRecursion IsSpelled) (sym leaves) tt
 what_is_left p (entry ∷ entries) kept (inl gone) all = what_is_left p entries kept gone.1 all.1
 what_is_left p (entry ∷ entries) kept (inr stays) all =
     subst (AllByRecursion IsSpelled) (sym stays.1.1) (all.0, what_is_left p entries stays.1.0 stays.1.2 all.1)
 
-what_is_refreshed : (slots : ℕ) (p : Packet) (entries after : List Packet) → IsSpelled p → AllByRecursion IsSpelled entries
+what_is_refreshed : (slots : ℕ) (p : Packet) (entries after : List Packet) → IsSpelled p
+    → AllByRecursion IsSpelled entries
     → sending.Refreshes slots p entries after → AllByRecursion IsSpelled after
 what_is_refreshed slots p entries after is all refreshes =
     subst (AllByRecursion IsSpelled) (sym refreshes.2) (go (is_refreshed p))
@@ -73,13 +75,16 @@ what_is_refreshed slots p entries after is all refreshes =
         (all_append IsSpelled refreshes.0 (p ∷ []) kept (is, tt))
     go false = kept
 
-entries_after : (sent slots : ℕ) (p : Packet) (entries after : List Packet) → IsSpelled p → AllByRecursion IsSpelled entries
+entries_after : (sent slots : ℕ) (p : Packet) (entries after : List Packet) → IsSpelled p
+    → AllByRecursion IsSpelled entries
     → sending.EntriesAfter sent slots p entries after → AllByRecursion IsSpelled after
 entries_after zero slots p entries after is all h = what_is_refreshed slots p entries after is all h
 entries_after (suc sent) slots p entries after is all h = subst (AllByRecursion IsSpelled) (sym h) all
 
-sent_once_more : (s : sending.Sending) (p : Packet) (rest after : List Packet) → IsSpelled p → AllByRecursion IsSpelled rest
-    → AllByRecursion IsSpelled s.waiting → AllByRecursion IsSpelled after → SpellsFrames (sending.sent_once_more s p rest after)
+sent_once_more : (s : sending.Sending) (p : Packet) (rest after : List Packet) → IsSpelled p
+    → AllByRecursion IsSpelled rest
+    → AllByRecursion IsSpelled s.waiting → AllByRecursion IsSpelled after
+    → SpellsFrames (sending.sent_once_more s p rest after)
 sent_once_more s p rest after is more waiting entries = go (nat_le (sending.copies s.repeats p) (s.sent + 1))
   where
     go : (done : Bool) → SpellsFrames (if done then record s { waiting = rest; sent = 0; entries = after }
@@ -114,7 +119,8 @@ commanded s p (Some refused) is spells = spells
 -- each of these bytes is a gap or stands in a comment
 abbrev are_passed : TextPlace → List ℕ → Bool
 are_passed place [] = true
-are_passed place (byte ∷ bytes) = (comments place.in_comment byte || is_gap byte) && are_passed (behind place byte) bytes
+are_passed place (byte ∷ bytes) =
+    (comments place.in_comment byte || is_gap byte) && are_passed (behind place byte) bytes
 
 abbrev behind_all : TextPlace → List ℕ → TextPlace
 behind_all place [] = place
@@ -135,7 +141,8 @@ unfolding is_gap comments
 comment_back NotSendable line more = passed_all (outside line) (refusal_line NotSendable) more refl
 comment_back QueueFull line more = passed_all (outside line) (refusal_line QueueFull) more refl
 
-behind_command : (how : Encode) (refused : Option Refused) (rest : List ℕ) (frames : List (List ℕ)) → SaysHalves how rest frames
+behind_command : (how : Encode) (refused : Option Refused) (rest : List ℕ) (frames : List (List ℕ))
+    → SaysHalves how rest frames
     → SaysHalves how (command_line refused ++ rest) frames
 behind_command how None rest frames says most line in_halves fits = says most line in_halves fits
 behind_command how (Some refused) rest frames says most line in_halves fits =
@@ -145,13 +152,15 @@ behind_command how (Some refused) rest frames says most line in_halves fits =
     ∙ says most (line + 1) in_halves fits
 
 -- the frames that a station hands out, and its text
-record Handed (how : Encode) (s : sending.Sending) (items : List Asked) (text : List ℕ) (new : sending.Sending) : Type 0 where
-  frames : List (List ℕ)
-  hands_out : HandsOutFrames s items frames new
-  are : AllByRecursion IsFrame frames
-  says : SaysHalves how text frames
+record Handed (how : Encode) (s : sending.Sending) (items : List Asked) (text : List ℕ) (new : sending.Sending) : Type 0
+  where
+    frames : List (List ℕ)
+    hands_out : HandsOutFrames s items frames new
+    are : AllByRecursion IsFrame frames
+    says : SaysHalves how text frames
 
-answered : (how : Encode) (s : sending.Sending) (items : List Asked) (text : List ℕ) (new : sending.Sending) → SpellsFrames s
+answered : (how : Encode) (s : sending.Sending) (items : List Asked) (text : List ℕ) (new : sending.Sending)
+    → SpellsFrames s
     → AllByRecursion AsksForFrame items → AnswersAll how s items text new → Handed how s items text new
 answered how s [] text new spells asks answers =
     rw answers.0

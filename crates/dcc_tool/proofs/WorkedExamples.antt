@@ -57,7 +57,8 @@ unfolding is_gap comments run_text
 runs_are_read = refl
 
 run_is_seen : seen run_halves ≡ (83, Packet (3 ∷ 98 ∷ 97 ∷ [])) ∷ []
-unfolding seen outcomes_at outcome_at starts_below is_start used_up halves_used ones_at_end ones_before outcome_of bits_in behind_bits bytes_in body_outcome by_bits by_halves ones_left number_of
+unfolding seen outcomes_at outcome_at starts_below is_start used_up halves_used ones_at_end ones_before outcome_of
+    bits_in behind_bits bytes_in body_outcome by_bits by_halves ones_left number_of
 run_is_seen = refl
 
 run_is_written : (before after : WriterState) (out : List ℕ) → before.contents ≡ Some [] → after.contents ≡ Some out
@@ -73,7 +74,8 @@ run_is_written before after out empty full lists =
 run_is_shown : (new : InputState) (before after : WriterState) (out : List ℕ) → before.contents ≡ Some []
     → after.contents ≡ Some out → Shows false run_input before (Ok tt) new after → out ≡ codes "84 036261\n"
 run_is_shown new before after out empty full shows =
-    let fact : List ℕ → Type 0 = λ halves. WritesListing false before after halves × (new.halves + length halves ≡ 1000) in
+    let fact : List ℕ → Type 0 =
+    λ halves. WritesListing false before after halves × (new.halves + length halves ≡ 1000) in
     let read : (None ≡ None) × fact run_halves =
     subst (λ (items : Items ℕ). (items.fault ≡ None) × fact items.said) runs_are_read shows.0.items.0 in
     run_is_written before after out empty full read.1.0

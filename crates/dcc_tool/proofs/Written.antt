@@ -17,14 +17,15 @@ use Rattle.dcc_send.specs.Encoded.{Encodes}
 use Rattle.dcc_send.specs.ProgrammingTrackReading.{reading_text}
 use Rattle.dcc_send.specs.StationEncoded.{Answered}
 use Rattle.dcc_tool.specs.Written.{Gains, halves_said, ShowWritesTheListing, EncodeWritesTheEncoding}
-use Rattle.dcc_tool.specs.Written.{RunWritesTheDecoders}
+use Rattle.dcc_tool.specs.Written.{LostWritesTheLostPackets, RunWritesTheDecoders}
 use Rattle.dcc_tool.specs.Written.{ShowWritesAListing, TimingWritesTheFigures, StationWritesItsAnswers}
 use Rattle.dcc_tool.specs.Written.{ReadcvWritesTheReading}
 use Rattle.dcc_tool.specs.Written.{SameWritesTheVerdict, SameInputWritesTheVerdict}
 
 pub gains : (before after : WriterState) (bytes : List ℕ) → Appends before.contents after.contents bytes
     → Gains before after bytes
-gains before after bytes appends had known = go after.contents (subst (λ was. Appends was after.contents bytes) known appends)
+gains before after bytes appends had known =
+    go after.contents (subst (λ was. Appends was after.contents bytes) known appends)
   where
     go : (now : Option (List ℕ)) → Appends (Some had) now bytes → now ≡ Some (had ++ bytes)
     go None written = absurd written
@@ -64,6 +65,11 @@ pub show_writes_a_listing : ShowWritesAListing
 show_writes_a_listing words old new before after text shows known =
     let lists = (of_text captures old new _ text shows.0 known).0 in
     (lists.0, lists.1, gains before after lists.0 lists.2)
+
+pub lost_writes_the_lost_packets : LostWritesTheLostPackets
+lost_writes_the_lost_packets words old new before after text lists known =
+    let lines = (of_text captures old new _ text lists.0 known).0 in
+    (lines.0, lines.1, gains before after lines.0 lines.2)
 
 pub timing_writes_the_figures : TimingWritesTheFigures
 timing_writes_the_figures old new before after text times known =

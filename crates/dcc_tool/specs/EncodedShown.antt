@@ -22,43 +22,42 @@ in_half_bits = record { hex = false; service = false; station = None }
 abbrev pub to_send : Encode → List (List ℕ) → List Sent
 to_send how frames = map (λ frame. record { bytes = frame; timing = timing_of how }) frames
 
--- the half-bits of `frames`, which are sent one after the other with the timing of the encoding
--- `how`
+-- the half-bits of `frames`, sent one after the other with the timing of the encoding `how`
 abbrev pub halves_to_send : Encode → List (List ℕ) → List ℕ
 halves_to_send how frames = sent_all (to_send how frames)
 
--- the encoding of `frames`, followed by the line feed that closes a text
+-- the encoding of `frames`, and the line feed that an input appends to a text
 abbrev pub closed_encoding : Encode → List (List ℕ) → List ℕ
 closed_encoding how frames = encoding how frames ++ codes "\n"
 
--- the encoding `how` is in half-bits, and `input` is not in a comment. Its limits allow the
--- half-bits of `frames`, the bytes of `text`, and the line feed that closes the text.
+-- the encoding `how` has half-bits, and `input` is not in a comment. The limits of `input` allow
+-- the half-bits of `frames`, the bytes of `text`, and the line feed after the text.
 pub record TakesText (how : Encode) (frames : List (List ℕ)) (text : List ℕ) (input : InputState) : Type 0 where
   pub in_halves : how.hex ≡ false
   pub in_no_comment : input.place.in_comment ≡ false
   pub halves : length (halves_to_send how frames) ≤ input.halves
   pub bytes : length text < input.bytes
 
--- the encoding of `frames` is in half-bits, and the input can read it: the input is not in a
--- comment, and its limits allow the encoding
+-- the encoding of `frames` has half-bits, and the input can read it: the input is not in a comment,
+-- and its limits allow the encoding
 abbrev pub TakesEncoding : Encode → List (List ℕ) → InputState → Type 0
 TakesEncoding how frames = TakesText how frames (encoding how frames)
 
--- an encoding of `frames` that the input can read is a capture, without an error, of exactly the
--- half-bits of `frames`
+-- an encoding of `frames` that an input can read is a capture without an error, and its half-bits
+-- are exactly those of `frames`
 abbrev pub EncodingsAreCaptures : Type 0
 EncodingsAreCaptures = (how : Encode) (frames : List (List ℕ)) (input : InputState) → TakesEncoding how frames input
     → capture_in input (closed_encoding how frames) ≡ record { said = halves_to_send how frames; fault = None }
 
--- in the capture that is the encoding of `frames`, the outcomes are exactly these frames, in order,
+-- the outcomes in the capture that is the encoding of `frames` are exactly these frames, in order,
 -- each at its last half-bit
 abbrev pub EncodedFramesAreSeen : Type 0
 EncodedFramesAreSeen = (how : Encode) (frames : List (List ℕ)) (input : InputState) → TakesEncoding how frames input
     → AllFrames (to_send how frames)
     → seen (capture_in input (closed_encoding how frames)).said ≡ at_last_halves 0 (to_send how frames)
 
--- a listing of `frames` was written: one line for each frame, in order, with the number of its last
--- half-bit
+-- the listing of `frames` was written. It has one line for each frame, in order, with the number of
+-- its last half-bit.
 abbrev pub ListsSent : Bool → WriterState → WriterState → List Sent → Type 0
 ListsSent words before after frames =
     (text : List ℕ) × IsListing words (at_last_halves 0 frames) text × Appends before.contents after.contents text
@@ -71,8 +70,8 @@ EncodingsAreShown = (how : Encode) (frames : List (List ℕ)) (words : Bool) (ol
     → old.text ≡ closed_text false (Some (encoding how frames)) → Shows words old before (Ok tt) new after
     → ListsSent words before after (to_send how frames)
 
--- if `encode` has written the encoding of packet lines into memory, and `show` reads it without an
--- error, `show` lists exactly the packets of these lines
+-- if `encode` wrote the encoding of packet lines into memory, and `show` reads it without an error,
+-- `show` lists exactly the packets of these lines
 abbrev pub PacketLinesAreShown : Type 0
 PacketLinesAreShown = (how : Encode) (words : Bool) (lines lines' capture capture' : InputState)
     (from to before after : WriterState) (text encoded : List ℕ)

@@ -14,10 +14,11 @@ use Rattle.dcc_capture.specs.Listing.{listing}
 use Rattle.dcc_capture.specs.Shown.{Shows}
 use Rattle.dcc_tool.specs.Written.{halves_said}
 
--- the listing of `text` if the limits are `halves` half-bits and `bytes` bytes. A proof can unfold
+-- the listing of `text`, with limits of `halves` half-bits and `bytes` bytes. A proof can unfold
 -- this definition and compute the listing of a given text.
 unfoldable pub listed_text : ℕ → ℕ → List ℕ → List ℕ
-unfolding is_gap comments seen outcomes_at outcome_at starts_below is_start used_up halves_used ones_at_end ones_before outcome_of bits_in behind_bits bytes_in body_outcome by_bits by_halves ones_left number_of digits encode_with
+unfolding is_gap comments seen outcomes_at outcome_at starts_below is_start used_up halves_used ones_at_end ones_before
+    outcome_of bits_in behind_bits bytes_in body_outcome by_bits by_halves ones_left number_of digits encode_with
 listed_text halves bytes text = listing (seen (halves_said (fresh (Some text) 0 halves bytes) (text ++ 10 ∷ [])))
 
 -- if `show` returns Ok for a text in memory and a writer into memory, the bytes that it wrote are

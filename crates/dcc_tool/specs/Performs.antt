@@ -8,8 +8,8 @@ use Rattle.dcc_regs.specs.declared.register.Who.TheVariants as who
 use Rattle.dcc_regs.specs.Result.{RegisterMap}
 use Rattle.dcc_regs.specs.Loco.{loco_registers}
 use Rattle.dcc_regs.specs.Board.{board_registers}
-use Rattle.dcc_regs.specs.LocoState.{content as loco_content}
-use Rattle.dcc_regs.specs.BoardState.{content as board_content}
+use Rattle.dcc_regs.specs.LocoState.{loco_state_content}
+use Rattle.dcc_regs.specs.BoardState.{board_state_content}
 use Rattle.dcc_order.specs.declared.verdict.Verdict.{Verdict}
 use Rattle.dcc_station.specs.Sending.{idle_sending}
 use Rattle.dcc_io.specs.declared.fault.ToolFault.{ToolFault}
@@ -25,6 +25,7 @@ use Rattle.dcc_saved.specs.PossibleLines.{is_possible}
 use Rattle.dcc_saved.specs.TextRead.{ReadsValue, UsedWholeLines}
 use Rattle.dcc_saved.specs.TextReadOrNoMemory.{ReadFails}
 use Rattle.dcc_capture.specs.Shown.{Shows}
+use Rattle.dcc_listen.specs.LostListing.{ListsLost}
 use Rattle.dcc_listen.specs.Timed.{Times}
 use Rattle.dcc_listen.specs.FleetRun.{Fleet, Runs}
 use Rattle.dcc_listen.specs.ComparedBoth.{ComparesBoth}
@@ -46,32 +47,30 @@ pub record Streams : Type 0 where
   -- the state of the writer
   pub writer : WriterState
 
--- the result is an error, or an ending without a verdict and without a value. `holds` is true for
--- the result of the operation.
+-- the result is an error, or an ending without a verdict and without a value, and `holds` is true
+-- for it
 abbrev pub Done : Result Ending ToolFault → (Result (Unit {0}) ToolFault → Type 0) → Type 0
 Done (Ok ending.Done) holds = holds (Ok tt)
 Done (Ok (ending.Verdict verdict)) holds = ⊥
 Done (Ok (ending.Value value)) holds = ⊥
 Done (Err fault) holds = holds (Err fault)
 
--- the result is an error, or an ending with a verdict. `holds` is true for the result of the
--- operation.
+-- the result is an error, or an ending with a verdict, and `holds` is true for it
 abbrev pub Judged : Result Ending ToolFault → (Result Verdict ToolFault → Type 0) → Type 0
 Judged (Ok ending.Done) holds = ⊥
 Judged (Ok (ending.Verdict verdict)) holds = holds (Ok verdict)
 Judged (Ok (ending.Value value)) holds = ⊥
 Judged (Err fault) holds = holds (Err fault)
 
--- the result is an error, or an ending with a value or with no value. `holds` is true for the
--- result of the operation.
+-- the result is an error, or an ending with a value or with no value, and `holds` is true for it
 abbrev pub Valued : Result Ending ToolFault → (Result (Option ℕ) ToolFault → Type 0) → Type 0
 Valued (Ok ending.Done) holds = ⊥
 Valued (Ok (ending.Verdict verdict)) holds = ⊥
 Valued (Ok (ending.Value value)) holds = holds (Ok value)
 Valued (Err fault) holds = holds (Err fault)
 
--- if the input has stored an error, `answer` is this error, and nothing was read or written.
--- Otherwise `fact` holds.
+-- if the input stores an error, `answer` is this error, and nothing was read or written. Otherwise
+-- `fact` holds.
 pub record KeptOr {A : Type 0} (old : Streams) (answer : Result A ToolFault) (new : Streams) (fact : Type 0) : Type 0
   where
     pub kept : IfSome old.input.fault (λ fault. (answer ≡ Err (as_tool_fault fault)) × (new ≡ old))
@@ -83,12 +82,18 @@ abbrev pub ShowsCapture : Bool → Streams → Result (Unit {0}) ToolFault → S
 ShowsCapture words old answer new =
     KeptOr old answer new (Shows words old.input old.writer answer new.input new.writer)
 
+-- `lost` has listed the packets that are lost in the capture, or `answer` is its error
+abbrev pub ListsLostOfCapture : Bool → Streams → Result (Unit {0}) ToolFault → Streams → Type 0
+ListsLostOfCapture words old answer new =
+    KeptOr old answer new (ListsLost words old.input old.writer answer new.input new.writer)
+
 -- `timing` has written the statistics of the capture, or `answer` is its error
 abbrev pub TimesCapture : Streams → Result (Unit {0}) ToolFault → Streams → Type 0
 TimesCapture old answer new =
     KeptOr old answer new (Times old.input old.writer answer new.input new.writer)
 
--- `encode` has written the encoding of the packet lines; with a station, the answers of the station
+-- `encode` has written the encoding of the packet lines, or the answers of the station if the
+-- request has a station
 pub record WritesPackets (how : Encode) (old : Streams) (answer : Result (Unit {0}) ToolFault) (new : Streams) : Type 0
   where
     pub packets : how.station ≡ None
@@ -114,21 +119,21 @@ pub record SavesThese (old : InputState) (decoders : List Saved) (new : InputSta
   pub lines : UsedWholeLines old new
   pub possible : All (λ decoder. is_possible decoder ≡ true) decoders
 
--- the decoder text has the error `fault`, or the input has stored it, or it is U6 and an allocation
--- failed. Nothing was written.
+-- the decoder text has the error `fault`, or the input stores this error, or `fault` is U6 and an
+-- allocation failed. Nothing was written.
 pub record TextFails (old : Streams) (fault : ToolFault) (new : Streams) : Type 0 where
   pub kept : IfSome old.input.fault (λ kept. (fault ≡ as_tool_fault kept) × (new.input ≡ old.input))
   pub cause : ReadHasFailure old.input.fault old.input.failures
   pub reads : old.input.fault ≡ None → ReadFails old.input fault new.input
   pub writer : new.writer ≡ old.writer
 
--- the identity and the registers of a decoder with the given saved state
+-- the identity and the registers of a decoder with this saved state
 abbrev pub decoder_of : Saved → Who × RegisterMap
-decoder_of (saved.Loco state) = (who.Loco state.address, loco_registers (loco_content state))
-decoder_of (saved.Board state) = (who.Board state.board, board_registers (board_content state))
+decoder_of (saved.Loco state) = (who.Loco state.address, loco_registers (loco_state_content state))
+decoder_of (saved.Board state) = (who.Board state.board, board_registers (board_state_content state))
 
--- `decoders` have heard the rest `left` of the input as a capture, and their decoder text was
--- written. If an allocation failed, nothing was written.
+-- `decoders` have heard the capture `left`, which is the remaining input, and their decoder text
+-- was written. If an allocation failed, nothing was written.
 abbrev pub RunsDecoders : List Saved → InputState → Streams → Result (Unit {0}) ToolFault → Streams → Type 0
 RunsDecoders decoders left old answer new =
     ((answer ≡ Err told.NoMemory) × (new.input ≡ left) × (new.writer ≡ old.writer))
@@ -165,16 +170,16 @@ abbrev pub ReadsEmptyTrack : CvNumber → Streams → Result (Option ℕ) ToolFa
 ReadsEmptyTrack cv old answer new =
     (new.input ≡ old.input) × ReadsCv None cv old.writer answer new.writer
 
--- `readcv` has asked its questions about `cv`. For `true` the track is empty, otherwise the
--- questions go to the first locomotive decoder of the decoder text.
+-- `readcv` has asked its questions about `cv`. If the first argument is true, the track is empty.
+-- Otherwise the questions go to the first locomotive decoder of the decoder text.
 abbrev pub ReadsTrack : Bool → CvNumber → Streams → Result (Option ℕ) ToolFault → Streams → Type 0
 ReadsTrack true cv old answer new = ReadsEmptyTrack cv old answer new
 ReadsTrack false cv old answer new = ReadsFromText cv old answer new
 
--- The operation that belongs to the subcommand of a request was executed, and `result` is its
--- result.
+-- The operation of the subcommand of a request was executed, and `result` is its result.
 abbrev pub Performs : Request → Streams → Result Ending ToolFault → Streams → Type 0
 Performs (request.Show words) old result new = Done result (λ answer. ShowsCapture words old answer new)
+Performs (request.Lost words) old result new = Done result (λ answer. ListsLostOfCapture words old answer new)
 Performs (request.Encode how) old result new = Done result (λ answer. EncodesLines how old answer new)
 Performs request.Run old result new = Done result (λ answer. RunsText old answer new)
 Performs (request.Same who) old result new =

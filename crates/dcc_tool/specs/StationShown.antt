@@ -12,8 +12,8 @@ use Rattle.dcc_send.specs.declared.encoding.Encode.{Encode}
 use Rattle.dcc_send.specs.StationEncoded.{StationText, after_command, refusal}
 use Rattle.dcc_tool.specs.EncodedShown.{ListsSent, TakesText, to_send}
 
--- `frames` are the frames of the packets that a station in state `s` returns for a list of
--- requests, in order. The station is then in state `new`.
+-- a station in state `s` gets a list of requests and goes to state `new`. `frames` are the frames
+-- of the packets that it returns, in order.
 abbrev pub HandsOutFrames : sending.Sending → List Asked → List (List ℕ) → sending.Sending → Type 0
 HandsOutFrames s [] frames new = (frames ≡ []) × (new ≡ s)
 HandsOutFrames s (Command frame ∷ items) frames new =
@@ -23,8 +23,8 @@ HandsOutFrames s (Next ∷ items) frames new =
     (packet : Packet) × (between : sending.Sending) × (later : List (List ℕ)) × sending.Next s packet between
     × (frames ≡ spelling packet ∷ later) × HandsOutFrames between items later new
 
--- If `encode` has written the answers of a new station into memory, and `show` reads them without
--- an error, it lists exactly the packets that the station returned. The comments for refused
+-- If `encode` wrote the answers of a new station into memory, and `show` reads them without an
+-- error, `show` lists exactly the packets that the station returned. The comments about refused
 -- commands contain no half-bits.
 abbrev pub StationPacketsAreShown : Type 0
 StationPacketsAreShown = (how : Encode) (queue slots repeats : ℕ) (lines lines' : InputState) (from to : WriterState)

@@ -5,6 +5,7 @@ ghost use Rattle.dcc_tool.specs.EncodedShown.{PacketLinesAreShown};
 ghost use Rattle.dcc_tool.specs.ListedText.{ShowListsTheText};
 ghost use Rattle.dcc_tool.specs.StationShown.{StationPacketsAreShown};
 ghost use Rattle.dcc_tool.specs.Written.{EncodeWritesTheEncoding, RunWritesTheDecoders, ShowWritesTheListing};
+ghost use Rattle.dcc_tool.specs.Written.{LostWritesTheLostPackets};
 ghost use Rattle.dcc_tool.specs.Written.{ReadcvWritesTheReading, SameInputWritesTheVerdict, SameWritesTheVerdict};
 ghost use Rattle.dcc_tool.specs.Written.{ShowWritesAListing, StationWritesItsAnswers, TimingWritesTheFigures};
 
@@ -31,13 +32,15 @@ pub fn what_is_encoded_is_shown()
 /// Theorem: an operation that returns Ok has written exactly the bytes listed below, if the bytes
 /// of its reader and writer are known.
 ///
-/// `show` writes a listing of the capture, with words or without words. `timing` writes the
-/// statistics of the capture. `encode` writes the encoding of the packets, or the answers of the
-/// station. `run` writes the decoder text of the fleet, which has heard the capture. `same` writes
-/// the line of the verdict. `readcv` writes the questions with their answers, and the value.
+/// `show` writes a listing of the capture, with words or without words. `lost` writes the lines of the
+/// lost packets of the capture, with words or without words. `timing` writes the statistics of the
+/// capture. `encode` writes the encoding of the packets, or the answers of the station. `run` writes
+/// the decoder text of the fleet, which has heard the capture. `same` writes the line of the verdict.
+/// `readcv` writes the questions with their answers, and the value.
 pub fn what_calls_write()
     ensures show { ShowWritesTheListing }
     ensures show_words { ShowWritesAListing }
+    ensures lost { LostWritesTheLostPackets }
     ensures timing { TimingWritesTheFigures }
     ensures encode { EncodeWritesTheEncoding }
     ensures station { StationWritesItsAnswers }

@@ -7,7 +7,7 @@ ghost use Rattle.dcc_tool.specs.Performs.{Performs, ReadsTrack, RunsText};
 use crate::ending::Ending;
 use dcc_capture::show;
 use dcc_io::{Input, Sink, Source, ToolFault};
-use dcc_listen::{run, same_input, timing};
+use dcc_listen::{lost, run, same_input, timing};
 use dcc_packet::CvNumber;
 use dcc_regs::{BoardState, Decoder, LocoState, PackedBoard, PackedLoco, Who};
 use dcc_saved::{Saved, read_decoders};
@@ -19,6 +19,10 @@ use std::alloc::Global;
 pub enum Request {
     /// The operation `show`: lists a capture, with packets as packet lines if `words` is true.
     Show { words: bool },
+
+    /// The operation `lost`: lists the packets of a capture that a decoder does not hear, as packet
+    /// lines if `words` is true.
+    Lost { words: bool },
 
     /// The operation `encode`: writes the half-bits or the bytes of packet lines.
     Encode(Encode),
@@ -51,6 +55,10 @@ pub fn perform<R: Source, W: Sink>(
     match request {
         Request::Show { words } => {
             show(input, writer, words)?;
+            Ok(Ending::Done)
+        }
+        Request::Lost { words } => {
+            lost(input, writer, words)?;
             Ok(Ending::Done)
         }
         Request::Encode(how) => {

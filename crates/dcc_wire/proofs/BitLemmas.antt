@@ -21,7 +21,8 @@ pub halves_of-bit : (bits : List Bool) (bit : Bool)
     → halves_of (bits ++ bit ∷ []) ≡ (halves_of bits ++ half_of bit ∷ []) ++ half_of bit ∷ []
 unfolding halves_of half_of
 halves_of-bit bits true = halves_of-append bits (true ∷ []) ∙ sym (append_assoc (halves_of bits) (One ∷ []) (One ∷ []))
-halves_of-bit bits false = halves_of-append bits (false ∷ []) ∙ sym (append_assoc (halves_of bits) (Zero ∷ []) (Zero ∷ []))
+halves_of-bit bits false =
+    halves_of-append bits (false ∷ []) ∙ sym (append_assoc (halves_of bits) (Zero ∷ []) (Zero ∷ []))
 
 pub length-halves_of : (bits : List Bool) → length (halves_of bits) ≡ 2 * length bits
 unfolding halves_of
@@ -31,7 +32,8 @@ length-halves_of (false ∷ bits) = omega (arith, length-halves_of bits)
 
 -- halves of bits and more are read as those bits and what is behind them
 pub halves_read : (bits : List Bool) (more : List Half)
-    → (bits_in (halves_of bits ++ more) ≡ bits ++ bits_in more) × (behind_bits (halves_of bits ++ more) ≡ behind_bits more)
+    → (bits_in (halves_of bits ++ more) ≡ bits ++ bits_in more)
+    × (behind_bits (halves_of bits ++ more) ≡ behind_bits more)
 unfolding halves_of bits_in behind_bits
 halves_read [] more = (refl, refl)
 halves_read (true ∷ bits) more = let w = halves_read bits more in (ap (λ l. true ∷ l) w.0, w.1)

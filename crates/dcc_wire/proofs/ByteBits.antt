@@ -115,7 +115,8 @@ AllBytes-append (byte ∷ xs) ys all more = (all.0, AllBytes-append xs ys all.1 
 -- what is read from a zero and the bits behind it
 
 zero_long : (n : ℕ) (bits : List Bool) → 8 ≤ length bits
-    → bytes_in (suc n) (false ∷ bits) ≡ option_map (λ q. (number_of (take 8 bits) ∷ q.0, q.1)) (bytes_in n (drop 8 bits))
+    → bytes_in (suc n) (false ∷ bits)
+    ≡ option_map (λ q. (number_of (take 8 bits) ∷ q.0, q.1)) (bytes_in n (drop 8 bits))
 unfolding bytes_in
 zero_long n bits h = rw (le-ltb (length bits) 8 h)
 

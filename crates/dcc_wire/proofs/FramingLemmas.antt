@@ -69,7 +69,8 @@ told : (halves : List Half) (place : ℕ) → place ≤ length halves → Told h
 unfolding starts_below Told
 told halves zero within = tt
 told halves (suc place) within =
-    told_next halves (starts_below halves place) place (omega (arith, within)) (told halves place (omega (arith, within)))
+    told_next halves (starts_below halves place) place (omega (arith, within))
+    (told halves place (omega (arith, within)))
     _ refl
 
 -- what one half more leaves as it was
@@ -79,9 +80,11 @@ module _ (halves : List Half) (half : Half) where
   longer = halves ++ half ∷ []
 
   -- an outcome that has come
-  settled : (start : ℕ) (p : ℕ × Seen) → outcome_of (drop start halves) ≡ Some p → outcome_of (drop start longer) ≡ Some p
+  settled : (start : ℕ) (p : ℕ × Seen) → outcome_of (drop start halves) ≡ Some p → outcome_of (drop start longer)
+      ≡ Some p
   settled start p e =
-      let within : start ≤ length halves = omega (arith, outcome_of-long (drop start halves) p e, length-drop start halves) in
+      let within : start ≤ length halves =
+      omega (arith, outcome_of-long (drop start halves) p e, length-drop start halves) in
       rw (drop-append-le start halves (half ∷ []) within) (outcome_of-more (drop start halves) (half ∷ []) p e)
 
   settled_used_up : (start : ℕ) (earlier : List ℕ) (p : ℕ × Seen) → outcome_of (drop start halves) ≡ Some p
@@ -114,7 +117,8 @@ module _ (halves : List Half) (half : Half) where
     | inl none ↦
         let fits : start ≤ length halves = omega (arith, within, told.0) in
         not_start longer (start ∷ earlier) place (omega (arith, open_used_up start earlier fits none, within))
-        ∙ sym (not_start halves (start ∷ earlier) place (omega (arith, used_up_open halves start earlier fits none, within)))
+        ∙ sym (not_start halves (start ∷ earlier) place
+        (omega (arith, used_up_open halves start earlier fits none, within)))
     | inr some ↦ same_start (start ∷ earlier) place within (settled_used_up start earlier some.0 some.1)
   ]
 
@@ -124,7 +128,11 @@ module _ (halves : List Half) (half : Half) where
   starts_below-longer zero within = refl
   starts_below-longer (suc place) within =
       let before : place ≤ length halves = omega (arith, within) in
-      rw (starts_below-longer place before, is_start-longer (starts_below halves place) place within (told halves place before))
+      rw (
+        starts_below-longer place before,
+        is_start-longer (starts_below halves place) place within
+            (told halves place before),
+      )
 
   -- and the outcomes that have come
   settled_outcomes : (places : List ℕ) → Settled halves places → outcomes_at longer places ≡ outcomes_at halves places
@@ -146,7 +154,8 @@ record Step (halves : List Half) (half : Half) (old new : List ℕ) : Type 0 whe
   outcomes : outcomes_at (halves ++ half ∷ []) new ≡ outcomes_at halves old
       ++ report_at (length halves) (answer_to (rest_at halves old) half)
 
-pub reported_something : (place : ℕ) (outcome : Seen) → outcome ≢ Nothing → report_at place outcome ≡ (place, outcome) ∷ []
+pub reported_something : (place : ℕ) (outcome : Seen) → outcome ≢ Nothing → report_at place outcome ≡ (place, outcome)
+    ∷ []
 unfolding report_at
 reported_something place outcome something = grind arith
 
@@ -174,8 +183,17 @@ body_step halves half start earlier within all e =
           let place : start + (length (drop start halves) + 1) - 1 ≡ length halves =
           omega (arith, length-drop start halves, within) in
           record {
-            open_part = rw (← drop-drop, next, e, ends.is, ends.left) (ap Hunting (omega (arith, ones_left_le ends.outcome)));
-            outcomes = rw (same, next, e, ends.is, place, reported_something (length halves) ends.outcome ends.something)
+            open_part = rw (← drop-drop, next, e, ends.is, ends.left)
+                (ap Hunting (omega (arith, ones_left_le ends.outcome)));
+            outcomes = rw (
+              same,
+              next,
+              e,
+              ends.is,
+              place,
+              reported_something (length halves) ends.outcome
+                  ends.something,
+            )
                 (ap (λ l. l ++ (length halves, ends.outcome) ∷ []) (sym (append-nil (outcomes_at halves earlier))));
           }
     ]

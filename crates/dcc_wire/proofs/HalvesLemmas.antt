@@ -27,7 +27,8 @@ byte_bit : ℕ → ℕ → Bool
 byte_bit byte zero = false
 byte_bit byte (suc j) = eqb (bit_at byte (8 - suc j)) 1
 
-behind_byte : (byte : ℕ) (bytes : List ℕ) (k : ℕ) → slice_get (body_bits (byte ∷ bytes)) (k + 9) ≡ slice_get (body_bits bytes) k
+behind_byte : (byte : ℕ) (bytes : List ℕ) (k : ℕ) → slice_get (body_bits (byte ∷ bytes)) (k + 9)
+    ≡ slice_get (body_bits bytes) k
 unfolding body_bits bits_of
 behind_byte byte bytes k =
     let nine : k + 9 ≡ suc (suc (suc (suc (suc (suc (suc (suc (suc k)))))))) = omega arith in rw nine

@@ -131,7 +131,8 @@ module _ {k : Kept} (is : IsKept k) (out : k.in_body ≡ false) (half : Half) wh
   body_begins bytes none begins =
       grown_to is half _ (rw (none, out) (sym begins)) (rw out) (λ in_it. rw none packed_none)
 
-  pub one_counted : (ones : ℕ) → Hunting ones ≡ rest_after (Hunting k.ones) half → Grows k half (record k { ones = ones })
+  pub one_counted : (ones : ℕ) → Hunting ones ≡ rest_after (Hunting k.ones) half
+      → Grows k half (record k { ones = ones })
   unfolding answer_to
   one_counted ones counted = grown_to is half (record k { ones = ones }) (rw out counted) (rw out) is.packed
 
@@ -194,11 +195,14 @@ module _ {k : Kept} (is : IsKept k) (in_body : k.in_body ≡ true) (half : Half)
     ]
 
   -- where it shows something there is no room for it
-  pub shows_no_room : (bit : Bool) → bit_of half ≡ Some bit → answer_to (kept_rest k) half ≢ Nothing → ¬ (HasRoomFor k bit)
+  pub shows_no_room : (bit : Bool) → bit_of half ≡ Some bit → answer_to (kept_rest k) half ≢ Nothing
+      → ¬ (HasRoomFor k bit)
   shows_no_room bit of shows (inl not_yet) = shows (first_comes is in_body half bit of not_yet).answer
   shows_no_room bit of shows (inr behind) = elim (cases_lt k.count 8) [
-    | inl less ↦ shows (second_added is in_body half bit of behind.has_first (inr behind) {number = cond bit 1 0} refl less).answer
-    | inr most ↦ shows (byte_added is in_body half bit of behind.has_first (inr behind) {number = cond bit 1 0} refl most refl).answer
+    | inl less ↦ shows (second_added is in_body half bit of behind.has_first (inr behind) {number = cond bit 1 0} refl
+        less).answer
+    | inr most ↦ shows (byte_added is in_body half bit of behind.has_first (inr behind) {number = cond bit 1 0} refl
+        most refl).answer
   ]
 
 -- what an outcome leaves
@@ -221,5 +225,6 @@ pub hunts_again : {k : Kept} (is : IsKept k) (half : Half) → answer_to (kept_r
 hunts_again {k} is half shows ones e = record {
   packed = λ in_it. cc;
   unfinished = λ in_it. cc;
-  history = subst HasHistory (outcome_leaves k half shows ∙ ap Hunting (sym e)) (history_more (kept_rest k) half is.history);
+  history = subst HasHistory (outcome_leaves k half shows ∙ ap Hunting (sym e))
+      (history_more (kept_rest k) half is.history);
 }

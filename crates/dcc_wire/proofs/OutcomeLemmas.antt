@@ -97,7 +97,8 @@ pub something_closed : (bytes : List ℕ) → body_outcome bytes ≢ Nothing
 unfolding body_outcome
 something_closed bytes e = grind arith
 
--- one more bit goes on, or closes bytes: as an end bit, whose ones are left to the next preamble, or as a zero behind six bytes
+-- One more bit extends the body, or ends it. The end is an end bit, whose halves count for the next preamble, or a zero
+-- after six bytes.
 
 closed_left : (bits : List Bool) (bit : Bool) (bytes : List ℕ)
     → let halves = halves_of bits ++ half_of bit ∷ [] in

@@ -39,7 +39,8 @@ open-bits halves h =
     let few = one_left (2 * length (bits_in halves)) (behind_bits halves) parts.1 in
     let all = ap length (halves_split halves).0 in
     let nothing : behind_bits halves ≡ [] =
-    nil_from_length (behind_bits halves) (omega (arith, few, all, h.even, length-append {A = Half}, length-halves_of)) in
+    nil_from_length (behind_bits halves) (omega (arith, few, all, h.even, length-append {A = Half}, length-halves_of))
+    in
     (bits_in halves, sym (rw (nothing, append-nil) at (halves_split halves).0), parts.0)
 
 bits-open : (bits : List Bool) → bytes_in 6 bits ≡ None → IsOpen (halves_of bits)
@@ -93,7 +94,8 @@ module _ (bits : List Bool) (none : bytes_in 6 bits ≡ None) where
       ∙ ap (λ k. Some (k, o)) (omega (arith, length-append (halves_of bits) tail, length-halves_of bits))
 
   bad_half : (half : List Half) → IsUnpaired half
-      → outcome_of (halves_of bits ++ half ++ Bad ∷ []) ≡ Some (length (halves_of bits ++ half ++ Bad ∷ []), Refused BadHalf)
+      → outcome_of (halves_of bits ++ half ++ Bad ∷ [])
+      ≡ Some (length (halves_of bits ++ half ++ Bad ∷ []), Refused BadHalf)
   unfolding bits_in behind_bits by_halves
   bad_half half unpaired =
       rw append_assoc (refused (half ++ Bad ∷ []) (Refused BadHalf) (grind arith) (grind arith) (grind arith))
@@ -197,7 +199,8 @@ module _ (bits : List Bool) (is_open : IsOpen (halves_of bits)) where
   row_bad half unpaired =
       (halves_of bits, half, is_open, unpaired, sym (append_assoc (halves_of bits) half (Bad ∷ [])))
 
-  row_open : (tail : List Half) → bits_in tail ≡ [] → IsAnswer (halves_of bits ++ tail) (by_halves (2 * length bits) tail)
+  row_open : (tail : List Half) → bits_in tail ≡ []
+      → IsAnswer (halves_of bits ++ tail) (by_halves (2 * length bits) tail)
   unfolding bits_in by_halves
   row_open [] e = (halves_of bits, [], is_open, tt, refl)
   row_open (Bad ∷ tail) e = row_behind (Bad ∷ []) tail (Refused BadHalf) (row_bad [] tt)

@@ -450,7 +450,13 @@ unfolding at_last_halves AllFrames sent_all
 long_preambles noise first others frames long =
     let place = length-append noise (sent first.bytes first.timing) in
     others_seen noise first others frames
-    ∙ rw (first_seen noise first frames.0, first_kept noise first (omega (arith, long)), append-nil, place, append_assoc)
+    ∙ rw (
+      first_seen noise first frames.0,
+      first_kept noise first (omega (arith, long)),
+      append-nil,
+      place,
+      append_assoc,
+    )
 
 -- copies
 

@@ -196,13 +196,15 @@ pub two_more : (old : Rest) {new : Rest} (us : ℕ) {half : Half} {shown : Seen}
 unfolding StandsFor report_at
 two_more old us {half} class first after answer =
     let one = one_more old us class in
-    let two = λ (durations : List ℕ) (h : old ≡ rest durations). one_more _ us class (durations ++ us ∷ []) (one durations h).0 in
+    let two = λ (durations : List ℕ) (h : old ≡ rest durations). one_more _ us class (durations ++ us ∷ [])
+    (one durations h).0 in
     let before = λ (durations : List ℕ) (h : old ≡ rest durations).
     (one durations h).1 ∙ rw first (append-nil (seen durations)) in (
       (λ durations h. rw (← append_assoc durations (us ∷ []) (us ∷ [])) (after ∙ (two durations h).0)),
       (λ durations h.
           let place : length (durations ++ us ∷ []) ≡ length durations + 2 - 1 =
           omega (arith, length-append durations (us ∷ [])) in
-          rw (← append_assoc durations (us ∷ []) (us ∷ [])) ((two durations h).1 ∙ rw (before durations h, place, ← answer))),
+          rw (← append_assoc durations (us ∷ []) (us ∷ []))
+          ((two durations h).1 ∙ rw (before durations h, place, ← answer))),
       before,
     )

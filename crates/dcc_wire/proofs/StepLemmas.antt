@@ -188,7 +188,8 @@ module _ (bytes : List ℕ) (valid : IsFrame bytes) where
 
         five : 5 ≤ length bytes → word_five ≡ number_of (byte_bits (take 5 bytes)) * 2 ^ 19
         five long =
-            let more = byte_placed bytes 4 word_four (omega (arith, long)) (valid.each 4) (2 ^ 19) (four (omega (arith, long))) in
+            let more = byte_placed bytes 4 word_four (omega (arith, long)) (valid.each 4) (2 ^ 19)
+            (four (omega (arith, long))) in
             omega (arith, more, is_e, small_e)
 
         pub word_of_five : length bytes ≡ 5 → highest_bits (9 * length bytes + 1) (word_five + 2 ^ 18) ≡ body_bits bytes
@@ -203,7 +204,8 @@ module _ (bytes : List ℕ) (valid : IsFrame bytes) where
 
           six : 6 ≤ length bytes → word_six ≡ number_of (byte_bits (take 6 bytes)) * 2 ^ 10
           six long =
-              let more = byte_placed bytes 5 word_five (omega (arith, long)) (valid.each 5) (2 ^ 10) (five (omega (arith, long))) in
+              let more = byte_placed bytes 5 word_five (omega (arith, long)) (valid.each 5) (2 ^ 10)
+              (five (omega (arith, long))) in
               omega (arith, more, is_f, small_f)
 
           pub word_of_six : length bytes ≡ 6 → highest_bits (9 * length bytes + 1) (word_six + 2 ^ 9) ≡ body_bits bytes

@@ -89,7 +89,8 @@ highest_of (bit ∷ bits) n e =
     let all : length bits + n ≡ 63 = omega (arith, e) in
     let x = number_of bits * 2 ^ n in
     let small : x < 2 ^ 63 = rw all at (shl_below (number_of bits) (length bits) n (small_number bits)) in
-    let next : x * 2 ≡ number_of bits * 2 ^ suc n = doubled (number_of bits) (2 ^ n) ∙ ap (λ p. number_of bits * p) (sym (pow-suc 2 n)) in
+    let next : x * 2 ≡ number_of bits * 2 ^ suc n =
+    doubled (number_of bits) (2 ^ n) ∙ ap (λ p. number_of bits * p) (sym (pow-suc 2 n)) in
     let behind : length bits + suc n ≡ 64 = omega (arith, e) in
     ap (λ w. eqb (w / 2 ^ 63) 1 ∷ highest_bits (length bits) (w * 2 % 2 ^ 64)) (first_bit bit bits n all)
     ∙ ap (λ b. b ∷ highest_bits (length bits) ((cond bit 1 0 * 2 ^ 63 + x) * 2 % 2 ^ 64)) (highest bit x small)

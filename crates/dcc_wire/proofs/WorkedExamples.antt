@@ -56,7 +56,8 @@ record Rows : Type 0 where
 
 rows : Rows
 unfolding after_noise seen_behind durations_of seen outcome_at outcomes_at starts_below is_start used_up halves_used
-    ones_at_end ones_before outcome_of bits_in behind_bits bytes_in body_outcome by_bits by_halves ones_left body halves_of
+    ones_at_end ones_before outcome_of bits_in behind_bits bytes_in body_outcome by_bits by_halves ones_left body
+    halves_of
     body_bits
     bits_of number_of
 rows = assumption

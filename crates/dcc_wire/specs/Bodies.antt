@@ -6,15 +6,13 @@ use Rattle.std.specs.Int.{bit_at}
 use Rattle.dcc_wire.specs.declared.half.Half.{Half}
 use Rattle.dcc_wire.specs.declared.half.Half.TheVariants.{One, Zero}
 
--- the classes of the half-bits of a list of bits: twice `One` for each one, twice `Zero` for each
--- zero
+-- the classes of the half-bits of `bits`: `One` twice for each one, `Zero` twice for each zero
 unfoldable pub halves_of : List Bool → List Half
 halves_of [] = []
 halves_of (true ∷ bits) = One ∷ One ∷ halves_of bits
 halves_of (false ∷ bits) = Zero ∷ Zero ∷ halves_of bits
 
--- the first half-bit of a bit as a list with one class, or an empty list if no half-bit of the bit
--- has come
+-- a list with the class of the first half-bit of a bit, or an empty list if there is no bit
 unfoldable pub first_half : Option Bool → List Half
 first_half None = []
 first_half (Some true) = One ∷ []
@@ -29,8 +27,7 @@ bits_of (suc n) number = (bit_at number n == 1) ∷ bits_of n number
 unfoldable pub number_of : List Bool → ℕ
 number_of bits = fold (λ number bit. 2 * number + (if bit then 1 else 0)) 0 bits
 
--- the bits of the body of a list of bytes: a zero and the eight bits of each byte, then a one as
--- the end bit
+-- the bits of the body of `bytes`: a zero and eight bits for each byte, then a one as the end bit
 unfoldable pub body_bits : List ℕ → List Bool
 body_bits [] = true ∷ []
 body_bits (byte ∷ bytes) = false ∷ bits_of 8 byte ++ body_bits bytes

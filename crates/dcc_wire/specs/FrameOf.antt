@@ -12,8 +12,8 @@ frame_of bytes =
     else if xor_of bytes == 0 then Ok bytes
     else Err XorNotZero
 
--- the frame of `bytes` followed by their error byte, or the error L1 if it would not have 3 to 6
--- bytes
+-- the frame that consists of `bytes` and their error byte, or the error L1 if there are fewer than
+-- 2 or more than 5 bytes
 abbrev pub frame_with_error_byte : List ℕ → Result Frame FrameFault
 frame_with_error_byte bytes =
     if nat_lt (length bytes) 2 || nat_lt 5 (length bytes) then Err Length

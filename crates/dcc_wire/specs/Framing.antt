@@ -9,7 +9,7 @@ use Rattle.dcc_wire.specs.declared.seen.Seen.TheVariants.{Nothing, Packet, Refus
 use Rattle.dcc_wire.specs.Half.{class_of}
 use Rattle.dcc_wire.specs.Outcomes.{outcome_of, ones_left}
 
--- the number of half-bits of ones at the beginning of the list
+-- the number of `One` at the beginning of `halves`
 unfoldable pub ones_before : List Half → ℕ
 ones_before (One ∷ halves) = suc (ones_before halves)
 ones_before _ = 0
@@ -22,25 +22,26 @@ is_zero One = false
 is_zero Zero = true
 is_zero Bad = false
 
--- The number of half-bits that the body at the beginning of `halves` uses. These are the half-bits
--- of its outcome except the end bit, or all of them if the body is unfinished.
+-- the number of half-bits that the body at the beginning of `halves` uses. If the body has an
+-- outcome, it uses the half-bits of the outcome except those of the end bit. If the body is
+-- unfinished, it uses all half-bits.
 unfoldable pub halves_used : List Half → ℕ
 halves_used halves = option_map_or (λ p. p.0 - ones_left p.1) (outcome_of halves) (length halves)
 
--- the first place of `halves` after all half-bits that the start places use. The list of start
--- places has the last one first.
+-- the place in `halves` after all half-bits that the bodies at the start places use. The list of
+-- start places is in descending order.
 unfoldable pub used_up : List Half → List ℕ → ℕ
 used_up halves [] = 0
 used_up halves (start ∷ earlier) = start + halves_used (drop start halves)
 
--- true if `place` is a start place: the half-bit at `place` is a zero after 20 half-bits of ones
--- that no earlier start place uses
+-- true if a body begins at `place` in `halves`: the half-bit at `place` is a zero, and at least 20
+-- half-bits of ones stand directly before it that no body at an earlier start place uses
 unfoldable pub is_start : List Half → List ℕ → ℕ → Bool
 is_start halves earlier place =
     is_zero (slice_index_or halves place Bad)
     && nat_le 20 (ones_at_end (drop (used_up halves earlier) (take place halves)))
 
--- the start places in `halves` below the given place, with the last one first
+-- the start places in `halves` below a place, in descending order
 unfoldable pub starts_below : List Half → ℕ → List ℕ
 starts_below halves zero = []
 starts_below halves (suc place) =
@@ -50,27 +51,33 @@ starts_below halves (suc place) =
 abbrev pub starts : List Half → List ℕ
 starts halves = starts_below halves (length halves)
 
--- the outcome of the body that begins at the place `start`, with the place of its last half-bit; an
--- empty list if the body is unfinished
+-- the outcome of the body that begins at the place `start` in `halves`, together with the place of
+-- its last half-bit, as a list of one element. If the body is unfinished, the list is empty.
 unfoldable pub outcome_at : List Half → ℕ → List (ℕ × Seen)
 outcome_at halves start =
     option_map_or (λ p. (start + p.0 - 1, p.1) ∷ []) (outcome_of (drop start halves)) []
 
--- the outcomes of a list of start places in order; the list of start places has the last one first
+-- the outcomes of the bodies that begin at the start places, in ascending order. The list of start
+-- places is in descending order.
 unfoldable pub outcomes_at : List Half → List ℕ → List (ℕ × Seen)
 outcomes_at halves [] = []
 outcomes_at halves (start ∷ earlier) = outcomes_at halves earlier ++ outcome_at halves start
 
--- the outcomes in a list of half-bits with these `durations`, each with the place of its last
+-- the outcomes in the list of half-bits `durations`, each together with the place of its last
 -- half-bit
 unfoldable pub seen : List ℕ → List (ℕ × Seen)
 seen durations = let halves = map class_of durations in outcomes_at halves (starts halves)
 
--- the state of a framer after a list of half-bits: the number of half-bits of ones, at most 20, or
--- the half-bits of an unfinished body
+-- the state of a framer. Between two bodies it is the number of half-bits of ones, at most 20. In
+-- an unfinished body it is the list of the half-bits of this body.
 pub data Rest : Type 0 where
   Hunting : ℕ → Rest
   InBody : List Half → Rest
+
+-- true if a framer in the state `rest` is between bodies
+abbrev pub is_hunting : Rest → Bool
+is_hunting (Hunting ones) = true
+is_hunting (InBody halves) = false
 
 -- the state of a framer between two bodies. It counts the half-bits of ones at the end of `halves`,
 -- up to 20, that the start places `places` do not use.
@@ -88,7 +95,8 @@ rest_at halves (start ∷ earlier) =
 unfoldable pub rest : List ℕ → Rest
 rest durations = let halves = map class_of durations in rest_at halves (starts halves)
 
--- the answer of a framer to the half-bit at `place`, as a list of at most one outcome
+-- a list with the outcome of the half-bit at `place`, or an empty list if this half-bit ends no
+-- outcome
 unfoldable pub report_at : ℕ → Seen → List (ℕ × Seen)
 report_at place Nothing = []
 report_at place (Packet bytes) = (place, Packet bytes) ∷ []

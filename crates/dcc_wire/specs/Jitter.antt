@@ -2,7 +2,7 @@
 use Rattle.std.specs.Prelude.{◌≤◌, ℕ, ◌+◌, List}
 use Rattle.std.specs.List.{AllZip}
 
--- two durations differ by at most `error` microseconds
+-- the durations `us` and `measured` differ by at most `error` microseconds
 abbrev pub IsWithin : ℕ → ℕ → ℕ → Type 0
 IsWithin error us measured = (us ≤ measured + error) × (measured ≤ us + error)
 

@@ -11,12 +11,12 @@ pub record Kept : Type 0 where
   pub in_body : Bool
   -- between two bodies: the number of half-bits of ones
   pub ones : ℕ
-  -- in a body: true if the first half-bit of the next bit has come. If so, `first` is the bit of
-  -- this half-bit.
+  -- in a body: true if the first half-bit of an unfinished bit was received. Then `first` is true
+  -- if this half-bit is half of a one.
   pub has_first : Bool
   pub first : Bool
-  -- in a body: the exclusive or of the whole bytes, the bits after them as a number, the number of
-  -- these bits, and the whole bytes
+  -- in a body: the exclusive or of the complete bytes; the bits after these bytes as a number; how
+  -- many bits this number has; the complete bytes
   pub xor : ℕ
   pub shift : ℕ
   pub count : ℕ

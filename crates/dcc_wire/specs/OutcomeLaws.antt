@@ -7,20 +7,20 @@ use Rattle.dcc_wire.specs.declared.seen.Seen.{Seen}
 use Rattle.dcc_wire.specs.Outcomes.{outcome_of}
 use Rattle.dcc_wire.specs.OutcomeTable.{Comes, IsUnfinished}
 
--- the first `n` of a list of half-bits that begins with a zero fit a row with `outcome` if and only
--- if `outcome_of` returns `n` and `outcome`
+-- the first `n` half-bits of a list that begins with a zero fit a row of the table with `outcome`
+-- if and only if `outcome_of` returns `n` and `outcome` for this list
 abbrev pub OutcomesAreRows : Type 0
 OutcomesAreRows =
     (more : List Half) (n : ℕ) (outcome : Seen)
     → Comes (Zero ∷ more) n outcome ↔ (outcome_of (Zero ∷ more) ≡ Some (n, outcome))
 
--- half-bits that begin with a zero are unfinished if and only if `outcome_of` returns `None` for
--- them
+-- a list of half-bits that begins with a zero is unfinished if and only if `outcome_of` returns
+-- `None` for it
 abbrev pub NoOutcomeIsUnfinished : Type 0
 NoOutcomeIsUnfinished =
     (more : List Half) → IsUnfinished (Zero ∷ more) ↔ (outcome_of (Zero ∷ more) ≡ None)
 
--- half-bits that begin with a zero fit some row of the table, or they are unfinished
+-- a list of half-bits that begins with a zero fits some row of the table, or it is unfinished
 abbrev pub SomeRowFits : Type 0
 SomeRowFits =
     (more : List Half)

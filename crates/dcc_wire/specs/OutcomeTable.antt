@@ -13,8 +13,8 @@ use Rattle.dcc_wire.specs.Bodies.{body}
 abbrev pub BeginsWith : List Half → List Half → Type 0
 BeginsWith halves front = (more : List Half) × (halves ≡ front ++ more)
 
--- `halves` are whole bits at the beginning of the body of some six bytes: an even number of
--- half-bits, fewer than the body has (NMRA S-9.2)
+-- `halves` are the first bits of the body of some six bytes: an even number of half-bits, fewer
+-- than the body has (NMRA S-9.2)
 pub record IsOpen (halves : List Half) : Type 0 where
   pub bytes : List ℕ
   pub each : AllBytes bytes
@@ -23,13 +23,13 @@ pub record IsOpen (halves : List Half) : Type 0 where
   pub even : length halves % 2 ≡ 0
   pub shorter : length halves < length (body bytes)
 
--- the list has no half-bit, or one half-bit that is not bad
+-- a list has no half-bit, or it has one half-bit that is not bad
 abbrev pub IsUnpaired : List Half → Type 0
 IsUnpaired [] = Unit {0}
 IsUnpaired (half ∷ []) = half ≢ Bad
 IsUnpaired _ = ⊥
 
--- `halves` are all half-bits of a body with the given outcome, by one of the rows below
+-- `halves` are all half-bits of a body with a given outcome, by one of the rows below
 abbrev pub IsRow : List Half → Seen → Type 0
 -- a packet: `halves` are the body of 3 to 6 bytes, the last of which is the error byte (NMRA S-9.2;
 -- RCN-211)
@@ -59,7 +59,7 @@ IsRow halves (Refused BadHalf) =
     × (halves ≡ front ++ half ++ Bad ∷ [])
 IsRow halves Nothing = ⊥
 
--- the first `n` half-bits of `halves` fit a row of the table with the outcome `outcome`
+-- the first `n` half-bits of `halves` fit a row of the table with `outcome`
 abbrev pub Comes : List Half → ℕ → Seen → Type 0
 Comes halves n outcome =
     (front : List Half) × IsRow front outcome × (n ≡ length front) × BeginsWith halves front

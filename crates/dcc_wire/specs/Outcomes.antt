@@ -11,22 +11,22 @@ use Rattle.dcc_wire.specs.declared.seen.Seen.TheVariants.{Nothing, Packet, Refus
 use Rattle.dcc_wire.specs.Frames.{xor_of}
 use Rattle.dcc_wire.specs.Bodies.{number_of}
 
--- the bits at the beginning of a list of half-bits, up to the first pair of half-bits that forms no
--- bit
+-- the bits at the beginning of a list of half-bits, up to the first two half-bits that differ or
+-- are bad
 unfoldable pub bits_in : List Half → List Bool
 bits_in (One ∷ One ∷ halves) = true ∷ bits_in halves
 bits_in (Zero ∷ Zero ∷ halves) = false ∷ bits_in halves
 bits_in _ = []
 
--- the half-bits of a list from the first pair on that forms no bit
+-- the half-bits of a list that follow `bits_in` of this list
 unfoldable pub behind_bits : List Half → List Half
 behind_bits (One ∷ One ∷ halves) = behind_bits halves
 behind_bits (Zero ∷ Zero ∷ halves) = behind_bits halves
 behind_bits halves = halves
 
--- The bytes at the beginning of a list of bits, and the bit that ends them. A zero precedes each
--- byte. A one in its place is the end bit. There are at most `n` bytes, and the bit after `n` bytes
--- ends them too. The result is `None` if the bits end before.
+-- The bytes at the beginning of a list of bits, and the bit after them. Each byte follows a zero. A
+-- one in place of this zero is the end bit, and the bytes end there. After `n` bytes they end in
+-- any case. The result is `None` if the bits end earlier.
 unfoldable pub bytes_in : ℕ → List Bool → Option (List ℕ × Bool)
 bytes_in n [] = None
 bytes_in n (true ∷ bits) = Some ([], true)
@@ -42,12 +42,12 @@ body_outcome bytes =
     if nat_lt (length bytes) 3 then Refused TooShort
     else (if xor_of bytes == 0 then Packet bytes else Refused (ErrorByte bytes))
 
--- the outcome of a body with the bytes `p.0`, which the bit `p.1` ends, and its number of half-bits
+-- the outcome of a body with the bytes `p.0` and then the bit `p.1`, and its number of half-bits
 unfoldable pub by_bits : List ℕ × Bool → ℕ × Seen
 by_bits p = (18 * length p.0 + 2, if p.1 then body_outcome p.0 else Refused TooLong)
 
--- the outcome of a body, and its number of half-bits. The body has `n` half-bits of whole bits, and
--- then half-bits that form no bit. `None` if the body is unfinished.
+-- the outcome of a body and its number of half-bits, or `None` if the body is unfinished. The body
+-- has `n` half-bits that form bits. The next two half-bits form no bit.
 unfoldable pub by_halves : ℕ → List Half → Option (ℕ × Seen)
 by_halves n [] = None
 by_halves n (Bad ∷ halves) = Some (n + 1, Refused BadHalf)
@@ -55,8 +55,8 @@ by_halves n (half ∷ []) = None
 by_halves n (half ∷ Bad ∷ halves) = Some (n + 2, Refused BadHalf)
 by_halves n (half ∷ other ∷ halves) = Some (n + 2, Refused SplitBit)
 
--- The outcome of the body at the beginning of `halves`, with its number of half-bits. It is `None`
--- if the body is unfinished.
+-- the outcome of the body at the beginning of `halves` and its number of half-bits, or `None` if
+-- the body is unfinished
 unfoldable pub outcome_of : List Half → Option (ℕ × Seen)
 outcome_of halves =
     option_or

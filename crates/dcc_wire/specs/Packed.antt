@@ -3,7 +3,7 @@ use Rattle.std.specs.Prelude.{◌≡◌, ℕ, ◌*◌, ◌^◌, ◌≤◌, ◌<�
 use Rattle.dcc_wire.specs.Frames.{xor_of, AllBytes}
 use Rattle.dcc_wire.specs.Bodies.{bits_of}
 
--- the bits of a list of bytes, with a zero before each byte
+-- the bits of `bytes`, with a zero before each byte
 unfoldable pub byte_bits : List ℕ → List Bool
 byte_bits [] = []
 byte_bits (byte ∷ bytes) = false ∷ bits_of 8 byte ++ byte_bits bytes

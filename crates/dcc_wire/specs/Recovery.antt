@@ -11,39 +11,41 @@ use Rattle.dcc_wire.specs.Framing.{Rest, Hunting, InBody, rest, seen}
 use Rattle.dcc_wire.specs.Outcomes.{outcome_of}
 use Rattle.dcc_wire.specs.Sending.{Sent, sent_all, at_last_halves, AllFrames}
 
--- The end of a body that is unfinished in this state, if half-bits of ones follow: the number of
--- these half-bits up to its outcome, and the outcome. None if no body is unfinished.
+-- if half-bits of ones follow a framer with an unfinished body, the outcome of this body, and the
+-- number of these half-bits up to its last one. The result is `None` if no body is unfinished.
 unfoldable pub ended_by_ones : Rest → Option (ℕ × Seen)
 ended_by_ones (Hunting ones) = None
 ended_by_ones (InBody halves) =
     option_map (λ p. (p.0 - length halves, p.1)) (outcome_of (halves ++ replicate 18 One))
 
--- the end of the body that is unfinished after `noise`, if a preamble follows
+-- if a preamble follows `noise`, the outcome of the body that is unfinished after `noise`, and the
+-- number of half-bits of the preamble up to its last half-bit. The result is `None` if no body is
+-- unfinished.
 abbrev pub open_end : List ℕ → Option (ℕ × Seen)
 open_end noise = ended_by_ones (rest noise)
 
--- The outcome of a body with this end, at the place of its last half-bit. `place` is the number of
--- half-bits before the half-bits of ones.
+-- the outcome of a body that is unfinished when half-bits of ones begin, at the place of its last
+-- half-bit. `place` is the number of half-bits before these half-bits of ones.
 unfoldable pub at_open_end : ℕ → Option (ℕ × Seen) → List (ℕ × Seen)
 at_open_end place None = []
 at_open_end place (Some p) = (place + p.0 - 1, p.1) ∷ []
 
--- The packet `first` at the place of its last half-bit, if a body with this end takes half-bits of
--- its preamble. The packet is lost if the body ends in the last 18 half-bits of the preamble.
+-- the packet `first` as an outcome at the place of its last half-bit. The list is empty if the
+-- packet is lost: a body that was unfinished ends in the last 18 half-bits of its preamble.
 unfoldable pub at_first : ℕ → Option (ℕ × Seen) → Sent → List (ℕ × Seen)
 at_first place None first = at_last_halves place (first ∷ [])
 at_first place (Some p) first =
     if nat_le (p.0 + 18) (2 * first.timing.preamble) then at_last_halves place (first ∷ []) else []
 
--- after noise and a first packet, each of the other packets is seen, and nothing else
+-- after noise and a first packet, each later packet is seen, and no other outcome
 abbrev pub NoiseCostsNoLaterPacket : Type 0
 NoiseCostsNoLaterPacket =
     (noise : List ℕ) (first : Sent) (others : List Sent) → AllFrames (first ∷ others)
     → seen (noise ++ sent_all (first ∷ others))
     ≡ seen (noise ++ sent_all (first ∷ [])) ++ at_last_halves (length (noise ++ sent_all (first ∷ []))) others
 
--- after noise, at most one outcome is seen of a body that is unfinished after the noise, and the
--- first packet unless it is lost
+-- after noise, at most two outcomes are seen: that of a body that is unfinished after the noise,
+-- and the first packet, unless it is lost
 abbrev pub NoiseCostsAtMostTheFirst : Type 0
 NoiseCostsAtMostTheFirst =
     (noise : List ℕ) (first : Sent) → IsFrame first.bytes
@@ -56,7 +58,7 @@ OpenBodiesEndSoon =
     (noise : List ℕ) (halves : List Half) → rest noise ≡ InBody halves
     → (n : ℕ) × (outcome : Seen) × (open_end noise ≡ Some (n, outcome)) × (1 ≤ n) × (n ≤ 18)
 
--- after noise that leaves no body unfinished, each packet is seen, and nothing else
+-- after noise that leaves no body unfinished, each packet is seen, and no other outcome
 abbrev pub NoiseBetweenBodiesCostsNothing : Type 0
 NoiseBetweenBodiesCostsNothing =
     (noise : List ℕ) (ones : ℕ) (packets : List Sent) → rest noise ≡ Hunting ones → AllFrames packets

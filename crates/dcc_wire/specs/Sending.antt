@@ -6,7 +6,7 @@ use Rattle.dcc_wire.specs.declared.seen.Seen.TheVariants.{Packet}
 use Rattle.dcc_wire.specs.Frames.{IsFrame}
 use Rattle.dcc_wire.specs.Bodies.{body_bits}
 
--- the durations of the half-bits of a list of bits that a station sends with `timing`
+-- the durations of the half-bits that a station sends for `bits` with `timing`
 unfoldable pub durations_of : Timing → List Bool → List ℕ
 durations_of timing [] = []
 durations_of timing (true ∷ bits) = timing.one ∷ timing.one ∷ durations_of timing bits
@@ -16,30 +16,30 @@ durations_of timing (false ∷ bits) = timing.zero_first ∷ timing.zero_second 
 unfoldable pub sent_bits : List ℕ → ℕ → List Bool
 sent_bits bytes preamble = replicate preamble true ++ body_bits bytes
 
--- the durations of the half-bits of a packet that consists of `bytes`, which a station sends with
+-- the durations of the half-bits that a station sends for the packet with these `bytes` and
 -- `timing`
 unfoldable pub sent : List ℕ → Timing → List ℕ
 sent bytes timing = durations_of timing (sent_bits bytes timing.preamble)
 
--- the bytes of a packet to send, with its timing
+-- a packet that is sent: its bytes and its timing
 pub record Sent : Type 0 where
   pub bytes : List ℕ
   pub timing : Timing
 
--- the durations of the half-bits of a list of packets that are sent one after the other
+-- the durations of the half-bits of `packets`, which are sent one after the other
 unfoldable pub sent_all : List Sent → List ℕ
 sent_all [] = []
 sent_all (packet ∷ packets) = sent packet.bytes packet.timing ++ sent_all packets
 
--- each packet of a list as an outcome at the place of its last half-bit; `place` is the place of
--- the first half-bit of the first packet
+-- each of the `packets` as an outcome at the place of its last half-bit. `place` is the place of
+-- the first half-bit of the first packet.
 unfoldable pub at_last_halves : ℕ → List Sent → List (ℕ × Seen)
 at_last_halves place [] = []
 at_last_halves place (packet ∷ packets) =
     let next = place + length (sent packet.bytes packet.timing) in
     (next - 1, Packet packet.bytes) ∷ at_last_halves next packets
 
--- the bytes of each packet of the list are a frame
+-- the bytes of each of the `packets` are a frame
 unfoldable pub AllFrames : List Sent → Type 0
 AllFrames [] = Unit {0}
 AllFrames (packet ∷ packets) = IsFrame packet.bytes × AllFrames packets

@@ -39,7 +39,7 @@ impl Model for Framer {
 impl Framer {
     ghost use Rattle.std.specs.Prelude.{◌≡◌, ◌≢◌, ◌↔◌, ℕ, List, ◌++◌, [], ◌∷◌, length, IsTrue, IfSome, IfNone};
     ghost use Rattle.dcc_wire.specs.Outcomes.{ones_left};
-    ghost use Rattle.dcc_wire.specs.Framing.{Hunting, StandsFor, seen, report_at};
+    ghost use Rattle.dcc_wire.specs.Framing.{Hunting, StandsFor, is_hunting, seen, report_at};
     ghost use Rattle.dcc_wire.specs.Inner.Steps.{rest_after, answer_to};
     ghost use Rattle.dcc_wire.specs.Runs.{IsQuietFor, rest_after_run};
 
@@ -129,6 +129,16 @@ impl Framer {
                     Some(seen)
                 }
             },
+        }
+    }
+
+    /// Returns true if the framer is between bodies: it counts half-bits of ones.
+    pub fn is_hunting(&self) -> bool
+        ensures { result ≡ is_hunting self.now }
+    {
+        match self.state {
+            State::Hunting(_) => true,
+            State::InBody(_) => false,
         }
     }
 

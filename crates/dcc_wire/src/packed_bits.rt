@@ -1,11 +1,7 @@
 //! The bits of an unfinished body, which are packed into bytes.
 
-ghost use Rattle.std.specs.Prelude.{◌≡◌, ◌≤◌, length};
-ghost use Rattle.dcc_wire.specs.Frames.{xor_of};
-ghost use Rattle.dcc_wire.specs.Outcomes.{body_outcome};
-
 use crate::bytes::PacketBytes;
-use crate::{Body, Fault, Frame, Seen};
+use crate::{Fault, Seen};
 use arrayvec::ArrayVec;
 use std::marker::Model;
 
@@ -59,7 +55,8 @@ impl PackedBits {
     {
         if self.count == 0 {
             if bit {
-                return close(self.bytes.as_slice(), self.xor);
+                let bytes = PacketBytes::of(self.bytes.as_slice());
+                return Seen::at_end_bit(&bytes, self.xor);
             }
             if self.bytes.is_full() {
                 return Seen::Refused(Fault::TooLong);
@@ -76,22 +73,4 @@ impl PackedBits {
         self.count = 0;
         Seen::Nothing
     }
-}
-
-/// Returns the outcome of the bytes at the end bit, given their exclusive or `xor`.
-// `Seen::at_end_bit` has the same value. Its form makes each half-bit of a fleet 13 instructions
-// slower here.
-#[tactic(auto, unfolding(crate::specs::Outcomes::body_outcome))]
-fn close(bytes: &[u8], xor: u8) -> Seen
-    requires few { length bytes.now ≤ 6 }
-    requires exclusive_or { xor ≡ xor_of bytes.now }
-    ensures { result ≡ body_outcome bytes.now }
-{
-    if bytes.len() < 3 {
-        return Seen::Refused(Fault::TooShort);
-    }
-    if xor != 0 {
-        return Seen::Refused(Fault::ErrorByte(Body::of(PacketBytes::of(bytes))));
-    }
-    Seen::Packet(Frame::of_valid(bytes))
 }

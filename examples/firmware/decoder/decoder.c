@@ -1,5 +1,6 @@
-/* A locomotive with the short address 3 and an accessory decoder, board 12, on one chip. For each packet that one of them hears there is a
- * call, notify_..: a decoder of yours has its motor, its lamps and coils there, and this one shows what it would do. */
+/* A locomotive with the short address 3 and an accessory decoder, board 12, on one chip. For each packet that one of
+ * them hears the program calls a function `notify_..`. Your decoder drives its motor, lamps and coils there. This
+ * program prints the effect. */
 #include "board.h"
 #include "dcc.h"
 #include <stdatomic.h>
@@ -8,14 +9,14 @@ static dcc_framer framer;
 static dcc_loco loco;
 static dcc_board turnouts;
 
-/* A packet that was found: the interrupt writes it where none waits, the main loop reads it where one does. */
+/* The packet that was found. The interrupt writes it if no packet waits, and the main loop reads it if one waits. */
 static dcc_frame found;
 static atomic_bool waits;
 
-/* Called in the interrupt. docs/PERFORMANCE.md has the mean and the worst case of dcc_push for each processor: on a slow one
- * the worst case can last as long as a half-bit, so a timer has to keep the time of the edge that comes meanwhile.
- * To hear a packet takes longer than that, so the main loop does it. A packet that completes while another one
- * waits is lost, as a packet with a spoilt half-bit is: stations repeat packets. */
+/* Called in the interrupt. docs/PERFORMANCE.md has the mean and the worst case of dcc_push for each processor. On a
+ * slow processor the worst case can last as long as a half-bit, so a timer must keep the time of the next edge.
+ * Applying a packet takes longer, so the main loop does it. A packet that is completed while another packet waits is
+ * lost, like a packet with a broken half-bit. Stations repeat packets. */
 void on_edge(uint32_t now) {
     static uint32_t last;
     uint32_t us = now - last;

@@ -1,4 +1,5 @@
-/* A decoder's board under qemu: the track is a capture on standard input, its half-bits in microseconds, with comments from # on. */
+/* The board of a decoder under qemu. The track is a capture on standard input: half-bits in microseconds, with
+ * comments after #. */
 #include "board.h"
 
 /* The next byte of the capture that is in no comment, -1 at its end. */

@@ -1,11 +1,11 @@
-/* A station's board under qemu: lines are typed on standard input, and the half-bits of the track go to standard output, a line each. A line
- * `wait N` is none that is typed: so many half-bits pass before the next one. */
+/* The board of a station under qemu. Standard input has the lines that are typed. The half-bits of the track go to
+ * standard output, each on a line. A line `wait N` is not typed: N half-bits pass before the next line. */
 #include "board.h"
 
 static uint32_t left; /* how many half-bits pass before the next line */
 static bool is_over;
 
-/* The number behind `wait `, 0 where the line is another one. */
+/* Returns the number after `wait `, or 0 if the line is another line. */
 static uint32_t waits(const char *line, uint32_t len) {
     static const char word[] = "wait ";
     uint32_t number = 0;

@@ -1,5 +1,6 @@
-/* A command station. Commands are lines of text, as `loco s3 speed28 f 4` (docs/FORMATS.md); a timer's interrupt asks how long the track
- * keeps its level. The station sends what waits, and what it refreshes while nothing waits. */
+/* A command station. Commands are lines of text, for example `loco s3 speed28 f 4` (docs/FORMATS.md). The interrupt
+ * of a timer asks how long the track keeps its level. The station sends the waiting commands, and the refreshed
+ * packets while no command waits. */
 #include "board.h"
 #include "dcc.h"
 #include <stdatomic.h>
@@ -7,12 +8,13 @@
 static dcc_station station;
 static dcc_sender sender;
 
-/* The packet behind the one that is on the track: the main loop writes it where it is not ready, the interrupt reads it where it is. */
+/* The packet after the one on the track. The main loop writes it if it is not ready, and the interrupt reads it if
+ * it is ready. */
 static dcc_frame next;
 static atomic_bool is_ready;
 
-/* To find the next packet may take milliseconds on a small chip, so it is no work for the interrupt. Where the main loop is late an
- * idle packet goes out: the track is never without a signal. */
+/* Finding the next packet can take milliseconds on a small chip, so the interrupt does not do it. If the main loop
+ * is late, an idle packet is sent: the track always has a signal. */
 uint16_t on_timer(void) {
     static const dcc_timing timing = DCC_MAIN_TIMING;
     static const uint8_t idle[3] = {0xff, 0x00, 0xff};

@@ -16,6 +16,11 @@ static dcc_sender sender;
 static dcc_loco loco;
 static dcc_board board;
 static dcc_service service;
+static dcc_small_loco small_loco;
+static dcc_small_service small_service;
+static uint16_t cv;
+static uint8_t value;
+static bool is_changed;
 static dcc_station station;
 static bool is_heard;
 static uint8_t cvs[DCC_CVS];
@@ -34,6 +39,10 @@ static void call_all(uint16_t n) {
     MARK(8, dcc_board_apply(&board, BYTES));
     MARK(9, dcc_service_apply(&service, BYTES, &is_heard));
     MARK(10, dcc_station_command(&station, BYTES));
+    MARK(15, dcc_small_loco_cv(&small_loco, BYTES, &cv));
+    MARK(16, dcc_small_loco_apply(&small_loco, BYTES, &value, &is_changed));
+    MARK(17, dcc_small_service_cv(&small_service, BYTES, &cv));
+    MARK(18, dcc_small_service_apply(&small_service, BYTES, &value, &is_changed, &is_heard));
     if (n % 8 == 0) {
         MARK(12, dcc_halves(BYTES, DCC_MAIN_TRACK, sent));
         MARK(13, dcc_sender_start(&sender, BYTES, &timing));
@@ -51,6 +60,8 @@ int main(int argc, char **argv) {
     cvs[0] = 3, cvs[28] = 2;
     dcc_loco_new(&loco, cvs);
     dcc_service_new(&service, cvs);
+    dcc_small_loco_new(&small_loco, 3, 0, 0, 2);
+    dcc_small_service_new(&small_service);
     dcc_board_new(&board, 12);
     dcc_station_new(&station, 64, 128, 1);
     for (; (c = getchar()) != EOF; before = c) {

@@ -1,5 +1,5 @@
-/* As much of the C library as the programs of examples/c ask for, over semihosting: so they run on a microcontroller as they stand,
- * beside nothing but libdcc_c.a. */
+/* The part of the C library that the programs of examples/c use, over semihosting. So the programs run on a
+ * microcontroller unchanged, with only libdcc_c.a. */
 #include "semihosting.h"
 #include <stdarg.h>
 #include <stdbool.h>
@@ -117,7 +117,11 @@ static void put_all(sink *to, const char *format, va_list values) {
         case 's': put_text(to, va_arg(values, const char *)); break;
         case 'd': put_int(to, va_arg(values, int)); break;
         case 'u':
-        case 'x': put_number(to, is_long ? va_arg(values, unsigned long) : va_arg(values, unsigned), *format == 'x' ? 16 : 10, width); break;
+        case 'x': {
+            unsigned long number = is_long ? va_arg(values, unsigned long) : va_arg(values, unsigned);
+            put_number(to, number, *format == 'x' ? 16 : 10, width);
+            break;
+        }
         default: host_exit(4);
         }
     }

@@ -1,6 +1,6 @@
-// Sends packets that never change, for tests of decoders and boosters: locomotive 3 goes forward with its light on. The
-// signal comes from pin 9 of an Uno or Nano, pin 46 of a Mega, pin 5 of an RP2040 (DccSignal.h). It goes to a booster, and
-// never to the rails.
+// Sends packets that never change, for tests of decoders and boosters: locomotive 3 goes forward with its light on.
+// The signal comes from pin 9 of an Uno or Nano, pin 46 of a Mega, pin 5 of an RP2040 (DccSignal.h). It goes to a
+// booster, and never to the rails.
 #include <DccSignal.h>
 #include <dcc.h>
 

@@ -1,6 +1,6 @@
-// A command station. Lines such as `loco s3 speed28 f 4` come over the serial port. The signal for the booster comes from
-// pin 46 of a Mega, pin 9 of other boards with an AVR, pin 5 of an RP2040 (DccSignal.h). A station takes 1.8 kilobytes of
-// memory, so the sketch needs more than an Uno has.
+// A command station. Lines such as `loco s3 speed28 f 4` come over the serial port. The signal for the booster comes
+// from pin 46 of a Mega, pin 9 of other boards with an AVR, pin 5 of an RP2040 (DccSignal.h). A station takes 1.8
+// kilobytes of memory, so the sketch needs more than an Uno has.
 #include <DccSignal.h>
 #include <DccStation.h>
 

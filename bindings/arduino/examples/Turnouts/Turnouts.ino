@@ -1,7 +1,8 @@
-// An accessory decoder with eight outputs, for an Uno: output n is at OUTPUTS[n]. The signal of the track comes through an
-// optocoupler to pin 8 of an Uno or Nano, pin 49 of a Mega, pin 2 of other boards (DccEdges.h). The number of the board
-// is in EEPROM, as CV1 (its low 6 bits, at address 0) and CV9 (its high 3 bits, at address 8). New EEPROM has no number
-// of a board, and then the sketch writes 1. A line `board 12` over the serial port changes the number.
+// An accessory decoder with eight outputs, for an Uno: output n is at OUTPUTS[n]. The signal of the track comes
+// through an optocoupler to pin 8 of an Uno or Nano, pin 49 of a Mega, pin 2 of other boards (DccEdges.h). The
+// number of the board is in EEPROM, as CV1 (its low 6 bits, at address 0) and CV9 (its high 3 bits, at address 8).
+// New EEPROM has no number of a board, and then the sketch writes 1. A line `board 12` over the serial port changes
+// the number.
 #include <DccAccessory.h>
 #include <DccEdges.h>
 #include <EEPROM.h>

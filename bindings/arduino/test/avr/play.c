@@ -86,7 +86,9 @@ static void on_byte(avr_irq_t *irq, uint32_t value, void *param) {
     if (value != '\r') putchar((int)value);
 }
 
-static avr_irq_t *pin_of(const char *text) { return avr_io_getirq(avr, AVR_IOCTL_IOPORT_GETIRQ(text[0]), text[1] - '0'); }
+static avr_irq_t *pin_of(const char *text) {
+    return avr_io_getirq(avr, AVR_IOCTL_IOPORT_GETIRQ(text[0]), text[1] - '0');
+}
 
 static void with_eeprom(int is_end) {
     static uint8_t cells[1024];

@@ -1,6 +1,6 @@
 //! The program, and the texts of decoders.
 //!
-//! The program is that of `DCC_PROGRAM`, else `crates/dcc/out/dcc` of this repository.
+//! The program is that of `DCC_PROGRAM`, otherwise that of a release or of this repository.
 #![allow(dead_code)]
 use dcc::{Address, Board, Cvs, Frame, Loco, Speed};
 use std::io::Write as _;
@@ -38,7 +38,12 @@ pub fn written(command: &mut Command, input: &str) -> String {
 }
 
 pub fn program() -> PathBuf {
-    std::env::var_os("DCC_PROGRAM").map_or_else(|| top().join("crates/dcc/out/dcc"), PathBuf::from)
+    if let Some(path) = std::env::var_os("DCC_PROGRAM") {
+        return path.into();
+    }
+    let places = ["bin/x86_64-unknown-linux-gnu/dcc", "crates/dcc/out/dcc"].map(|it| top().join(it));
+    let found = places.iter().find(|it| it.is_file());
+    found.expect("no program dcc: name one in DCC_PROGRAM").clone()
 }
 
 pub fn dcc(words: &[&str], input: &str) -> String {

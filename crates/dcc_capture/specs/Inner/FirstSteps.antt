@@ -7,8 +7,9 @@ use Rattle.dcc_io.specs.InputState.{InputState}
 use Rattle.dcc_io.specs.Words.{run_of}
 use Rattle.dcc_io.specs.LineEnd.{SkipsToLineEnd}
 
--- the word `bytes` on line `line` is a run, and its half-bits were subtracted from the limit. If it
--- is no run, the result is the error U2. If the limit does not allow the run, it is the error U7.
+-- the word `bytes` on line `line` is a run, and its half-bits were subtracted from the limit. If
+-- the word is no run, the result is the error U2. If the limit does not allow the run, the result
+-- is the error U7.
 abbrev pub CountsWord : InputState → ℕ → List ℕ → Result (Option (ℕ × Run)) KeptFault → InputState → Type 0
 CountsWord old line bytes (Ok (Some taken)) new =
     (taken.0 ≡ line) × (run_of bytes ≡ Some taken.1) × (taken.1.n ≤ old.halves)
@@ -18,8 +19,8 @@ CountsWord old line bytes (Err fault) new = (new ≡ record old { fault = Some f
     × (((run_of bytes ≡ None) × (fault ≡ Number line))
     ⊎ ((run : Run) × (run_of bytes ≡ Some run) × (fault ≡ TooMuch) × (old.halves < run.n)))
 
--- the rest of line `line`, after its word `---`, was read. If a further word is on this line, the
--- result is the error U2.
+-- the input read the rest of line `line` after its word `---`. If a further word is on this line,
+-- the result is the error U2.
 abbrev pub EndsMark : InputState → ℕ → Result (Option (ℕ × Run)) KeptFault → InputState → Type 0
 EndsMark old line (Ok None) new =
     ((new ≡ old) × (old.place.line ≢ line)) ⊎ ((old.place.line ≡ line) × SkipsToLineEnd old (Ok true) new)

@@ -28,7 +28,7 @@ pub record IsSkippedLine (bytes : List ℕ) (len : ℕ) : Type 0 where
   pub ended : IsEndedLine bytes len
   pub skipped : is_skipped (take len bytes) ≡ true
 
--- from `old` to `new`, a line that is blank or a comment was read
+-- between the states `old` and `new`, the input read a line that is blank or a comment
 pub record SkipsLine (old new : InputState) : Type 0 where
   pub line : List ℕ
   pub ends : ReadsLine old old.place.line line new

@@ -7,7 +7,7 @@ use Rattle.dcc_io.specs.declared.front_run.FrontRun.{FrontRun}
 use Rattle.dcc_io.specs.Words.{run_of}
 use Rattle.dcc_io.specs.Inner.FrontWords.{BeginsWithWord}
 
--- `word` consists of digits with the value `number`, which is below 100,000
+-- `word` consists of decimal digits with the value `number`, which is below 100,000
 pub record SpellsNumber (number : ℕ) (word : List ℕ) : Type 0 where
   pub digits : list_all is_ascii_digit word ≡ true
   pub value : number ≡ digits_value 10 word

@@ -7,7 +7,7 @@ use Rattle.dcc_io.specs.declared.word.WholeWord.{WholeWord}
 use Rattle.dcc_io.specs.SpelledWords.{Spells}
 use Rattle.dcc_io.specs.Words.{is_gap, duration_of}
 
--- a line feed is in `bytes` at the place `at`
+-- `bytes` have a line feed at the place `at`
 abbrev pub HasLineFeedAt : List ℕ → ℕ → Type 0
 HasLineFeedAt bytes at = (at < length bytes) × (slice_index_or bytes at 0 ≡ 10)
 
@@ -18,7 +18,8 @@ pub record IsFrontWord (bytes : List ℕ) (front : FrontWord) : Type 0 where
   pub gap : is_gap (slice_index_or bytes front.len 0) ≡ true
   pub ends_line : front.ends_line ≡ (slice_index_or bytes front.len 0 == 10)
 
--- `front` is a word of `len` digits with the value `number`, and the gap `behind` follows it
+-- `front` is a word of `len` digits with the value `number`. The byte `behind` follows the word and
+-- is a gap.
 pub record EndedWord (number len behind : ℕ) (front : FrontWord) : Type 0 where
   pub some : 0 < len
   pub few : len ≤ 10
@@ -27,12 +28,12 @@ pub record EndedWord (number len behind : ℕ) (front : FrontWord) : Type 0 wher
   pub same_len : front.len ≡ len
   pub ends_line : front.ends_line ≡ (behind == 10)
 
--- true if `byte` can be part of a word: it is no gap and not `#`
+-- true if `byte` can be part of a word: it is neither a gap nor `#`
 abbrev pub is_word_byte : ℕ → Bool
 is_word_byte byte = not (is_gap byte || byte == 35)
 
--- `bytes` begin with a word of `len` bytes, and a gap follows the word; `ends_line` is true if the
--- gap is a line feed
+-- `bytes` begin with a word of `len` bytes and a gap. `ends_line` is true if the gap is a line
+-- feed.
 pub record BeginsWithWord (bytes : List ℕ) (len : ℕ) (ends_line : Bool) : Type 0 where
   pub inside : len < length bytes
   pub some : 0 < len
@@ -40,7 +41,7 @@ pub record BeginsWithWord (bytes : List ℕ) (len : ℕ) (ends_line : Bool) : Ty
   pub gap : is_gap (slice_index_or bytes len 0) ≡ true
   pub ends : ends_line ≡ (slice_index_or bytes len 0 == 10)
 
--- `bytes` begin with the word that `front` stores, and a gap follows the word
+-- `bytes` begin with the word in `front` and a gap
 pub record IsWholeWord (bytes : List ℕ) (front : WholeWord) : Type 0 where
   pub begins : BeginsWithWord bytes front.len front.ends_line
   pub spelled : Spells front.word (take front.len bytes)

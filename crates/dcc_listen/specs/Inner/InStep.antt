@@ -8,8 +8,8 @@ use Rattle.dcc_order.specs.Comparisons.{ComparerRepresents}
 use Rattle.dcc_order.specs.GivenLists.{Lists, with_item}
 use Rattle.dcc_listen.specs.declared.side.Progress.{Progress}
 
--- all packets that were read so far from two sources were given to `comparer`, which compares for
--- decoder `who`
+-- the comparer `comparer` for decoder `who` has got all packets that were read so far from two
+-- sources
 pub record TakenInStep (who : Who) (Took OtherTook : List Packet → Progress → Type 0) (progress other : Progress)
     (comparer : Comparer) : Type 0 where
   pub lists : Lists
@@ -20,7 +20,7 @@ pub record TakenInStep (who : Who) (Took OtherTook : List Packet → Progress �
   pub left_is : lists.left_ended ≡ progress.ended
   pub right_is : lists.right_ended ≡ other.ended
 
--- a comparer in state `old` that is given `item` of the list that it wants is in state `new`
+-- a comparer in state `old` that gets `item` of the list that it waits for goes to state `new`
 pub record IsGiven (old : Comparer) (item : Option Packet) (new : Comparer) : Type 0 where
   pub who : new.who ≡ old.who
   pub stands : (lists : Lists) → ComparerRepresents old lists → ComparerRepresents new (with_item old.wants item lists)

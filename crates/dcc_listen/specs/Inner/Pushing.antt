@@ -1,4 +1,4 @@
--- A run of a capture that is given to a framer.
+-- A run of a capture that a framer takes.
 use Rattle.std.specs.Prelude.{◌≡◌, ℕ, ◌+◌, ◌-◌, ◌++◌, List, Option, Some, None, Result, Ok, Err, length, replicate}
 use Rattle.dcc_wire.specs.declared.framer.Framer.{Framer}
 use Rattle.dcc_wire.specs.declared.seen.Seen.{Seen}
@@ -9,14 +9,14 @@ use Rattle.dcc_io.specs.InputState.{InputState}
 use Rattle.dcc_capture.specs.Capture.{AnswersRun}
 use Rattle.dcc_capture.specs.FirstRead.{AnswersFirst}
 
--- a framer in state `framer` that gets `run` returns `shown` and is in state `next`
+-- a framer in state `framer` that takes `run` returns `shown` and goes to state `next`
 pub record Pushes (run : Run) (framer : Framer) (shown : Seen) (next : Framer) : Type 0 where
   pub at : ℕ
   pub stands : (halves : List ℕ) → StandsFor framer halves → StandsFor next (halves ++ replicate run.n run.us)
   pub sees : (halves : List ℕ) → StandsFor framer halves
       → seen (halves ++ replicate run.n run.us) ≡ seen halves ++ report_at (length halves + at - 1) shown
 
--- if the result is an outcome, the next run of a capture was read and given to `framer`. The result
+-- if the result is an outcome, the next run of a capture was read, and `framer` took it. The result
 -- is `None` at the end of the capture, or an error of the capture.
 abbrev pub PushesNext : InputState → Framer → Result (Option Seen) KeptFault → InputState → Framer → Type 0
 PushesNext old framer (Ok (Some shown)) new next =
@@ -25,8 +25,8 @@ PushesNext old framer (Ok None) new next = AnswersRun old (Ok None) new
 PushesNext old framer (Err fault) new next = AnswersRun old (Err fault) new
 
 -- if the result is an outcome and a line, the next run of the first of two captures was read on
--- this line and given to `framer`. The result is `None` at the end of this capture, or an error of
--- it.
+-- this line, and `framer` took it. The result is `None` at the end of this capture, or an error of
+-- this capture.
 abbrev pub PushesFirst : ℕ → InputState → Framer → Result (Option (ℕ × Seen)) KeptFault → InputState → Framer → Type 0
 PushesFirst before old framer (Ok (Some (line, shown))) new next =
     (run : Run) × AnswersFirst before old (Ok (Some (line, run))) new × Pushes run framer shown next

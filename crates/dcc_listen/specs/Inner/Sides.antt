@@ -11,28 +11,28 @@ use Rattle.dcc_listen.specs.declared.side.Progress.{Progress}
 use Rattle.dcc_listen.specs.Gathered.{Gathered}
 use Rattle.dcc_listen.specs.Taking.{Gathering}
 
--- `packets` were read from a capture, from `start` to `now`. For `true`, the capture was read to
--- its end.
+-- `packets` are the packets that were read from a capture between the states `start` and `now` of
+-- its input. If the first argument is true, the capture was read to its end.
 abbrev pub SideRead : Bool → InputState → InputState → Framer → List Packet → Type 0
 SideRead false start now framer packets = Gathering start now framer packets
 SideRead true start now framer packets = Gathered start packets now
 
--- `packets` were read from a capture, from `start` to `now`, and `progress` is the state of this
--- reading
+-- `packets` are the packets that were read from a capture between the states `start` and `now` of
+-- its input. `progress` is the state of this reading.
 pub record CaptureTook (start now : InputState) (packets : List Packet) (progress : Progress) : Type 0 where
   pub none_kept : start.fault ≡ None
   pub few : start.halves < 2 ^ 32
   pub read : SideRead progress.ended start now progress.framer packets
 
--- `packets` were read from the stored packets `start`, and `now` are the packets that are left. If
--- `ended` is true, no packet is left.
+-- `packets` were read from the stored packets `start`, and the packets `now` are still to be read.
+-- If `ended` is true, there is no packet in `now`.
 pub record HeldTook (start now packets : List Packet) (ended : Bool) : Type 0 where
   pub few : length start < 2 ^ 32
   pub whole : start ≡ packets ++ now
   pub all : MayFollow ended now
 
--- after `packets`, the rest of a source was read to its end, which leads to `progress`. If `ended`
--- is true, the rest has no packet.
+-- after the packets `packets`, the remaining packets of a source were read, which led to
+-- `progress`. If `ended` is true, there were no remaining packets.
 pub record TakesRest (Took : List Packet → Progress → Type 0) (packets : List Packet) (ended : Bool)
     (progress : Progress)
     : Type 0 where

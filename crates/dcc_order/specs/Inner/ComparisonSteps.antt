@@ -9,7 +9,7 @@ use Rattle.dcc_order.specs.AlikeLists.{AlikeBlocks}
 use Rattle.dcc_order.specs.Held.{nothing_held}
 use Rattle.dcc_order.specs.Comparisons.{heard_next, EndAlike, IsVerdictAtEnds}
 
--- the comparison `c` after the next packet `p` of the left list, which the decoder hears
+-- the comparison `c` after its decoder heard the next packet `p` of the left list
 abbrev pub heard_left : Comparison → Packet → Comparison
 heard_left c p = record c { left_given = c.left_given + 1; left_heard = heard_next c.left_heard p }
 

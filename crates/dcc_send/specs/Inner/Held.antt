@@ -13,14 +13,14 @@ use Rattle.dcc_io.specs.WrittenBytes.{AppendsFront}
 use Rattle.dcc_io.specs.Held.{Holds}
 use Rattle.dcc_send.specs.StationEncoded.{AnswersAll}
 
--- all buffered bytes `held` were written without a failure, so that the buffer `left` is empty
+-- all buffered bytes `held` were written without a failure, and the buffer `left` is empty
 abbrev pub WritesOut : WriterState → List ℕ → List ℕ → WriterState → Type 0
 WritesOut before held left after =
     (left ≡ []) × Appends before.contents after.contents held × (after.failures ≡ before.failures)
 
--- If `answers` returns an item of the input, a prefix of the buffered bytes `held` was written and
--- `left` is still buffered. At the end of the input, or at an error of it, all of `held` was
--- written. If a write failed or wrote no byte, nothing was read of the input.
+-- If the result is an item of the input, a prefix of the buffered bytes `held` was written, and the
+-- suffix `left` is still buffered. At the end of the input, or at an error of the input, all bytes
+-- `held` were written. If a write failed or wrote no byte, no item was read.
 abbrev pub TakesNext : {C : Type 0} → (InputState → Result (Option C) KeptFault → InputState → Type 0) → InputState
     → WriterState → List ℕ → Result (Result (Option C) KeptFault) Failed → InputState → List ℕ → WriterState → Type 0
 TakesNext answers old before held (Ok (Ok (Some next))) new left after =
@@ -32,16 +32,16 @@ TakesNext answers old before held (Ok (Err fault)) new left after =
 TakesNext answers old before held (Err failed) new left after =
     (new ≡ old) × AppendsFront before after held × HasRisen before.failures after.failures
 
--- a station in state `s` that gets the requests `items` is in state `new`. The bytes `held` and its
--- answers were written, except for their suffix `left`, which is buffered.
+-- a station in state `s` that gets the requests `items` goes to state `new`. The bytes `held` and
+-- the answers of the station were written, except for their suffix `left`, which is buffered.
 pub record HoldsAnswers (how : Encode) (s : sending.Sending) (items : List Asked) (new : sending.Sending)
     (before after : WriterState) (held left : List ℕ) : Type 0 where
   pub bytes : List ℕ
   pub answers : AnswersAll how s items bytes new
   pub holds : Holds before after (held ++ bytes) left
 
--- a prefix of the bytes `held` and of the answers of a station in state `s` was written. These are
--- the answers to the first requests of `items`.
+-- a prefix of the bytes `held` and the answers of a station in state `s` was written. These are the
+-- answers to the first requests of `items`.
 pub record HeldFront (how : Encode) (s : sending.Sending) (items : List Asked) (before after : WriterState)
     (held : List ℕ) : Type 0 where
   pub first : List Asked
@@ -53,7 +53,8 @@ pub record HeldFront (how : Encode) (s : sending.Sending) (items : List Asked) (
   pub written : AppendsFront before after (held ++ bytes)
 
 -- if the result is Ok, `held` and the answers of a station to `items` were written or are buffered.
--- If it is an error, a write failed or wrote no byte, and a prefix of them was written.
+-- If the result is an error, a write failed or wrote no byte, and a prefix of these bytes was
+-- written.
 abbrev pub HoldsAnswersOrFails : Encode → sending.Sending → List Asked → WriterState → List ℕ
     → Result (Unit {0}) Failed → sending.Sending → List ℕ → WriterState → Type 0
 HoldsAnswersOrFails how s items before held (Ok done) new left after =

@@ -13,8 +13,8 @@ use Rattle.dcc_io.specs.WriterState.{WriterState}
 use Rattle.dcc_io.specs.WrittenBytes.{AppendsFront}
 
 -- if the result is Ok, the line of `answer` was written, and the result is the reading `so_far`
--- after this answer. If it is an error, a write failed or wrote no byte, and a prefix of the line
--- was written.
+-- after this answer. If the result is an error, a write failed or wrote no byte, and a prefix of
+-- the line was written.
 abbrev pub TakesAnswer : CvAnswers → Bool → WriterState → Result Reading Failed → WriterState → Type 0
 TakesAnswer so_far answer before result after =
     MatchResult result
@@ -24,8 +24,8 @@ TakesAnswer so_far answer before result after =
     (λ failed. AppendsFront before after (answered_line (question_frame so_far) answer)
     × HasRisen before.failures after.failures)
 
--- if the result is Ok, the line of `value` was written, and the result is `value`. If it is an
--- error, a write failed or wrote no byte, and a prefix of the line was written.
+-- if the result is Ok, the line of `value` was written, and the result is `value`. If the result is
+-- an error, a write failed or wrote no byte, and a prefix of the line was written.
 abbrev pub AnswersQuestion : Option ℕ → WriterState → Result (Option ℕ) ToolFault → WriterState → Type 0
 AnswersQuestion value before result after =
     CallPost (λ told. (told ≡ value) × Appends before.contents after.contents (value_line value)) (λ fault. ⊥)

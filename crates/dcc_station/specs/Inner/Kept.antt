@@ -39,7 +39,8 @@ reset_kept what = true
 -- another group. If `one` is false, the command is for all locomotives, and the same group with the
 -- same bits stays too.
 abbrev pub group_kept : Bool → GroupBits → What → Bool
-group_kept one set (Functions bits) = not (first_function set.group == first_function bits.group) || (not one && (set.bits == bits.bits))
+group_kept one set (Functions bits) =
+    not (first_function set.group == first_function bits.group) || (not one && (set.bits == bits.bits))
 group_kept one set what = true
 
 -- true if `entry` stays after a speed of 28 steps with `bits` to all decoders, which takes effect

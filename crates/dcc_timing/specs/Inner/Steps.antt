@@ -21,14 +21,13 @@ bits_shown (Packet bytes) = Some (packet_length (length bytes))
 bits_shown (Refused fault) = None
 bits_shown Nothing = None
 
--- the bits of a packet with `count` half-bits whose last half-bit is the last one of `halves`, or
--- an empty list if there is no packet
+-- the bits of a packet with `count` half-bits. Its last half-bit is the last one of `halves`. The
+-- list is empty if there is no packet.
 abbrev pub bits_among : Option ℕ → List ℕ → List (ℕ × ℕ)
 bits_among None halves = []
 bits_among (Some count) halves = pairs (keep_last count halves)
 
--- the time `end` at which a packet ends, as a list with one number, or an empty list if there is no
--- packet
+-- a list with the time `end` at which a packet ends, or an empty list if there is no packet
 abbrev pub end_among : Option ℕ → ℕ → List ℕ
 end_among None end = []
 end_among (Some count) end = end ∷ []

@@ -26,7 +26,8 @@ made_of gives parses found read number made reads is makes text at said =
 
 pub returns-in-Ok : goal.returns-in-Ok
 returns-in-Ok c = λ text at said.
-    let made = made_of (λ bs r. ParsesUnsigned 16 10 bs r × ExplainsUnsignedError 10 bs r × HasUnsignedDigitsIfOk bs r) (λ t r g. g.0)
+    let made = made_of (λ bs r. ParsesUnsigned 16 10 bs r × ExplainsUnsignedError 10 bs r × HasUnsignedDigitsIfOk bs r)
+    (λ t r g. g.0)
     (found_of c.args.matches.now) c.get_one.result _ c.new.result c.get_one.ensures.value c.unwrap_or-number.ensures
     c.new.ensures.exact text at said in (
       c.flag_of-empty.result,
@@ -36,7 +37,8 @@ returns-in-Ok c = λ text at said.
 
 pub returns-in-Err : goal.returns-in-Err
 returns-in-Err c = λ text at said.
-    let made = made_of (λ bs r. ParsesUnsigned 16 10 bs r × ExplainsUnsignedError 10 bs r × HasUnsignedDigitsIfOk bs r) (λ t r g. g.0)
+    let made = made_of (λ bs r. ParsesUnsigned 16 10 bs r × ExplainsUnsignedError 10 bs r × HasUnsignedDigitsIfOk bs r)
+    (λ t r g. g.0)
     (found_of c.args.matches.now) c.get_one.result _ c.new.result c.get_one.ensures.value c.unwrap_or-number.ensures
     c.new.ensures.exact text at said in (
       c.flag_of-empty.result,

@@ -16,7 +16,8 @@ returns-in_err-short-in-1-clause-found c own a k n =
 
 pub returns-in_ok-long-in-2-clause-found : goal.returns-in_ok-long-in-2-clause-found
 returns-in_ok-long-in-2-clause-found c own a k n =
-    ap Some (sym c.in_ok-long-in-2.was ∙ long_is own c.args.number c.long.result (sym k ∙ c.in-2.is) n c.long.ensures.found)
+    ap Some (sym c.in_ok-long-in-2.was
+    ∙ long_is own c.args.number c.long.result (sym k ∙ c.in-2.is) n c.long.ensures.found)
 
 pub returns-in_err-long-in-2-clause-found : goal.returns-in_err-long-in-2-clause-found
 returns-in_err-long-in-2-clause-found c own a k n =

@@ -1,10 +1,12 @@
-use Rattle.dcc_capture.proofs.ShowLemmas.{Showing}
+use Rattle.dcc_wire.specs.Framing.{seen, StandsFor}
+use Rattle.dcc_capture.specs.Listing.{IsLine}
+use Rattle.dcc_capture.proofs.LinesLemmas.{Listing}
 use Rattle.dcc_capture.proofs.show_call.list.Given as goal
 
 abbrev pub invariant-runs : goal.invariant-runs
 invariant-runs g l =
-    Showing l.initial.words l.initial.input l.input l.framer l.held (g.W.Sink.state l.initial.writer)
-    (g.W.Sink.state l.writer)
+    Listing (IsLine l.initial.words) seen (StandsFor l.framer) l.initial.input l.input l.held
+    (g.W.Sink.state l.initial.writer) (g.W.Sink.state l.writer)
 
 abbrev pub decreases-runs : goal.decreases-runs
 decreases-runs g l = l.input.bytes

@@ -16,7 +16,8 @@ use Rattle.dcc_examples.proofs.encoded_and_listed.encoded_and_listed.Goals as go
 abbrev over : List ℕ → InputState
 over bytes = fresh (Some bytes) 0 16777216 67108864
 
-gained : (before after : Option (List ℕ)) (text now : List ℕ) → Appends before after text → before ≡ Some [] → after ≡ Some now
+gained : (before after : Option (List ℕ)) (text now : List ℕ) → Appends before after text → before ≡ Some [] → after
+    ≡ Some now
     → text ≡ now
 gained None after text now appends none told = absurd (cc none)
 gained (Some had) None text now appends none told = absurd appends
@@ -26,26 +27,33 @@ listed : (lines encoded listing : List ℕ) (new capture' : InputState) (from to
     → PacketLinesAreShown → EncodesText in_half_bits (over lines) from (Ok tt) new to → from.contents ≡ Some []
     → to.contents ≡ Some encoded → Shows false (over encoded) before (Ok tt) capture' after → before.contents ≡ Some []
     → after.contents ≡ Some listing → IsListingOf lines listing
-listed lines encoded listing new capture' from to before after shown encodes empty written shows none told = λ halves bytes.
+listed lines encoded listing new capture' from to before after shown encodes empty written shows none told =
+    λ halves bytes.
     let takes : TakesEncoding in_half_bits (frames_said lines) (over encoded) =
     record { in_halves = refl; in_no_comment = refl; halves = halves; bytes = omega (arith, bytes) } in
-    let lists = shown in_half_bits false (over lines) new (over encoded) capture' from to before after (lines ++ 10 ∷ []) encoded
+    let lists = shown in_half_bits false (over lines) new (over encoded) capture' from to before after
+    (lines ++ 10 ∷ []) encoded
     encodes refl empty written takes refl shows in
     subst (IsListing false (at_last_halves 0 (to_send in_half_bits (frames_said lines))))
     (gained before.contents after.contents lists.0 listing lists.2 none told) lists.1
 
 pub returns : goal.returns
 returns c =
-    let from : WriterState = record { contents = Some c.new-encoded.result.inner.items; failures = c.new-encoded.result.failures } in
-    let to : WriterState = record { contents = Some c.encode.new.writer.inner.items; failures = c.encode.new.writer.failures } in
-    let before : WriterState = record { contents = Some c.new-listing.result.inner.items; failures = c.new-listing.result.failures } in
-    let after : WriterState = record { contents = Some c.show.new.writer.inner.items; failures = c.show.new.writer.failures } in
+    let from : WriterState =
+    record { contents = Some c.new-encoded.result.inner.items; failures = c.new-encoded.result.failures } in
+    let to : WriterState =
+    record { contents = Some c.encode.new.writer.inner.items; failures = c.encode.new.writer.failures } in
+    let before : WriterState =
+    record { contents = Some c.new-listing.result.inner.items; failures = c.new-listing.result.failures } in
+    let after : WriterState =
+    record { contents = Some c.show.new.writer.inner.items; failures = c.show.new.writer.failures } in
     let is : c.new-input.result ≡ over c.args.lines.now =
     c.new-input.ensures ∙ rw (c.new.ensures.inner, c.new.ensures.none_failed, c.full.ensures) refl in
     let then : c.new-capture.result ≡ over c.encode.new.writer.inner.items =
     c.new-capture.ensures
     ∙ rw (c.new-3.ensures.inner, c.as_slice.ensures.value, c.new-3.ensures.none_failed, c.full-2.ensures) refl in
-    listed c.args.lines.now c.encode.new.writer.inner.items c.show.new.writer.inner.items c.encode.new.input c.show.new.input
+    listed c.args.lines.now c.encode.new.writer.inner.items c.show.new.writer.inner.items c.encode.new.input
+    c.show.new.input
     from to before after c.what_is_encoded_is_shown.ensures.packet_lines
     (subst (λ (i : InputState). EncodesText in_half_bits i from (Ok tt) c.encode.new.input to) is
     (c.in_ok-encode.ensures.encodes refl (ap (λ (i : InputState). i.fault) is)))

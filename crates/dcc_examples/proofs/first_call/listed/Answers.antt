@@ -5,7 +5,8 @@ use Rattle.dcc_examples.proofs.first_call.listed.Goals as goal
 pub returns : goal.returns
 unfolding listed_text
 returns c =
-    c.what_show_lists.ensures (codes "58*28 100*14 58*4 100*4 58*4 100*6 58*2 100*6 58*4 100*8 58*4") _ 16777216 67108864
+    c.what_show_lists.ensures (codes "58*28 100*14 58*4 100*4 58*4 100*6 58*2 100*6 58*4 100*8 58*4") _ 16777216
+    67108864
     c.new-input.result c.show.new.input
     (record { contents = Some c.new-listing.result.inner.items; failures = c.new-listing.result.failures })
     (record { contents = Some c.show.new.writer.inner.items; failures = c.show.new.writer.failures })

@@ -17,7 +17,8 @@ few_copies p = go (is_own_write p)
 one_more : (s : Sending) (p : Packet) (after : List Packet) → s.waiting ≡ p ∷ [] → s.repeats ≡ 2
     → s.sent < copies s.repeats p
     → IsSending (sent_once_more s p [] after) p
-    × (length (sent_once_more s p [] after).waiting * 4 - (sent_once_more s p [] after).sent < length s.waiting * 4 - s.sent)
+    × (length (sent_once_more s p [] after).waiting * 4 - (sent_once_more s p [] after).sent < length s.waiting * 4 -
+    s.sent)
 one_more s p after waits twice left = go (nat_le (copies s.repeats p) (s.sent + 1)) refl
   where
     few : s.sent < 3
@@ -52,7 +53,8 @@ copies-preserved g c = record {
 
 pub copies-smaller : goal.copies-smaller
 copies-smaller g c =
-    (handed_out _ _ _ _ (omega (arith, c.copies-test.true, c.waiting.ensures)) c.copies.invariant.sending c.next.ensures.next).1
+    (handed_out _ _ _ _ (omega (arith, c.copies-test.true, c.waiting.ensures)) c.copies.invariant.sending
+    c.next.ensures.next).1
 
 none_waits : (waiting : List Packet) → length waiting ≡ 0 → waiting ≡ []
 none_waits [] none = refl

@@ -11,7 +11,8 @@ lines-preserved-then-take_skipped_line g c =
 pub returns-then-not-is_skipped : goal.returns-then-not-is_skipped
 returns-then-not-is_skipped g c =
     let gave = rw (← c.take_skipped_line.ensures.left c.if-take_skipped_line.false) at c.lines.invariant in
-    answers_said g.L.ParsedLine.saying g.L.ParsedLine.as_said c.read_item.new.input c.in-Some.line c.read_item.result gave
+    answers_said g.L.ParsedLine.saying g.L.ParsedLine.as_said c.read_item.new.input c.in-Some.line c.read_item.result
+    gave
     (rw c.in-Some.is at c.in_ok-line.ensures) (sym c.is_skipped.ensures ∙ c.if-not-is_skipped.true) c.read_item.ensures
 
 pub lines-preserved : goal.lines-preserved

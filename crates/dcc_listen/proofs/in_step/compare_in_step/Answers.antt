@@ -23,5 +23,6 @@ packets-preserved g c =
       right_open = c.in_ok-give_next-in-Right.ensures.open;
       in_step =
           right_given c.args.who _ _ _ _ _ _ _ _ item s (sym c.wants.ensures.is ∙ c.in-Right.is)
-          (c.wants.ensures.right c.in-Right.is s.lists s.stands) given (took c.args.right.now s.lists.right s.right) ended;
+          (c.wants.ensures.right c.in-Right.is s.lists s.stands) given (took c.args.right.now s.lists.right s.right)
+          ended;
     }

@@ -13,7 +13,8 @@ returns-clause-compared g c =
       gathers_both c.args.input.now c.gather_first.new.input c.in_ok-gather_first.field-0.items
           c.in_ok-gather_first.ensures.gathers c.compare_in_step.new.right others
           (gathered c.gather_first.new.input c.compare_in_step.new.right others second),
-      subst (λ l. IsVerdict c.args.who l others verdict) (all_held _ _ held first ∙ c.into_iter-packets.ensures.rest) is,
+      subst (λ l. IsVerdict c.args.who l others verdict) (all_held _ _ held first ∙ c.into_iter-packets.ensures.rest)
+          is,
     )) c.compare_in_step.ensures.compared
 
 pub returns-clause-fails : goal.returns-clause-fails

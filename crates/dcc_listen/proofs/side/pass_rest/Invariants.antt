@@ -7,7 +7,8 @@ abbrev pub invariant-packets : goal.invariant-packets
 invariant-packets g l = record {
   open_side : g.S.Side.is_open l.side;
   stays : l.initial.progress.ended ≡ true → l.progress.ended ≡ true;
-  took : (start : g.row.S.Denot) (packets : List Packet) → g.S.Side.took start l.initial.side packets l.initial.progress →
+  took : (start : g.row.S.Denot) (packets : List Packet) → g.S.Side.took start l.initial.side packets l.initial.progress
+      →
       (more : List Packet) × MayFollow l.initial.progress.ended more
       × g.S.Side.took start l.side (packets ++ more) l.progress;
 }

@@ -18,7 +18,8 @@ returns-in-Some g c = (
 pub returns-in-Some-2 : goal.returns-in-Some-2
 returns-in-Some-2 g c =
     let same = c.in_default.ensures.none in
-    let reads = rw c.in-Some-2.is at (c.in_ok-run.ensures.reads (subst (λ i. i.fault ≡ None) (sym same) c.requires)) in (
+    let reads = rw c.in-Some-2.is at (c.in_ok-run.ensures.reads (subst (λ i. i.fault ≡ None) (sym same) c.requires))
+    in (
       c.in-Some-2.run',
       subst (λ i. AnswersRun i (Ok (Some c.in-Some-2.run')) c.read_run.new.input) same reads,
       record {

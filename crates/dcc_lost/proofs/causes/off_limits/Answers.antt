@@ -18,9 +18,11 @@ noted-zeros-requires c =
 pub halves-preserved : goal.halves-preserved
 halves-preserved c = record {
   ones = noted_next is_off_one c.args.halves.now c.halves.us-index _ c.halves-test.true
-      (c.noted-ones.ensures is_off_one (take c.halves.us-index c.args.halves.now) c.halves.invariant.ones c.is_off_one.ensures);
+      (c.noted-ones.ensures is_off_one (take c.halves.us-index c.args.halves.now) c.halves.invariant.ones
+      c.is_off_one.ensures);
   zeros = noted_next is_off_zero c.args.halves.now c.halves.us-index _ c.halves-test.true
-      (c.noted-zeros.ensures is_off_zero (take c.halves.us-index c.args.halves.now) c.halves.invariant.zeros c.is_off_zero.ensures);
+      (c.noted-zeros.ensures is_off_zero (take c.halves.us-index c.args.halves.now) c.halves.invariant.zeros
+      c.is_off_zero.ensures);
 }
 
 pub returns : goal.returns

@@ -10,7 +10,8 @@ invariant-loop-us g l = record {
   stands : (halves : List ℕ) → StandsFor l.fn.framer halves
       → StandsFor l.framer (halves ++ take l.us-index l.durations);
   since : (halves : List ℕ) → StandsFor l.fn.framer halves → (start : Who) (registers : RegisterMap) →
-      HasHeardHalves halves start registers (g.D.Decoder.who l.initial.decoder) (g.D.Decoder.registers l.initial.decoder)
+      HasHeardHalves halves start registers (g.D.Decoder.who l.initial.decoder)
+      (g.D.Decoder.registers l.initial.decoder)
       → HasHeardHalves (halves ++ take l.us-index l.durations) start registers (g.D.Decoder.who l.decoder)
       (g.D.Decoder.registers l.decoder);
 }

@@ -18,13 +18,15 @@ returns-in_err-version-clause-reads g c =
 pub returns-in_err-head-clause-reads : goal.returns-in_err-head-clause-reads
 unfolding decoder_text
 returns-in_err-head-clause-reads g c =
-    let version = Leads-then _ _ (Leads-start decoder_text c.args.input.now c.requires.fault) c.in_ok-version.ensures.reads in
+    let version = Leads-then _ _ (Leads-start decoder_text c.args.input.now c.requires.fault)
+    c.in_ok-version.ensures.reads in
     search (rules, Answers-fault (line_by head_line) _ version)
 
 pub decoders-init : goal.decoders-init
 unfolding decoder_text
 decoders-init g c =
-    let version = Leads-then _ _ (Leads-start decoder_text c.args.input.now c.requires.fault) c.in_ok-version.ensures.reads in
+    let version = Leads-then _ _ (Leads-start decoder_text c.args.input.now c.requires.fault)
+    c.in_ok-version.ensures.reads in
     rw c.requires.empty record {
       leads = Leads-then _ _ version c.in_ok-head.ensures.reads;
       head = c.in_ok-head.ensures.fits;

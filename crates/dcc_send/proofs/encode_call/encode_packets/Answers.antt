@@ -23,7 +23,8 @@ returns-in_err-hold-in-Some-2-clause-encodes g c fault =
     c.from_residual-in_err-hold-in-Some-2.ensures.1 in
     let took = rw (rw c.in_ok-packet.is at c.branch-packet.ensures, c.in-Some-2.is) at c.in_ok-next_line.ensures in
     let failed = rw (c.frame.ensures.spelled, c.packets.invariant.1) at c.in_err-hold-in-Some-2.ensures.line in
-    rw (p.1, p.2) (stops_at_write (Encoding-wrote c.packets.invariant.0 took.1 took.2) _ c.in-Some-2.packet took.0 failed.0
+    rw (p.1, p.2) (stops_at_write (Encoding-wrote c.packets.invariant.0 took.1 took.2) _ c.in-Some-2.packet took.0
+    failed.0
     failed.1)
 
 pub returns-in_err-next_line-clause-encodes : goal.returns-in_err-next_line-clause-encodes

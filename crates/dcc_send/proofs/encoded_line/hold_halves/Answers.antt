@@ -18,4 +18,5 @@ pub returns-clause-preamble : goal.returns-clause-preamble
 returns-clause-preamble g c =
     preamble_kept c.args.texts.now.timing c.args.frame.now c.args.line.now c.put_halves-len.new.line c.args.preamble_len
     c.put_halves-len.result (omega (arith, c.put_halves-len.auto.line, c.put_halves-len.array_long, c.requires.short))
-    (omega (arith, c.put_halves-len.ensures.few, c.put_halves-len.array_long)) c.requires.preamble c.put_halves-len.ensures.items
+    (omega (arith, c.put_halves-len.ensures.few, c.put_halves-len.array_long)) c.requires.preamble
+    c.put_halves-len.ensures.items

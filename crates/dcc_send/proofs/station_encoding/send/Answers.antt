@@ -10,7 +10,8 @@ loop-init g c =
 pub loop-preserved : goal.loop-preserved
 loop-preserved g c =
     let told = rw c.loop.invariant.2 at c.in_ok-send_next.ensures.answers in (
-      HoldsAnswers-next c.args.written.now.how c.args.station.now c.loop.station c.send_next.new.station c.loop.counter _ _ _
+      HoldsAnswers-next c.args.written.now.how c.args.station.now c.loop.station c.send_next.new.station c.loop.counter
+          _ _ _
           c.args.held.now c.loop.held c.send_next.new.held c.loop.invariant.0 told.0,
       told.1 ∙ c.loop.invariant.1,
       c.in_ok-send_next.ensures.how ∙ c.loop.invariant.2,
@@ -21,5 +22,6 @@ returns-in_err-send_next-clause-answers g c =
     let p = err_from_is_err_and c.from_residual.result c.from_residual.ensures.1 in
     let failed = rw c.loop.invariant.2 at c.in_err-send_next.ensures.answers in
     rw p.1
-    (stops_sending c.args.written.now.how c.args.station.now c.loop.station c.loop.counter c.args.count _ _ _ c.args.held.now
+    (stops_sending c.args.written.now.how c.args.station.now c.loop.station c.loop.counter c.args.count _ _ _
+    c.args.held.now
     c.loop.held c.loop-test.true c.loop.invariant.0 c.loop.invariant.1 failed.0 failed.1)

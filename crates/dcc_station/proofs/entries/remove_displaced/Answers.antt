@@ -24,7 +24,8 @@ loop-at-preserved g c =
       | then-not-is_displaced w ↦ (
           let is = ap g.R.PacketRing.buffer w.entries-is ∙ w.move_forward.ensures.items e found in
           rw (is, w.kept-is) (
-            passed_kept passed inside found (λ gone. let yes = judged.1 gone in let no = w.if-not-is_displaced.true in cc),
+            passed_kept passed inside found
+                (λ gone. let yes = judged.1 gone in let no = w.if-not-is_displaced.true in cc),
             c.loop-at.invariant.1,
           ))
       | else-not-is_displaced w ↦ (

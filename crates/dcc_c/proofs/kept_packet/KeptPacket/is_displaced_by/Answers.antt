@@ -15,7 +15,8 @@ returns-in-Some-read_loco c =
     let last : IsLastAndRest bytes c.in-Some._error_byte.now c.in-Some.body.now =
     subst (λ (l : List ℕ). IsLastAndRest l c.in-Some._error_byte.now c.in-Some.body.now) c.as_slice.ensures
     c.in-Some.ensures.cases in
-    let is = loco_is_kept k told.to told.what c.self.invariant (some_of bytes c.in-Some._error_byte.now c.in-Some.body.now last.0)
+    let is = loco_is_kept k told.to told.what c.self.invariant
+    (some_of bytes c.in-Some._error_byte.now c.in-Some.body.now last.0)
     (told.ensures.found ∙ body_of bytes c.in-Some._error_byte.now c.in-Some.body.now last.0) in
     subst (λ (p : Packet). IsTrue c.displaces_loco.result ↔ Displaces c.args.command.now p) (is ∙ c.self.view_is)
     c.displaces_loco.ensures

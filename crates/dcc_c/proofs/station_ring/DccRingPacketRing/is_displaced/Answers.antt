@@ -11,5 +11,6 @@ returns c = record {
       let r = c.args.self.now in
       let is = ring_get r.packets r.fits refl c.index-self-from.result c.requires.inside
       (rw c.from.ensures c.place_behind-place.ensures) found in
-      subst (λ (p : Packet). IsTrue c.is_displaced_by.result ↔ Displaces c.args.command.now p) is c.is_displaced_by.ensures;
+      subst (λ (p : Packet). IsTrue c.is_displaced_by.result ↔ Displaces c.args.command.now p) is
+      c.is_displaced_by.ensures;
 }

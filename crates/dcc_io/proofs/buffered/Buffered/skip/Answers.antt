@@ -9,6 +9,7 @@ returns-clause-ahead g c =
 
 pub returns-clause-text : goal.returns-clause-text
 returns-clause-text g c =
-    let ahead = slice_range-skip c.self.inside.buffer c.self.inside.start c.args.count c.self.inside.end c.self.invariant.0
+    let ahead = slice_range-skip c.self.inside.buffer c.self.inside.start c.args.count c.self.inside.end
+    c.self.invariant.0
     (rw (← c.self.view_is) at c.requires) in
     rw (← c.self.view_is, ahead) (consumes_front _ c.args.count _)

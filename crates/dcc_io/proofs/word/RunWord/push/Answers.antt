@@ -8,7 +8,8 @@ returns-in-Some c word spells =
 
 pub returns-then-byte-eq42 : goal.returns-then-byte-eq42
 returns-then-byte-eq42 c word spells =
-    Spells-star _ c.args.byte spells c.still_dashes-self.ensures c.in-None.is c.if-byte-eq42.true c.new.ensures refl refl
+    Spells-star _ c.args.byte spells c.still_dashes-self.ensures c.in-None.is c.if-byte-eq42.true c.new.ensures refl
+    refl
 
 pub returns-else-byte-eq42 : goal.returns-else-byte-eq42
 returns-else-byte-eq42 c word spells =

@@ -1,60 +1,24 @@
-use Rattle.std.proofs.Common.{List, ℕ, arith, ◌≢◌, ◌++◌, ◌∷◌, [], ◌∙◌}
-use Rattle.std.proofs.Math.Logic.{∥∥₁_map}
-use Rattle.dcc_wire.specs.declared.seen.Seen.TheVariants.{Nothing}
-use Rattle.dcc_lost.specs.Finding.{HasRead}
-use Rattle.dcc_lost.proofs.FinderLemmas.{reads_more, packet_none, packet_found}
-use Rattle.dcc_lost.proofs.LawLemmas.{packet_other}
+use Rattle.std.proofs.Common.{arith, ◌∙◌, sym}
 use Rattle.dcc_lost.proofs.RunLemmas.{packets_lost-push}
-use Rattle.dcc_lost.proofs.finder.LostFinder.push.Goals.{After-push-2}
 use Rattle.dcc_lost.proofs.finder.LostFinder.push.Goals as goal
 
--- after this half-bit
-read_next : (c : After-push-2) (durations : List ℕ)
-    → HasRead c.args.self.now.heard c.args.self.now.recent c.args.self.now.unused durations
-    → HasRead c.push-seen.new.self c.push-2.new.self c.push.new.self (durations ++ c.args.us ∷ [])
-read_next c durations read =
-    reads_more durations c.args.us _ _ _ _ _ _ c.from.result read (c.push-seen.ensures.hears durations read.heard)
-    c.push-2.ensures c.push.ensures (c.from.ensures ∙ c.unused-unused.ensures.unused durations read.heard)
+pub returns-then-not-take-clause-reads : goal.returns-then-not-take-clause-reads
+returns-then-not-take-clause-reads c = c.take.ensures.reads
 
-pub invariant_of-self : goal.invariant_of-self
-invariant_of-self c = record {
-  history = ∥∥₁_map c.args.self.now.history
-      (λ list. (list.0 ++ c.args.us ∷ [], read_next (goal.at.invariant_of-self c).After-push-2 list.0 list.1));
-}
+pub returns-then-not-take-clause-lost : goal.returns-then-not-take-clause-lost
+returns-then-not-take-clause-lost c = λ durations read. sym (c.take.ensures.none durations read (grind arith))
 
-pub returns-then-not-is_nothing-clause-reads : goal.returns-then-not-is_nothing-clause-reads
-returns-then-not-is_nothing-clause-reads c =
-    read_next (goal.at.returns-then-not-is_nothing-clause-reads c).After-push-2
-
-pub returns-then-not-is_nothing-clause-lost : goal.returns-then-not-is_nothing-clause-lost
-returns-then-not-is_nothing-clause-lost c = λ durations read.
-    let something : c.push-seen.result ≢ Nothing = grind arith in
-    packet_none durations c.args.us c.push-seen.result (c.push-seen.ensures.sees durations read.heard) something
-
-pub returns-then-not-is_nothing-clause-grows : goal.returns-then-not-is_nothing-clause-grows
-returns-then-not-is_nothing-clause-grows c = λ durations read.
-    packets_lost-push durations c.args.us _ (returns-then-not-is_nothing-clause-lost c durations read)
-
-pub returns-then-not-is_nearest_one-clause-reads : goal.returns-then-not-is_nearest_one-clause-reads
-returns-then-not-is_nearest_one-clause-reads c =
-    read_next (goal.at.returns-then-not-is_nearest_one-clause-reads c).After-push-2
-
-pub returns-then-not-is_nearest_one-clause-lost : goal.returns-then-not-is_nearest_one-clause-lost
-returns-then-not-is_nearest_one-clause-lost c = λ durations read. packet_other durations c.args.us (grind arith)
-
-pub returns-then-not-is_nearest_one-clause-grows : goal.returns-then-not-is_nearest_one-clause-grows
-returns-then-not-is_nearest_one-clause-grows c = λ durations read.
-    packets_lost-push durations c.args.us _ (returns-then-not-is_nearest_one-clause-lost c durations read)
+pub returns-then-not-take-clause-grows : goal.returns-then-not-take-clause-grows
+returns-then-not-take-clause-grows c = λ durations read.
+    packets_lost-push durations c.args.us _ (returns-then-not-take-clause-lost c durations read)
 
 pub returns-clause-reads : goal.returns-clause-reads
-returns-clause-reads c = read_next (goal.at.returns-clause-reads c).After-push-2
+returns-clause-reads c = c.take.ensures.reads
 
 pub returns-clause-lost : goal.returns-clause-lost
 returns-clause-lost c = λ durations read.
-    let next = read_next (goal.at.returns-clause-lost c).After-push-2 durations read in
-    packet_found durations c.args.us c.push-seen.result c.push-seen.new.self _
-    (c.push-seen.ensures.sees durations read.heard) (c.is_nothing.ensures.0 (grind arith)) next.heard.stands
-    (c.packet_unheard.ensures (durations ++ c.args.us ∷ []) next)
+    c.packet_at_end.ensures _ (c.take.ensures.reads durations read)
+    ∙ sym (c.take.ensures.some durations read (grind arith))
 
 pub returns-clause-grows : goal.returns-clause-grows
 returns-clause-grows c = λ durations read.

@@ -42,7 +42,8 @@ run-preserved c = record {
 }
 
 pub returns-clause-grows : goal.returns-clause-grows
-returns-clause-grows c = λ durations read. run_ends durations c.args.us c.run.at _ (c.run.invariant.quiet durations read)
+returns-clause-grows c =
+    λ durations read. run_ends durations c.args.us c.run.at _ (c.run.invariant.quiet durations read)
 
 -- the list before the rest of the run
 quiet_next : (c : goal.After-push-lost) (durations : List ℕ) → c.push-lost.result ≡ None

@@ -15,7 +15,11 @@ read_on c durations read =
 pub invariant_of-self : goal.invariant_of-self
 invariant_of-self c = record {
   history = ∥∥₁_map c.args.self.now.history
-      (λ list. (list.0 ++ replicate c.args.n c.args.us, read_on (goal.at.invariant_of-self c).After-skip list.0 list.1));
+      (λ list. (
+        list.0 ++ replicate c.args.n c.args.us,
+        read_on (goal.at.invariant_of-self c).After-skip list.0
+            list.1,
+      ));
 }
 
 pub returns-clause-reads : goal.returns-clause-reads

@@ -22,7 +22,8 @@ invariant_of-result c =
     let valid = c.bytes-bytes.ensures.valid in
     let front : c.split_at.result.0.now ≡ take (length c.args.frame.now - 1) c.args.frame.now =
     rw (c.split_at.ensures.front, c.bytes-bytes.ensures.value) refl in
-    let none : ¬ (IsPacketRow (take (length c.args.frame.now - 1) c.args.frame.now)) = rw front at c.in-None.ensures.none in
+    let none : ¬ (IsPacketRow (take (length c.args.frame.now - 1) c.args.frame.now)) =
+    rw front at c.in-None.ensures.none in
     record { valid = valid; no_row = in_no_row c.args.frame.now valid none }
 
 pub returns-in-None-clause-only : goal.returns-in-None-clause-only

@@ -9,7 +9,8 @@ pub bits-preserved : goal.bits-preserved
 bits-preserved c = record {
   within = omega (arith, c.bits-test.true);
   adding =
-      adding_more c.args.self.now c.bits.self c.add_bit.new.self c.args.halves.now (drop c.bits.place c.args.halves.now) _ _ _
+      adding_more c.args.self.now c.bits.self c.add_bit.new.self c.args.halves.now (drop c.bits.place c.args.halves.now)
+      _ _ _
       (next_pair c.args.halves.now c.bits.place c.bits-test.true)
       c.add_bit.ensures.bits c.add_bit.ensures.count c.bits.invariant.adding;
 }

@@ -12,7 +12,13 @@ returns-then-place-ge190-clause-half c =
     let frame = c.args.self.now in
     let timing = c.args.timing.now in
     let past : length (sent frame timing) ≤ c.args.place =
-    omega (arith, length-sent frame timing, c.bytes-bytes.ensures.valid.most, (classes timing).most, c.if-place-ge190.true) in
+    omega (
+      arith,
+      length-sent frame timing,
+      c.bytes-bytes.ensures.valid.most,
+      (classes timing).most,
+      c.if-place-ge190.true,
+    ) in
     sym (slice_get_past (sent frame timing) c.args.place past)
 
 pub returns-in_err-bit-clause-half : goal.returns-in_err-bit-clause-half

@@ -33,7 +33,8 @@ returns-else-is_nothing c =
     let two = twice c.args.half (sym c.self.view_is ∙ ap rest_of c.in-InBody.is) bit.first bit.answer in record {
       none = search rules;
       first = two.0;
-      after = ap Hunting c.ones_left-ones.ensures ∙ sym (two.2 ∙ left_of-outcome _ _ c.in-Some.seen bit.answer something);
+      after = ap Hunting c.ones_left-ones.ensures
+          ∙ sym (two.2 ∙ left_of-outcome _ _ c.in-Some.seen bit.answer something);
       answer = two.1;
       hunts = search rules;
     }

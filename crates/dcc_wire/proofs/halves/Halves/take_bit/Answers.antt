@@ -8,11 +8,13 @@ use Rattle.dcc_wire.proofs.halves.Halves.take_bit.Goals as goal
 
 pub returns-then-self-gt0-clause-bit : goal.returns-then-self-gt0-clause-bit
 returns-then-self-gt0-clause-bit c =
-    rw (← c.self.view_is) (two_of_preamble (the_view c.self.inside) (omega (arith, c.if-self-gt0.true, c.if-self-eq1.false)))
+    rw (← c.self.view_is)
+    (two_of_preamble (the_view c.self.inside) (omega (arith, c.if-self-gt0.true, c.if-self-eq1.false)))
 
 pub returns-then-self-gt0-clause-some : goal.returns-then-self-gt0-clause-some
 unfolding HasBitToTake
-returns-then-self-gt0-clause-some c = rw (← c.self.view_is) (λ _. inl (omega (arith, c.if-self-gt0.true, c.if-self-eq1.false)), λ _. refl)
+returns-then-self-gt0-clause-some c =
+    rw (← c.self.view_is) (λ _. inl (omega (arith, c.if-self-gt0.true, c.if-self-eq1.false)), λ _. refl)
 
 pub returns-clause-bit : goal.returns-clause-bit
 returns-clause-bit c =
@@ -34,6 +36,11 @@ pub returns-clause-some : goal.returns-clause-some
 unfolding HasBitToTake
 returns-clause-some c =
     rw (← c.self.view_is) (
-      λ _. inr (omega (arith, c.if-self-gt0.false), omega (arith, c.if-self-eq0.false), omega (arith, c.if-self-eq1-2.false)),
+      λ _. inr (
+        omega (arith, c.if-self-gt0.false),
+        omega (arith, c.if-self-eq0.false),
+        omega
+            (arith, c.if-self-eq1-2.false),
+      ),
       λ _. refl,
     )

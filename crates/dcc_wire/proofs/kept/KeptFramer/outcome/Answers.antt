@@ -20,7 +20,8 @@ packed : {k : Kept} (is : IsKept k) (half : Half) → answer_to (kept_rest k) ha
 packed {k} is half shows = is.packed (shows_in_body k half shows)
 
 split_bit : {k : Kept} (is : IsKept k) (half : Half) (bit : Bool) → bit_of half ≡ Some bit
-    → answer_to (kept_rest k) half ≢ Nothing → not (beq k.first bit) ≡ true → answer_to (kept_rest k) half ≡ Refused SplitBit
+    → answer_to (kept_rest k) half ≢ Nothing → not (beq k.first bit) ≡ true → answer_to (kept_rest k) half
+    ≡ Refused SplitBit
 split_bit {k} is half bit of shows e =
     let in_body = shows_in_body k half shows in
     split_answer is in_body half bit of (shows_no_room is in_body half bit of shows) (grind arith)
@@ -42,14 +43,16 @@ pub returns-then-first-bit : goal.returns-then-first-bit
 returns-then-first-bit c =
     let shows = rw (← c.self.view_is) at c.requires in
     rw (← c.self.view_is)
-    (sym (split_bit c.self.invariant c.args.half c.in-Some.bit (sym c.bit.ensures ∙ c.in-Some.is) shows c.if-first-bit.true))
+    (sym (split_bit c.self.invariant c.args.half c.in-Some.bit (sym c.bit.ensures ∙ c.in-Some.is) shows
+    c.if-first-bit.true))
 
 pub returns-then-not-bit : goal.returns-then-not-bit
 unfolding by_bits
 returns-then-not-bit c =
     let shows = rw (← c.self.view_is) at c.requires in
     let whole =
-    whole_bit c.self.invariant c.args.half c.in-Some.bit (sym c.bit.ensures ∙ c.in-Some.is) shows c.if-first-bit.false in
+    whole_bit c.self.invariant c.args.half c.in-Some.bit (sym c.bit.ensures ∙ c.in-Some.is) shows c.if-first-bit.false
+    in
     rw (← c.self.view_is) (sym (rw c.if-not-bit.true at whole))
 
 pub at_end_bit-requires : goal.at_end_bit-requires
@@ -62,5 +65,6 @@ unfolding by_bits
 returns c =
     let shows = rw (← c.self.view_is) at c.requires in
     let whole =
-    whole_bit c.self.invariant c.args.half c.in-Some.bit (sym c.bit.ensures ∙ c.in-Some.is) shows c.if-first-bit.false in
+    whole_bit c.self.invariant c.args.half c.in-Some.bit (sym c.bit.ensures ∙ c.in-Some.is) shows c.if-first-bit.false
+    in
     rw (← c.self.view_is) (c.at_end_bit.ensures ∙ sym (rw c.if-not-bit.false at whole))

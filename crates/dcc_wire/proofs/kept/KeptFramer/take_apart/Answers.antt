@@ -13,4 +13,5 @@ invariant_of-self c =
 pub returns-clause-after : goal.returns-clause-after
 returns-clause-after c =
     let shows = c.requires in
-    ap Hunting (c.ones_left-self-inside.ensures ∙ ap ones_left c.outcome-seen.ensures) ∙ sym (outcome_leaves c.args.self.now c.args.half shows)
+    ap Hunting (c.ones_left-self-inside.ensures ∙ ap ones_left c.outcome-seen.ensures)
+    ∙ sym (outcome_leaves c.args.self.now c.args.half shows)

@@ -30,7 +30,8 @@ returns-in-Some-first c =
     record {
       answer = rw halves (c.push.ensures.answer ∙ sym (answer-bit bits c.in-Some.bit));
       unfinished = λ nothing.
-          rw (c.push.ensures.added nothing, c.take-first.ensures.after, halves, append-nil) (bit_more bits c.in-Some.bit);
+          rw (c.push.ensures.added nothing, c.take-first.ensures.after, halves, append-nil)
+          (bit_more bits c.in-Some.bit);
     }
 
 pub returns-in-Some-2-clause-answer : goal.returns-in-Some-2-clause-answer

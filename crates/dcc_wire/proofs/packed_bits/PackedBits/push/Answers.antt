@@ -15,9 +15,9 @@ use Rattle.dcc_wire.proofs.packed_bits.PackedBits.push.Goals as goal
 pub returns-then-bit : goal.returns-then-bit
 unfolding by_bits
 returns-then-bit c = record {
-  answer = rw (c.if-bit.true, ← c.self.view_is, c.close.ensures, c.as_slice.ensures.value)
+  answer = rw (c.if-bit.true, ← c.self.view_is, c.at_end_bit.ensures, c.of-bytes.ensures, c.as_slice.ensures.value)
       (sym (answer-closed c.self.invariant c.if-self-eq0.true true (λ e. cc)));
-  added = λ nothing. absurd (something_closed c.as_slice.result.now (sym c.close.ensures ∙ nothing));
+  added = λ nothing. absurd (something_closed c.of-bytes.result (sym c.at_end_bit.ensures ∙ nothing));
   unfinished = rw (← c.self.view_is) (packed_open c.self.invariant);
 }
 

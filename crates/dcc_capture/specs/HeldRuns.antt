@@ -1,0 +1,40 @@
+-- The runs of a capture for an operation that writes lines, part of which are buffered.
+use Rattle.std.specs.Prelude.{◌≡◌, ℕ, ◌++◌, ◌⊎◌, List, Option, Result, Ok, Err}
+use Rattle.std.specs.Io.KnownBytes.{Appends}
+use Rattle.dcc_io.specs.declared.stream.Failed.{Failed}
+use Rattle.dcc_io.specs.declared.fault.ToolFault.{ToolFault}
+use Rattle.dcc_io.specs.declared.fault.ToolFault.TheVariants.{Write}
+use Rattle.dcc_io.specs.declared.fault.KeptFault.{KeptFault}
+use Rattle.dcc_io.specs.declared.word.Run.{Run}
+use Rattle.dcc_io.specs.Failures.{HasRisen}
+use Rattle.dcc_io.specs.InputState.{InputState}
+use Rattle.dcc_io.specs.WriterState.{WriterState}
+use Rattle.dcc_io.specs.WrittenBytes.{AppendsFront}
+use Rattle.dcc_io.specs.Held.{Holds, HoldsOrFails}
+use Rattle.dcc_capture.specs.Capture.{AnswersRun}
+use Rattle.dcc_capture.specs.Listing.{AreLines}
+
+-- if the result is Ok, the bytes `held` and the lines of `items` were written, except for their
+-- suffix `left`, which is buffered. If it is an error, a write failed or wrote no byte, and a
+-- prefix of these bytes was written.
+abbrev pub HoldsLines : {A : Type 0} → (ℕ → A → List ℕ → Type 0) → List (ℕ × A) → WriterState → List ℕ
+    → Result (Unit {0}) Failed → List ℕ → WriterState → Type 0
+HoldsLines IsLineOf items before held result left after =
+    (text : List ℕ) × AreLines IsLineOf items text × HoldsOrFails before (held ++ text) result left after
+
+-- all buffered bytes `held` were written and `result` is `answer`, or a write failed or wrote no
+-- byte and `result` is the error U5
+abbrev pub WritesRest : WriterState → List ℕ → Result (Unit {0}) ToolFault → Result (Unit {0}) ToolFault → WriterState
+    → Type 0
+WritesRest before held answer result after =
+    ((result ≡ answer) × Appends before.contents after.contents held × (after.failures ≡ before.failures))
+    ⊎ ((result ≡ Err Write) × AppendsFront before after held × HasRisen before.failures after.failures)
+
+-- if the result is Ok, the buffered bytes `held` were written except for their suffix `left`, and
+-- the next run was read. If it is an error, a write failed or wrote no byte, and nothing was read.
+abbrev pub ReadsRun : InputState → WriterState → List ℕ → Result (Result (Option Run) KeptFault) Failed → InputState
+    → List ℕ → WriterState → Type 0
+ReadsRun old before held (Ok answer) new left after =
+    AnswersRun old answer new × Holds before after held left × (after.failures ≡ before.failures)
+ReadsRun old before held (Err failed) new left after =
+    (new ≡ old) × AppendsFront before after held × HasRisen before.failures after.failures

@@ -1,0 +1,13 @@
+use Rattle.dcc_regs.proofs.EffectLemmas.{by_register}
+use Rattle.dcc_regs.proofs.effects.Effects.of.Goals as goal
+
+pub returns : goal.returns
+returns c = by_register _ c.args.mode c.args.packet.now (record {
+  speed = c.speed_set.ensures.speed;
+  direction = c.direction_set.ensures;
+  functions = c.functions_set.ensures;
+  states = c.states_set.ensures;
+  outs = c.outs_set.ensures;
+  positions = c.positions_set.ensures;
+  aspects = c.aspects_set.ensures;
+})

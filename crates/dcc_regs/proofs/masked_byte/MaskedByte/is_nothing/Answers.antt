@@ -1,0 +1,12 @@
+use Rattle.std.proofs.Common.{refl}
+use Rattle.std.specs.Prelude.{◌==◌}
+use Rattle.dcc_packet.specs.Bits.{is_one}
+use Rattle.std.proofs.lemmas.Bool.Decides.{Decides-eqb}
+use Rattle.dcc_regs.proofs.MaskLemmas.{none_set, no_mask}
+use Rattle.dcc_regs.proofs.masked_byte.MaskedByte.is_nothing.Goals as goal
+
+pub returns : goal.returns
+returns c = (
+  λ t n. none_set c.args.self.now.mask _ n ((Decides-eqb c.args.self.now.mask 0).0 t),
+  λ none. no_mask c.args.self.now.mask (is_one c.args.self.now.bits) none (c.args.self.now.mask == 0) refl,
+)
